@@ -1,0 +1,3 @@
+pub use Rattle.hex.specs.Hex
+pub mod Ids
+pub mod Names

@@ -1,0 +1,69 @@
+// The faults of ref names and prefixes.
+#![tactic(auto)]
+
+ghost use Rattle.std.specs.Prelude.{◌≡◌};
+ghost use Rattle.gname.specs.Names.{name_fault_code};
+ghost use Rattle.gname.specs.declared.faults.NameFault.TheVariants.{Memory};
+
+use std::alloc::AllocError;
+use thiserror::Error;
+
+/// Why a text is no ref name, or no prefix. A text may have several faults: the first in this order
+/// is told, with its first place in the text.
+#[derive(Clone, Copy, Debug, PartialEq, Eq, Drop, Error)]
+pub enum NameFault {
+    /// It has no byte.
+    #[error("a ref name has at least one byte")]
+    Empty,
+    /// It has more than 1,000 bytes.
+    #[error("a ref name has at most 1000 bytes")]
+    TooLong,
+    /// It is neither `HEAD` nor begins with `refs/`.
+    #[error("a ref name is HEAD or begins with refs/")]
+    NotRef,
+    /// This byte is a control character, DEL, a space or one of `~ ^ : ? * [ \`.
+    #[error("byte {at} may not stand in a ref name")]
+    BadByte { at: usize },
+    /// The component that begins here is empty, begins with `.` or ends with `.lock`.
+    #[error("the component at byte {at} is empty, begins with a dot or ends with .lock")]
+    Component { at: usize },
+    /// Two dots stand here.
+    #[error("two dots in a row at byte {at}")]
+    DoubleDot { at: usize },
+    /// `@{` stands here.
+    #[error("@{{ at byte {at}")]
+    AtBrace { at: usize },
+    /// The last byte is a dot.
+    #[error("a ref name does not end with a dot")]
+    End,
+    /// The text is well-formed, and there was no memory to keep it.
+    #[error("out of memory")]
+    Memory,
+}
+
+impl NameFault {
+    /// The fault's number.
+    pub fn code(&self) -> u32
+        ensures { result ≡ name_fault_code self.now }
+    {
+        match self {
+            NameFault::Empty => 10,
+            NameFault::TooLong => 11,
+            NameFault::NotRef => 12,
+            NameFault::BadByte { .. } => 13,
+            NameFault::Component { .. } => 14,
+            NameFault::DoubleDot { .. } => 15,
+            NameFault::AtBrace { .. } => 16,
+            NameFault::End => 17,
+            NameFault::Memory => 18,
+        }
+    }
+}
+
+impl From<AllocError> for NameFault {
+    ghost from_gives = { λ _ fault. fault ≡ Memory };
+
+    fn from(_e: AllocError) -> NameFault {
+        NameFault::Memory
+    }
+}

@@ -1,0 +1,95 @@
+// Object ids.
+#![tactic(auto)]
+
+ghost use Rattle.std.specs.Prelude.{◌≡◌, ℕ, List};
+ghost use Rattle.gname.specs.Ids.{IsId, IsIdText, ReadsId, id_text, id_fault_code, id_fault_of};
+
+use hex::{FromHex, FromHexError};
+use std::marker::Model;
+use thiserror::Error;
+
+/// The number of bytes of an object id.
+pub const ID_LENGTH: usize = 20;
+
+/// The number of digits of an object id's text.
+pub const ID_TEXT_LENGTH: usize = 40;
+
+/// An object id: the twenty bytes of a SHA-1 name of an object. Ids are ordered by their bytes, the
+/// first byte first.
+#[derive(Clone, Copy, Debug, PartialEq, Eq, PartialOrd, Ord, Hash, Drop)]
+pub struct Oid {
+    bytes: [u8; ID_LENGTH],
+}
+
+impl Model for Oid {
+    ghost Value = { List ℕ };
+
+    ghost view = { λ id. id.bytes };
+
+    ghost invariant = { λ id. IsId id.bytes };
+
+    ghost inverse = { λ bytes. record { bytes = bytes } };
+}
+
+impl Oid {
+    /// Reads the forty hexadecimal digits of an id, in either case.
+    ///
+    /// It fails with `Length` where the text has another length, and else with `Digit` at its first
+    /// byte that is no hexadecimal digit.
+    pub fn from_hex(text: &[u8]) -> Result<Oid, OidFault>
+        ensures { ReadsId text.now result }
+    {
+        let bytes = <[u8; ID_LENGTH]>::from_hex(text)?;
+        Ok(Oid { bytes })
+    }
+
+    /// Writes the forty digits of the id, in lower case.
+    pub fn to_hex(&self, out: &mut [u8; ID_TEXT_LENGTH])
+        ensures text { out.new ≡ id_text self.now }
+        ensures reads_back { IsIdText out.new self.now }
+    {
+        hex::encode_to_slice(self.bytes, out).unwrap();
+    }
+
+    /// The bytes of the id.
+    pub fn as_bytes(&self) -> &[u8; ID_LENGTH]
+        ensures bytes { result.now ≡ self.now }
+        ensures id { IsId self.now }
+    {
+        &self.bytes
+    }
+}
+
+/// Why a text is no object id.
+#[derive(Clone, Copy, Debug, PartialEq, Eq, Drop, Error)]
+pub enum OidFault {
+    /// The text has not forty bytes.
+    #[error("an object id has 40 hexadecimal digits")]
+    Length,
+    /// The byte at this place is the first that is no hexadecimal digit.
+    #[error("byte {at} of the object id is no hexadecimal digit")]
+    Digit { at: usize },
+}
+
+impl OidFault {
+    /// The fault's number.
+    pub fn code(&self) -> u32
+        ensures { result ≡ id_fault_code self.now }
+    {
+        match self {
+            OidFault::Length => 1,
+            OidFault::Digit { .. } => 2,
+        }
+    }
+}
+
+impl From<FromHexError> for OidFault {
+    ghost from_gives = { λ e fault. fault ≡ id_fault_of e };
+
+    fn from(e: FromHexError) -> OidFault {
+        match e {
+            FromHexError::InvalidHexCharacter { index, .. } => OidFault::Digit { at: index },
+            _ => OidFault::Length,
+        }
+    }
+}
