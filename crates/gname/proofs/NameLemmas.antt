@@ -1,0 +1,1 @@
+-- Facts on ref names and prefixes, for callers to cite.
