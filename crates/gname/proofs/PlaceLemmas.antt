@@ -1,5 +1,5 @@
 -- The first place of a text that passes a test: what it is, and which searches find it.
-use Rattle.std.proofs.Common.{◌≡◌, ◌≢◌, ℕ, zero, suc, ◌+◌, ◌<◌, ◌≤◌, Bool, true, false, inl, inr, List, length, take, drop, slice_index, Option, Some, None, MatchOption, refl, sym, ap, ◌∙◌, arith, take_all, le_refl, length-drop}
+use Rattle.std.proofs.Common.{◌≡◌, ◌≢◌, ℕ, zero, suc, ◌+◌, ◌<◌, ◌≤◌, Bool, true, false, cond, inl, inr, List, length, take, drop, slice_index, Option, Some, None, MatchOption, refl, sym, ap, ◌∙◌, arith, take_all, le_refl, length-drop}
 use Rattle.std.proofs.Math.ListN.{length-take}
 use Rattle.std.proofs.lemmas.Bool.{cases_eq, cases_Bool}
 use Rattle.std.proofs.lemmas.Slice.Eq.{bytes_eq-Decides}
@@ -91,3 +91,46 @@ component-of_search rest (Some len) h =
     let place = position_or_len_is is_slash rest len 0 (omega (arith, high))
     (λ j b. false_from (is_slash (slice_index rest j)) (λ t. first.before j (omega arith) b t)) (λ _. h.1) in
     sym (ap (λ n. take n rest) place)
+
+-- ---- what a first place is
+
+-- r is the first place from `at` up to `end` that passes the test
+abbrev IsFirstPlace : (ℕ → Bool) → ℕ → ℕ → Option ℕ → Type 0
+IsFirstPlace test at end r =
+    MatchOption r ((j : ℕ) → at ≤ j → j < end → test j ≡ false)
+    (λ k. (at ≤ k) × (k < end) × (test k ≡ true) × ((j : ℕ) → at ≤ j → j < k → test j ≡ false))
+
+cond_found : (test : ℕ → Bool) (at : ℕ) (b : Bool) → test at ≡ b → (later : Option ℕ) (end : ℕ) → at < end
+    → IsFirstPlace test (at + 1) end later → IsFirstPlace test at end (cond b (Some at) later)
+cond_found test at true here later end low rest = (omega arith, low, here, λ j a b. absurd (omega arith))
+cond_found test at false here None end low rest = λ j a b. elim (cases_eq at j) [
+  | inl same ↦ rw (← same) here
+  | inr other ↦ rest j (omega arith) b
+]
+cond_found test at false here (Some k) end low rest = (
+  omega (arith, rest.0),
+  rest.1,
+  rest.2,
+  λ j a b. elim (cases_eq at j) [
+    | inl same ↦ rw (← same) here
+    | inr other ↦ rest.3 j (omega arith) b
+  ],
+)
+
+first_place_from-is : (test : ℕ → Bool) (at more : ℕ) → IsFirstPlace test at (at + more) (first_place_from test at more)
+unfolding first_place_from
+first_place_from-is test at zero = λ j a b. absurd (omega arith)
+first_place_from-is test at (suc more) =
+    let e : at + 1 + more ≡ at + suc more = omega arith in
+    cond_found test at (test at) refl (first_place_from test (at + 1) more) (at + suc more) (omega arith)
+    (rw e at (first_place_from-is test (at + 1) more))
+
+of_text : (test : ℕ → Bool) (n : ℕ) (r : Option ℕ) → IsFirstPlace test 0 (0 + (n + 1)) r
+    → MatchOption r ((j : ℕ) → j ≤ n → test j ≡ false) (λ at. (at ≤ n) × (test at ≡ true) × ((j : ℕ) → j < at → test j ≡ false))
+of_text test n None h = λ j low. h j (omega arith) (omega arith)
+of_text test n (Some k) h = (omega (arith, h.1), h.2, λ j low. h.3 j (omega arith) low)
+
+pub first_place-is : (test : ℕ → Bool) (text : List ℕ)
+    → MatchOption (first_place test text) ((j : ℕ) → j ≤ length text → test j ≡ false)
+    (λ at. (at ≤ length text) × (test at ≡ true) × ((j : ℕ) → j < at → test j ≡ false))
+first_place-is test text = of_text test (length text) (first_place test text) (first_place_from-is test 0 (length text + 1))

@@ -18,6 +18,7 @@
 
 mod faults;
 mod ids;
+pub mod laws;
 mod names;
 mod prefixes;
 mod rules;
