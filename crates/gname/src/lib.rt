@@ -22,6 +22,8 @@ pub mod laws;
 mod names;
 mod prefixes;
 mod rules;
+#[cfg(test)]
+mod tests;
 
 pub use crate::faults::NameFault;
 pub use crate::ids::{ID_LENGTH, ID_TEXT_LENGTH, Oid, OidFault};
