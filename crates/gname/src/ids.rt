@@ -1,10 +1,14 @@
 // Object ids.
 #![tactic(auto)]
 
-ghost use Rattle.std.specs.Prelude.{◌≡◌, ℕ, List};
+ghost use Rattle.std.specs.Prelude.{◌≡◌, ℕ, List, Some, nat_eq, refl};
+ghost use Rattle.std.specs.Ordering.{nat_cmp};
+ghost use Rattle.std.specs.Cmp as Cmp;
+ghost use Rattle.std.specs.Cmp.Lexicographic.{pointwise, slice_cmp, nat_list_eq_equiv, nat_list_cmp_total, texts_ties, texts_po};
 ghost use Rattle.gname.specs.Ids.{IsId, IsIdText, ReadsId, id_text, id_fault_code, id_fault_of};
 
 use hex::{FromHex, FromHexError};
+use std::cmp::Ordering;
 use std::marker::Model;
 use thiserror::Error;
 
@@ -16,7 +20,7 @@ pub const ID_TEXT_LENGTH: usize = 2 * ID_LENGTH;
 
 /// An object id: the twenty bytes of a SHA-1 name of an object. Ids are ordered by their bytes, the
 /// first byte first.
-#[derive(Clone, Copy, Debug, PartialEq, Eq, PartialOrd, Ord, Hash, Drop)]
+#[derive(Clone, Copy, Debug, Hash, Drop)]
 pub struct Oid {
     bytes: [u8; ID_LENGTH],
 }
@@ -57,6 +61,44 @@ impl Oid {
         ensures id { IsId self.now }
     {
         &self.bytes
+    }
+}
+
+impl PartialEq for Oid {
+    ghost eq = { pointwise nat_eq };
+
+    ghost laws = { Cmp.partial_equiv_from_equiv nat_list_eq_equiv };
+
+    fn eq(&self, other: &Oid) -> bool {
+        self.bytes == other.bytes
+    }
+}
+
+impl Eq for Oid {
+    ghost laws = { nat_list_eq_equiv };
+}
+
+impl PartialOrd for Oid {
+    ghost partial_cmp = { λ a b. Some (slice_cmp nat_cmp a b) };
+
+    ghost laws = { texts_po };
+
+    fn partial_cmp(&self, other: &Oid) -> Option<Ordering> {
+        Some(self.cmp(other))
+    }
+}
+
+impl Ord for Oid {
+    ghost cmp = { slice_cmp nat_cmp };
+
+    ghost total = { nat_list_cmp_total };
+
+    ghost matches_partial_cmp = { λ a b. refl };
+
+    ghost matches_eq = { λ a b. texts_ties a b };
+
+    fn cmp(&self, other: &Oid) -> Ordering {
+        self.bytes.cmp(&other.bytes)
     }
 }
 

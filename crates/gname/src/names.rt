@@ -72,7 +72,7 @@ impl<A: Allocator + Copy> Clone for RefName<A> {
     ghost is_clone = { λ name copy. copy ≡ name };
 
     fn clone(&self) -> Result<RefName<A>, AllocError> {
-        let text = Vec::from_slice(*self.text.allocator(), self.text.as_slice())?;
+        let text = Vec::from_slice(*self.text.allocator(), self.as_bytes())?;
         Ok(RefName { text })
     }
 }

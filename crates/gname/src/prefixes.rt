@@ -52,7 +52,7 @@ impl<A: Allocator + Copy> Clone for Prefix<A> {
     ghost is_clone = { λ prefix copy. copy ≡ prefix };
 
     fn clone(&self) -> Result<Prefix<A>, AllocError> {
-        let text = Vec::from_slice(*self.text.allocator(), self.text.as_slice())?;
+        let text = Vec::from_slice(*self.text.allocator(), self.as_bytes())?;
         Ok(Prefix { text })
     }
 }
