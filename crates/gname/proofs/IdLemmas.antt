@@ -1,14 +1,14 @@
 -- Facts on object ids and their texts, for callers to cite.
-use Rattle.std.proofs.Common.{◌≡◌, ◌≢◌, ℕ, ◌+◌, ◌*◌, ◌/◌, ◌%◌, ◌<◌, true, false, ◌⊎◌, inl, inr, List, length, take, slice_index, Result, Ok, Err, IsErrAnd, refl, sym, ap, subst, ◌∙◌, arith, rules}
+use Rattle.std.proofs.Common.{◌≡◌, ◌≢◌, ℕ, ◌+◌, ◌*◌, ◌%◌, ◌<◌, true, inl, inr, List, length, take, Result, Ok, Err, IsErrAnd, refl, sym, ap, ◌∙◌, arith}
 use Rattle.std.specs.List.{AllPass}
 use Rattle.std.specs.Result.{result_unwrap_or}
 use Rattle.std.proofs.Math.ListN.{length-take}
 use Rattle.std.proofs.lemmas.Bool.{cases_eq, cases_lt}
 use Rattle.std.proofs.lemmas.Bool.Decides.{nat_tests}
 use Rattle.std.proofs.lemmas.List.{get_or-take}
-use Rattle.hex.specs.Hex.{IsBytes, decode_of, decode_sized, encode_lower, encode_upper, is_hex_digit, lower_digits, upper_digits}
+use Rattle.hex.specs.Hex.{decode_sized, is_hex_digit, lower_digits, upper_digits}
 use Rattle.hex.specs.declared.error.FromHexError.{FromHexError}
-use Rattle.hex.specs.declared.error.FromHexError.TheVariants.{InvalidHexCharacter, InvalidStringLength, OddLength}
+use Rattle.hex.specs.declared.error.FromHexError.TheVariants.{InvalidStringLength, OddLength}
 use Rattle.hex.proofs.HexLemmas.{decode_of-ok, decode_of-err, decode_of-encode_lower, decode_of-encode_upper, decode_sized-twice, decode_sized-other, decode_sized-odd, decode_sized-ok, length-encode_with}
 use Rattle.gname.specs.Ids.{id_length, id_text_length, IsId, IsIdText, IsFirstBadDigit, ReadsId, id_text, upper_id_text, id_fault_of}
 use Rattle.gname.specs.Laws.{IsClean}

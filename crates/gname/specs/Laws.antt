@@ -1,5 +1,5 @@
 -- What follows from the definitions of object ids, ref names and prefixes.
-use Rattle.std.specs.Prelude.{◌≡◌, ◌≢◌, ℕ, ◌<◌, ◌≤◌, Bool, true, false, List, length, All, Option, Some, None, MatchOption, Result, Ok}
+use Rattle.std.specs.Prelude.{◌≡◌, ◌≢◌, ℕ, ◌<◌, ◌≤◌, Bool, true, false, List, length, All, Some, MatchOption, Result, Ok}
 use Rattle.gname.specs.Ids.{IsId, IsIdText, ReadsId, id_text, upper_id_text}
 use Rattle.gname.specs.Names.{IsPrefix, IsRefName, first_place, max_name, name_fault, prefix_fault}
 use Rattle.gname.specs.declared.ids.OidFault.{OidFault}

@@ -64,6 +64,6 @@ impl From<AllocError> for NameFault {
     ghost from_gives = { λ _ fault. fault ≡ Memory };
 
     fn from(_e: AllocError) -> NameFault {
-        NameFault::Memory
+        Self::Memory
     }
 }

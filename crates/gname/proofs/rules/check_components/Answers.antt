@@ -1,4 +1,4 @@
-use Rattle.std.proofs.Common.{◌<◌, ◌+◌, arith, length, ap, sym, below_more, ◌∙◌}
+use Rattle.std.proofs.Common.{arith, ap, sym, below_more, ◌∙◌}
 use Rattle.std.specs.Option.{option_map}
 use Rattle.gname.specs.declared.faults.NameFault.TheVariants.{Component}
 use Rattle.gname.specs.Names.{begins_bad_component, component}
