@@ -1,0 +1,4 @@
+pub mod Pieces
+pub mod Digits
+pub mod Steps
+pub mod Ending

@@ -1,0 +1,20 @@
+//! Packet lines of Git's protocol.
+#![tactic(auto)]
+
+mod buffer;
+mod device;
+mod fault;
+mod frame;
+mod line;
+mod put;
+mod reading;
+mod text;
+mod writing;
+
+pub use crate::buffer::LineBuffer;
+pub use crate::device::{Down, Sink, Source};
+pub use crate::fault::{LineFault, WriteFault};
+pub use crate::line::{Line, MAX_PAYLOAD};
+pub use crate::reading::LineReader;
+pub use crate::text::text_of;
+pub use crate::writing::LineWriter;
