@@ -2,3 +2,4 @@ pub mod Pieces
 pub mod Digits
 pub mod Steps
 pub mod Ending
+pub mod Readings

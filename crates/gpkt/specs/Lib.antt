@@ -6,3 +6,4 @@ pub mod Reading
 pub mod Frames
 pub mod Lending
 pub mod Writing
+pub mod Laws

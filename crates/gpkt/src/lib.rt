@@ -5,6 +5,7 @@ mod buffer;
 mod device;
 mod fault;
 mod frame;
+pub mod laws;
 mod line;
 mod put;
 mod reading;
