@@ -7,8 +7,10 @@ mod fault;
 mod frame;
 pub mod laws;
 mod line;
+pub mod memory;
 mod put;
 mod reading;
+mod standard;
 mod text;
 mod writing;
 
@@ -17,5 +19,6 @@ pub use crate::device::{Down, Sink, Source};
 pub use crate::fault::{LineFault, WriteFault};
 pub use crate::line::{Line, MAX_PAYLOAD};
 pub use crate::reading::LineReader;
+pub use crate::standard::{FromRead, ToWrite};
 pub use crate::text::text_of;
 pub use crate::writing::LineWriter;
