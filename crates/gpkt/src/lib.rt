@@ -22,3 +22,6 @@ pub use crate::reading::LineReader;
 pub use crate::standard::{FromRead, ToWrite};
 pub use crate::text::text_of;
 pub use crate::writing::LineWriter;
+
+#[cfg(test)]
+mod tests;
