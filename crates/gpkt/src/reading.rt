@@ -13,6 +13,8 @@ use std::alloc::{Allocator, Global};
 use std::marker::Model;
 
 /// Reads packet lines from a source, and never a byte more than a line has.
+///
+/// A payload is lent from the reader's one buffer until the next call.
 #[derive(Drop)]
 pub struct LineReader<S, A: Allocator + Copy = Global> {
     source: S,
@@ -62,6 +64,14 @@ impl<S: Source, A: Allocator + Copy> LineReader<S, A> {
         }
     }
 
+    /// Reads the next line: four digits, and then exactly the payload. `None` is told where the input
+    /// ends before the first digit.
+    ///
+    /// Its faults: [`BadDigits`](LineFault::BadDigits) (all four came and one is no hexadecimal digit,
+    /// of either case), [`Reserved`](LineFault::Reserved) (`0003`), [`TooLong`](LineFault::TooLong)
+    /// (`fff1` to `ffff`), [`Truncated`](LineFault::Truncated) (the input ends inside the digits or the
+    /// payload), [`Io`](LineFault::Io) (the source failed). After each of these the reader has failed:
+    /// every later call answers [`Failed`](LineFault::Failed) and reads nothing.
     pub fn next(&mut self) -> Result<Option<Line<'_>>, LineFault>
         ensures refused { IsErrOf result LineFault.Failed ↔ (self.old.failed ≡ true) }
         ensures limit { IfOk result (λ line. IfSome line (λ found. length (payload_of (packet_of found)) ≤ 65516)) }

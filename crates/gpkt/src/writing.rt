@@ -11,6 +11,11 @@ use crate::put::{digits_of, payload_len, put_line};
 use std::marker::Model;
 
 /// Writes packet lines to a sink, with lower-case digits. It takes no memory.
+///
+/// At [`Io`](WriteFault::Io) a beginning of the line stands written, and every later call answers
+/// [`Failed`](WriteFault::Failed) and writes nothing. At [`Payload`](WriteFault::Payload), which comes
+/// where the payload with its line feed has more than 65,516 bytes, nothing is written and the writer
+/// goes on as before.
 #[derive(Drop)]
 pub struct LineWriter<W> {
     sink: W,
@@ -39,7 +44,7 @@ impl<W: Sink> LineWriter<W> {
         }
     }
 
-    /// Writes one data line.
+    /// Writes one data line. An empty payload is written as `0004`, which is no flush.
     pub fn put(&mut self, payload: &[u8]) -> Result<(), WriteFault>
         ensures written { HasWritten W.contents W.is_down W.seat self.old self.new result (canonical (packets.Data payload.now)) }
         ensures too_long { IsErrOf result WriteFault.Payload ↔ ((self.old.failed ≡ false) × (65516 < length payload.now)) }
@@ -71,7 +76,7 @@ impl<W: Sink> LineWriter<W> {
         self.put_parts(first, second, b"\n")
     }
 
-    /// Writes a flush, `0000`.
+    /// Writes a flush, `0000`, which ends a message. It is never [`Payload`](WriteFault::Payload).
     pub fn flush_pkt(&mut self) -> Result<(), WriteFault>
         ensures written { HasWritten W.contents W.is_down W.seat self.old self.new result (canonical packets.Flush) }
         ensures fits { IfErr result (λ fault. fault ≢ WriteFault.Payload) }
@@ -79,7 +84,7 @@ impl<W: Sink> LineWriter<W> {
         self.put_pieces(b"0000", b"", b"", b"")
     }
 
-    /// Writes a delimiter, `0001`.
+    /// Writes a delimiter, `0001`, which separates the sections of a message.
     pub fn delim(&mut self) -> Result<(), WriteFault>
         ensures written { HasWritten W.contents W.is_down W.seat self.old self.new result (canonical packets.Delim) }
         ensures fits { IfErr result (λ fault. fault ≢ WriteFault.Payload) }
@@ -87,7 +92,7 @@ impl<W: Sink> LineWriter<W> {
         self.put_pieces(b"0001", b"", b"", b"")
     }
 
-    /// Writes a response-end, `0002`.
+    /// Writes a response-end, `0002`, which ends a response on a stateless connection.
     pub fn response_end(&mut self) -> Result<(), WriteFault>
         ensures written { HasWritten W.contents W.is_down W.seat self.old self.new result (canonical packets.ResponseEnd) }
         ensures fits { IfErr result (λ fault. fault ≢ WriteFault.Payload) }
@@ -95,7 +100,7 @@ impl<W: Sink> LineWriter<W> {
         self.put_pieces(b"0002", b"", b"", b"")
     }
 
-    /// Flushes the sink.
+    /// Flushes the sink, so that what was written is passed on.
     pub fn push(&mut self) -> Result<(), WriteFault>
         ensures { HasPushed W.contents W.is_down W.seat self.old self.new result }
     {
