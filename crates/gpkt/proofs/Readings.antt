@@ -1,18 +1,17 @@
 -- What bytes spell, and in how many ways.
-use Rattle.std.proofs.Common.{◌≡◌, ℕ, zero, suc, ◌+◌, ◌-◌, ◌*◌, ◌<◌, ◌≤◌, List, [], ◌∷◌, ◌++◌, length, take, drop, get_or, Option, Some, None, Result, Ok, Err, refl, sym, ap, ◌∙◌, subst, inl, inr, arith, append_assoc, append-nil, length-append, codes}
-use Rattle.std.specs.Prelude.{◌⊎◌, All}
+use Rattle.std.proofs.Common.{◌≡◌, ℕ, zero, suc, ◌+◌, ◌-◌, ◌<◌, ◌≤◌, List, [], ◌∷◌, ◌++◌, length, take, drop, Some, Result, Ok, Err, refl, sym, ap, ◌∙◌, subst, inl, inr, arith, append_assoc, append-nil, length-append, codes}
 use Rattle.std.specs.Int.{w16, to_be_bytes}
 use Rattle.std.proofs.lemmas.List.Elements.{All-head, All-tail}
 use lib.Seq.{take_at, drop_at}
-use Rattle.hex.specs.Hex.{decode_of, encode_lower, IsBytes}
+use Rattle.hex.specs.Hex.{decode_of, IsBytes}
 use Rattle.hex.specs.declared.error.FromHexError.{FromHexError}
 use Rattle.hex.proofs.HexLemmas.{decode_of-ok, decode_of-encode_lower}
 use Rattle.hex.proofs.OnLiterals.{hex_on_literals}
 use Rattle.gpkt.specs.declared.fault.LineFault.{LineFault}
 use Rattle.gpkt.specs.declared.fault.LineFault.TheVariants.{BadDigits, Reserved, TooLong, Truncated, Io, Failed, Memory}
 use Rattle.gpkt.specs.Packets.{Packet, Data, Flush, Delim, ResponseEnd, Spells, SpellsAll, number_in, number_of, digits_of, canonical, canonical_all, payload_of}
-use Rattle.gpkt.specs.Reading.{IsCut, NoLine}
-use Rattle.gpkt.specs.Laws.{OneReading, RefusedIsNoLine, OneFault, HasDigits, Fits, CanonicalSpells, CanonicalSpellsAll, CanonicalJoins, SpellingsJoin, SpellingsSplit, BeginsWith, OneBegins}
+use Rattle.gpkt.specs.Reading.{NoLine}
+use Rattle.gpkt.specs.Laws.{OneReading, RefusedIsNoLine, HasDigits, Fits, CanonicalSpells, CanonicalSpellsAll, CanonicalJoins, SpellingsJoin, SpellingsSplit, BeginsWith, OneBegins}
 
 -- ---- lists
 

@@ -24,9 +24,11 @@ pub(crate) enum Frame {
 fn fill<S: Source>(source: &mut S, buf: &mut [u8]) -> Result<usize, Down>
     requires { 0 < length buf.old }
     ensures bound { IfOk result (λ n. n ≤ length buf.new) }
-    ensures bytes { IfOk result (λ n. Consumes (S.remaining source.old) (S.remaining source.new) (take n buf.new)) }
+    ensures bytes { IfOk result
+        (λ n. Consumes (S.remaining source.old) (S.remaining source.new) (take n buf.new)) }
     ensures end { IfOk result (λ n. n < length buf.new → IsAtEnd (S.remaining source.new)) }
-    ensures err { OnErr result (ConsumesBelow (S.remaining source.old) (S.remaining source.new) (length buf.new)) }
+    ensures err { OnErr result
+        (ConsumesBelow (S.remaining source.old) (S.remaining source.new) (length buf.new)) }
     ensures down { S.is_down source.new ≡ is_err result }
     ensures seat { S.seat source.new ≡ S.seat source.old }
 {
@@ -95,7 +97,8 @@ fn read_head<S: Source>(source: &mut S) -> Result<Option<Frame>, LineFault>
 // Fills the payload.
 fn read_payload<S: Source>(source: &mut S, payload: &mut [u8]) -> Result<(), LineFault>
     requires { S.is_down source.old ≡ false }
-    ensures bytes { ReadsPayload (S.remaining source.old) (S.remaining source.new) result payload.new }
+    ensures bytes { ReadsPayload (S.remaining source.old) (S.remaining source.new)
+        result payload.new }
     ensures down { S.is_down source.new ≡ is_io result }
     ensures seat { S.seat source.new ≡ S.seat source.old }
 {
@@ -115,7 +118,8 @@ pub(crate) fn read_frame<S: Source>(
     buffer: &mut [u8],
 ) -> Result<Option<Frame>, LineFault>
     requires { length buffer.old ≡ 65516 }
-    ensures bytes { Reads (S.remaining source.old) (S.remaining source.new) (read_in buffer.new result) }
+    ensures bytes { Reads (S.remaining source.old) (S.remaining source.new)
+        (read_in buffer.new result) }
     ensures room { IfOk result (λ found. IfSome found (λ frame. payload_len frame ≤ 65516)) }
     ensures faults { IfErr result IsFrameFault }
     ensures down { S.is_down source.new ≡ is_io result }

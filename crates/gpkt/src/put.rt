@@ -11,7 +11,8 @@ use crate::line::MAX_PAYLOAD;
 // Writes all of the bytes, which may be none.
 fn put_all<W: Sink>(sink: &mut W, bytes: &[u8]) -> Result<(), Down>
     ensures ok { OnOk result (Appends (W.contents sink.old) (W.contents sink.new) bytes.now) }
-    ensures err { OnErr result (AppendsFront (W.contents sink.old) (W.contents sink.new) bytes.now) }
+    ensures err { OnErr result
+        (AppendsFront (W.contents sink.old) (W.contents sink.new) bytes.now) }
     ensures asked { 0 < length bytes.now → W.is_down sink.new ≡ is_err result }
     ensures up { W.is_down sink.old ≡ false → W.is_down sink.new ≡ is_err result }
     ensures seat { W.seat sink.new ≡ W.seat sink.old }
@@ -35,8 +36,10 @@ pub(crate) fn put_line<W: Sink>(
     end: &[u8],
 ) -> Result<(), Down>
     requires { 0 < length digits.now }
-    ensures ok { OnOk result (Appends (W.contents sink.old) (W.contents sink.new) (digits.now ++ (first.now ++ second.now ++ end.now))) }
-    ensures err { OnErr result (AppendsFront (W.contents sink.old) (W.contents sink.new) (digits.now ++ (first.now ++ second.now ++ end.now))) }
+    ensures ok { OnOk result
+        (Appends (W.contents sink.old) (W.contents sink.new) (digits.now ++ (first.now ++ second.now ++ end.now))) }
+    ensures err { OnErr result
+        (AppendsFront (W.contents sink.old) (W.contents sink.new) (digits.now ++ (first.now ++ second.now ++ end.now))) }
     ensures down { W.is_down sink.new ≡ is_err result }
     ensures seat { W.seat sink.new ≡ W.seat sink.old }
 {

@@ -74,9 +74,11 @@ impl<S: Source, A: Allocator + Copy> LineReader<S, A> {
     /// every later call answers [`Failed`](LineFault::Failed) and reads nothing.
     pub fn next(&mut self) -> Result<Option<Line<'_>>, LineFault>
         ensures refused { IsErrOf result LineFault.Failed ↔ (self.old.failed ≡ true) }
-        ensures limit { IfOk result (λ line. IfSome line (λ found. length (payload_of (packet_of found)) ≤ 65516)) }
+        ensures limit { IfOk result
+            (λ line. IfSome line (λ found. length (payload_of (packet_of found)) ≤ 65516)) }
         ensures faults { IfErr result IsReadFault }
-        ensures* rests { sem 𝓛 (EndsAs S.row A.row A.Allocator S.remaining S.is_down S.seat self.entry result) }
+        ensures* rests { sem 𝓛 (EndsAs S.row A.row A.Allocator S.remaining
+            S.is_down S.seat self.entry result) }
     {
         if self.failed {
             return Err(LineFault::Failed);

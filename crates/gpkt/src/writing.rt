@@ -46,39 +46,48 @@ impl<W: Sink> LineWriter<W> {
 
     /// Writes one data line. An empty payload is written as `0004`, which is no flush.
     pub fn put(&mut self, payload: &[u8]) -> Result<(), WriteFault>
-        ensures written { HasWritten W.contents W.is_down W.seat self.old self.new result (canonical (packets.Data payload.now)) }
-        ensures too_long { IsErrOf result WriteFault.Payload ↔ ((self.old.failed ≡ false) × (65516 < length payload.now)) }
+        ensures written { HasWritten W.contents W.is_down W.seat self.old self.new result
+            (canonical (packets.Data payload.now)) }
+        ensures too_long { IsErrOf result WriteFault.Payload
+            ↔ ((self.old.failed ≡ false) × (65516 < length payload.now)) }
     {
         self.put_parts(payload, b"", b"")
     }
 
     /// Writes one data line of both pieces.
     pub fn put2(&mut self, first: &[u8], second: &[u8]) -> Result<(), WriteFault>
-        ensures written { HasWritten W.contents W.is_down W.seat self.old self.new result (canonical (packets.Data (first.now ++ second.now))) }
-        ensures too_long { IsErrOf result WriteFault.Payload ↔ ((self.old.failed ≡ false) × (65516 < length (first.now ++ second.now))) }
+        ensures written { HasWritten W.contents W.is_down W.seat self.old self.new result
+            (canonical (packets.Data (first.now ++ second.now))) }
+        ensures too_long { IsErrOf result WriteFault.Payload
+            ↔ ((self.old.failed ≡ false) × (65516 < length (first.now ++ second.now))) }
     {
         self.put_parts(first, second, b"")
     }
 
     /// Writes one text line: the text and a line feed.
     pub fn text(&mut self, text: &[u8]) -> Result<(), WriteFault>
-        ensures written { HasWritten W.contents W.is_down W.seat self.old self.new result (canonical (packets.Data (text.now ++ 10 ∷ []))) }
-        ensures too_long { IsErrOf result WriteFault.Payload ↔ ((self.old.failed ≡ false) × (65516 < length (text.now ++ 10 ∷ []))) }
+        ensures written { HasWritten W.contents W.is_down W.seat self.old self.new result
+            (canonical (packets.Data (text.now ++ 10 ∷ []))) }
+        ensures too_long { IsErrOf result WriteFault.Payload
+            ↔ ((self.old.failed ≡ false) × (65516 < length (text.now ++ 10 ∷ []))) }
     {
         self.put_parts(text, b"", b"\n")
     }
 
     /// Writes one text line: both pieces and a line feed.
     pub fn text2(&mut self, first: &[u8], second: &[u8]) -> Result<(), WriteFault>
-        ensures written { HasWritten W.contents W.is_down W.seat self.old self.new result (canonical (packets.Data (first.now ++ second.now ++ 10 ∷ []))) }
-        ensures too_long { IsErrOf result WriteFault.Payload ↔ ((self.old.failed ≡ false) × (65516 < length (first.now ++ second.now ++ 10 ∷ []))) }
+        ensures written { HasWritten W.contents W.is_down W.seat self.old self.new result
+            (canonical (packets.Data (first.now ++ second.now ++ 10 ∷ []))) }
+        ensures too_long { IsErrOf result WriteFault.Payload
+            ↔ ((self.old.failed ≡ false) × (65516 < length (first.now ++ second.now ++ 10 ∷ []))) }
     {
         self.put_parts(first, second, b"\n")
     }
 
     /// Writes a flush, `0000`, which ends a message. It is never [`Payload`](WriteFault::Payload).
     pub fn flush_pkt(&mut self) -> Result<(), WriteFault>
-        ensures written { HasWritten W.contents W.is_down W.seat self.old self.new result (canonical packets.Flush) }
+        ensures written { HasWritten W.contents W.is_down W.seat self.old self.new result
+            (canonical packets.Flush) }
         ensures fits { IfErr result (λ fault. fault ≢ WriteFault.Payload) }
     {
         self.put_pieces(b"0000", b"", b"", b"")
@@ -86,7 +95,8 @@ impl<W: Sink> LineWriter<W> {
 
     /// Writes a delimiter, `0001`, which separates the sections of a message.
     pub fn delim(&mut self) -> Result<(), WriteFault>
-        ensures written { HasWritten W.contents W.is_down W.seat self.old self.new result (canonical packets.Delim) }
+        ensures written { HasWritten W.contents W.is_down W.seat self.old self.new result
+            (canonical packets.Delim) }
         ensures fits { IfErr result (λ fault. fault ≢ WriteFault.Payload) }
     {
         self.put_pieces(b"0001", b"", b"", b"")
@@ -94,7 +104,8 @@ impl<W: Sink> LineWriter<W> {
 
     /// Writes a response-end, `0002`, which ends a response on a stateless connection.
     pub fn response_end(&mut self) -> Result<(), WriteFault>
-        ensures written { HasWritten W.contents W.is_down W.seat self.old self.new result (canonical packets.ResponseEnd) }
+        ensures written { HasWritten W.contents W.is_down W.seat self.old self.new result
+            (canonical packets.ResponseEnd) }
         ensures fits { IfErr result (λ fault. fault ≢ WriteFault.Payload) }
     {
         self.put_pieces(b"0002", b"", b"", b"")
@@ -126,8 +137,10 @@ impl<W: Sink> LineWriter<W> {
 
     // Writes one data line whose payload is the three pieces.
     fn put_parts(&mut self, first: &[u8], second: &[u8], end: &[u8]) -> Result<(), WriteFault>
-        ensures written { HasWritten W.contents W.is_down W.seat self.old self.new result (canonical (packets.Data (first.now ++ second.now ++ end.now))) }
-        ensures too_long { IsErrOf result WriteFault.Payload ↔ ((self.old.failed ≡ false) × (65516 < length (first.now ++ second.now ++ end.now))) }
+        ensures written { HasWritten W.contents W.is_down W.seat self.old self.new result
+            (canonical (packets.Data (first.now ++ second.now ++ end.now))) }
+        ensures too_long { IsErrOf result WriteFault.Payload
+            ↔ ((self.old.failed ≡ false) × (65516 < length (first.now ++ second.now ++ end.now))) }
     {
         if self.failed {
             return Err(WriteFault::Failed);
@@ -147,7 +160,8 @@ impl<W: Sink> LineWriter<W> {
         end: &[u8],
     ) -> Result<(), WriteFault>
         requires { 0 < length digits.now }
-        ensures written { HasWritten W.contents W.is_down W.seat self.old self.new result (digits.now ++ (first.now ++ second.now ++ end.now)) }
+        ensures written { HasWritten W.contents W.is_down W.seat self.old self.new result
+            (digits.now ++ (first.now ++ second.now ++ end.now)) }
         ensures fits { IfErr result (λ fault. fault ≢ WriteFault.Payload) }
     {
         if self.failed {
