@@ -1,0 +1,5 @@
+pub mod Pieces
+pub mod Digits
+pub mod Steps
+pub mod Ending
+pub mod Readings

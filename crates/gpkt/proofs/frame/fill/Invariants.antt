@@ -1,0 +1,15 @@
+use Rattle.std.proofs.Common.{◌≡◌, ◌≤◌, ◌<◌, ◌-◌, false, length, take}
+use Rattle.std.specs.Io.KnownBytes.{Consumes}
+use Rattle.gpkt.proofs.frame.fill.Given as goal
+
+abbrev pub invariant-loop-at : goal.invariant-loop-at
+invariant-loop-at g l = record {
+  same_len : length l.buf ≡ length l.initial.buf;
+  within : l.at ≤ length l.buf;
+  consumed : Consumes (g.S.Source.remaining l.initial.source) (g.S.Source.remaining l.source) (take l.at l.buf);
+  asked : 0 < l.at → g.S.Source.is_down l.source ≡ false;
+  same_seat : g.S.Source.seat l.source ≡ g.S.Source.seat l.initial.source;
+}
+
+abbrev pub decreases-loop-at : goal.decreases-loop-at
+decreases-loop-at g l = length l.initial.buf - l.at

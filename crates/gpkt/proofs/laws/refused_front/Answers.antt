@@ -1,0 +1,5 @@
+use Rattle.gpkt.proofs.Readings.{refused_lem}
+use Rattle.gpkt.proofs.laws.refused_front.Goals as goal
+
+pub returns-clause-no_line : goal.returns-clause-no_line
+returns-clause-no_line c = refused_lem

@@ -1,0 +1,16 @@
+use Rattle.std.proofs.Common.{◌++◌, take, rules}
+use Rattle.std.proofs.KnownBytes.{Appends-trans}
+use Rattle.gpkt.proofs.Pieces.{split_more}
+use Rattle.gpkt.proofs.put.put_all.Goals as goal
+
+pub loop-rest-preserved : goal.loop-rest-preserved
+loop-rest-preserved g c =
+    let (done, split, appended) = c.loop-rest.invariant.written in
+    let rest = c.loop-rest.rest.now in
+    let count = c.in-Ok.count in
+    record {
+      written = (done ++ take count rest, split_more _ done rest count split, Appends-trans _ _ _ _ _ appended c.in-Ok.ensures.bytes);
+      asked = λ h. c.in-Ok.ensures.down;
+      up = λ h. c.in-Ok.ensures.down;
+      same_seat = search rules;
+    }

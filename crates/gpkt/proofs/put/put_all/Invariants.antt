@@ -1,0 +1,14 @@
+use Rattle.std.proofs.Common.{◌≡◌, ◌<◌, ℕ, List, ◌++◌, false, length}
+use Rattle.std.specs.Io.KnownBytes.{Appends}
+use Rattle.gpkt.proofs.put.put_all.Given as goal
+
+abbrev pub invariant-loop-rest : goal.invariant-loop-rest
+invariant-loop-rest g l = record {
+  written : (front : List ℕ) × (l.initial.rest ≡ front ++ l.rest) × Appends (g.W.Sink.contents l.initial.sink) (g.W.Sink.contents l.sink) front;
+  asked : length l.rest < length l.initial.rest → g.W.Sink.is_down l.sink ≡ false;
+  up : g.W.Sink.is_down l.initial.sink ≡ false → g.W.Sink.is_down l.sink ≡ false;
+  same_seat : g.W.Sink.seat l.sink ≡ g.W.Sink.seat l.initial.sink;
+}
+
+abbrev pub decreases-loop-rest : goal.decreases-loop-rest
+decreases-loop-rest g l = length l.rest

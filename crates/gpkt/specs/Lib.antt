@@ -1,0 +1,9 @@
+pub mod Packets
+pub mod Devices
+pub mod LineFault
+pub mod WriteFault
+pub mod Reading
+pub mod Frames
+pub mod Lending
+pub mod Writing
+pub mod Laws

@@ -1,0 +1,70 @@
+-- Packet lines, and how bytes spell them (gitprotocol-common(5), "pkt-line Format").
+use Rattle.std.specs.Prelude.{◌≡◌, ℕ, ◌+◌, ◌*◌, ◌≤◌, List, [], ◌∷◌, ◌++◌, length, codes, Option, Some, None, Result, Ok, Err}
+use Rattle.std.specs.Int.{w16, to_be_bytes}
+use Rattle.std.specs.Io.BufRead.{strip_last}
+use Rattle.hex.specs.Hex.{decode_of, encode_lower}
+use Rattle.hex.specs.declared.error.FromHexError.{FromHexError}
+use Rattle.gpkt.specs.declared.line.Line.{Line}
+use Rattle.gpkt.specs.declared.line.Line.TheVariants as lent
+
+-- what a line says
+pub data Packet : Type 0 where
+  Data : (payload : List ℕ) → Packet
+  Flush : Packet
+  Delim : Packet
+  ResponseEnd : Packet
+
+-- the number of two bytes, the high one first
+abbrev pub number_in : Result (List ℕ) FromHexError → Option ℕ
+number_in (Ok (high ∷ low ∷ [])) = Some (high * 256 + low)
+number_in (Ok _) = None
+number_in (Err e) = None
+
+-- the number that four hexadecimal digits of either case stand for
+unfoldable pub number_of : List ℕ → Option ℕ
+number_of digits = number_in (decode_of digits)
+
+-- the bytes spell the line: four digits, and what they announce
+abbrev pub Spells : Packet → List ℕ → Type 0
+Spells (Data payload) bytes = (digits : List ℕ) × (bytes ≡ digits ++ payload) × (number_of digits ≡ Some (length payload + 4)) × (length payload ≤ 65516)
+Spells Flush bytes = number_of bytes ≡ Some 0
+Spells Delim bytes = number_of bytes ≡ Some 1
+Spells ResponseEnd bytes = number_of bytes ≡ Some 2
+
+-- the bytes are the spellings of the lines, one after the other
+abbrev pub SpellsAll : List Packet → List ℕ → Type 0
+SpellsAll [] bytes = bytes ≡ []
+SpellsAll (line ∷ lines) bytes = (front : List ℕ) × (rest : List ℕ) × (bytes ≡ front ++ rest) × Spells line front × SpellsAll lines rest
+
+-- a number below 65,536 as four digits, with lower-case letters
+unfoldable pub digits_of : ℕ → List ℕ
+digits_of n = encode_lower (to_be_bytes w16 n)
+
+-- the spelling with lower-case digits
+abbrev pub canonical : Packet → List ℕ
+canonical (Data payload) = digits_of (length payload + 4) ++ payload
+canonical Flush = codes "0000"
+canonical Delim = codes "0001"
+canonical ResponseEnd = codes "0002"
+
+abbrev pub canonical_all : List Packet → List ℕ
+canonical_all [] = []
+canonical_all (line ∷ lines) = canonical line ++ canonical_all lines
+
+-- a line without where its payload lies in memory
+abbrev pub packet_of : Line → Packet
+packet_of (lent.Data payload) = Data payload.now
+packet_of lent.Flush = Flush
+packet_of lent.Delim = Delim
+packet_of lent.ResponseEnd = ResponseEnd
+
+-- what the line carries, which is nothing but for a data line
+abbrev pub payload_of : Packet → List ℕ
+payload_of (Data payload) = payload
+payload_of Flush = []
+payload_of Delim = []
+payload_of ResponseEnd = []
+
+-- the payload without one line feed at its very end, if there is one
+abbrev pub text : List ℕ → List ℕ
+text payload = strip_last 10 payload

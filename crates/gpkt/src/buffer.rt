@@ -1,0 +1,26 @@
+//! The buffer of a line reader.
+
+ghost use Rattle.std.specs.Prelude.{◌≡◌, IsOkUnless, vec_len};
+
+use crate::fault::LineFault;
+use crate::line::MAX_PAYLOAD;
+use std::alloc::{Allocator, Global};
+
+/// Room for one payload, made once.
+#[derive(Drop)]
+pub struct LineBuffer<A: Allocator + Copy = Global> {
+    pub(crate) bytes: Vec<u8, A>,
+    ghost whole: { vec_len bytes ≡ 65516 },
+}
+
+impl<A: Allocator + Copy> LineBuffer<A> {
+    /// Takes the memory of a buffer. Its only fault is [`LineFault::Memory`].
+    pub fn new(alloc: A) -> Result<LineBuffer<A>, LineFault>
+        ensures { IsOkUnless result LineFault.Memory }
+    {
+        match vec![in alloc; 0u8; MAX_PAYLOAD] {
+            Ok(bytes) => Ok(LineBuffer { bytes }),
+            Err(_) => Err(LineFault::Memory),
+        }
+    }
+}

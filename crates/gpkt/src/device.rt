@@ -1,0 +1,94 @@
+//! Where bytes come from and go to.
+
+ghost use Rattle.std.specs.Prelude.{◌≡◌, ℕ, ◌∷◌, List, Bool, Option, is_err};
+ghost use Rattle.std.specs.Io.{ReadsAtMost, WritesAtMost};
+ghost use Rattle.std.specs.Io.KnownBytes.{Keeps, ReadConsumes, WriteAppends};
+ghost use Rattle.gpkt.specs.Devices.{AnswersDown, TakesSome};
+
+use thiserror::Error;
+
+/// A device failed. It is down from this call on, and every later call answers the same.
+#[derive(Clone, Copy, Debug, PartialEq, Eq, Error)]
+#[error("the device failed")]
+pub struct Down;
+
+/// A device that bytes are read from.
+///
+/// Nothing is tried again: whatever kind of error comes, the source is down from then on.
+pub trait Source {
+    // The bytes still to come, where they are known.
+    ghost remaining: { Self → Option (List ℕ) };
+
+    // Whether it has failed.
+    ghost is_down: { Self → Bool };
+
+    // The names of the loans through which it is reached, the outermost first.
+    ghost seat: { Self → List ℕ };
+
+    /// Reads bytes into the front of `buf`, and answers how many. It answers none only at the end of
+    /// the input, or where `buf` has no room.
+    fn read(&mut self, buf: &mut [u8]) -> Result<usize, Down>
+        ensures bound { ReadsAtMost result buf.new }
+        ensures bytes { ReadConsumes (remaining self.old) (remaining self.new) result buf.new }
+        ensures down { is_down self.new ≡ is_err result }
+        ensures stays_down { AnswersDown (is_down self.old) result }
+        ensures seat { seat self.new ≡ seat self.old };
+}
+
+/// A device that bytes are written to.
+///
+/// Nothing is tried again: whatever kind of error comes, the sink is down from then on.
+pub trait Sink {
+    // The bytes written so far, where they are known.
+    ghost contents: { Self → Option (List ℕ) };
+
+    // Whether it has failed.
+    ghost is_down: { Self → Bool };
+
+    // The names of the loans through which it is reached, the outermost first.
+    ghost seat: { Self → List ℕ };
+
+    /// Writes bytes from the front of `buf`, and answers how many. Of some bytes it never takes none.
+    fn write(&mut self, buf: &[u8]) -> Result<usize, Down>
+        ensures bound { WritesAtMost result buf.now }
+        ensures some { TakesSome result buf.now }
+        ensures bytes { WriteAppends (contents self.old) (contents self.new) result buf.now }
+        ensures down { is_down self.new ≡ is_err result }
+        ensures stays_down { AnswersDown (is_down self.old) result }
+        ensures seat { seat self.new ≡ seat self.old };
+
+    /// Passes on what was written and is still held back.
+    fn flush(&mut self) -> Result<(), Down>
+        ensures bytes { Keeps (contents self.old) (contents self.new) }
+        ensures down { is_down self.new ≡ is_err result }
+        ensures stays_down { AnswersDown (is_down self.old) result }
+        ensures seat { seat self.new ≡ seat self.old };
+}
+
+impl<S: Source> Source for &mut S {
+    ghost remaining = { λ s. S.remaining s.now };
+
+    ghost is_down = { λ s. S.is_down s.now };
+
+    ghost seat = { λ s. s.ghost_name ∷ S.seat s.now };
+
+    fn read(&mut self, buf: &mut [u8]) -> Result<usize, Down> {
+        (**self).read(buf)
+    }
+}
+
+impl<W: Sink> Sink for &mut W {
+    ghost contents = { λ w. W.contents w.now };
+
+    ghost is_down = { λ w. W.is_down w.now };
+
+    ghost seat = { λ w. w.ghost_name ∷ W.seat w.now };
+
+    fn write(&mut self, buf: &[u8]) -> Result<usize, Down> {
+        (**self).write(buf)
+    }
+
+    fn flush(&mut self) -> Result<(), Down> {
+        (**self).flush()
+    }
+}

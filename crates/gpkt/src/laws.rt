@@ -1,0 +1,43 @@
+//! Laws of packet lines. A call does nothing, and gives its caller's proof the law.
+
+ghost use Rattle.gpkt.specs.Laws.{CanonicalJoins, CanonicalSpells, CanonicalSpellsAll, HasDigits, OneBegins, OneFault, OneReading, RefusedIsNoLine, SpellingsJoin, SpellingsSplit, TextOfLine, TextOrLine};
+
+/// At most one line is spelt at the front of some bytes, and in one way.
+pub fn one_reading()
+    ensures { OneReading }
+{}
+
+/// Where reading is refused no line is spelt, and there is one reason.
+pub fn refused_front()
+    ensures no_line { RefusedIsNoLine }
+    ensures one_fault { OneFault }
+{}
+
+/// A spelling has four bytes at least.
+pub fn has_digits()
+    ensures { HasDigits }
+{}
+
+/// What is written is a spelling of the line, and of the lines.
+pub fn canonical_spells()
+    ensures line { CanonicalSpells }
+    ensures lines { CanonicalSpellsAll }
+    ensures joins { CanonicalJoins }
+{}
+
+/// Two lists of lines are spelt one behind the other exactly where the one list of both is spelt.
+pub fn spellings_join()
+    ensures join { SpellingsJoin }
+    ensures split { SpellingsSplit }
+{}
+
+/// Of two lists of lines that are spelt at the front of the same bytes one begins the other.
+pub fn one_begins()
+    ensures { OneBegins }
+{}
+
+/// A text line gives its text back.
+pub fn text_reads_back()
+    ensures line { TextOfLine }
+    ensures nothing_else { TextOrLine }
+{}

@@ -1,0 +1,18 @@
+//! One packet line.
+
+/// The most bytes that a packet line carries behind its four digits.
+pub const MAX_PAYLOAD: usize = 65_516;
+
+/// A packet line, whose payload is lent (gitprotocol-common(5), "pkt-line Format").
+#[derive(Clone, Copy, Debug, PartialEq, Eq)]
+pub enum Line<'a> {
+    /// A data line and its payload, at most [`MAX_PAYLOAD`] bytes. A payload of no bytes, spelt
+    /// `0004`, is no flush.
+    Data(&'a [u8]),
+    /// `0000`, which ends a message.
+    Flush,
+    /// `0001`, which separates the sections of a message.
+    Delim,
+    /// `0002`, which ends a response on a stateless connection.
+    ResponseEnd,
+}

@@ -1,0 +1,288 @@
+//! Devices in memory, and what makes a device harder to use: for tests, and for callers that have
+//! their bytes at hand.
+
+ghost use Rattle.std.specs.Prelude.{◌≡◌, ◌<◌, ◌≤◌, ◌⊎◌, ◌++◌, [], false, Some, length, take, drop};
+
+use crate::device::{Down, Sink, Source};
+use std::alloc::{Allocator, Global};
+use std::marker::Model;
+
+/// A source that gives the bytes of a slice, and never fails.
+#[derive(Drop)]
+pub struct SliceSource<'a> {
+    rest: &'a [u8],
+}
+
+impl<'a> Model for SliceSource<'a> {
+    ghost use Rattle.std.specs.Prelude.{List, ℕ};
+
+    ghost Value = { List ℕ };
+
+    ghost view = { λ s. s.rest.now };
+}
+
+impl<'a> SliceSource<'a> {
+    /// A source of these bytes.
+    pub fn new(bytes: &'a [u8]) -> SliceSource<'a>
+        ensures { result ≡ bytes.now }
+    {
+        SliceSource { rest: bytes }
+    }
+
+    /// The bytes that are left.
+    pub fn rest(&self) -> &'a [u8]
+        ensures { result.now ≡ self.now }
+    {
+        self.rest
+    }
+}
+
+impl Source for SliceSource<'_> {
+    ghost remaining = { λ s. Some s };
+
+    ghost is_down = { λ _. false };
+
+    ghost seat = { λ _. [] };
+
+    fn read(&mut self, buf: &mut [u8]) -> Result<usize, Down> {
+        let rest = self.rest;
+        let count = copy_front(rest, buf);
+        self.rest = &rest[count..];
+        Ok(count)
+    }
+}
+
+// Copies as many bytes as both have, and answers how many.
+fn copy_front(from: &[u8], to: &mut [u8]) -> usize
+    ensures bound { result ≤ length from.now }
+    ensures room { result ≤ length to.old }
+    ensures some { result ≡ 0 → (length from.now ≡ 0) ⊎ (length to.old ≡ 0) }
+    ensures copied { to.new ≡ take result from.now ++ drop result to.old }
+{
+    let count = from.len().min(to.len());
+    to[..count].copy_from_slice(&from[..count]);
+    count
+}
+
+/// A sink that keeps what is written to it. It fails only where memory does.
+#[derive(Drop)]
+pub struct VecSink<A: Allocator + Copy = Global> {
+    written: Vec<u8, A>,
+    flushes: usize,
+    down: bool,
+}
+
+impl<A: Allocator + Copy> Model for VecSink<A> {
+    ghost use Rattle.gpkt.specs.Devices.{Written, written_code};
+
+    ghost Value = { Written };
+
+    ghost coded = { written_code };
+
+    ghost view = { λ s. record { bytes = s.written.items; flushes = s.flushes; down = s.down } };
+}
+
+impl<A: Allocator + Copy> VecSink<A> {
+    /// A sink that holds nothing. It takes no memory yet.
+    pub fn new(alloc: A) -> VecSink<A>
+        ensures { result ≡ record { bytes = []; flushes = 0; down = false } }
+    {
+        VecSink {
+            written: Vec::new(alloc),
+            flushes: 0,
+            down: false,
+        }
+    }
+
+    /// What was written.
+    pub fn written(&self) -> &[u8]
+        ensures { result.now ≡ self.now.bytes }
+    {
+        self.written.as_slice()
+    }
+
+    /// How often it was flushed.
+    pub fn flushes(&self) -> usize
+        ensures { result ≡ self.now.flushes }
+    {
+        self.flushes
+    }
+
+    /// What was written, as a list.
+    pub fn into_written(self) -> Vec<u8, A>
+        ensures { result.items ≡ self.bytes }
+    {
+        let VecSink {
+            written,
+            flushes: _,
+            down: _,
+        } = self;
+        written
+    }
+}
+
+impl<A: Allocator + Copy> Sink for VecSink<A> {
+    ghost contents = { λ s. Some s.bytes };
+
+    ghost is_down = { λ s. s.down };
+
+    ghost seat = { λ _. [] };
+
+    fn write(&mut self, buf: &[u8]) -> Result<usize, Down> {
+        if self.down {
+            return Err(Down);
+        }
+        match self.written.extend_from_slice(buf) {
+            Ok(()) => Ok(buf.len()),
+            Err(_) => {
+                self.down = true;
+                Err(Down)
+            }
+        }
+    }
+
+    fn flush(&mut self) -> Result<(), Down> {
+        if self.down {
+            return Err(Down);
+        }
+        self.flushes = self.flushes.saturating_add(1);
+        Ok(())
+    }
+}
+
+/// A device that moves only some bytes a call, and fails at a chosen call.
+///
+/// How many bytes, and which call, is only tested: a clause sees the device inside and whether this
+/// one has failed.
+#[derive(Drop)]
+pub struct Hindered<D> {
+    device: D,
+    most: usize,
+    calls_left: Option<usize>,
+    down: bool,
+}
+
+impl<D> Model for Hindered<D> {
+    ghost use Rattle.gpkt.specs.Devices.{Device, device_code};
+
+    ghost Value = { Device D };
+
+    ghost coded = { device_code D.code };
+
+    ghost view = { λ h. record { inner = h.device; down = h.down } };
+}
+
+impl<D> Hindered<D> {
+    /// The device with no hindrance yet.
+    pub fn new(device: D) -> Hindered<D>
+        ensures inner { result.inner ≡ device }
+        ensures down { result.down ≡ false }
+    {
+        Hindered {
+            device,
+            most: usize::MAX,
+            calls_left: None,
+            down: false,
+        }
+    }
+
+    /// Moves at most so many bytes a call, and one at least.
+    pub fn with_most(mut self, most: usize) -> Hindered<D>
+        ensures { result ≡ self }
+    {
+        self.most = most.max(1);
+        self
+    }
+
+    /// Reads or writes so often, and fails at the next read or write.
+    pub fn failing_after(mut self, calls: usize) -> Hindered<D>
+        ensures { result ≡ self }
+    {
+        self.calls_left = Some(calls);
+        self
+    }
+
+    /// The device inside, as the calls left it.
+    pub fn into_inner(self) -> D
+        ensures { result ≡ self.inner }
+    {
+        let Hindered {
+            device,
+            most: _,
+            calls_left: _,
+            down: _,
+        } = self;
+        device
+    }
+}
+
+// Counts a call, and answers whether it may go on.
+fn goes_on(calls_left: &mut Option<usize>) -> bool {
+    match *calls_left {
+        None => true,
+        Some(0) => false,
+        Some(left) => {
+            *calls_left = Some(left - 1);
+            true
+        }
+    }
+}
+
+impl<S: Source> Source for Hindered<S> {
+    ghost remaining = { λ h. S.remaining h.inner };
+
+    ghost is_down = { λ h. h.down };
+
+    ghost seat = { λ h. S.seat h.inner };
+
+    fn read(&mut self, buf: &mut [u8]) -> Result<usize, Down> {
+        if self.down || !goes_on(&mut self.calls_left) {
+            self.down = true;
+            return Err(Down);
+        }
+        let room = buf.len().min(self.most.max(1));
+        match self.device.read(&mut buf[..room]) {
+            Ok(count) => Ok(count),
+            Err(down) => {
+                self.down = true;
+                Err(down)
+            }
+        }
+    }
+}
+
+impl<W: Sink> Sink for Hindered<W> {
+    ghost contents = { λ h. W.contents h.inner };
+
+    ghost is_down = { λ h. h.down };
+
+    ghost seat = { λ h. W.seat h.inner };
+
+    fn write(&mut self, buf: &[u8]) -> Result<usize, Down> {
+        if self.down || !goes_on(&mut self.calls_left) {
+            self.down = true;
+            return Err(Down);
+        }
+        let part = buf.len().min(self.most.max(1));
+        match self.device.write(&buf[..part]) {
+            Ok(count) => Ok(count),
+            Err(down) => {
+                self.down = true;
+                Err(down)
+            }
+        }
+    }
+
+    fn flush(&mut self) -> Result<(), Down> {
+        if self.down {
+            return Err(Down);
+        }
+        match self.device.flush() {
+            Ok(()) => Ok(()),
+            Err(down) => {
+                self.down = true;
+                Err(down)
+            }
+        }
+    }
+}

@@ -1,0 +1,71 @@
+//! Bytes written whole.
+
+ghost use Rattle.std.specs.Prelude.{◌≡◌, ◌+◌, ◌<◌, ◌≤◌, ◌^◌, ◌++◌, false, true, length, is_err, MatchOption, OnErr, OnOk};
+ghost use Rattle.std.specs.Io.KnownBytes.{Appends};
+ghost use Rattle.gpkt.specs.Packets.{digits_of};
+ghost use Rattle.gpkt.specs.Writing.{AppendsFront};
+
+use crate::device::{Down, Sink};
+use crate::line::MAX_PAYLOAD;
+
+// Writes all of the bytes, which may be none.
+fn put_all<W: Sink>(sink: &mut W, bytes: &[u8]) -> Result<(), Down>
+    ensures ok { OnOk result (Appends (W.contents sink.old) (W.contents sink.new) bytes.now) }
+    ensures err { OnErr result
+        (AppendsFront (W.contents sink.old) (W.contents sink.new) bytes.now) }
+    ensures asked { 0 < length bytes.now → W.is_down sink.new ≡ is_err result }
+    ensures up { W.is_down sink.old ≡ false → W.is_down sink.new ≡ is_err result }
+    ensures seat { W.seat sink.new ≡ W.seat sink.old }
+{
+    let mut rest = bytes;
+    while !rest.is_empty() {
+        match sink.write(rest) {
+            Ok(count) => rest = &rest[count..],
+            Err(down) => return Err(down),
+        }
+    }
+    Ok(())
+}
+
+/// Writes the digits of a line and then the pieces of its payload.
+pub(crate) fn put_line<W: Sink>(
+    sink: &mut W,
+    digits: &[u8],
+    first: &[u8],
+    second: &[u8],
+    end: &[u8],
+) -> Result<(), Down>
+    requires { 0 < length digits.now }
+    ensures ok { OnOk result
+        (Appends (W.contents sink.old) (W.contents sink.new) (digits.now ++ (first.now ++ second.now ++ end.now))) }
+    ensures err { OnErr result
+        (AppendsFront (W.contents sink.old) (W.contents sink.new) (digits.now ++ (first.now ++ second.now ++ end.now))) }
+    ensures down { W.is_down sink.new ≡ is_err result }
+    ensures seat { W.seat sink.new ≡ W.seat sink.old }
+{
+    put_all(sink, digits)?;
+    put_all(sink, first)?;
+    put_all(sink, second)?;
+    put_all(sink, end)
+}
+
+/// The length of a payload in three pieces, where a line can carry it.
+pub(crate) fn payload_len(first: &[u8], second: &[u8], end: &[u8]) -> Option<usize>
+    ensures { MatchOption result
+        (65516 < length (first.now ++ second.now ++ end.now))
+        (λ len. (len ≡ length (first.now ++ second.now ++ end.now)) × (len ≤ 65516)) }
+{
+    let both = first.len().checked_add(second.len())?;
+    let len = both.checked_add(end.len())?;
+    if len > MAX_PAYLOAD { None } else { Some(len) }
+}
+
+/// Four digits, with lower-case letters.
+pub(crate) fn digits_of(announced: u16) -> [u8; 4]
+    ensures value { result ≡ digits_of announced }
+    ensures len { length result ≡ 4 }
+{
+    let mut digits = [0u8; 4];
+    hex::encode_to_slice(announced.to_be_bytes(), &mut digits).unwrap();
+    digits
+}

@@ -1,0 +1,18 @@
+//! Text lines.
+
+ghost use Rattle.std.specs.Prelude.{◌≡◌};
+ghost use Rattle.gpkt.specs.Packets.{text};
+
+/// The payload without one line feed at its very end, if there is one (gitprotocol-common(5)).
+///
+/// Only one is taken off: `a\n\n` gives `a\n`.
+pub fn text_of(payload: &[u8]) -> &[u8]
+    ensures { result.now ≡ text payload.now }
+{
+    let len = payload.len();
+    if len > 0 && payload[len - 1] == b'\n' {
+        &payload[..len - 1]
+    } else {
+        payload
+    }
+}

@@ -1,0 +1,178 @@
+//! Writing lines.
+
+ghost use Rattle.std.specs.Prelude.{◌≡◌, ◌≢◌, ◌<◌, ◌≤◌, ◌↔◌, ◌++◌, [], ◌∷◌, true, false, length, codes, IfErr, IsErrOf};
+ghost use Rattle.gpkt.specs.Packets.{canonical, Packet};
+ghost use Rattle.gpkt.specs.Packets as packets;
+ghost use Rattle.gpkt.specs.Writing.{HasWritten, HasPushed};
+
+use crate::device::Sink;
+use crate::fault::WriteFault;
+use crate::put::{digits_of, payload_len, put_line};
+use std::marker::Model;
+
+/// Writes packet lines to a sink, with lower-case digits. It takes no memory.
+///
+/// At [`Io`](WriteFault::Io) a beginning of the line stands written, and every later call answers
+/// [`Failed`](WriteFault::Failed) and writes nothing. At [`Payload`](WriteFault::Payload), which comes
+/// where the payload with its line feed has more than 65,516 bytes, nothing is written and the writer
+/// goes on as before.
+#[derive(Drop)]
+pub struct LineWriter<W> {
+    sink: W,
+    failed: bool,
+}
+
+impl<W> Model for LineWriter<W> {
+    ghost use Rattle.gpkt.specs.Writing.{Writer, writer_code};
+
+    ghost Value = { Writer W };
+
+    ghost coded = { writer_code W.code };
+
+    ghost view = { λ w. record { sink = w.sink; failed = w.failed } };
+}
+
+impl<W: Sink> LineWriter<W> {
+    /// A writer that has not failed.
+    pub fn new(sink: W) -> LineWriter<W>
+        ensures sink { result.sink ≡ sink }
+        ensures failed { result.failed ≡ false }
+    {
+        LineWriter {
+            sink,
+            failed: false,
+        }
+    }
+
+    /// Writes one data line. An empty payload is written as `0004`, which is no flush.
+    pub fn put(&mut self, payload: &[u8]) -> Result<(), WriteFault>
+        ensures written { HasWritten W.contents W.is_down W.seat self.old self.new result
+            (canonical (packets.Data payload.now)) }
+        ensures too_long { IsErrOf result WriteFault.Payload
+            ↔ ((self.old.failed ≡ false) × (65516 < length payload.now)) }
+    {
+        self.put_parts(payload, b"", b"")
+    }
+
+    /// Writes one data line of both pieces.
+    pub fn put2(&mut self, first: &[u8], second: &[u8]) -> Result<(), WriteFault>
+        ensures written { HasWritten W.contents W.is_down W.seat self.old self.new result
+            (canonical (packets.Data (first.now ++ second.now))) }
+        ensures too_long { IsErrOf result WriteFault.Payload
+            ↔ ((self.old.failed ≡ false) × (65516 < length (first.now ++ second.now))) }
+    {
+        self.put_parts(first, second, b"")
+    }
+
+    /// Writes one text line: the text and a line feed.
+    pub fn text(&mut self, text: &[u8]) -> Result<(), WriteFault>
+        ensures written { HasWritten W.contents W.is_down W.seat self.old self.new result
+            (canonical (packets.Data (text.now ++ 10 ∷ []))) }
+        ensures too_long { IsErrOf result WriteFault.Payload
+            ↔ ((self.old.failed ≡ false) × (65516 < length (text.now ++ 10 ∷ []))) }
+    {
+        self.put_parts(text, b"", b"\n")
+    }
+
+    /// Writes one text line: both pieces and a line feed.
+    pub fn text2(&mut self, first: &[u8], second: &[u8]) -> Result<(), WriteFault>
+        ensures written { HasWritten W.contents W.is_down W.seat self.old self.new result
+            (canonical (packets.Data (first.now ++ second.now ++ 10 ∷ []))) }
+        ensures too_long { IsErrOf result WriteFault.Payload
+            ↔ ((self.old.failed ≡ false) × (65516 < length (first.now ++ second.now ++ 10 ∷ []))) }
+    {
+        self.put_parts(first, second, b"\n")
+    }
+
+    /// Writes a flush, `0000`, which ends a message. It is never [`Payload`](WriteFault::Payload).
+    pub fn flush_pkt(&mut self) -> Result<(), WriteFault>
+        ensures written { HasWritten W.contents W.is_down W.seat self.old self.new result
+            (canonical packets.Flush) }
+        ensures fits { IfErr result (λ fault. fault ≢ WriteFault.Payload) }
+    {
+        self.put_pieces(b"0000", b"", b"", b"")
+    }
+
+    /// Writes a delimiter, `0001`, which separates the sections of a message.
+    pub fn delim(&mut self) -> Result<(), WriteFault>
+        ensures written { HasWritten W.contents W.is_down W.seat self.old self.new result
+            (canonical packets.Delim) }
+        ensures fits { IfErr result (λ fault. fault ≢ WriteFault.Payload) }
+    {
+        self.put_pieces(b"0001", b"", b"", b"")
+    }
+
+    /// Writes a response-end, `0002`, which ends a response on a stateless connection.
+    pub fn response_end(&mut self) -> Result<(), WriteFault>
+        ensures written { HasWritten W.contents W.is_down W.seat self.old self.new result
+            (canonical packets.ResponseEnd) }
+        ensures fits { IfErr result (λ fault. fault ≢ WriteFault.Payload) }
+    {
+        self.put_pieces(b"0002", b"", b"", b"")
+    }
+
+    /// Flushes the sink, so that what was written is passed on.
+    pub fn push(&mut self) -> Result<(), WriteFault>
+        ensures { HasPushed W.contents W.is_down W.seat self.old self.new result }
+    {
+        if self.failed {
+            return Err(WriteFault::Failed);
+        }
+        match self.sink.flush() {
+            Ok(()) => Ok(()),
+            Err(_) => {
+                self.failed = true;
+                Err(WriteFault::Io)
+            }
+        }
+    }
+
+    /// The sink, as the calls left it.
+    pub fn into_inner(self) -> W
+        ensures { result ≡ self.sink }
+    {
+        let LineWriter { sink, failed: _ } = self;
+        sink
+    }
+
+    // Writes one data line whose payload is the three pieces.
+    fn put_parts(&mut self, first: &[u8], second: &[u8], end: &[u8]) -> Result<(), WriteFault>
+        ensures written { HasWritten W.contents W.is_down W.seat self.old self.new result
+            (canonical (packets.Data (first.now ++ second.now ++ end.now))) }
+        ensures too_long { IsErrOf result WriteFault.Payload
+            ↔ ((self.old.failed ≡ false) × (65516 < length (first.now ++ second.now ++ end.now))) }
+    {
+        if self.failed {
+            return Err(WriteFault::Failed);
+        }
+        match payload_len(first, second, end) {
+            None => Err(WriteFault::Payload),
+            Some(len) => self.put_pieces(&digits_of(len as u16 + 4), first, second, end),
+        }
+    }
+
+    // Writes digits, which are there, and the pieces behind them.
+    fn put_pieces(
+        &mut self,
+        digits: &[u8],
+        first: &[u8],
+        second: &[u8],
+        end: &[u8],
+    ) -> Result<(), WriteFault>
+        requires { 0 < length digits.now }
+        ensures written { HasWritten W.contents W.is_down W.seat self.old self.new result
+            (digits.now ++ (first.now ++ second.now ++ end.now)) }
+        ensures fits { IfErr result (λ fault. fault ≢ WriteFault.Payload) }
+    {
+        if self.failed {
+            return Err(WriteFault::Failed);
+        }
+        match put_line(&mut self.sink, digits, first, second, end) {
+            Ok(()) => Ok(()),
+            Err(_) => {
+                self.failed = true;
+                Err(WriteFault::Io)
+            }
+        }
+    }
+}
