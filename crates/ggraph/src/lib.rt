@@ -1,0 +1,10 @@
+// The graph of commits and tags, refs, and the text that keeps a repository.
+#![tactic(auto)]
+
+mod fault;
+mod graph;
+mod node;
+
+pub use crate::fault::GraphFault;
+pub use crate::graph::{Graph, MAX_NODES};
+pub use crate::node::{Entry, Kind, MAX_PARENTS, Node, Parents};
