@@ -2,12 +2,16 @@
 use Rattle.std.proofs.Common.{◌≡◌, ◌≢◌, ℕ, ◌+◌, ◌*◌, ◌/◌, ◌%◌, ◌<◌, true, false, ◌⊎◌, inl, inr, List, length, take, slice_index, Result, Ok, Err, IsErrAnd, refl, sym, ap, subst, ◌∙◌, arith, rules}
 use Rattle.std.specs.List.{AllPass}
 use Rattle.std.specs.Result.{result_unwrap_or}
-use Rattle.std.proofs.lemmas.Bool.{cases_eq}
+use Rattle.std.proofs.Math.ListN.{length-take}
+use Rattle.std.proofs.lemmas.Bool.{cases_eq, cases_lt}
+use Rattle.std.proofs.lemmas.Bool.Decides.{nat_tests}
+use Rattle.std.proofs.lemmas.List.{get_or-take}
 use Rattle.hex.specs.Hex.{IsBytes, decode_of, decode_sized, encode_lower, encode_upper, is_hex_digit, lower_digits, upper_digits}
 use Rattle.hex.specs.declared.error.FromHexError.{FromHexError}
 use Rattle.hex.specs.declared.error.FromHexError.TheVariants.{InvalidHexCharacter, InvalidStringLength, OddLength}
 use Rattle.hex.proofs.HexLemmas.{decode_of-ok, decode_of-err, decode_of-encode_lower, decode_of-encode_upper, decode_sized-twice, decode_sized-other, decode_sized-odd, decode_sized-ok, length-encode_with}
 use Rattle.gname.specs.Ids.{id_length, id_text_length, IsId, IsIdText, IsFirstBadDigit, ReadsId, id_text, upper_id_text, id_fault_of}
+use Rattle.gname.specs.Laws.{IsClean}
 use Rattle.gname.specs.declared.ids.OidFault.{OidFault}
 use Rattle.gname.specs.declared.ids.OidFault.TheVariants.{Length, Digit}
 
@@ -81,3 +85,51 @@ pub ReadsId-is_err : (text : List ℕ) (e : FromHexError) (r : Result (List ℕ)
     → IsErrAnd r (λ fault. fault ≡ id_fault_of e) → ReadsId text r
 ReadsId-is_err text e (Ok id) h is = absurd is
 ReadsId-is_err text e (Err fault) h is = rw is (ReadsId-err text e (sym h))
+
+-- ---- one reading
+
+-- a text of digits has no bad one
+no_bad_digit : (text : List ℕ) (at : ℕ) → AllPass is_hex_digit text → IsFirstBadDigit text at → ⊥
+no_bad_digit text at digits bad = cc (sym (digits at 0 bad.inside) ∙ bad.bad)
+
+-- no bad digit stands before the first
+not_before : (text : List ℕ) (a b : ℕ) → IsFirstBadDigit text a → IsFirstBadDigit text b → a < b → ⊥
+not_before text a b first other low =
+    let taken = length-take b text in
+    let inside : a < length (take b text) = omega (arith, taken, first.inside, other.inside) in
+    cc (sym (other.before a 0 inside) ∙ (ap is_hex_digit (get_or-take b text a 0 low) ∙ first.bad))
+
+one_place : (text : List ℕ) (a b : ℕ) → IsFirstBadDigit text a → IsFirstBadDigit text b → a ≡ b
+one_place text a b first other =
+    elim (cases_lt a b) [
+      | inl low ↦ absurd (not_before text a b first other low)
+      | inr high ↦
+          elim (cases_lt b a) [
+            | inl low ↦ absurd (not_before text b a other first low)
+            | inr same ↦ omega arith
+          ]
+    ]
+
+-- each text has one reading
+pub ReadsId-one : (text : List ℕ) (a b : Result (List ℕ) OidFault) → ReadsId text a → ReadsId text b → a ≡ b
+ReadsId-one text (Ok a) (Ok b) h k = ap Ok (IsIdText-one text a b h.0 k.0)
+ReadsId-one text (Ok a) (Err Length) h k = absurd (k h.0.long)
+ReadsId-one text (Ok a) (Err (Digit at)) h k = absurd (no_bad_digit text at (AllPass-of_id_text text a h.0) k.1)
+ReadsId-one text (Err Length) (Ok b) h k = absurd (h k.0.long)
+ReadsId-one text (Err Length) (Err Length) h k = refl
+ReadsId-one text (Err Length) (Err (Digit at)) h k = absurd (h k.0)
+ReadsId-one text (Err (Digit at)) (Ok b) h k = absurd (no_bad_digit text at (AllPass-of_id_text text b k.0) h.1)
+ReadsId-one text (Err (Digit at)) (Err Length) h k = absurd (k h.0)
+ReadsId-one text (Err (Digit at)) (Err (Digit other)) h k = ap (λ n. Err (Digit n)) (one_place text at other h.1 k.1)
+
+-- a text that spells an id is read as that id
+pub ReadsId-of_text : (text id : List ℕ) → IsIdText text id → ReadsId text (Ok id)
+ReadsId-of_text text id h = (h, IsId-of_text text id h)
+
+-- a hexadecimal digit is above the space
+hex_digit_clean : (b : ℕ) → is_hex_digit b ≡ true → 32 < b
+hex_digit_clean b h = grind (arith, nat_tests)
+
+-- an id's text has its number of bytes, and no control character, space or LF
+pub clean-of_id_text : (text id : List ℕ) → IsIdText text id → IsClean text
+clean-of_id_text text id h k d low = hex_digit_clean _ (AllPass-of_id_text text id h k d low)

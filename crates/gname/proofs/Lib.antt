@@ -1,1 +1,3 @@
 pub mod IdLemmas
+pub mod NameLemmas
+pub mod PlaceLemmas

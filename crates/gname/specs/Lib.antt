@@ -1,3 +1,4 @@
 pub use Rattle.hex.specs.Hex
 pub mod Ids
 pub mod Names
+pub mod Laws

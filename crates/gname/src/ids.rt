@@ -12,7 +12,7 @@ use thiserror::Error;
 pub const ID_LENGTH: usize = 20;
 
 /// The number of digits of an object id's text.
-pub const ID_TEXT_LENGTH: usize = 40;
+pub const ID_TEXT_LENGTH: usize = 2 * ID_LENGTH;
 
 /// An object id: the twenty bytes of a SHA-1 name of an object. Ids are ordered by their bytes, the
 /// first byte first.

@@ -18,13 +18,18 @@
 
 mod faults;
 mod ids;
+pub mod laws;
 mod names;
 mod prefixes;
+mod rules;
+#[cfg(test)]
+mod tests;
 
 pub use crate::faults::NameFault;
 pub use crate::ids::{ID_LENGTH, ID_TEXT_LENGTH, Oid, OidFault};
 pub use crate::names::RefName;
 pub use crate::prefixes::Prefix;
+pub use crate::rules::MAX_NAME;
 
 /// The largest pack that is read or written, in bytes.
 pub const MAX_PACK: usize = 67_108_864;

@@ -1,14 +1,17 @@
 // Ref names.
 #![tactic(auto)]
 
-ghost use Rattle.std.specs.Prelude.{◌≡◌, ◌↔◌, ℕ, List, IsTrue, Some, refl};
+ghost use Rattle.std.specs.Prelude.{◌≡◌, ◌↔◌, ℕ, List, IsTrue, Some, nat_eq, refl};
+ghost use Rattle.std.specs.List.{starts_with};
 ghost use Rattle.std.specs.Ordering.{nat_cmp};
-ghost use Rattle.std.specs.Prelude.{nat_eq};
 ghost use Rattle.std.specs.Cmp as Cmp;
 ghost use Rattle.std.specs.Cmp.Lexicographic.{pointwise, slice_cmp, nat_list_eq_equiv, nat_list_cmp_total, texts_ties, texts_po};
-ghost use Rattle.gname.specs.Names.{IsRefName};
+ghost use Rattle.gname.specs.Names.{IsRefName, Owns, head_name, name_fault};
 
-use std::alloc::{Allocator, Global};
+use crate::faults::NameFault;
+use crate::prefixes::Prefix;
+use crate::rules;
+use std::alloc::{AllocError, Allocator, Global};
 use std::cmp::Ordering;
 use std::fmt;
 use std::marker::Model;
@@ -28,12 +31,49 @@ impl<A: Allocator + Copy> Model for RefName<A> {
 }
 
 impl<A: Allocator + Copy> RefName<A> {
+    /// Makes a ref name of a text, by the rules of git-check-ref-format(1): it is `HEAD` or begins
+    /// with `refs/`, and each of its parts between slashes is well-formed. Bytes from 128 on are
+    /// allowed.
+    ///
+    /// It fails with the text's first fault in the order of `NameFault`, and with `Memory` only
+    /// where a well-formed name could not be kept.
+    pub fn new(alloc: A, text: &[u8]) -> Result<RefName<A>, NameFault>
+        ensures { Owns name_fault text.now result }
+    {
+        rules::check_name(text)?;
+        let text = Vec::from_slice(alloc, text)?;
+        Ok(RefName { text })
+    }
+
+    /// Whether the name is `HEAD`, the only one that is not below `refs/`.
+    pub fn is_head(&self) -> bool
+        ensures { IsTrue result ↔ (self.now ≡ head_name) }
+    {
+        self.as_bytes() == b"HEAD".as_slice()
+    }
+
+    /// Whether the name begins with the bytes of the prefix. Each name begins with the empty one.
+    pub fn starts_with(&self, prefix: &Prefix<A>) -> bool
+        ensures { result ≡ starts_with nat_eq self.now prefix.now }
+    {
+        self.as_bytes().starts_with(prefix.as_bytes())
+    }
+
     /// The bytes of the name.
     pub fn as_bytes(&self) -> &[u8]
         ensures bytes { result.now ≡ self.now }
         ensures name { IsRefName self.now }
     {
         self.text.as_slice()
+    }
+}
+
+impl<A: Allocator + Copy> Clone for RefName<A> {
+    ghost is_clone = { λ name copy. copy ≡ name };
+
+    fn clone(&self) -> Result<RefName<A>, AllocError> {
+        let text = Vec::from_slice(*self.text.allocator(), self.text.as_slice())?;
+        Ok(RefName { text })
     }
 }
 

@@ -1,10 +1,15 @@
 // Prefixes of ref names.
 #![tactic(auto)]
 
-ghost use Rattle.std.specs.Prelude.{◌≡◌, ℕ, List};
-ghost use Rattle.gname.specs.Names.{IsPrefix};
+ghost use Rattle.std.specs.Prelude.{◌≡◌, ℕ, List, nat_eq};
+ghost use Rattle.std.specs.Cmp as Cmp;
+ghost use Rattle.std.specs.Cmp.Lexicographic.{pointwise, nat_list_eq_equiv};
+ghost use Rattle.gname.specs.Names.{IsPrefix, Owns, prefix_fault};
 
-use std::alloc::{Allocator, Global};
+use crate::faults::NameFault;
+use crate::rules;
+use std::alloc::{AllocError, Allocator, Global};
+use std::fmt;
 use std::marker::Model;
 
 /// A prefix of ref names: what a name may begin with. The empty prefix begins every name.
@@ -22,11 +27,52 @@ impl<A: Allocator + Copy> Model for Prefix<A> {
 }
 
 impl<A: Allocator + Copy> Prefix<A> {
+    /// Makes a prefix of a text. It may be empty, and need not be a name.
+    ///
+    /// It fails with `TooLong` or `BadByte`, in this order, and with `Memory` only where a
+    /// well-formed prefix could not be kept.
+    pub fn new(alloc: A, text: &[u8]) -> Result<Prefix<A>, NameFault>
+        ensures { Owns prefix_fault text.now result }
+    {
+        rules::check_prefix(text)?;
+        let text = Vec::from_slice(alloc, text)?;
+        Ok(Prefix { text })
+    }
+
     /// The bytes of the prefix.
     pub fn as_bytes(&self) -> &[u8]
         ensures bytes { result.now ≡ self.now }
         ensures prefix { IsPrefix self.now }
     {
         self.text.as_slice()
+    }
+}
+
+impl<A: Allocator + Copy> Clone for Prefix<A> {
+    ghost is_clone = { λ prefix copy. copy ≡ prefix };
+
+    fn clone(&self) -> Result<Prefix<A>, AllocError> {
+        let text = Vec::from_slice(*self.text.allocator(), self.text.as_slice())?;
+        Ok(Prefix { text })
+    }
+}
+
+impl<A: Allocator + Copy> PartialEq for Prefix<A> {
+    ghost eq = { pointwise nat_eq };
+
+    ghost laws = { Cmp.partial_equiv_from_equiv nat_list_eq_equiv };
+
+    fn eq(&self, other: &Prefix<A>) -> bool {
+        self.as_bytes() == other.as_bytes()
+    }
+}
+
+impl<A: Allocator + Copy> Eq for Prefix<A> {
+    ghost laws = { nat_list_eq_equiv };
+}
+
+impl<A: Allocator + Copy> fmt::Debug for Prefix<A> {
+    fn fmt<W: fmt::Write>(&self, f: &mut fmt::Formatter<W>) -> fmt::Result {
+        fmt::Debug::fmt(&self.as_bytes(), f)
     }
 }

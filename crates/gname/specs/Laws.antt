@@ -1,0 +1,49 @@
+-- What follows from the definitions of object ids, ref names and prefixes.
+use Rattle.std.specs.Prelude.{◌≡◌, ◌≢◌, ℕ, ◌<◌, ◌≤◌, Bool, true, false, List, length, All, Option, Some, None, MatchOption, Result, Ok}
+use Rattle.gname.specs.Ids.{IsId, IsIdText, ReadsId, id_text, upper_id_text}
+use Rattle.gname.specs.Names.{IsPrefix, IsRefName, first_place, max_name, name_fault, prefix_fault}
+use Rattle.gname.specs.declared.ids.OidFault.{OidFault}
+use Rattle.gname.specs.declared.faults.NameFault.TheVariants.{Memory}
+
+-- the text of an id spells it, in lower case and in upper case
+abbrev pub IdsHaveTexts : Type 0
+IdsHaveTexts = (id : List ℕ) → IsId id → IsIdText (id_text id) id × IsIdText (upper_id_text id) id
+
+-- a text spells one id, and each text has one reading: that id, where it spells one
+abbrev pub TextsHaveOneReading : Type 0
+TextsHaveOneReading =
+    ((text id : List ℕ) → IsIdText text id → ReadsId text (Ok id))
+    × ((text : List ℕ) (a b : Result (List ℕ) OidFault) → ReadsId text a → ReadsId text b → a ≡ b)
+
+-- the bytes of a text are above the control characters and the space: no LF, for one
+abbrev pub IsClean : List ℕ → Type 0
+IsClean text = All (λ b. 32 < b) text
+
+-- a ref name has a byte, is within the limit and is clean, and it is a prefix, too
+pub record NameFacts (text : List ℕ) : Type 0 where
+  pub some : 0 < length text
+  pub within : length text ≤ max_name
+  pub clean : IsClean text
+  pub prefix : IsPrefix text
+
+-- a prefix is within the limit and clean
+pub record PrefixFacts (text : List ℕ) : Type 0 where
+  pub within : length text ≤ max_name
+  pub clean : IsClean text
+
+abbrev pub NamesAreClean : Type 0
+NamesAreClean = (text : List ℕ) → IsRefName text → NameFacts text
+
+abbrev pub PrefixesAreClean : Type 0
+PrefixesAreClean = (text : List ℕ) → IsPrefix text → PrefixFacts text
+
+-- no rule tells of memory
+abbrev pub RulesTakeNoMemory : Type 0
+RulesTakeNoMemory = (text : List ℕ) → (name_fault text ≢ Some Memory) × (prefix_fault text ≢ Some Memory)
+
+-- the first place of a text that passes a test passes it, and no place before it does; where there is no first
+-- place, none does
+abbrev pub FirstPlacesAreFirst : Type 0
+FirstPlacesAreFirst = (test : ℕ → Bool) (text : List ℕ) →
+    MatchOption (first_place test text) ((j : ℕ) → j ≤ length text → test j ≡ false)
+    (λ at. (at ≤ length text) × (test at ≡ true) × ((j : ℕ) → j < at → test j ≡ false))

@@ -1,0 +1,153 @@
+// The rules of ref names, after git-check-ref-format(1): a function for each, and their order.
+#![tactic(auto)]
+
+ghost use Rattle.std.specs.Prelude.{◌≡◌, ◌≤◌, length, position};
+ghost use Rattle.gname.specs.Names.{Asks, name_fault, prefix_fault, empty, too_long, not_ref, is_bad_byte, bad_byte, is_bad_component, component_at, begins_bad_component, component, double_dot, at_brace, end, max_name};
+
+use crate::faults::NameFault;
+use memchr::{memchr, memmem};
+
+/// The largest number of bytes of a ref name, and of a prefix.
+pub const MAX_NAME: usize = 1_000;
+
+/// Tells the first fault of a text as a ref name.
+#[tactic(auto, unfolding(crate::specs::Names::name_fault))]
+pub(crate) fn check_name(text: &[u8]) -> Result<(), NameFault>
+    ensures { Asks name_fault text.now result }
+{
+    check_not_empty(text)?;
+    check_length(text)?;
+    check_root(text)?;
+    check_bytes(text)?;
+    check_components(text)?;
+    check_dots(text)?;
+    check_braces(text)?;
+    check_end(text)
+}
+
+/// Tells the first fault of a text as a prefix.
+#[tactic(auto, unfolding(crate::specs::Names::prefix_fault))]
+pub(crate) fn check_prefix(text: &[u8]) -> Result<(), NameFault>
+    ensures { Asks prefix_fault text.now result }
+{
+    check_length(text)?;
+    check_bytes(text)
+}
+
+#[tactic(auto, unfolding(crate::specs::Names::empty))]
+fn check_not_empty(text: &[u8]) -> Result<(), NameFault>
+    ensures { Asks empty text.now result }
+{
+    if text.is_empty() {
+        return Err(NameFault::Empty);
+    }
+    Ok(())
+}
+
+#[tactic(auto, unfolding(crate::specs::Names::too_long))]
+fn check_length(text: &[u8]) -> Result<(), NameFault>
+    ensures { Asks too_long text.now result }
+{
+    if text.len() > MAX_NAME {
+        return Err(NameFault::TooLong);
+    }
+    Ok(())
+}
+
+#[tactic(auto, unfolding(crate::specs::Names::not_ref))]
+fn check_root(text: &[u8]) -> Result<(), NameFault>
+    ensures { Asks not_ref text.now result }
+{
+    if text == b"HEAD".as_slice() || text.starts_with(b"refs/") {
+        Ok(())
+    } else {
+        Err(NameFault::NotRef)
+    }
+}
+
+#[tactic(auto, unfolding(crate::specs::Names::is_bad_byte))]
+fn is_bad_byte(byte: u8) -> bool
+    ensures { result ≡ is_bad_byte byte }
+{
+    byte < 32 || byte == 127 || b" ~^:?*[\\".contains(&byte)
+}
+
+fn first_bad_byte(text: &[u8]) -> Option<usize>
+    ensures { result ≡ position is_bad_byte text.now }
+{
+    text.iter().position(|byte| is_bad_byte(*byte))
+}
+
+#[tactic(auto, unfolding(crate::specs::Names::bad_byte))]
+fn check_bytes(text: &[u8]) -> Result<(), NameFault>
+    ensures { Asks bad_byte text.now result }
+{
+    match first_bad_byte(text) {
+        Some(at) => Err(NameFault::BadByte { at }),
+        None => Ok(()),
+    }
+}
+
+fn component_at(text: &[u8], at: usize) -> &[u8]
+    requires { at ≤ length text.now }
+    ensures { result.now ≡ component_at text.now at }
+{
+    let rest = &text[at..];
+    match memchr(b'/', rest) {
+        Some(len) => &rest[..len],
+        None => rest,
+    }
+}
+
+fn is_bad_component(component: &[u8]) -> bool
+    ensures { result ≡ is_bad_component component.now }
+{
+    component.is_empty() || component.starts_with(b".") || component.ends_with(b".lock")
+}
+
+#[tactic(auto, unfolding(crate::specs::Names::begins_bad_component))]
+fn begins_bad_component(text: &[u8], at: usize) -> bool
+    requires { at ≤ length text.now }
+    ensures { result ≡ begins_bad_component text.now at }
+{
+    (at == 0 || text[at - 1] == b'/') && is_bad_component(component_at(text, at))
+}
+
+fn check_components(text: &[u8]) -> Result<(), NameFault>
+    ensures { Asks component text.now result }
+{
+    for at in 0..=text.len() {
+        if begins_bad_component(text, at) {
+            return Err(NameFault::Component { at });
+        }
+    }
+    Ok(())
+}
+
+fn check_dots(text: &[u8]) -> Result<(), NameFault>
+    ensures { Asks double_dot text.now result }
+{
+    match memmem::find(text, b"..") {
+        Some(at) => Err(NameFault::DoubleDot { at }),
+        None => Ok(()),
+    }
+}
+
+fn check_braces(text: &[u8]) -> Result<(), NameFault>
+    ensures { Asks at_brace text.now result }
+{
+    match memmem::find(text, b"@{") {
+        Some(at) => Err(NameFault::AtBrace { at }),
+        None => Ok(()),
+    }
+}
+
+#[tactic(auto, unfolding(crate::specs::Names::end))]
+fn check_end(text: &[u8]) -> Result<(), NameFault>
+    ensures { Asks end text.now result }
+{
+    if text.ends_with(b".") {
+        return Err(NameFault::End);
+    }
+    Ok(())
+}

@@ -1,0 +1,3 @@
+// Examples from outside the proofs.
+mod ids;
+mod names;
