@@ -3,8 +3,12 @@
 
 mod fault;
 mod graph;
+mod head;
 mod node;
+mod refs;
 
 pub use crate::fault::GraphFault;
 pub use crate::graph::{Graph, MAX_NODES};
+pub use crate::head::{Head, Target};
 pub use crate::node::{Entry, Kind, MAX_PARENTS, Node, Parents};
+pub use crate::refs::{MAX_REFS, Refs};
