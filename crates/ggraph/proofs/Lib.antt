@@ -1,3 +1,4 @@
-pub mod NodeLemmas
-pub mod RefLemmas
 pub mod NameLemmas
+pub mod NodeLemmas
+pub mod PeelLemmas
+pub mod RefLemmas

@@ -1,4 +1,5 @@
 pub mod Faults
 pub mod Graphs
+pub mod Peeling
 pub mod RefLists
 pub mod RefPlaces

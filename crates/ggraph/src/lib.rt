@@ -5,6 +5,7 @@ mod fault;
 mod graph;
 mod head;
 mod node;
+mod peel;
 mod refs;
 
 pub use crate::fault::GraphFault;
