@@ -2,3 +2,4 @@ pub mod NameLemmas
 pub mod NodeLemmas
 pub mod PeelLemmas
 pub mod RefLemmas
+pub mod TextLemmas

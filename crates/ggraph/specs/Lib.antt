@@ -3,3 +3,5 @@ pub mod Graphs
 pub mod Peeling
 pub mod RefLists
 pub mod RefPlaces
+pub mod RepositoryText
+pub mod TextParts

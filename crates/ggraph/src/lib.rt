@@ -7,9 +7,11 @@ mod head;
 mod node;
 mod peel;
 mod refs;
+mod text;
 
 pub use crate::fault::GraphFault;
 pub use crate::graph::{Graph, MAX_NODES};
 pub use crate::head::{Head, Target};
 pub use crate::node::{Entry, Kind, MAX_PARENTS, Node, Parents};
 pub use crate::refs::{MAX_REFS, Refs};
+pub use crate::text::Order;
