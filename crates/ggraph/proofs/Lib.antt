@@ -3,3 +3,4 @@ pub mod NodeLemmas
 pub mod PeelLemmas
 pub mod RefLemmas
 pub mod TextLemmas
+pub mod GraphLemmas

@@ -1,11 +1,11 @@
 -- Refs in order: what a search finds, and what an edit at that place does.
-use Rattle.std.proofs.Common.{◌≡◌, ◌≢◌, ℕ, zero, suc, ◌+◌, ◌<◌, ◌≤◌, List, [], ◌∷◌, ◌++◌, length, get_or, set, Bool, true, false, cond, Option, Some, None, Result, Ok, Err, MatchResult, refl, sym, ◌∙◌, ap, subst, arith, take, drop}
+use Rattle.std.proofs.Common.{◌≡◌, ◌≢◌, ℕ, zero, suc, ◌+◌, ◌<◌, ◌≤◌, List, [], ◌∷◌, ◌++◌, length, get_or, set, Bool, true, false, cond, Option, Some, None, Result, Ok, Err, MatchResult, refl, sym, ◌∙◌, ap, subst, arith, take, drop, ◌-◌}
 use Rattle.std.specs.Str.{bytes_eq}
-use Rattle.std.specs.List.{AllByRecursion, AllWithin, insert, find}
+use Rattle.std.specs.List.{AllByRecursion, AllWithin, insert, find, slice_get}
 use Rattle.std.specs.List.Sorted.{IsStrictlySortedBy, IsNonDecreasingBy, IsBinarySearchResult, IsSearchInRange}
 use Rattle.std.specs.Map.{keys_of}
 use Rattle.std.specs.Option.{option_map}
-use Rattle.std.specs.Ordering.{nat_cmp, is_eq, ordering_reverse, ordering_index}
+use Rattle.std.specs.Ordering.{nat_cmp, is_eq, is_lt, ordering_reverse, ordering_index}
 use Rattle.std.specs.declared.cmp.Ordering.{Ordering}
 use Rattle.std.specs.declared.cmp.Ordering.TheVariants.{Less, Equal, Greater}
 use Rattle.std.specs.Cmp.Lexicographic.{slice_cmp}
@@ -14,10 +14,10 @@ use Rattle.std.proofs.lemmas.Map.Text.{is_eq-slice_cmp}
 use Rattle.std.proofs.lemmas.Map.Lookups.{exact_bytes}
 use Rattle.std.proofs.lemmas.Map.Keys.{sorted_head, sorted_tail}
 use Rattle.std.proofs.lemmas.Slice.Eq.{bytes_eq-Decides}
-use Rattle.std.proofs.lemmas.List.Elements.{All-append, All-take, All-drop, All-cons, All-set, All-nil}
+use Rattle.std.proofs.lemmas.List.Elements.{All-append, All-take, All-drop, All-cons, All-set, All-nil, All-push}
 use Rattle.std.proofs.lemmas.List.Edits.{length-insert}
-use Rattle.std.proofs.lemmas.List.{length-set}
-use Rattle.ggraph.specs.RefLists.{RefList, has_name, ref_at, IsBelowRefs, IsRefs, SetsRef, max_refs}
+use Rattle.std.proofs.lemmas.List.{length-set, length-append}
+use Rattle.ggraph.specs.RefLists.{RefList, has_name, ref_at, AreBelow, IsBelowRefs, IsRefs, SetsRef, max_refs}
 use Rattle.ggraph.specs.RefPlaces.{IsFound, IsGap}
 
 abbrev pub order : List ℕ → List ℕ → Ordering
@@ -248,3 +248,59 @@ searched name refs sorted (Err place) inside parted =
 
 pub refs_none : IsRefs []
 refs_none = record { names = All-nil (λ (ref : List ℕ × List ℕ). IsBelowRefs ref.0); ascending = sorted_none; few = omega arith }
+
+-- ---- a ref behind all others
+
+all_push : (P : List ℕ → Type 0) (refs : RefList) (ref : List ℕ × List ℕ) → AllByRecursion P (keys_of refs) → P ref.0 → AllByRecursion P (keys_of (refs ++ ref ∷ []))
+all_push P [] ref all this = (this, tt)
+all_push P (first ∷ refs) ref all this = (all.0, all_push P refs ref all.1 this)
+
+sorted_push : (refs : RefList) (ref : List ℕ × List ℕ) → IsStrictlySortedBy order (keys_of refs) → AreBelow refs ref.0 → IsStrictlySortedBy order (keys_of (refs ++ ref ∷ []))
+sorted_push [] ref sorted below = sorted_cons ref.0 [] tt sorted_none
+sorted_push (first ∷ refs) ref sorted below =
+    sorted_cons first.0 (keys_of (refs ++ ref ∷ []))
+    (all_push (λ y. order first.0 y ≡ Less) refs ref (sorted_head order first.0 (keys_of refs) sorted) below.0)
+    (sorted_push refs ref (sorted_tail order first.0 (keys_of refs) sorted) below.1)
+
+pub refs_push : (refs : RefList) (ref : List ℕ × List ℕ) → IsRefs refs → IsBelowRefs ref.0 → AreBelow refs ref.0 → length refs < max_refs → IsRefs (refs ++ ref ∷ [])
+refs_push refs ref valid name below room = record {
+  names = All-push (λ (r : List ℕ × List ℕ). IsBelowRefs r.0) refs ref valid.names name;
+  ascending = sorted_push refs ref valid.ascending below;
+  few = omega (arith, length-append refs (ref ∷ []));
+}
+
+tail_last : (ref second : List ℕ × List ℕ) (refs : RefList) (last : List ℕ × List ℕ) → slice_get (ref ∷ (second ∷ refs)) (length (ref ∷ (second ∷ refs)) - 1) ≡ Some last → slice_get (second ∷ refs) (length (second ∷ refs) - 1) ≡ Some last
+tail_last ref second refs last here =
+    let e : suc (suc (length refs)) - 1 ≡ suc (suc (length refs) - 1) = omega arith in
+    subst (λ n. slice_get (ref ∷ (second ∷ refs)) n ≡ Some last) e here
+
+-- all are below a name where the last one is
+last_below : (refs : RefList) (last : List ℕ × List ℕ) (name : List ℕ) → slice_get refs (length refs - 1) ≡ Some last → IsStrictlySortedBy order (keys_of refs) → order last.0 name ≡ Less → AreBelow refs name
+last_below [] last name here sorted below = tt
+last_below (ref ∷ []) last name here sorted below = (subst (λ (r : List ℕ × List ℕ). order r.0 name ≡ Less) (sym (some_same ref last here)) below, tt)
+    where
+    some_same : {X : Type 0} → (x y : X) → Some x ≡ Some y → x ≡ y
+    some_same x y h = cc
+last_below (ref ∷ (second ∷ refs)) last name here sorted below =
+    let rest = last_below (second ∷ refs) last name (tail_last ref second refs last here) (sorted_tail order ref.0 (keys_of (second ∷ refs)) sorted) below in
+    let next = (sorted_head order ref.0 (keys_of (second ∷ refs)) sorted).0 in
+    (nat_list_cmp_total.trans ref.0 second.0 name next rest.0, rest)
+
+below_last : (refs : RefList) (last : List ℕ × List ℕ) (name : List ℕ) → slice_get refs (length refs - 1) ≡ Some last → AreBelow refs name → order last.0 name ≡ Less
+below_last [] last name here below = cc
+below_last (ref ∷ []) last name here below = let same : ref ≡ last = (let h = here in cc) in subst (λ (r : List ℕ × List ℕ). order r.0 name ≡ Less) same below.0
+below_last (ref ∷ (second ∷ refs)) last name here below = below_last (second ∷ refs) last name (tail_last ref second refs last here) below.1
+
+pub all_below : (refs : RefList) (last : List ℕ × List ℕ) (name : List ℕ) → slice_get refs (length refs - 1) ≡ Some last → IsRefs refs → (order last.0 name ≡ Less → AreBelow refs name) × (AreBelow refs name → order last.0 name ≡ Less)
+all_below refs last name here valid = (last_below refs last name here valid.ascending, below_last refs last name here)
+
+lower_less : (o : Ordering) → is_lt o ≡ true → o ≡ Less
+lower_less Less h = refl
+lower_less Equal h = cc
+lower_less Greater h = cc
+
+-- what the comparison of the last name with another says
+pub last_decides : (refs : RefList) (last : List ℕ × List ℕ) (name : List ℕ) (r : Bool) → slice_get refs (length refs - 1) ≡ Some last → IsRefs refs → r ≡ is_lt (order last.0 name) → (r ≡ true → AreBelow refs name) × (AreBelow refs name → r ≡ true)
+last_decides refs last name r here valid e =
+    let both = all_below refs last name here valid in
+    (λ yes_lower. both.0 (lower_less (order last.0 name) (sym e ∙ yes_lower)), λ below. e ∙ ap is_lt (both.1 below))

@@ -2,7 +2,8 @@
 -- (git-check-ref-format(1), git-show-ref(1)).
 use Rattle.std.specs.Prelude.{◌≡◌, ◌≢◌, ◌⊎◌, ℕ, ◌≤◌, true, Bool, List, length, find, All, codes, nat_eq, Option, Some, None}
 use Rattle.std.specs.Str.{bytes_eq}
-use Rattle.std.specs.List.{starts_with}
+use Rattle.std.specs.List.{AllByRecursion, starts_with}
+use Rattle.std.specs.declared.cmp.Ordering.TheVariants.{Less}
 use Rattle.std.specs.List.Sorted.{IsStrictlySortedBy}
 use Rattle.std.specs.Map.{keys_of}
 use Rattle.std.specs.Ordering.{nat_cmp}
@@ -26,6 +27,10 @@ ref_at refs name = option_map (λ ref. ref.1) (find (has_name name) refs)
 pub record IsBelowRefs (name : List ℕ) : Type 0 where
   pub well_formed : IsRefName name
   pub below : starts_with nat_eq name (codes "refs/") ≡ true
+
+-- every name of the refs is below the name
+abbrev pub AreBelow : RefList → List ℕ → Type 0
+AreBelow refs name = AllByRecursion (λ other. slice_cmp nat_cmp other name ≡ Less) (keys_of refs)
 
 -- the most refs beside HEAD
 abbrev pub max_refs : ℕ

@@ -1,11 +1,6 @@
 -- The text that keeps a repository: a first line, a line a node in store order, a line a ref in name order, a line
 -- for HEAD and a last line, each ended by LF. Ids are written in lower case.
 use Rattle.std.specs.Prelude.{◌≡◌, ⊤, ℕ, ◌<◌, ◌≤◌, List, [], ◌∷◌, ◌++◌, length, map, All, codes, None}
-use Rattle.std.specs.List.{AllByRecursion}
-use Rattle.std.specs.Map.{keys_of}
-use Rattle.std.specs.Ordering.{nat_cmp}
-use Rattle.std.specs.declared.cmp.Ordering.TheVariants.{Less}
-use Rattle.std.specs.Cmp.Lexicographic.{slice_cmp}
 use Rattle.gname.specs.Ids.{IsId, id_text}
 use Rattle.ggraph.specs.declared.node.Kind.{Kind}
 use Rattle.ggraph.specs.declared.node.Kind.TheVariants.{Commit, Tag}
@@ -15,7 +10,7 @@ use Rattle.ggraph.specs.declared.head.Head.TheVariants.{Id, Symref}
 use Rattle.ggraph.specs.declared.text.Order.{Order}
 use Rattle.ggraph.specs.declared.text.Order.TheVariants.{Any, ParentsFirst}
 use Rattle.ggraph.specs.Graphs.{Holds, IsShaped, IdsDiffer, node_at, max_nodes}
-use Rattle.ggraph.specs.RefLists.{RefList, IsBelowRefs, max_refs}
+use Rattle.ggraph.specs.RefLists.{RefList, AreBelow, IsBelowRefs, max_refs}
 
 -- ---- lines
 
@@ -88,10 +83,6 @@ pub record MayFollow {A : Type 0} (order : Order) (g : List (Entry A)) (entry : 
   pub shaped : IsShaped entry.node
   pub room : length g < max_nodes
   pub after : ComesAfter order g entry
-
--- every name of the refs is below the name
-abbrev pub AreBelow : RefList → List ℕ → Type 0
-AreBelow refs name = AllByRecursion (λ other. slice_cmp nat_cmp other name ≡ Less) (keys_of refs)
 
 -- a ref may come next
 pub record RefMayFollow (refs : RefList) (ref : List ℕ × List ℕ) : Type 0 where

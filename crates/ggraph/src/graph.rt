@@ -1,13 +1,13 @@
 // The graph in the order in which its objects first came.
 #![tactic(auto)]
 
-ghost use Rattle.std.specs.Prelude.{◌≡◌, [], length, is_some, IsTrue, ◌↔◌, slice_get, MatchOption, ◌≤◌};
+ghost use Rattle.std.specs.Prelude.{◌≡◌, [], length, is_some, IsTrue, ◌↔◌, slice_get, MatchOption, OnOk, OnErr, None, ◌≤◌, ◌<◌, ◌++◌, ◌∷◌};
 ghost use Rattle.std.specs.Option.{option_copied, option_map};
-ghost use Rattle.ggraph.specs.Graphs.{IsGraph, Holds, node_at, place_of, entry_of};
+ghost use Rattle.ggraph.specs.Graphs.{IsGraph, Holds, IsShaped, entry_of, max_nodes, node_at, place_of};
 
 use crate::node::{Entry, Node};
 use gname::Oid;
-use std::alloc::{Allocator, Global};
+use std::alloc::{AllocError, Allocator, Global};
 use std::marker::Model;
 
 /// The most nodes that a graph has.
@@ -39,6 +39,18 @@ impl<A: Allocator + Copy> Graph<A> {
         Graph {
             entries: Vec::new(alloc),
         }
+    }
+
+    /// Adds an entry behind the others. Where there is no memory the graph stays as it was.
+    pub(crate) fn push(&mut self, entry: Entry<A>) -> Result<(), AllocError>
+        requires new { node_at self.old entry.id ≡ None }
+        requires shaped { IsShaped entry.node }
+        requires room { length self.old < max_nodes }
+        ensures ok { OnOk result (self.new ≡ self.old ++ entry ∷ []) }
+        ensures err { OnErr result (self.new ≡ self.old) }
+    {
+        self.entries.push(entry)?;
+        Ok(())
     }
 
     /// The entries in store order.

@@ -74,6 +74,8 @@ pub struct Node<A: Allocator + Copy = Global> {
 }
 
 impl<A: Allocator + Copy> Node<A> {
+    ghost use Rattle.ggraph.specs.Graphs.{IsShaped};
+
     /// A node like this one. It fails where there is no memory.
     pub fn copy_in(&self, alloc: A) -> Result<Node<A>, AllocError>
         ensures { IfOk result (λ node. node ≡ self.now) }
@@ -83,6 +85,17 @@ impl<A: Allocator + Copy> Node<A> {
             kind: self.kind,
             parents,
         })
+    }
+
+    /// Whether the node has no more than `MAX_PARENTS` parents, and exactly one where it is a tag.
+    pub fn is_shaped(&self) -> bool
+        ensures { IsTrue result ↔ IsShaped self.now }
+    {
+        let count = self.parents.as_slice().len();
+        match self.kind {
+            Kind::Commit => count <= MAX_PARENTS,
+            Kind::Tag => count == 1,
+        }
     }
 
     /// Whether two nodes are of one kind and have the same parents in the same order.

@@ -1,13 +1,13 @@
 // Refs, and what HEAD stands at.
 #![tactic(auto)]
 
-ghost use Rattle.std.specs.Prelude.{◌≡◌, ◌≤◌, ◌↔◌, [], length, IsTrue, IsErrOf, OnOk, OnErr, IfErr, ◌⊎◌, MatchOption, MatchResult, slice_get};
-ghost use Rattle.ggraph.specs.RefLists.{IsRefs, SetsRef, CannotSet, ref_at};
+ghost use Rattle.std.specs.Prelude.{◌≡◌, ◌≤◌, ◌↔◌, [], length, IsTrue, IsErrOf, OnOk, OnErr, IfErr, ◌⊎◌, MatchOption, MatchResult, slice_get, ◌<◌, ◌++◌, ◌∷◌};
+ghost use Rattle.ggraph.specs.RefLists.{AreBelow, CannotSet, IsBelowRefs, IsRefs, SetsRef, max_refs, ref_at};
 ghost use Rattle.ggraph.specs.RefPlaces.{IsFound, IsGap};
 
 use crate::fault::GraphFault;
 use gname::{Oid, RefName};
-use std::alloc::{Allocator, Global};
+use std::alloc::{AllocError, Allocator, Global};
 use std::marker::Model;
 
 /// The most refs beside HEAD.
@@ -78,6 +78,28 @@ impl<A: Allocator + Copy> Refs<A> {
     {
         let pair = self.refs.get(place)?;
         Some((&pair.0, pair.1))
+    }
+
+    /// Whether the name is above every name of the refs.
+    pub(crate) fn are_below(&self, name: &RefName<A>) -> bool
+        ensures { IsTrue result ↔ AreBelow self.now name.now }
+    {
+        match self.refs.last() {
+            Some(last) => last.0 < *name,
+            None => true,
+        }
+    }
+
+    /// Adds a ref behind the others. Where there is no memory the refs stay as they were.
+    pub(crate) fn push(&mut self, name: RefName<A>, id: Oid) -> Result<(), AllocError>
+        requires name { IsBelowRefs name }
+        requires above { AreBelow self.old name }
+        requires room { length self.old < max_refs }
+        ensures ok { OnOk result (self.new ≡ self.old ++ (name, id) ∷ []) }
+        ensures err { OnErr result (self.new ≡ self.old) }
+    {
+        self.refs.push((name, id))?;
+        Ok(())
     }
 
     /// Puts a name at an id.

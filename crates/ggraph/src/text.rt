@@ -3,6 +3,7 @@
 
 mod lines;
 mod parts;
+mod reading;
 
 /// Which order of nodes a text may have.
 #[derive(Clone, Copy, Debug, PartialEq, Eq)]
