@@ -4,3 +4,4 @@ pub mod PeelLemmas
 pub mod RefLemmas
 pub mod TextLemmas
 pub mod GraphLemmas
+pub mod ReadingLemmas

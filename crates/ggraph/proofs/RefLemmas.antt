@@ -278,7 +278,7 @@ tail_last ref second refs last here =
 last_below : (refs : RefList) (last : List ℕ × List ℕ) (name : List ℕ) → slice_get refs (length refs - 1) ≡ Some last → IsStrictlySortedBy order (keys_of refs) → order last.0 name ≡ Less → AreBelow refs name
 last_below [] last name here sorted below = tt
 last_below (ref ∷ []) last name here sorted below = (subst (λ (r : List ℕ × List ℕ). order r.0 name ≡ Less) (sym (some_same ref last here)) below, tt)
-    where
+  where
     some_same : {X : Type 0} → (x y : X) → Some x ≡ Some y → x ≡ y
     some_same x y h = cc
 last_below (ref ∷ (second ∷ refs)) last name here sorted below =

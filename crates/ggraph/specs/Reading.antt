@@ -3,6 +3,7 @@ use Rattle.std.specs.Prelude.{◌≡◌, ◌⊎◌, ⊤, ℕ, List, [], ◌∷�
 use Rattle.gname.specs.Ids.{IsId}
 use Rattle.ggraph.specs.declared.node.Entry.{Entry}
 use Rattle.ggraph.specs.declared.head.Head.{Head}
+use Rattle.ggraph.specs.declared.head.Head.TheVariants.{None}
 use Rattle.ggraph.specs.declared.fault.GraphFault.{GraphFault}
 use Rattle.ggraph.specs.declared.fault.GraphFault.TheVariants.{Memory, Text, ParentLater}
 use Rattle.ggraph.specs.declared.text.Order.{Order}
@@ -29,6 +30,10 @@ line_of (node entry) = node_line entry
 line_of (ref it) = ref_line it
 line_of (heads head) = head_line head
 line_of ends = last_line
+
+-- before the first line
+abbrev pub nothing_read : {A : Type 0} → Reading A
+nothing_read = record { stage = First; graph = []; refs = []; head = None }
 
 -- a ref or HEAD may come
 abbrev pub TakesRefs : Stage → Type 0
