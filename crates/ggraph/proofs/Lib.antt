@@ -5,3 +5,4 @@ pub mod RefLemmas
 pub mod TextLemmas
 pub mod GraphLemmas
 pub mod ReadingLemmas
+pub mod LoadLemmas

@@ -2,8 +2,15 @@
 #![tactic(auto)]
 
 mod lines;
+mod loading;
 mod parts;
 mod reading;
+
+use crate::graph::Graph;
+use crate::head::Head;
+use crate::refs::Refs;
+pub use crate::text::loading::load;
+use std::alloc::{Allocator, Global};
 
 /// Which order of nodes a text may have.
 #[derive(Clone, Copy, Debug, PartialEq, Eq)]
@@ -12,4 +19,12 @@ pub enum Order {
     Any,
     /// Each parent of a node is on an earlier line.
     ParentsFirst,
+}
+
+/// What a text keeps: the commits and tags, the refs, and what HEAD stands at.
+#[derive(Debug, Drop)]
+pub struct Repository<A: Allocator + Copy = Global> {
+    pub graph: Graph<A>,
+    pub refs: Refs<A>,
+    pub head: Head<A>,
 }
