@@ -6,3 +6,4 @@ pub mod TextLemmas
 pub mod GraphLemmas
 pub mod ReadingLemmas
 pub mod LoadLemmas
+pub mod SaveLemmas

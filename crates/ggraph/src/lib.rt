@@ -14,4 +14,4 @@ pub use crate::graph::{Graph, MAX_NODES};
 pub use crate::head::{Head, Target};
 pub use crate::node::{Entry, Kind, MAX_PARENTS, Node, Parents};
 pub use crate::refs::{MAX_REFS, Refs};
-pub use crate::text::{Order, Repository, load};
+pub use crate::text::{Order, Repository, load, save};

@@ -5,11 +5,13 @@ mod lines;
 mod loading;
 mod parts;
 mod reading;
+mod saving;
 
 use crate::graph::Graph;
 use crate::head::Head;
 use crate::refs::Refs;
 pub use crate::text::loading::load;
+pub use crate::text::saving::save;
 use std::alloc::{Allocator, Global};
 
 /// Which order of nodes a text may have.
