@@ -1,0 +1,91 @@
+-- Reading a text, one line more.
+use Rattle.std.specs.Prelude.{◌==◌}
+use Rattle.std.proofs.lemmas.Bool.Decides.{nat_tests}
+use Rattle.std.proofs.Common.{true, ◌≡◌, ◌≢◌, ◌⊎◌, inl, inr, ℕ, ◌+◌, ◌≤◌, List, [], ◌∷◌, ◌++◌, length, map, codes, refl, sym, ◌∙◌, ap, subst, arith}
+use Rattle.std.proofs.lemmas.List.{append_assoc, append-nil, length-append}
+use Rattle.ggraph.specs.declared.fault.GraphFault.{GraphFault}
+use Rattle.ggraph.specs.declared.fault.GraphFault.TheVariants as faults
+use Rattle.ggraph.specs.declared.text.Order.{Order}
+use Rattle.ggraph.specs.declared.text.reading.Stage.TheVariants.{Done}
+use Rattle.ggraph.specs.declared.text.reading.Stage.{Stage}
+use Rattle.ggraph.specs.declared.text.reading.Reading.{Reading}
+use Rattle.ggraph.specs.RepositoryText.{text_of}
+use Rattle.ggraph.specs.Reading.{EndsEarly, HasNoLf, HasRead, Item, MayCome, NextRefused, ReadsTo, Refuses, StopsAt, Takes, after, items_text, line_of, nothing_read}
+
+pub reads_more : {A : Type 0} (order : Order) (old mid new : Reading A) (items : List (Item A)) (item : Item A) → ReadsTo order old items mid → MayCome order mid item → new ≡ after mid item → ReadsTo order old (items ++ item ∷ []) new
+reads_more {A} order old mid new [] item here may e = (subst (λ (r : Reading A). MayCome order r item) here may, e ∙ ap (λ (r : Reading A). after r item) here)
+reads_more order old mid new (first ∷ items) item (may_first, rest) may e = (may_first, reads_more order (after old first) mid new items item rest may e)
+
+pub text_of-append : (lines more : List (List ℕ)) → text_of (lines ++ more) ≡ text_of lines ++ text_of more
+text_of-append [] more = refl
+text_of-append (line ∷ lines) more =
+    ap (λ (t : List ℕ). line ++ (codes "\n" ++ t)) (text_of-append lines more)
+    ∙ sym (append_assoc line (codes "\n" ++ text_of lines) (text_of more))
+
+map_more : {A : Type 0} (items : List (Item A)) (item : Item A) → map line_of (items ++ item ∷ []) ≡ map line_of items ++ line_of item ∷ []
+map_more [] item = refl
+map_more (first ∷ items) item = ap (λ (ls : List (List ℕ)). line_of first ∷ ls) (map_more items item)
+
+items_text_more : {A : Type 0} (items : List (Item A)) (item : Item A) → items_text (items ++ item ∷ []) ≡ items_text items ++ (line_of item ++ codes "\n")
+items_text_more items item = ap text_of (map_more items item) ∙ text_of-append (map line_of items) (line_of item ∷ [])
+
+pub has_read_none : {A : Type 0} (order : Order) (text : List ℕ) → HasRead {A = A} order text [] text nothing_read
+has_read_none order text = record { spells = refl; reads = refl }
+
+pub has_read_more : {A : Type 0} (order : Order) (text : List ℕ) (items : List (Item A)) (rest line behind : List ℕ) (old new : Reading A) → HasRead order text items rest old → rest ≡ line ++ (codes "\n" ++ behind) → (item : Item A) → line ≡ line_of item → MayCome order old item → new ≡ after old item → HasRead order text (items ++ item ∷ []) behind new
+has_read_more order text items rest line behind old new so_far next item is may e = record {
+  spells =
+      so_far.spells ∙ ap (λ (t : List ℕ). items_text items ++ t) (next ∙ ap (λ (l : List ℕ). l ++ (codes "\n" ++ behind)) is)
+      ∙ ap (λ (t : List ℕ). items_text items ++ t) (sym (append_assoc (line_of item) (codes "\n") behind))
+      ∙ sym (append_assoc (items_text items) (line_of item ++ codes "\n") behind)
+      ∙ ap (λ (t : List ℕ). t ++ behind) (sym (items_text_more items item));
+  reads = reads_more order nothing_read old new items item so_far.reads may e;
+}
+
+-- what is read so far, and which line comes next
+abbrev pub Progress : {A : Type 0} → Order → List ℕ → List ℕ → Reading A → ℕ → Type 0
+Progress {A} order text rest reading number =
+    (items : List (Item A)) × HasRead order text items rest reading × (number ≡ length items + 1) × (number + length rest ≤ length text + 1)
+
+pub progress_more : {A : Type 0} (order : Order) (text rest line behind : List ℕ) (old new : Reading A) (number : ℕ) → Progress order text rest old number → rest ≡ line ++ (codes "\n" ++ behind) → Takes order old line new → Progress order text behind new (number + 1)
+progress_more order text rest line behind old new number (items, so_far, counted, small) next (item, is, may, e) = (
+  items ++ item ∷ [],
+  has_read_more order text items rest line behind old new so_far next item is may e,
+  omega (arith, length-append items (item ∷ [])),
+  omega (arith, ap length next, length-append line (codes "\n" ++ behind)),
+)
+
+pub stops_refused : {A : Type 0} (order : Order) (text rest line behind : List ℕ) (old : Reading A) (number : ℕ) (fault : GraphFault) → Progress order text rest old number → rest ≡ line ++ (codes "\n" ++ behind) → HasNoLf line → Refuses order old line number fault → StopsAt A order text fault
+stops_refused order text rest line behind old number faults.Memory progress next clean refuses = tt
+stops_refused order text rest line behind old number (faults.Text at) (items, so_far, counted, small) next clean refuses =
+    (items, rest, old, so_far, inl (line, behind, next, clean, (refuses.0 ∙ counted, refuses.1)))
+stops_refused order text rest line behind old number (faults.ParentLater at) (items, so_far, counted, small) next clean refuses =
+    (items, rest, old, so_far, inl (line, behind, next, clean, (refuses.0 ∙ counted, refuses.1, refuses.2, refuses.3, refuses.4, refuses.5)))
+stops_refused order text rest line behind old number (faults.Conflict id) progress next clean refuses = absurd refuses
+stops_refused order text rest line behind old number faults.TooMany progress next clean refuses = absurd refuses
+stops_refused order text rest line behind old number faults.TooManyParents progress next clean refuses = absurd refuses
+stops_refused order text rest line behind old number faults.TagShape progress next clean refuses = absurd refuses
+stops_refused order text rest line behind old number faults.Refs progress next clean refuses = absurd refuses
+
+pub stops_early : {A : Type 0} (order : Order) (text rest : List ℕ) (old : Reading A) (number : ℕ) → Progress order text rest old number → HasNoLf rest → (rest ≡ [] → old.stage ≡ Done → ⊥) → StopsAt A order text (faults.Text number)
+stops_early order text rest old number (items, so_far, counted, small) clean early =
+    (items, rest, old, so_far, inr (ap faults.Text counted, clean, early))
+
+empty_one : (rest : List ℕ) → true ≡ (length rest == 0) → rest ≡ []
+empty_one [] e = refl
+empty_one (x ∷ xs) e = absurd (grind (arith, nat_tests))
+
+done_same : {A : Type 0} (old : Reading A) → old.stage ≡ Done → old ≡ record { stage = Done; graph = old.graph; refs = old.refs; head = old.head }
+done_same {A} old here =
+    let at_stage : Stage → Reading A = λ s. record { stage = s; graph = old.graph; refs = old.refs; head = old.head } in
+    ap at_stage here
+
+pub progress_done : {A : Type 0} (order : Order) (text rest : List ℕ) (old : Reading A) (number : ℕ) → Progress order text rest old number → true ≡ (length rest == 0) → old.stage ≡ Done → (items : List (Item A)) × HasRead order text items [] (record { stage = Done; graph = old.graph; refs = old.refs; head = old.head })
+progress_done {A} order text rest old number (items, so_far, counted, small) empty here =
+    let none = empty_one rest empty in (
+      items,
+      record {
+        spells = so_far.spells ∙ ap (λ (t : List ℕ). items_text items ++ t) none;
+        reads = subst (λ (r : Reading A). ReadsTo order nothing_read items r) (done_same old here) so_far.reads;
+      },
+    )

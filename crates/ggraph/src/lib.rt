@@ -1,0 +1,17 @@
+// The graph of commits and tags, refs, and the text that keeps a repository.
+#![tactic(auto)]
+
+mod fault;
+mod graph;
+mod head;
+mod node;
+mod peel;
+mod refs;
+mod text;
+
+pub use crate::fault::GraphFault;
+pub use crate::graph::{Graph, MAX_NODES};
+pub use crate::head::{Head, Target};
+pub use crate::node::{Entry, Kind, MAX_PARENTS, Node, Parents};
+pub use crate::refs::{MAX_REFS, Refs};
+pub use crate::text::{Order, Repository, load, save};

@@ -1,0 +1,58 @@
+// Loading a repository text.
+#![tactic(auto)]
+
+ghost use Rattle.std.specs.Prelude.{◌≡◌, ◌++◌, MatchOption, IfOk, IfErr, List, [], codes};
+ghost use Rattle.ggraph.specs.Reading.{HasNoLf, HasRead, Item, StopsAt};
+ghost use Rattle.ggraph.specs.Loading.{finished};
+
+use crate::fault::GraphFault;
+use crate::graph::Graph;
+use crate::head::Head;
+use crate::refs::Refs;
+use crate::text::reading::{Reading, Stage};
+use crate::text::{Order, Repository};
+use memchr::memchr;
+use std::alloc::Allocator;
+
+/// Reads the text that keeps a repository.
+///
+/// It fails with `Text` at the first line that is not as the format says, at a line past a limit, or
+/// where the text ends early, and under `Order::ParentsFirst` with `ParentLater` at the first line
+/// that names a parent which is on no earlier line; of both with the one at the earlier line, and at
+/// one line with `Text`. `Memory` may come at any line.
+pub fn load<A: Allocator + Copy>(
+    alloc: A,
+    text: &[u8],
+    order: Order,
+) -> Result<Repository<A>, GraphFault>
+    ensures ok { IfOk result (λ it. (items : List (Item A)) × HasRead order text.now items [] (finished it)) }
+    ensures refused { IfErr result (StopsAt A order text.now) }
+{
+    let mut reading = Reading::new(alloc);
+    let mut rest = text;
+    let mut number = 1;
+    while let Some(pair) = split_line(rest) {
+        reading.take(alloc, order, pair.0, number)?;
+        rest = pair.1;
+        number += 1;
+    }
+    if !rest.is_empty() || reading.stage != Stage::Done {
+        return Err(GraphFault::Text { line: number });
+    }
+    Ok(Repository {
+        graph: reading.graph,
+        refs: reading.refs,
+        head: reading.head,
+    })
+}
+
+// The first line, without its LF, and what is behind the LF.
+fn split_line(text: &[u8]) -> Option<(&[u8], &[u8])>
+    ensures { MatchOption result (HasNoLf text.now) (λ pair.
+        (text.now ≡ pair.0.now ++ (codes "\n" ++ pair.1.now)) × HasNoLf pair.0.now) }
+{
+    match memchr(b'\n', text) {
+        Some(end) => Some((&text[..end], &text[end + 1..])),
+        None => None,
+    }
+}
