@@ -1,0 +1,78 @@
+-- Writes one after the other.
+use Rattle.std.proofs.Common.{◌≡◌, ◌≢◌, ℕ, ◌<◌, ◌≤◌, Bool, true, false, List, [], ◌∷◌, ◌++◌, length, Option, Some, None, Result, Ok, Err, refl, sym, ap, ◌∙◌, append_assoc, arith, length-append, subst}
+use Rattle.std.proofs.lemmas.Bool.{false≢true}
+use Rattle.std.specs.Result.{IfErr}
+use Rattle.std.proofs.KnownBytes.{Appends-trans}
+use Rattle.gpkt.specs.Writing.{Writer, HasWritten, AppendsFront}
+use Rattle.gpkt.specs.declared.fault.WriteFault.{WriteFault}
+use Rattle.gpkt.specs.declared.fault.WriteFault.TheVariants.{Failed, Payload, Io}
+
+abbrev pub IsNoPayload : Result (Unit {0}) WriteFault → Type 0
+IsNoPayload (Ok done) = Unit {0}
+IsNoPayload (Err Payload) = ⊥
+IsNoPayload (Err Io) = Unit {0}
+IsNoPayload (Err Failed) = Unit {0}
+
+pub no_payload : (fault : WriteFault) → fault ≢ Payload → IsNoPayload (Err fault)
+no_payload Failed other = tt
+no_payload Payload other = other refl
+no_payload Io other = tt
+
+pub no_payload_if : (result : Result (Unit {0}) WriteFault) → IfErr result (λ fault. fault ≢ Payload) → IsNoPayload result
+no_payload_if (Ok done) other = tt
+no_payload_if (Err fault) other = no_payload fault other
+
+module _ {W : Type 0} (contents : W → Option (List ℕ)) (is_down : W → Bool) (seat : W → List ℕ) where
+  -- what is written behind what was written
+  pub written_then : (a b c : Writer W) (xs ys : List ℕ) (result : Result (Unit {0}) WriteFault) → HasWritten contents is_down seat a b (Ok tt) xs → HasWritten contents is_down seat b c result ys
+      → IsNoPayload result → HasWritten contents is_down seat a c result (xs ++ ys)
+  written_then a b c xs ys (Ok done) first second _ = record {
+    outcome = ((first.outcome.0.0, second.outcome.0.1, second.outcome.0.2), Appends-trans _ _ _ xs ys first.outcome.1 second.outcome.1);
+    seat = second.seat ∙ first.seat;
+  }
+  written_then a b c xs ys (Err Io) first second _ = record {
+    outcome = (
+      (first.outcome.0.0, second.outcome.0.1, second.outcome.0.2),
+      (
+        xs ++ second.outcome.1.0,
+        second.outcome.1.1,
+        ap (λ zs. xs ++ zs) second.outcome.1.2 ∙ sym (append_assoc xs second.outcome.1.0 second.outcome.1.1),
+        second.outcome.1.3,
+        Appends-trans _ _ _ xs second.outcome.1.0 first.outcome.1 second.outcome.1.4,
+      ),
+    );
+    seat = second.seat ∙ first.seat;
+  }
+  written_then a b c xs ys (Err Payload) first second fits = absurd fits
+  written_then a b c xs ys (Err Failed) first second _ = absurd (false≢true (sym first.outcome.0.1 ∙ second.outcome.0))
+
+  -- a write that failed was one of more bytes, too
+  pub failed_of_more : (a b : Writer W) (xs more : List ℕ) (fault : WriteFault) → HasWritten contents is_down seat a b (Err fault) xs → IsNoPayload (Err fault) → HasWritten contents is_down seat a b (Err fault) (xs ++ more)
+  failed_of_more a b xs more Io h _ = record {
+    outcome = (
+      h.outcome.0,
+      (
+        h.outcome.1.0,
+        h.outcome.1.1 ++ more,
+        ap (λ zs. zs ++ more) h.outcome.1.2 ∙ append_assoc h.outcome.1.0 h.outcome.1.1 more,
+        omega (arith, length-append h.outcome.1.1 more, h.outcome.1.3),
+        h.outcome.1.4,
+      ),
+    );
+    seat = h.seat;
+  }
+  failed_of_more a b xs more Payload h fits = absurd fits
+  failed_of_more a b xs more Failed h _ = record { outcome = h.outcome; seat = h.seat; }
+
+  -- a writer from which any write is one of all of it, behind these bytes
+  pub record IsBehind (start now : Writer W) (bytes : List ℕ) : Type 0 where
+    pub joins : (new : Writer W) (result : Result (Unit {0}) WriteFault) (more : List ℕ) → HasWritten contents is_down seat now new result more → IsNoPayload result → HasWritten contents is_down seat start new result (bytes ++ more)
+
+  pub IsBehind-nil : (start : Writer W) → IsBehind start start []
+  IsBehind-nil start = record { joins = λ new result more h fits. h }
+
+  pub IsBehind-push : (start now next : Writer W) (bytes more : List ℕ) → IsBehind start now bytes → HasWritten contents is_down seat now next (Ok tt) more → IsBehind start next (bytes ++ more)
+  IsBehind-push start now next bytes more behind wrote = record {
+    joins = λ new result ys h fits.
+      rw append_assoc (behind.joins new result (more ++ ys) (written_then now next new more ys result wrote h fits) fits);
+  }

@@ -1,0 +1,76 @@
+-- The repository that is served: what its text names, with each ref, and HEAD as an id, at an object that
+-- is there.
+use Rattle.std.specs.Prelude.{◌≡◌, ℕ, ◌<◌, ◌⊎◌, ⊤, List, [], length, take, All, Some, slice_get, Result, Ok, Err}
+use Rattle.std.specs.declared.alloc.AllocError.{AllocError}
+use Rattle.gname.specs.Names.{head_name}
+use Rattle.ggraph.specs.Graphs.{Holds}
+use Rattle.ggraph.specs.RefLists.{RefList}
+use Rattle.ggraph.specs.Reading.{Item, HasRead, StopsAt}
+use Rattle.ggraph.specs.Loading.{finished}
+use Rattle.ggraph.specs.declared.node.Entry.{Entry}
+use Rattle.ggraph.specs.declared.head.Head.{Head}
+use Rattle.ggraph.specs.declared.head.Head.TheVariants as head
+use Rattle.ggraph.specs.declared.text.Repository.{Repository}
+use Rattle.ggraph.specs.declared.text.Order.TheVariants.{ParentsFirst}
+use Rattle.ggraph.specs.declared.fault.GraphFault.{GraphFault}
+use Rattle.ggraph.specs.declared.fault.GraphFault.TheVariants as load
+use Rattle.gcmd.specs.declared.repository.RepoFault.{RepoFault}
+use Rattle.gcmd.specs.declared.repository.RepoFault.TheVariants.{Text, ParentLater, RefMissing, Memory}
+
+abbrev pub repo_fault_code : {A : Type 0} → RepoFault A → ℕ
+repo_fault_code (Text line) = 67
+repo_fault_code (ParentLater line) = 68
+repo_fault_code (RefMissing name) = 71
+repo_fault_code Memory = 64
+
+-- the text names this, line by line, with parents before their children
+abbrev pub Names : {A : Type 0} → List ℕ → Repository A → Type 0
+Names {A} text repo = (items : List (Item A)) × HasRead ParentsFirst text items [] (finished repo)
+
+-- each ref stands at an object that is there
+abbrev pub HoldsRefs : {A : Type 0} → List (Entry A) → RefList → Type 0
+HoldsRefs graph refs = All (λ ref. Holds graph ref.1) refs
+
+-- HEAD, where it is an id, does
+abbrev pub HoldsHead : {A : Type 0} → List (Entry A) → Head A → Type 0
+HoldsHead graph head.None = ⊤
+HoldsHead graph (head.Id id) = Holds graph id
+HoldsHead graph (head.Symref target) = ⊤
+
+-- the ref of this name is the first that does not
+pub record IsFirstMissing {A : Type 0} (graph : List (Entry A)) (refs : RefList) (name : List ℕ) : Type 0 where
+  pub place : ℕ
+  pub id : List ℕ
+  pub there : slice_get refs place ≡ Some (name, id)
+  pub before : HoldsRefs graph (take place refs)
+  pub missing : Holds graph id → ⊥
+
+-- the first ref that does not is this, or all refs do and HEAD does not
+abbrev pub MissesRef : {A : Type 0} → Repository A → List ℕ → Type 0
+MissesRef repo name =
+    IsFirstMissing repo.graph repo.refs name
+    ⊎ ((name ≡ head_name) × HoldsRefs repo.graph repo.refs × (HoldsHead repo.graph repo.head → ⊥))
+
+-- why a repository is refused whose text is right
+abbrev pub RefusesRefs : {A : Type 0} → Repository A → RepoFault A → Type 0
+RefusesRefs repo (RefMissing name) = MissesRef repo name
+RefusesRefs repo Memory = ⊤
+RefusesRefs repo (Text line) = ⊥
+RefusesRefs repo (ParentLater line) = ⊥
+
+-- why a text is refused; want of memory may come at any text
+abbrev pub RefusesText : {A : Type 0} → List ℕ → RepoFault A → Type 0
+RefusesText {A} text (Text line) = StopsAt A ParentsFirst text (load.Text line)
+RefusesText {A} text (ParentLater line) = StopsAt A ParentsFirst text (load.ParentLater line)
+RefusesText {A} text (RefMissing name) = (repo : Repository A) × Names text repo × MissesRef repo name
+RefusesText text Memory = ⊤
+
+-- the fault for each fault of loading; others than these do not come
+abbrev pub IsTextFault : {A : Type 0} → GraphFault → RepoFault A → Type 0
+IsTextFault (load.Text line) fault = fault ≡ Text line
+IsTextFault (load.ParentLater line) fault = fault ≡ ParentLater line
+IsTextFault _ fault = fault ≡ Memory
+
+abbrev pub missing_fault : {A : Type 0} → Result (List ℕ) AllocError → RepoFault A
+missing_fault (Ok name) = RefMissing name
+missing_fault (Err e) = Memory

@@ -1,0 +1,207 @@
+//! One request for ls-refs, read and answered.
+
+ghost use Rattle.std.specs.Prelude.{◌≡◌, IfErr};
+ghost use Rattle.gcmd.specs.Sending.{HasSent};
+ghost use Rattle.gcmd.specs.Reply.{reply_bytes};
+ghost use Rattle.gcmd.specs.Exchange.{ls_fault_code, err_text, why_text, line_text, err_bytes, IsAnswered, IsRefusal, IsDue, Exchanges, TellsSource, TellsSink, IsLate, TakesRequest, Replies, Refuses};
+
+use crate::answer::ls_refs;
+use crate::fault::{MessageFault, Why};
+use crate::reply::{RefLine, write_ls_reply};
+use crate::repository::RepoFile;
+use crate::request::{LsRefs, Request, read_request};
+use gpkt::{LineBuffer, LineFault, LineReader, LineWriter, Sink, Source, WriteFault};
+use std::alloc::Allocator;
+use thiserror::Error;
+
+/// Why a request got no answer.
+#[derive(Debug, Drop, Error)]
+pub enum LsFault {
+    /// 28: no memory for the buffer of the reader. Nothing was read.
+    #[error("out of memory")]
+    Buffer,
+    /// 20 to 54: the request was refused.
+    #[error("{0}")]
+    Reading(MessageFault),
+    /// 64: no memory for the answer.
+    #[error("out of memory")]
+    Memory,
+}
+
+impl LsFault {
+    /// The fault's number.
+    pub fn code(&self) -> u32
+        ensures { result ≡ ls_fault_code self.now }
+    {
+        match self {
+            LsFault::Buffer => 28,
+            LsFault::Reading(fault) => fault.why.code(),
+            LsFault::Memory => 64,
+        }
+    }
+
+    /// What the peer is told.
+    pub fn err_text(&self) -> &'static [u8]
+        ensures { result.now ≡ err_text self.now }
+    {
+        match self {
+            LsFault::Buffer | LsFault::Memory => b"upload-pack: out of memory",
+            LsFault::Reading(fault) => why_text(&fault.why),
+        }
+    }
+}
+
+fn why_text(why: &Why) -> &'static [u8]
+    ensures { result.now ≡ why_text why.now }
+{
+    match why {
+        Why::Line(fault) => line_text(*fault),
+        Why::UnexpectedFrame => b"upload-pack: unexpected packet",
+        Why::BadText => b"upload-pack: bad line",
+        Why::UnknownCommand => b"upload-pack: unknown command",
+        Why::UnknownCapability => b"upload-pack: unknown capability",
+        Why::UnknownArgument => b"upload-pack: unknown argument",
+        Why::BadName => b"upload-pack: bad ref name",
+        Why::Limit => b"upload-pack: limit exceeded",
+        Why::RemoteErr(_) => b"upload-pack: peer reported an error",
+        Why::Format => b"upload-pack: object format mismatch",
+        Why::Memory => b"upload-pack: out of memory",
+        Why::Ended => b"upload-pack: unexpected end",
+    }
+}
+
+fn line_text(fault: LineFault) -> &'static [u8]
+    ensures { result.now ≡ line_text fault }
+{
+    match fault {
+        LineFault::BadDigits | LineFault::Reserved | LineFault::TooLong => {
+            b"upload-pack: bad packet line"
+        }
+        LineFault::Truncated => b"upload-pack: unexpected end",
+        LineFault::Io | LineFault::Failed => b"upload-pack: read failed",
+        LineFault::Memory => b"upload-pack: out of memory",
+    }
+}
+
+/// How an exchange ended.
+#[derive(Debug, Drop)]
+pub enum LsEnd {
+    /// The answer is written and flushed.
+    Answered,
+    /// The request was a lone flush; nothing is written.
+    Closed,
+    /// There was no input; nothing is written.
+    Ended,
+    /// The line that tells of the fault is written and flushed.
+    Refused(LsFault),
+    /// The sink failed; a beginning of what was to be written stands.
+    WriteFailed,
+}
+
+/// Reads one request and writes what answers it (gitprotocol-v2(5), "ls-refs"). Nothing behind the
+/// request's last packet is read.
+pub fn ls_once<S: Source, W: Sink, A: Allocator + Copy>(
+    alloc: A,
+    repo: &RepoFile<A>,
+    source: &mut S,
+    sink: &mut W,
+) -> LsEnd
+    ensures exchange { Exchanges repo.now.graph repo.now.refs repo.now.head
+        (S.remaining source.old) (S.remaining source.new) (W.contents sink.old) (W.contents sink.new) result }
+    ensures source { TellsSource (S.is_down source.new) result }
+    ensures sink { TellsSink (W.is_down sink.new) result }
+    ensures late { IsLate result }
+    ensures source_seat { S.seat source.new ≡ S.seat source.old }
+    ensures sink_seat { W.seat sink.new ≡ W.seat sink.old }
+{
+    match take_request(alloc, source) {
+        Ok(None) => LsEnd::Ended,
+        Ok(Some(Request::Empty)) => LsEnd::Closed,
+        Ok(Some(Request::Ls(asked))) => answer(alloc, repo, &asked, sink),
+        Err(fault) => refuse(fault, sink),
+    }
+}
+
+// Reads the request.
+fn take_request<S: Source, A: Allocator + Copy>(
+    alloc: A,
+    source: &mut S,
+) -> Result<Option<Request<A>>, LsFault>
+    ensures read { TakesRequest (S.remaining source.old) (S.remaining source.new) result }
+    ensures device { IfErr result (λ fault. TellsSource (S.is_down source.new) (LsEnd.Refused fault)) }
+    ensures late { IfErr result (λ fault. IsLate (LsEnd.Refused fault)) }
+    ensures seat { S.seat source.new ≡ S.seat source.old }
+{
+    let buffer = match LineBuffer::new(alloc) {
+        Ok(buffer) => buffer,
+        Err(_) => return Err(LsFault::Buffer),
+    };
+    let mut reader = LineReader::with_buffer(buffer, source);
+    let request = read_request(alloc, &mut reader);
+    let _source = reader.into_inner();
+    match request {
+        Ok(request) => Ok(request),
+        Err(fault) => Err(LsFault::Reading(fault)),
+    }
+}
+
+// Writes what ls-refs answers.
+fn answer<W: Sink, A: Allocator + Copy>(
+    alloc: A,
+    repo: &RepoFile<A>,
+    asked: &LsRefs<A>,
+    sink: &mut W,
+) -> LsEnd
+    ensures replies { Replies repo.now.graph repo.now.refs repo.now.head asked.now (W.contents sink.old) (W.contents sink.new) (W.is_down sink.new) result }
+    ensures seat { W.seat sink.new ≡ W.seat sink.old }
+{
+    let lines = match ls_refs(alloc, &repo.graph, &repo.refs, &repo.head, asked) {
+        Ok(lines) => lines,
+        Err(_) => return refuse(LsFault::Memory, sink),
+    };
+    match send_reply(lines.as_slice(), sink) {
+        Ok(()) => LsEnd::Answered,
+        Err(_) => LsEnd::WriteFailed,
+    }
+}
+
+fn send_reply<W: Sink, A: Allocator + Copy>(
+    lines: &[RefLine<A>],
+    sink: &mut W,
+) -> Result<(), WriteFault>
+    ensures sent { HasSent (W.contents sink.old) (W.contents sink.new) (W.is_down sink.new) result (reply_bytes lines.now) }
+    ensures seat { W.seat sink.new ≡ W.seat sink.old }
+{
+    let mut writer = LineWriter::new(sink);
+    let sent = match write_ls_reply(lines, &mut writer) {
+        Ok(()) => writer.push(),
+        Err(fault) => Err(fault),
+    };
+    let _sink = writer.into_inner();
+    sent
+}
+
+// Tells the peer of the refusal.
+fn refuse<W: Sink>(fault: LsFault, sink: &mut W) -> LsEnd
+    ensures refused { Refuses fault (W.contents sink.old) (W.contents sink.new) (W.is_down sink.new) result }
+    ensures seat { W.seat sink.new ≡ W.seat sink.old }
+{
+    match send_err(&fault, sink) {
+        Ok(()) => LsEnd::Refused(fault),
+        Err(_) => LsEnd::WriteFailed,
+    }
+}
+
+#[tactic(auto, unfolding(crate::specs::Exchange::err_bytes))]
+fn send_err<W: Sink>(fault: &LsFault, sink: &mut W) -> Result<(), WriteFault>
+    ensures sent { HasSent (W.contents sink.old) (W.contents sink.new) (W.is_down sink.new) result (err_bytes fault.now) }
+    ensures seat { W.seat sink.new ≡ W.seat sink.old }
+{
+    let mut writer = LineWriter::new(sink);
+    let sent = match writer.text2(b"ERR ", fault.err_text()) {
+        Ok(()) => writer.push(),
+        Err(fault) => Err(fault),
+    };
+    let _sink = writer.into_inner();
+    sent
+}

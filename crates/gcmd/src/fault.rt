@@ -1,0 +1,127 @@
+//! Why a message is refused, and at which of its packets.
+
+ghost use Rattle.std.specs.Prelude.{◌≡◌, ◌≤◌, length};
+ghost use Rattle.gcmd.specs.Faults.{why_code, kept_text};
+
+use arrayvec::ArrayVec;
+use gpkt::{LineFault, text_of};
+use std::fmt;
+use std::marker::Model;
+use thiserror::Error;
+
+/// The most bytes of a peer's error that are kept.
+const MAX_PEER_TEXT: usize = 256;
+
+/// The text of a peer's error, of which the first 256 bytes are kept.
+#[derive(Drop)]
+pub struct PeerText {
+    text: ArrayVec<u8, 256>,
+}
+
+impl Model for PeerText {
+    ghost use Rattle.std.specs.Prelude.{List, ℕ};
+
+    ghost Value = { List ℕ };
+
+    ghost view = { λ t. t.text.items };
+}
+
+impl PeerText {
+    /// Keeps the text of an `ERR` line, given what follows the word: one line feed at its end is left
+    /// out, and then all behind the first 256 bytes. Takes no memory.
+    pub fn new(text: &[u8]) -> PeerText
+        ensures { result ≡ kept_text text.now }
+    {
+        let line = text_of(text);
+        let kept = &line[..line.len().min(MAX_PEER_TEXT)];
+        let mut text = ArrayVec::new();
+        for byte in kept {
+            text.push(*byte);
+        }
+        PeerText { text }
+    }
+
+    /// The bytes, at most 256.
+    pub fn as_bytes(&self) -> &[u8]
+        ensures { result.now ≡ self.now }
+    {
+        self.text.as_slice()
+    }
+}
+
+impl fmt::Debug for PeerText {
+    fn fmt<W: fmt::Write>(&self, f: &mut fmt::Formatter<W>) -> fmt::Result {
+        write!(f, "PeerText")
+    }
+}
+
+/// Why a packet, or the end of the input in its place, is no part of the message.
+#[derive(Debug, Drop, Error)]
+pub enum Why {
+    /// 20 to 25: the packet line itself was refused.
+    #[error("{0}")]
+    Line(LineFault),
+    /// 41: a flush, delimiter or response-end where the grammar has none.
+    #[error("unexpected packet")]
+    UnexpectedFrame,
+    /// 42: a text that no case of the grammar has.
+    #[error("bad line")]
+    BadText,
+    /// 43: a command that is not served.
+    #[error("unknown command")]
+    UnknownCommand,
+    /// 44: a capability that is not served.
+    #[error("unknown capability")]
+    UnknownCapability,
+    /// 45: an argument that the command does not have.
+    #[error("unknown argument")]
+    UnknownArgument,
+    /// 47: a prefix of ref names that is none.
+    #[error("bad ref name")]
+    BadName,
+    /// 48: one more than the most that is taken.
+    #[error("limit exceeded")]
+    Limit,
+    /// 49: the peer reported an error.
+    #[error("peer reported an error")]
+    RemoteErr(PeerText),
+    /// 52: another object format.
+    #[error("object format mismatch")]
+    Format,
+    /// 53: no memory for what the packet brings.
+    #[error("out of memory")]
+    Memory,
+    /// 54: the input ends where a packet of the message is due.
+    #[error("unexpected end")]
+    Ended,
+}
+
+impl Why {
+    /// The fault's number.
+    pub fn code(&self) -> u32
+        ensures { result ≡ why_code self.now }
+    {
+        match self {
+            Why::Line(fault) => fault.code(),
+            Why::UnexpectedFrame => 41,
+            Why::BadText => 42,
+            Why::UnknownCommand => 43,
+            Why::UnknownCapability => 44,
+            Why::UnknownArgument => 45,
+            Why::BadName => 47,
+            Why::Limit => 48,
+            Why::RemoteErr(_) => 49,
+            Why::Format => 52,
+            Why::Memory => 53,
+            Why::Ended => 54,
+        }
+    }
+}
+
+/// A message that was refused: at which of its packets, from 0, and why.
+#[derive(Debug, Drop, Error)]
+#[error("packet {frame}: {why}")]
+pub struct MessageFault {
+    pub frame: u64,
+    pub why: Why,
+}

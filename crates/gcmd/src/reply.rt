@@ -1,0 +1,123 @@
+//! The reply to ls-refs (gitprotocol-v2(5), "ls-refs").
+
+ghost use Rattle.std.specs.Prelude.{◌≡◌, ◌≢◌, ◌+◌, ◌≤◌, ◌++◌, length, IfErr};
+ghost use Rattle.std.specs.Option.{option_copied};
+ghost use Rattle.gname.specs.Ids.{id_text};
+ghost use Rattle.gpkt.specs.Writing.{HasWritten};
+ghost use Rattle.gpkt.specs.Packets.{canonical};
+ghost use Rattle.gcmd.specs.Reply.{line_packet, ref_line, symref_text, peeled_text, reply_bytes};
+
+use arrayvec::ArrayVec;
+use gname::{Oid, RefName};
+use gpkt::{LineWriter, Sink, WriteFault};
+use std::alloc::Allocator;
+
+/// The most bytes of a line's text: two ids, two names, and the words between them.
+const MAX_REF_LINE: usize = 2_104;
+
+/// A ref in the reply to ls-refs.
+#[derive(Debug, Drop)]
+pub struct RefLine<A: Allocator + Copy> {
+    pub id: Oid,
+    pub name: RefName<A>,
+    /// The name that a symbolic ref points at.
+    pub symref: Option<RefName<A>>,
+    /// The object to which a tag leads.
+    pub peeled: Option<Oid>,
+}
+
+/// Writes the reply: a text line for each ref, and a flush. It takes no memory.
+///
+/// It fails with `Io` where the sink fails, and then a beginning of the reply stands written; with
+/// `Failed` where the writer had failed before.
+pub fn write_ls_reply<A: Allocator + Copy, W: Sink>(
+    lines: &[RefLine<A>],
+    writer: &mut LineWriter<W>,
+) -> Result<(), WriteFault>
+    ensures written { HasWritten W.contents W.is_down W.seat writer.old writer.new result (reply_bytes lines.now) }
+    ensures fits { IfErr result (λ fault. fault ≢ WriteFault.Payload) }
+{
+    let mut text = ArrayVec::new();
+    for line in lines {
+        write_line(line, &mut text, writer)?;
+    }
+    writer.flush_pkt()
+}
+
+// Writes one line, whose text is made in `text`.
+fn write_line<A: Allocator + Copy, W: Sink>(
+    line: &RefLine<A>,
+    text: &mut ArrayVec<u8, MAX_REF_LINE>,
+    writer: &mut LineWriter<W>,
+) -> Result<(), WriteFault>
+    ensures written { HasWritten W.contents W.is_down W.seat writer.old writer.new result (canonical (line_packet line.now)) }
+    ensures fits { IfErr result (λ fault. fault ≢ WriteFault.Payload) }
+{
+    compose(line, text);
+    writer.text(text.as_slice())
+}
+
+// Puts the text of a line in the place of what was there.
+#[tactic(auto, unfolding(crate::specs::Reply::ref_line))]
+fn compose<A: Allocator + Copy>(line: &RefLine<A>, text: &mut ArrayVec<u8, MAX_REF_LINE>)
+    ensures text { text.new.items ≡ ref_line line.now }
+    ensures long { length text.new.items ≤ 2104 }
+{
+    text.clear();
+    add_id(&line.id, text);
+    add(b" ", text);
+    add_name(&line.name, text);
+    add_symref(line.symref.as_ref(), text);
+    add_peeled(line.peeled.as_ref(), text);
+}
+
+fn add_symref<A: Allocator + Copy>(
+    target: Option<&RefName<A>>,
+    text: &mut ArrayVec<u8, MAX_REF_LINE>,
+)
+    requires { length text.old.items ≤ 1041 }
+    ensures text { text.new.items ≡ text.old.items ++ symref_text (option_copied target.entry) }
+    ensures long { length text.new.items ≤ length text.old.items + 1015 }
+{
+    if let Some(target) = target {
+        add(b" symref-target:", text);
+        add_name(target, text);
+    }
+}
+
+fn add_peeled(id: Option<&Oid>, text: &mut ArrayVec<u8, MAX_REF_LINE>)
+    requires { length text.old.items ≤ 2056 }
+    ensures text { text.new.items ≡ text.old.items ++ peeled_text (option_copied id.entry) }
+    ensures long { length text.new.items ≤ length text.old.items + 48 }
+{
+    if let Some(id) = id {
+        add(b" peeled:", text);
+        add_id(id, text);
+    }
+}
+
+fn add_name<A: Allocator + Copy>(name: &RefName<A>, text: &mut ArrayVec<u8, MAX_REF_LINE>)
+    requires { length text.old.items ≤ 1104 }
+    ensures text { text.new.items ≡ text.old.items ++ name.now }
+    ensures long { length text.new.items ≤ length text.old.items + 1000 }
+{
+    add(name.as_bytes(), text);
+}
+
+fn add_id(id: &Oid, text: &mut ArrayVec<u8, MAX_REF_LINE>)
+    requires { length text.old.items ≤ 2064 }
+    ensures text { text.new.items ≡ text.old.items ++ id_text id.now }
+    ensures long { length text.new.items ≡ length text.old.items + 40 }
+{
+    let mut digits = [0u8; 40];
+    id.to_hex(&mut digits);
+    add(&digits, text);
+}
+
+fn add(piece: &[u8], text: &mut ArrayVec<u8, MAX_REF_LINE>)
+    requires { length text.old.items + length piece.now ≤ 2104 }
+    ensures text { text.new.items ≡ text.old.items ++ piece.now }
+    ensures long { length text.new.items ≡ length text.old.items + length piece.now }
+{
+    text.try_extend_from_slice(piece).unwrap()
+}

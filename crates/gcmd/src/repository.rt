@@ -1,0 +1,138 @@
+//! The repository that is served.
+
+ghost use Rattle.std.specs.Prelude.{◌≡◌, ◌↔◌, IfOk, IfErr, IsTrue, MatchOption, MatchResult};
+ghost use Rattle.gcmd.specs.Repository.{repo_fault_code, Names, HoldsRefs, HoldsHead, IsFirstMissing, RefusesText, RefusesRefs, IsTextFault, missing_fault};
+
+use crate::answer::head_name;
+use ggraph::{Graph, GraphFault, Head, Order, Refs, Repository, load};
+use gname::{Oid, RefName};
+use std::alloc::{AllocError, Allocator};
+
+/// A repository that was read from its text: each ref, and HEAD where it is an id, stands at an
+/// object that is there.
+#[derive(Drop)]
+pub struct RepoFile<A: Allocator + Copy> {
+    /// Commits and tags in the order of the text.
+    pub graph: Graph<A>,
+    pub refs: Refs<A>,
+    pub head: Head<A>,
+}
+
+/// Why a text is no repository that can be served.
+#[derive(Debug, Drop)]
+pub enum RepoFault<A: Allocator + Copy> {
+    /// 67: this line, from 1, is not as the format has it.
+    Text { line: usize },
+    /// 68: this line names a parent that is on no earlier line.
+    ParentLater { line: usize },
+    /// 71: this ref, or HEAD, stands at an object that is not there.
+    RefMissing { name: RefName<A> },
+    /// 64: no memory.
+    Memory,
+}
+
+impl<A: Allocator + Copy> RepoFault<A> {
+    /// The fault's number.
+    pub fn code(&self) -> u32
+        ensures { result ≡ repo_fault_code self.now }
+    {
+        match self {
+            RepoFault::Text { .. } => 67,
+            RepoFault::ParentLater { .. } => 68,
+            RepoFault::RefMissing { .. } => 71,
+            RepoFault::Memory => 64,
+        }
+    }
+}
+
+impl<A: Allocator + Copy> RepoFile<A> {
+    /// Reads a repository text in which each parent comes before its children.
+    ///
+    /// It fails at the first line that is not as the format has it, or that names a later parent; of
+    /// a text whose lines are right, with the first ref in name order, or else HEAD, that stands at
+    /// an object which is not there. Want of memory may come at any text.
+    pub fn read(alloc: A, text: &[u8]) -> Result<RepoFile<A>, RepoFault<A>>
+        ensures names { IfOk result (λ repo. Names text.now (record { graph = repo.graph; refs = repo.refs; head = repo.head })) }
+        ensures refs { IfOk result (λ repo. HoldsRefs repo.graph repo.refs) }
+        ensures head { IfOk result (λ repo. HoldsHead repo.graph repo.head) }
+        ensures refused { IfErr result (RefusesText text.now) }
+    {
+        let repo = match load(alloc, text, Order::ParentsFirst) {
+            Ok(repo) => repo,
+            Err(fault) => return Err(text_fault(fault)),
+        };
+        match check_refs(alloc, &repo) {
+            Ok(()) => {}
+            Err(fault) => return Err(fault),
+        }
+        let Repository { graph, refs, head } = repo;
+        Ok(RepoFile { graph, refs, head })
+    }
+}
+
+// The fault of a text that was not loaded.
+fn text_fault<A: Allocator + Copy>(fault: GraphFault) -> RepoFault<A>
+    ensures { IsTextFault fault result }
+{
+    match fault {
+        GraphFault::Text { line } => RepoFault::Text { line },
+        GraphFault::ParentLater { line } => RepoFault::ParentLater { line },
+        _ => RepoFault::Memory,
+    }
+}
+
+// Looks for a ref, or else HEAD, that stands at an object which is not there.
+fn check_refs<A: Allocator + Copy>(alloc: A, repo: &Repository<A>) -> Result<(), RepoFault<A>>
+    ensures { MatchResult result (λ _. HoldsRefs repo.now.graph repo.now.refs × HoldsHead repo.now.graph repo.now.head) (RefusesRefs repo.now) }
+{
+    match first_missing(&repo.graph, repo.refs.as_slice()) {
+        Some(name) => Err(ref_missing(name.clone())),
+        None => check_head(alloc, repo),
+    }
+}
+
+fn check_head<A: Allocator + Copy>(alloc: A, repo: &Repository<A>) -> Result<(), RepoFault<A>>
+    requires { HoldsRefs repo.now.graph repo.now.refs }
+    ensures { MatchResult result (λ _. HoldsRefs repo.now.graph repo.now.refs × HoldsHead repo.now.graph repo.now.head) (RefusesRefs repo.now) }
+{
+    if holds_head(&repo.graph, &repo.head) {
+        Ok(())
+    } else {
+        Err(ref_missing(head_name(alloc)))
+    }
+}
+
+// The fault that tells the name, where there was memory to keep it.
+fn ref_missing<A: Allocator + Copy>(name: Result<RefName<A>, AllocError>) -> RepoFault<A>
+    ensures { result ≡ missing_fault name }
+{
+    match name {
+        Ok(name) => RepoFault::RefMissing { name },
+        Err(_) => RepoFault::Memory,
+    }
+}
+
+// The first ref that stands at an object which is not there.
+fn first_missing<'a, A: Allocator + Copy>(
+    graph: &Graph<A>,
+    refs: &'a [(RefName<A>, Oid)],
+) -> Option<&'a RefName<A>>
+    ensures { MatchOption result (HoldsRefs graph.now refs.now) (λ name. IsFirstMissing graph.now refs.now name.now) }
+{
+    for pair in refs {
+        if !graph.contains(&pair.1) {
+            return Some(&pair.0);
+        }
+    }
+    None
+}
+
+// Whether HEAD, where it is an id, stands at an object that is there.
+fn holds_head<A: Allocator + Copy>(graph: &Graph<A>, head: &Head<A>) -> bool
+    ensures { IsTrue result ↔ HoldsHead graph.now head.now }
+{
+    match head {
+        Head::None | Head::Symref(_) => true,
+        Head::Id(id) => graph.contains(id),
+    }
+}
