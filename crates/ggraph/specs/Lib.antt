@@ -1,2 +1,4 @@
 pub mod Faults
 pub mod Graphs
+pub mod Reach
+pub mod Walks

@@ -4,7 +4,9 @@
 mod fault;
 mod graph;
 mod node;
+mod walk;
 
 pub use crate::fault::GraphFault;
 pub use crate::graph::{Graph, MAX_NODES};
 pub use crate::node::{Entry, Kind, MAX_PARENTS, Node, Parents};
+pub use crate::walk::Count;
