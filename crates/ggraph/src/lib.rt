@@ -3,8 +3,11 @@
 
 mod fault;
 mod graph;
+mod insert;
 mod node;
 mod walk;
+#[cfg(test)]
+mod walk_tests;
 
 pub use crate::fault::GraphFault;
 pub use crate::graph::{Graph, MAX_NODES};
