@@ -7,3 +7,9 @@ pub mod GraphLemmas
 pub mod ReadingLemmas
 pub mod LoadLemmas
 pub mod SaveLemmas
+pub mod Reaching
+pub mod Walking
+pub mod Counting
+pub mod Holding
+pub mod Selecting
+pub mod Growing

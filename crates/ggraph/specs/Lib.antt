@@ -7,3 +7,6 @@ pub mod RefLists
 pub mod RefPlaces
 pub mod RepositoryText
 pub mod TextParts
+pub mod Reach
+pub mod Walks
+pub mod Insert

@@ -8,6 +8,10 @@ mod node;
 mod peel;
 mod refs;
 mod text;
+mod insert;
+mod walk;
+#[cfg(test)]
+mod walk_tests;
 
 pub use crate::fault::GraphFault;
 pub use crate::graph::{Graph, MAX_NODES};
@@ -15,3 +19,4 @@ pub use crate::head::{Head, Target};
 pub use crate::node::{Entry, Kind, MAX_PARENTS, Node, Parents};
 pub use crate::refs::{MAX_REFS, Refs};
 pub use crate::text::{Order, Repository, load, save};
+pub use crate::walk::Count;
