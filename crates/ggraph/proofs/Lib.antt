@@ -1,1 +1,5 @@
 pub mod NodeLemmas
+pub mod PlainPackWriting
+pub mod PlainPackLines
+pub mod PlainPackReading
+pub mod PlainPackLaw
