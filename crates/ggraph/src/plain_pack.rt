@@ -2,6 +2,8 @@
 #![tactic(auto)]
 
 mod read;
+#[cfg(test)]
+mod tests;
 mod write;
 
 ghost use Rattle.std.specs.Prelude.{◌≡◌, ◌≤◌, length};
