@@ -13,3 +13,7 @@ pub mod Counting
 pub mod Holding
 pub mod Selecting
 pub mod Growing
+pub mod PlainPackWriting
+pub mod PlainPackLines
+pub mod PlainPackReading
+pub mod PlainPackLaw

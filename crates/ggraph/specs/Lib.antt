@@ -10,3 +10,7 @@ pub mod TextParts
 pub mod Reach
 pub mod Walks
 pub mod Insert
+pub mod Packs
+pub mod PlainPackText
+pub mod PlainPackWriting
+pub mod PlainPackReading

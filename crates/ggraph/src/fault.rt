@@ -3,8 +3,9 @@
 
 ghost use Rattle.std.specs.Prelude.{◌≡◌};
 ghost use Rattle.ggraph.specs.Faults.{code_of};
-ghost use Rattle.ggraph.specs.declared.fault.GraphFault.TheVariants.{Memory};
+ghost use Rattle.ggraph.specs.declared.fault.GraphFault.TheVariants.{Memory, Pack, Index};
 
+use crate::pack::{IndexFault, PackFault};
 use gname::Oid;
 use std::alloc::{AllocError, AllocFailed};
 use thiserror::Error;
@@ -36,6 +37,12 @@ pub enum GraphFault {
     /// A ref that can't be set: its name is `HEAD`, or there would be more than `MAX_REFS` refs.
     #[error("the ref can't be set")]
     Refs,
+    /// The packer failed.
+    #[error("{0}")]
+    Pack(PackFault),
+    /// The indexer failed.
+    #[error("{0}")]
+    Index(IndexFault),
 }
 
 impl GraphFault {
@@ -52,6 +59,8 @@ impl GraphFault {
             GraphFault::Text { .. } => 67,
             GraphFault::ParentLater { .. } => 68,
             GraphFault::Refs => 69,
+            GraphFault::Pack(_) => 65,
+            GraphFault::Index(_) => 66,
         }
     }
 }
@@ -69,5 +78,21 @@ impl<T: Drop> From<AllocFailed<T>> for GraphFault {
 
     fn from(_refused: AllocFailed<T>) -> GraphFault {
         GraphFault::Memory
+    }
+}
+
+impl From<PackFault> for GraphFault {
+    ghost from_gives = { λ cause fault. fault ≡ Pack cause };
+
+    fn from(cause: PackFault) -> GraphFault {
+        GraphFault::Pack(cause)
+    }
+}
+
+impl From<IndexFault> for GraphFault {
+    ghost from_gives = { λ cause fault. fault ≡ Index cause };
+
+    fn from(cause: IndexFault) -> GraphFault {
+        GraphFault::Index(cause)
     }
 }
