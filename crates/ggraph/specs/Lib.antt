@@ -1,2 +1,6 @@
 pub mod Faults
 pub mod Graphs
+pub mod Levels
+pub mod Offer
+pub mod Reach
+pub mod Selects

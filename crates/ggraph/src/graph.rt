@@ -16,7 +16,7 @@ pub const MAX_NODES: usize = 1_048_576;
 /// The commits and tags of a repository, each id once, in the order in which they first came.
 #[derive(Debug, Drop)]
 pub struct Graph<A: Allocator + Copy = Global> {
-    entries: Vec<Entry<A>, A>,
+    pub(crate) entries: Vec<Entry<A>, A>,
 }
 
 impl<A: Allocator + Copy> Model for Graph<A> {

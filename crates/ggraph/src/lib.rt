@@ -3,6 +3,9 @@
 
 mod fault;
 mod graph;
+mod haves;
+pub mod laws;
+mod levels;
 mod node;
 
 pub use crate::fault::GraphFault;
