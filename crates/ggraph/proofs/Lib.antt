@@ -4,3 +4,8 @@ pub mod LevelWalk
 pub mod NodeLemmas
 pub mod OfferLaws
 pub mod OfferLemmas
+pub mod Reaching
+pub mod Walking
+pub mod Counting
+pub mod Holding
+pub mod Selecting

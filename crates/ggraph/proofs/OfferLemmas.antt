@@ -1,12 +1,13 @@
 -- The offer by look-ups in two lists of levels is the offer.
 use Rattle.std.proofs.Common.{◌≡◌, ℕ, zero, suc, ◌≤◌, Bool, true, false, true≢false, ◌&&◌, not, cond, List, [], ◌∷◌, take, filter, Contains, is_some, refl, sym, ap, subst, ◌∙◌, inl, inr, eq-or-lt_of_le, arith}
 use Rattle.ggraph.specs.declared.node.Entry.{Entry}
-use Rattle.ggraph.specs.Graphs.{node_at, HasParent}
+use Rattle.ggraph.specs.Graphs.{node_at}
 use Rattle.ggraph.specs.Reach.{Reaches, here, onward, SomeReaches}
-use Rattle.ggraph.specs.Selects.{Selects, none, keep, skip}
+use Rattle.ggraph.specs.Walks.{Selects, none, keep, skip}
 use Rattle.ggraph.specs.Levels.{is_in, level, levels_below, AreLevels, Steps}
 use Rattle.ggraph.specs.Offer.{IsOffer, IsUntold, is_untold}
 use Rattle.ggraph.proofs.IdLists.{either_way, nothing_in_nil, in_or_not, contains_from_in, absent_from_in}
+use Rattle.ggraph.proofs.Reaching.{reaches_parent}
 use Rattle.ggraph.proofs.LevelLaws.{exact_at}
 
 -- ---- all levels about some ids are what one of them reaches
@@ -41,14 +42,10 @@ module _ {A : Type 0} (g : List (Entry A)) (tips : List (List ℕ)) where
   reached_in count last a reach =
       let path = steps_on reach.0 a reach.2 zero reach.1 in steps_in count last path.0 a path.1
 
-  reaches_on : (b c a : List ℕ) → Reaches g b c → HasParent g c a → Reaches g b a
-  reaches_on b c a here parent = onward parent here
-  reaches_on b c a (onward {b = d} first more) parent = onward first (reaches_on d c a more parent)
-
   steps_reach : (j : ℕ) (a : List ℕ) → Steps g tips j a → SomeReaches g tips a
   steps_reach zero a path = (a, path, here)
   steps_reach (suc j) a path =
-      let before = steps_reach j path.0 path.1 in (before.0, before.1, reaches_on before.0 path.0 a before.2 path.2)
+      let before = steps_reach j path.0 path.1 in (before.0, before.1, reaches_parent g before.0 path.0 a before.2 path.2)
 
   pub in_reached : (count : ℕ) (a : List ℕ) → Contains (levels_below g tips count) a → SomeReaches g tips a
   in_reached count a h = let near = (exact_at g tips count).near a h in steps_reach near.0 a near.2

@@ -3,4 +3,4 @@ pub mod Graphs
 pub mod Levels
 pub mod Offer
 pub mod Reach
-pub mod Selects
+pub mod Walks

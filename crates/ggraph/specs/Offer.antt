@@ -6,7 +6,7 @@ use Rattle.ggraph.specs.declared.node.Entry.{Entry}
 use Rattle.ggraph.specs.Graphs.{node_at, Holds}
 use Rattle.ggraph.specs.Reach.{SomeReaches}
 use Rattle.ggraph.specs.Levels.{is_in, level, levels_below}
-use Rattle.ggraph.specs.Selects.{Selects}
+use Rattle.ggraph.specs.Walks.{Selects}
 
 -- an id that the other end may have yet: it is held, no common id reaches it, and it was not sent before
 pub record IsUntold {A : Type 0} (g : List (Entry A)) (commons sent : List (List ℕ)) (a : List ℕ) : Type 0 where

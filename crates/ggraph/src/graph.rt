@@ -49,6 +49,11 @@ impl<A: Allocator + Copy> Graph<A> {
         self.entries.as_slice()
     }
 
+    // The allocator that its memory comes from.
+    pub(crate) fn allocator(&self) -> A {
+        *self.entries.allocator()
+    }
+
     /// How many nodes there are.
     pub fn len(&self) -> usize
         ensures { result ≡ length self.now }

@@ -77,8 +77,7 @@ impl<A: Allocator + Copy> Graph<A> {
             (λ ids. IsOffer self.now tips.now commons.now sent.now n ids.items)
             (λ fault. fault ≡ Memory) }
     {
-        let alloc = *self.entries.allocator();
-        let ids = haves_of(alloc, self.entries.as_slice(), tips, commons, sent, n)?;
+        let ids = haves_of(self.allocator(), self.entries(), tips, commons, sent, n)?;
         Ok(ids)
     }
 }

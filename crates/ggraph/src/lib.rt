@@ -7,7 +7,9 @@ mod haves;
 pub mod laws;
 mod levels;
 mod node;
+mod walk;
 
 pub use crate::fault::GraphFault;
 pub use crate::graph::{Graph, MAX_NODES};
 pub use crate::node::{Entry, Kind, MAX_PARENTS, Node, Parents};
+pub use crate::walk::Count;
