@@ -7,6 +7,11 @@ pub mod GraphLemmas
 pub mod ReadingLemmas
 pub mod LoadLemmas
 pub mod SaveLemmas
+pub mod IdLists
+pub mod LevelLaws
+pub mod LevelWalk
+pub mod OfferLaws
+pub mod OfferLemmas
 pub mod Reaching
 pub mod Walking
 pub mod Counting

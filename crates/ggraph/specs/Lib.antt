@@ -7,6 +7,8 @@ pub mod RefLists
 pub mod RefPlaces
 pub mod RepositoryText
 pub mod TextParts
+pub mod Levels
+pub mod Offer
 pub mod Reach
 pub mod Walks
 pub mod Insert

@@ -4,6 +4,9 @@
 mod fault;
 mod graph;
 mod head;
+mod haves;
+pub mod laws;
+mod levels;
 mod node;
 mod peel;
 mod refs;
