@@ -7,3 +7,4 @@ pub mod GraphLemmas
 pub mod ReadingLemmas
 pub mod LoadLemmas
 pub mod SaveLemmas
+pub mod WholeLemmas

@@ -90,3 +90,13 @@ pub record RefMayFollow (refs : RefList) (ref : List ℕ × List ℕ) : Type 0 w
   pub id : IsId ref.1
   pub above : AreBelow refs ref.0
   pub room : length refs < max_refs
+
+-- P holds of each element and the elements before it
+abbrev pub EachBehind : {X : Type 0} → (List X → X → Type 0) → List X → Type 0
+EachBehind {X} P xs = (front : List X) (x : X) (back : List X) → xs ≡ front ++ x ∷ back → P front x
+
+-- what a text may keep: each node may follow those before it, and each ref those before it
+pub record IsLoadable {A : Type 0} (order : Order) (g : List (Entry A)) (refs : RefList) (head : Head A) : Type 0 where
+  pub nodes : EachBehind (MayFollow order) g
+  pub refs_follow : EachBehind RefMayFollow refs
+  pub stands : IsHead head
