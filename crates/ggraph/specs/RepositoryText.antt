@@ -1,6 +1,6 @@
 -- The text that keeps a repository: a first line, a line a node in store order, a line a ref in name order, a line
 -- for HEAD and a last line, each ended by LF. Ids are written in lower case.
-use Rattle.std.specs.Prelude.{◌≡◌, ⊤, ℕ, ◌<◌, ◌≤◌, List, [], ◌∷◌, ◌++◌, length, map, All, codes, None}
+use Rattle.std.specs.Prelude.{◌≡◌, ⊤, ℕ, ◌<◌, List, [], ◌∷◌, ◌++◌, length, map, All, codes, None}
 use Rattle.gname.specs.Ids.{IsId, id_text}
 use Rattle.ggraph.specs.declared.node.Kind.{Kind}
 use Rattle.ggraph.specs.declared.node.Kind.TheVariants.{Commit, Tag}
@@ -9,7 +9,7 @@ use Rattle.ggraph.specs.declared.head.Head.{Head}
 use Rattle.ggraph.specs.declared.head.Head.TheVariants.{Id, Symref}
 use Rattle.ggraph.specs.declared.text.Order.{Order}
 use Rattle.ggraph.specs.declared.text.Order.TheVariants.{Any, ParentsFirst}
-use Rattle.ggraph.specs.Graphs.{Holds, IsShaped, IdsDiffer, node_at, max_nodes}
+use Rattle.ggraph.specs.Graphs.{Holds, IsShaped, node_at, max_nodes}
 use Rattle.ggraph.specs.RefLists.{RefList, AreBelow, IsBelowRefs, max_refs}
 
 -- ---- lines

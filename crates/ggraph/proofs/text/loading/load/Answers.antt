@@ -1,4 +1,4 @@
-use Rattle.std.proofs.Common.{◌≡◌, Bool, true, false, not, sym, rules, refl}
+use Rattle.std.proofs.Common.{◌≡◌, Bool, true, false, not, rules, refl}
 use denote.Enum.Bare.{same_true}
 use Rattle.ggraph.specs.contracts.text.reading.Stage.{the_type}
 use Rattle.ggraph.specs.declared.text.reading.Stage.TheVariants.{Done}
