@@ -22,3 +22,4 @@ pub mod PlainPackWriting
 pub mod PlainPackLines
 pub mod PlainPackReading
 pub mod PlainPackLaw
+pub mod WholeLemmas

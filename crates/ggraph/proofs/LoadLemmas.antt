@@ -1,8 +1,8 @@
 -- Reading a text, one line more.
 use Rattle.std.specs.Prelude.{◌==◌}
 use Rattle.std.proofs.lemmas.Bool.Decides.{nat_tests}
-use Rattle.std.proofs.Common.{true, ◌≡◌, ◌≢◌, ◌⊎◌, inl, inr, ℕ, ◌+◌, ◌≤◌, List, [], ◌∷◌, ◌++◌, length, map, codes, refl, sym, ◌∙◌, ap, subst, arith}
-use Rattle.std.proofs.lemmas.List.{append_assoc, append-nil, length-append}
+use Rattle.std.proofs.Common.{true, ◌≡◌, inl, inr, ℕ, ◌+◌, ◌≤◌, List, [], ◌∷◌, ◌++◌, length, map, codes, refl, sym, ◌∙◌, ap, subst, arith}
+use Rattle.std.proofs.lemmas.List.{append_assoc, length-append}
 use Rattle.ggraph.specs.declared.fault.GraphFault.{GraphFault}
 use Rattle.ggraph.specs.declared.fault.GraphFault.TheVariants as faults
 use Rattle.ggraph.specs.declared.text.Order.{Order}
@@ -10,7 +10,7 @@ use Rattle.ggraph.specs.declared.text.reading.Stage.TheVariants.{Done}
 use Rattle.ggraph.specs.declared.text.reading.Stage.{Stage}
 use Rattle.ggraph.specs.declared.text.reading.Reading.{Reading}
 use Rattle.ggraph.specs.RepositoryText.{text_of}
-use Rattle.ggraph.specs.Reading.{EndsEarly, HasNoLf, HasRead, Item, MayCome, NextRefused, ReadsTo, Refuses, StopsAt, Takes, after, items_text, line_of, nothing_read}
+use Rattle.ggraph.specs.Reading.{HasNoLf, HasRead, Item, MayCome, ReadsTo, Refuses, StopsAt, Takes, after, items_text, line_of, nothing_read}
 
 pub reads_more : {A : Type 0} (order : Order) (old mid new : Reading A) (items : List (Item A)) (item : Item A) → ReadsTo order old items mid → MayCome order mid item → new ≡ after mid item → ReadsTo order old (items ++ item ∷ []) new
 reads_more {A} order old mid new [] item here may e = (subst (λ (r : Reading A). MayCome order r item) here may, e ∙ ap (λ (r : Reading A). after r item) here)

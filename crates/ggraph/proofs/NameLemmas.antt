@@ -1,11 +1,10 @@
 -- A ref name that is not HEAD is below refs/.
-use Rattle.std.proofs.Common.{◌≡◌, ◌≢◌, List, ℕ, Bool, true, false, cond, Option, Some, None, refl, sym, ◌∙◌, ap, subst, codes, nat_eq, ◌||◌}
+use Rattle.std.proofs.Common.{◌≡◌, ◌≢◌, List, ℕ, Bool, true, false, cond, Option, Some, None, refl, codes, nat_eq, ◌||◌}
 use Rattle.std.specs.List.{starts_with}
 use Rattle.std.specs.Option.{option_or}
 use Rattle.std.specs.Cmp.Lexicographic.{pointwise}
 use Rattle.std.proofs.lemmas.Slice.Eq.{bytes_eq-Decides}
-use Rattle.gname.specs.Names.{IsRefName, head_name, name_fault, not_ref, empty, too_long, first_fault}
-use Rattle.gname.specs.declared.faults.NameFault.{NameFault}
+use Rattle.gname.specs.Names.{IsRefName, head_name, name_fault, not_ref}
 use Rattle.gname.specs.declared.faults.NameFault.TheVariants.{NotRef}
 use Rattle.ggraph.specs.RefLists.{IsBelowRefs}
 

@@ -1,17 +1,16 @@
 -- Chains of tags: that they have one end, and that one which ends is no longer than the graph.
-use Rattle.std.proofs.Common.{◌≡◌, ℕ, zero, suc, ◌+◌, ◌<◌, ◌≤◌, List, [], ◌∷◌, length, map, Bool, true, false, cond, ◌||◌, Option, Some, None, refl, sym, ◌∙◌, ap, subst, arith, nat_eq}
+use Rattle.std.proofs.Common.{◌≡◌, ℕ, zero, suc, ◌+◌, ◌≤◌, List, [], ◌∷◌, length, map, Bool, true, false, cond, ◌||◌, Some, None, refl, sym, ◌∙◌, ap, subst, arith}
 use Rattle.std.specs.Str.{bytes_eq}
 use Rattle.std.specs.List.{AllByRecursion, IsDistinct, slice_get, find}
 use Rattle.std.specs.Set.{is_member}
 use Rattle.std.specs.Option.{option_map}
 use Rattle.std.proofs.lemmas.Cmp.{nat_list_eq_equiv}
 use Rattle.std.proofs.lemmas.Map.Made.{length-le_from_is_member}
-use Rattle.std.proofs.lemmas.Map.Keys.{IsDistinct-cons}
 use Rattle.std.proofs.lemmas.Slice.Eq.{bytes_eq-Decides}
-use Rattle.ggraph.specs.declared.node.Kind.TheVariants.{Commit, Tag}
+use Rattle.ggraph.specs.declared.node.Kind.TheVariants.{Tag}
 use Rattle.ggraph.specs.declared.node.Node.{Node}
 use Rattle.ggraph.specs.declared.node.Entry.{Entry}
-use Rattle.ggraph.specs.Graphs.{IsNode, node_at, has_id}
+use Rattle.ggraph.specs.Graphs.{IsNode, has_id}
 use Rattle.ggraph.specs.Peeling.{IsTagOf, IsCommit, Tags, PeelsTo}
 
 module _ {A : Type 0} (g : List (Entry A)) where

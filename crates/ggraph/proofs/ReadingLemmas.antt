@@ -1,5 +1,5 @@
 -- Which line may come next: each line stands for one item.
-use Rattle.std.proofs.Common.{◌≡◌, ◌≢◌, ◌⊎◌, inl, inr, ℕ, List, [], ◌∷◌, ◌++◌, All, codes, refl, sym, ◌∙◌, ap, subst, arith, lit<, ◌<◌, get_or, Result, Ok, Err, OnOk, IfErr}
+use Rattle.std.proofs.Common.{◌≡◌, inl, inr, ℕ, List, [], ◌∷◌, ◌++◌, All, codes, refl, sym, ◌∙◌, ap, subst, arith, lit<, ◌<◌, get_or, Result, Ok, Err, OnOk, IfErr}
 use Rattle.std.proofs.lemmas.List.{append_cancel_left}
 use Rattle.std.proofs.lemmas.List.Elements.{All-head, All-tail, All-cons}
 use Rattle.gname.specs.Ids.{IsId, id_text}
@@ -16,12 +16,11 @@ use Rattle.ggraph.specs.declared.text.Order.TheVariants.{Any, ParentsFirst}
 use Rattle.ggraph.specs.declared.text.reading.Stage.{Stage}
 use Rattle.ggraph.specs.declared.text.reading.Stage.TheVariants.{First, Nodes, Refs, Last, Done}
 use Rattle.ggraph.specs.declared.text.reading.Reading.{Reading}
-use Rattle.ggraph.specs.RefLists.{IsBelowRefs}
-use Rattle.ggraph.specs.RepositoryText.{HasIds, IsHead, MayFollow, RefMayFollow, first_line, head_line, kind_letter, last_line, node_line, ref_line, spaced_ids}
-use Rattle.ggraph.specs.Reading.{Item, begins, node, ref, heads, ends, MayCome, Refuses, RefusesEntry, RefusesRef, Takes, TakesNot, TakesRefs, line_of}
+use Rattle.ggraph.specs.RepositoryText.{HasIds, MayFollow, RefMayFollow, first_line, head_line, kind_letter, last_line, node_line, ref_line, spaced_ids}
+use Rattle.ggraph.specs.Reading.{begins, node, ref, heads, ends, Refuses, RefusesEntry, RefusesRef, Takes, TakesNot, TakesRefs}
 use Rattle.ggraph.specs.TextParts.{IsNoNode, IsNoRef, IsNoHead}
 use Rattle.ggraph.proofs.NodeLemmas.{node_same}
-use Rattle.ggraph.proofs.TextLemmas.{one_front, one_id}
+use Rattle.ggraph.proofs.TextLemmas.{one_front}
 
 -- ---- lines that differ
 

@@ -1,14 +1,13 @@
 -- Parts of lines: ids at the front of a text.
-use Rattle.std.proofs.Common.{◌≡◌, ◌≢◌, ℕ, zero, suc, ◌+◌, ◌<◌, ◌≤◌, List, [], ◌∷◌, ◌++◌, length, take, drop, All, codes, Option, Some, None, Result, Ok, Err, refl, sym, ◌∙◌, ap, subst, arith}
+use Rattle.std.proofs.Common.{◌≡◌, ◌≢◌, ℕ, ◌<◌, List, [], ◌∷◌, ◌++◌, length, take, drop, All, codes, Ok, Err, refl, sym, ◌∙◌, ap, subst, arith}
 use Rattle.std.proofs.Math.Seq.{take-append_seam, drop-append_seam}
 use Rattle.std.proofs.lemmas.List.{length-append, append_cancel_left, append_assoc, append-nil, take-append-drop}
 use Rattle.std.proofs.lemmas.List.Elements.{All-push, All-head, All-tail, All-nil}
 use Rattle.gname.specs.Ids.{IsId, IsIdText, ReadsId, id_text}
 use Rattle.gname.specs.declared.ids.OidFault.{OidFault}
 use Rattle.gname.proofs.IdLemmas.{IsIdText-id_text, IsIdText-one, ReadsId-one, ReadsId-of_text}
-use Rattle.ggraph.specs.declared.node.Entry.{Entry}
 use Rattle.ggraph.specs.RefLists.{IsBelowRefs}
-use Rattle.ggraph.specs.RepositoryText.{spaced_ids, ref_line, HasIds}
+use Rattle.ggraph.specs.RepositoryText.{spaced_ids, ref_line}
 use Rattle.ggraph.specs.TextParts.{BeginsWithNoId, BeginsWithNoSpacedId, IsNoIds, IsNoEntry, IsNoRef, IsNoIdText}
 
 pub length-id_text : (id : List ℕ) → IsId id → length (id_text id) ≡ 40

@@ -1,10 +1,9 @@
 -- Graphs of commits and tags: which ids a graph holds, with which nodes, and which is a parent of which.
 -- A graph is the list of its entries in the order in which they first came.
-use Rattle.std.specs.Prelude.{◌≡◌, ℕ, ◌≤◌, ⊤, Bool, List, [], ◌∷◌, length, map, find, position, Contains, All, Option, None, Some, IsSome, IfSome}
+use Rattle.std.specs.Prelude.{◌≡◌, ℕ, ◌≤◌, ⊤, Bool, List, [], ◌∷◌, length, find, position, Contains, All, Option, None, Some, IsSome}
 use Rattle.std.specs.Str.{bytes_eq}
 use Rattle.std.specs.Option.{option_map}
-use Rattle.ggraph.specs.declared.node.Kind.{Kind}
-use Rattle.ggraph.specs.declared.node.Kind.TheVariants.{Commit, Tag}
+use Rattle.ggraph.specs.declared.node.Kind.TheVariants.{Tag}
 use Rattle.ggraph.specs.declared.node.Node.{Node}
 use Rattle.ggraph.specs.declared.node.Entry.{Entry}
 

@@ -1,6 +1,6 @@
 -- The text that keeps a repository: a first line, a line a node in store order, a line a ref in name order, a line
 -- for HEAD and a last line, each ended by LF. Ids are written in lower case.
-use Rattle.std.specs.Prelude.{◌≡◌, ⊤, ℕ, ◌<◌, ◌≤◌, List, [], ◌∷◌, ◌++◌, length, map, All, codes, None}
+use Rattle.std.specs.Prelude.{◌≡◌, ⊤, ℕ, ◌<◌, List, [], ◌∷◌, ◌++◌, length, map, All, codes, None}
 use Rattle.gname.specs.Ids.{IsId, id_text}
 use Rattle.ggraph.specs.declared.node.Kind.{Kind}
 use Rattle.ggraph.specs.declared.node.Kind.TheVariants.{Commit, Tag}
@@ -9,7 +9,7 @@ use Rattle.ggraph.specs.declared.head.Head.{Head}
 use Rattle.ggraph.specs.declared.head.Head.TheVariants.{Id, Symref}
 use Rattle.ggraph.specs.declared.text.Order.{Order}
 use Rattle.ggraph.specs.declared.text.Order.TheVariants.{Any, ParentsFirst}
-use Rattle.ggraph.specs.Graphs.{Holds, IsShaped, IdsDiffer, node_at, max_nodes}
+use Rattle.ggraph.specs.Graphs.{Holds, IsShaped, node_at, max_nodes}
 use Rattle.ggraph.specs.RefLists.{RefList, AreBelow, IsBelowRefs, max_refs}
 
 -- ---- lines
@@ -90,3 +90,13 @@ pub record RefMayFollow (refs : RefList) (ref : List ℕ × List ℕ) : Type 0 w
   pub id : IsId ref.1
   pub above : AreBelow refs ref.0
   pub room : length refs < max_refs
+
+-- P holds of each element and the elements before it
+abbrev pub EachBehind : {X : Type 0} → (List X → X → Type 0) → List X → Type 0
+EachBehind {X} P xs = (front : List X) (x : X) (back : List X) → xs ≡ front ++ x ∷ back → P front x
+
+-- what a text may keep: each node may follow those before it, and each ref those before it
+pub record IsLoadable {A : Type 0} (order : Order) (g : List (Entry A)) (refs : RefList) (head : Head A) : Type 0 where
+  pub nodes : EachBehind (MayFollow order) g
+  pub refs_follow : EachBehind RefMayFollow refs
+  pub stands : IsHead head

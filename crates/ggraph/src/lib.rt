@@ -1,4 +1,24 @@
-// The graph of commits and tags, refs, and the text that keeps a repository.
+// The graph of a repository's commits and tags, its refs, and the text that keeps them.
+//
+// A graph is the list of its entries in the order in which they first came; refs are names below
+// refs/ with ids, in the byte order of the names.
+//
+// Proved of every input, by the contracts:
+// - A `Graph` holds each id once, no more than `MAX_NODES` of them, each node with `MAX_PARENTS`
+//   parents at most and a tag with exactly one. Its look-ups read that list and take no memory.
+// - `Graph::peel` answers the commit at the end of a chain of tags, and `None` exactly where the
+//   chain leaves the graph or never ends.
+// - `Refs` are in strictly ascending order. `Refs::set` puts one name at an id and leaves all others,
+//   or changes nothing, and answers `Refs` exactly for HEAD and for one name too many.
+// - What `load` answers is kept by the text: the text is the one of that graph, those refs and that
+//   HEAD, and each node and ref may follow those before it. A fault is told at the line behind the
+//   lines that read well, where that line may not come; a later parent only where the line is right
+//   but for the order. Want of memory may come at any line.
+// - `save` writes that one text, or answers want of memory.
+//
+// Tested, and not proved: that a text which `save` wrote loads again.
+//
+// It stands on `gname` for ids and names, `memchr` for the ends of lines and `thiserror`.
 #![tactic(auto)]
 
 mod fault;
@@ -27,3 +47,6 @@ pub use crate::text::{Order, Repository, load, save};
 pub use crate::walk::Count;
 pub use crate::pack::{Faithful, IndexFault, Indexer, PackFault, Packer};
 pub use crate::plain_pack::PlainPack;
+
+#[cfg(test)]
+mod tests;

@@ -1,9 +1,9 @@
 // Loading a repository text.
 #![tactic(auto)]
 
-ghost use Rattle.std.specs.Prelude.{◌≡◌, ◌++◌, MatchOption, IfOk, IfErr, List, [], codes};
-ghost use Rattle.ggraph.specs.Reading.{HasNoLf, HasRead, Item, StopsAt};
-ghost use Rattle.ggraph.specs.Loading.{finished};
+ghost use Rattle.std.specs.Prelude.{◌≡◌, ◌++◌, MatchOption, IfOk, IfErr, codes};
+ghost use Rattle.ggraph.specs.Reading.{HasNoLf, StopsAt};
+ghost use Rattle.ggraph.specs.RepositoryText.{IsLoadable, repository_text};
 
 use crate::fault::GraphFault;
 use crate::graph::Graph;
@@ -25,7 +25,8 @@ pub fn load<A: Allocator + Copy>(
     text: &[u8],
     order: Order,
 ) -> Result<Repository<A>, GraphFault>
-    ensures ok { IfOk result (λ it. (items : List (Item A)) × HasRead order text.now items [] (finished it)) }
+    ensures ok { IfOk result (λ it.
+        (text.now ≡ repository_text it.graph it.refs it.head) × IsLoadable order it.graph it.refs it.head) }
     ensures refused { IfErr result (StopsAt A order text.now) }
 {
     let mut reading = Reading::new(alloc);

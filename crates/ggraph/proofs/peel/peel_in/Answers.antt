@@ -1,7 +1,5 @@
-use Rattle.std.proofs.Common.{◌≡◌, ℕ, List, Some, None, add-one, ap, sym, ◌∙◌, arith}
-use Rattle.ggraph.specs.declared.node.Node.{Node}
-use Rattle.ggraph.specs.Graphs.{IsNode}
-use Rattle.ggraph.specs.Peeling.{IsTagOf, IsCommit, Tags, PeelsTo}
+use Rattle.std.proofs.Common.{ℕ, List, Some, add-one, ap, sym, arith}
+use Rattle.ggraph.specs.Peeling.{IsTagOf}
 use Rattle.ggraph.proofs.PeelLemmas.{peel_stuck, peel_ends, peel_nameless, peel_long, tags_more}
 use Rattle.ggraph.proofs.peel.peel_in.Goals as goal
 

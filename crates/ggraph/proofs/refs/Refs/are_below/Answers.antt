@@ -1,4 +1,4 @@
-use Rattle.std.proofs.Common.{sym, ◌∙◌}
+use Rattle.std.proofs.Common.{sym}
 use Rattle.ggraph.proofs.RefLemmas.{last_decides}
 use Rattle.ggraph.proofs.refs.Refs.are_below.Goals as goal
 

@@ -1,6 +1,4 @@
-use Rattle.std.proofs.Common.{arith, sym, ◌∙◌, ap, subst, refl}
-use Rattle.ggraph.specs.RefPlaces.{IsFound, IsGap}
-use Rattle.ggraph.specs.RefLists.{ref_at}
+use Rattle.std.proofs.Common.{arith, ◌∙◌, refl}
 use Rattle.ggraph.proofs.RefLemmas.{ref_at-found, ref_at-gap, found_inside}
 use Rattle.ggraph.proofs.refs.Refs.get.Goals as goal
 

@@ -1,7 +1,6 @@
-use Rattle.std.proofs.Common.{◌≡◌, ◌≢◌, arith, sym, ◌∙◌, ap, subst, refl, inl, inr, length, List, ℕ, Some, None}
+use Rattle.std.proofs.Common.{◌≡◌, ◌≢◌, arith, subst, refl, inl, inr, List, ℕ, Some}
 use Rattle.gname.specs.Names.{IsRefName, head_name}
-use Rattle.ggraph.specs.RefPlaces.{IsFound, IsGap}
-use Rattle.ggraph.specs.RefLists.{IsRefs, IsBelowRefs, SetsRef, CannotSet, RefList, ref_at}
+use Rattle.ggraph.specs.RefLists.{CannotSet, RefList, ref_at}
 use Rattle.ggraph.proofs.RefLemmas.{ref_at-found, ref_at-gap, found_inside, gap_inside, refs_insert, refs_set, sets_insert, sets_set}
 use Rattle.ggraph.proofs.NameLemmas.{below_from_other}
 use Rattle.ggraph.proofs.refs.Refs.set.Goals as goal

@@ -1,8 +1,9 @@
-use Rattle.std.proofs.Common.{◌≡◌, Bool, true, false, not, sym, rules, refl}
+use Rattle.std.proofs.Common.{◌≡◌, Bool, true, false, not, rules, refl}
 use denote.Enum.Bare.{same_true}
 use Rattle.ggraph.specs.contracts.text.reading.Stage.{the_type}
 use Rattle.ggraph.specs.declared.text.reading.Stage.TheVariants.{Done}
 use Rattle.ggraph.proofs.LoadLemmas.{progress_more, progress_done}
+use Rattle.ggraph.proofs.WholeLemmas.{whole_read}
 use Rattle.ggraph.proofs.text.loading.load.Goals as goal
 
 not_false : (b : Bool) → false ≡ not b → b ≡ true
@@ -16,4 +17,5 @@ loop-pair-preserved g c =
 pub returns-clause-ok : goal.returns-clause-ok
 returns-clause-ok g c =
     let done : c.loop-pair.reading.stage ≡ Done = same_true the_type (search rules) _ _ (not_false _ c.if-ne.ensures) in
-    progress_done c.args.order c.args.text.now c.loop-pair.rest.now c.loop-pair.reading c.loop-pair.number c.loop-pair.invariant c.if-not-is_empty.ensures done
+    let read = progress_done c.args.order c.args.text.now c.loop-pair.rest.now c.loop-pair.reading c.loop-pair.number c.loop-pair.invariant c.if-not-is_empty.ensures done in
+    whole_read c.args.order c.args.text.now read.0 c.loop-pair.reading.graph c.loop-pair.reading.refs c.loop-pair.reading.head read.1

@@ -1,6 +1,3 @@
-use Rattle.std.proofs.Common.{◌≡◌, [], ◌+◌, ℕ, List, length, ap, arith}
-use Rattle.std.proofs.lemmas.List.{length-append}
-use Rattle.gname.specs.Ids.{id_text}
 use Rattle.ggraph.proofs.TextLemmas.{ids_more, no_ids_stuck}
 use Rattle.ggraph.proofs.text.parts.ids_of.Goals as goal
 

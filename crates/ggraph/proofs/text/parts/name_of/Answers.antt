@@ -1,6 +1,5 @@
-use Rattle.std.proofs.Common.{◌≡◌, ◌≢◌, sym, ◌∙◌, subst}
-use Rattle.gname.specs.Names.{IsRefName, head_name}
-use Rattle.ggraph.specs.RefLists.{IsBelowRefs}
+use Rattle.std.proofs.Common.{◌≢◌, ◌∙◌}
+use Rattle.gname.specs.Names.{head_name}
 use Rattle.ggraph.proofs.NameLemmas.{below_from_other}
 use Rattle.ggraph.proofs.text.parts.name_of.Goals as goal
 

@@ -1,5 +1,3 @@
-use Rattle.std.proofs.Common.{◌≡◌}
-use Rattle.gname.specs.Ids.{id_text}
 use Rattle.ggraph.proofs.TextLemmas.{no_id_short, no_id_fault, no_id_upper}
 use Rattle.ggraph.proofs.text.parts.take_id.Goals as goal
 

@@ -1,4 +1,4 @@
-use Rattle.std.proofs.Common.{◌≡◌, ◌++◌, ◌<◌, List, ℕ, length, codes, ap, sym, ◌∙◌, arith}
+use Rattle.std.proofs.Common.{◌++◌, ◌<◌, List, ℕ, length, codes, ap, ◌∙◌, arith}
 use Rattle.gname.specs.Ids.{id_text}
 use Rattle.ggraph.specs.RepositoryText.{spaced_ids}
 use Rattle.ggraph.proofs.SaveLemmas.{ids_more, next_seen}

@@ -1,4 +1,4 @@
-use Rattle.std.proofs.Common.{◌≡◌, ◌++◌, take, map}
+use Rattle.std.proofs.Common.{◌≡◌, ◌++◌, take}
 use Rattle.ggraph.specs.RepositoryText.{spaced_ids}
 use Rattle.ggraph.proofs.text.saving.put_ids.Given as goal
 

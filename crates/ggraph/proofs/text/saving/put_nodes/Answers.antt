@@ -1,4 +1,4 @@
-use Rattle.std.proofs.Common.{◌≡◌, ◌++◌, ◌<◌, List, ℕ, length, map, codes, ap, sym, ◌∙◌, arith}
+use Rattle.std.proofs.Common.{◌++◌, ◌<◌, List, ℕ, length, map, codes, ap, ◌∙◌, arith}
 use Rattle.ggraph.specs.RepositoryText.{node_line, text_of}
 use Rattle.ggraph.proofs.SaveLemmas.{lines_more, next_seen}
 use Rattle.ggraph.proofs.text.saving.put_nodes.Goals as goal

@@ -1,4 +1,4 @@
-use Rattle.std.proofs.Common.{◌≡◌, ◌++◌, List, ℕ, map, codes, ap, sym, ◌∙◌}
+use Rattle.std.proofs.Common.{◌++◌, List, ℕ, map, codes, ap, ◌∙◌}
 use Rattle.ggraph.specs.RepositoryText.{node_line, ref_line, head_line, text_of}
 use Rattle.ggraph.proofs.SaveLemmas.{whole_text}
 use Rattle.ggraph.proofs.text.saving.written.Goals as goal
