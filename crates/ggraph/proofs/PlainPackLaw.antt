@@ -4,6 +4,7 @@ use Rattle.std.specs.List.{All}
 use Rattle.std.specs.Fmt.{digit_glyph, digits_onto, digits, decimal}
 use Rattle.std.proofs.Math.Seq.{get_or-append_seam}
 use Rattle.std.proofs.lemmas.Bool.{false≢true, cases_lt}
+use Rattle.std.proofs.lemmas.List.Elements.{All-head, All-tail}
 use Rattle.std.proofs.lemmas.List.{append-nil, append_cancel_left, get_or_past}
 use Rattle.hex.specs.Hex.{is_hex_digit}
 use Rattle.gname.specs.Ids.{IsId, IsIdText, id_text}
@@ -268,12 +269,6 @@ IsPack-no_bad_line bytes at list h (inr (inl w)) = no_cut bytes w.front w.rest w
 IsPack-no_bad_line bytes at list h (inr (inr w)) = no_followed bytes at list w h
 
 -- ---- the image
-
-All-head : {X : Type 0} (P : X → Type 0) (x : X) (xs : List X) → All P (x ∷ xs) → P x
-All-head P x xs h = h 0 x (omega arith)
-
-All-tail : {X : Type 0} (P : X → Type 0) (x : X) (xs : List X) → All P (x ∷ xs) → All P xs
-All-tail P x xs h = λ k d lt. h (suc k) d (omega arith)
 
 IsIdsText-image : (ids : List (List ℕ)) → All IsId ids → IsIdsText (ids_text ids) ids
 IsIdsText-image [] h = refl

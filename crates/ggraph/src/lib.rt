@@ -21,6 +21,7 @@
 // It stands on `gname` for ids and names, `memchr` for the ends of lines and `thiserror`.
 #![tactic(auto)]
 
+mod entry_ids;
 mod fault;
 mod graph;
 mod head;
@@ -38,6 +39,7 @@ mod walk_tests;
 mod pack;
 mod plain_pack;
 
+pub use crate::entry_ids::have_ids;
 pub use crate::fault::GraphFault;
 pub use crate::graph::{Graph, MAX_NODES};
 pub use crate::head::{Head, Target};
