@@ -1,5 +1,5 @@
 -- How much a walk counts.
-use Rattle.std.proofs.Common.{◌≡◌, ℕ, zero, suc, ◌+◌, ◌*◌, ◌^◌, ◌<◌, ◌≤◌, Bool, true, false, cond, List, [], ◌∷◌, length, get_or, set, count_by, All, Some, replicate, refl, sym, arith}
+use Rattle.std.proofs.Common.{◌≡◌, ℕ, zero, suc, ◌+◌, ◌-◌, ◌*◌, ◌^◌, ◌<◌, ◌≤◌, Bool, true, false, cond, List, [], ◌∷◌, length, get_or, set, count_by, All, Some, replicate, refl, sym, arith}
 use Rattle.std.specs.List.{slice_get}
 use Rattle.std.specs.Option.{option_map}
 use Rattle.std.proofs.lemmas.List.Sums.{sum_by-set, sum_by-cons, count_by-le-length}
@@ -24,6 +24,12 @@ count_more marks p inside free =
 
 pub count_less : (marks : List Bool) → count_marks marks ≤ length marks
 count_less marks = count_by-le-length (λ mark. mark) marks
+
+-- fewer places are left without a mark
+pub fewer_left : (marks : List Bool) (p n : ℕ) → p < length marks → get_or marks p false ≡ false → length marks ≡ n → n - count_marks (set marks p true) + 1 ≤ n - count_marks marks
+fewer_left marks p n inside free long =
+    let e = count_more marks p inside free in let l = count_less (set marks p true) in let s = length-set marks p true in
+    omega (arith, e, l, s)
 
 pub parents_none : {A : Type 0} (g : List (Entry A)) (n : ℕ) → marked_parents g (replicate n false) ≡ 0
 parents_none [] n = refl
@@ -71,12 +77,7 @@ module _ {A : Type 0} (g : List (Entry A)) (marks : List Bool) (ids parents : �
     parents_are = let e = parents_more g marks p more inside free are in let o = old.parents_are in omega (arith, e, o);
   }
 
-  -- fewer ids than the graph has were counted before, and few parents with this one
-  pub counts_less : length marks ≡ length g → ids < length g
-  counts_less long =
-      let e = count_more marks p inside free in let l = count_less (set marks p true) in let s = length-set marks p true in let o = old.ids_are in
-      omega (arith, e, l, s, o)
-
+  -- few parents were counted with this one
   pub counts_fit : length marks ≡ length g → IsGraph g → parents + length more < 2 ^ 64
   counts_fit long graph =
       let e = parents_more g marks p more inside free are in

@@ -9,3 +9,4 @@ pub mod Walking
 pub mod Counting
 pub mod Holding
 pub mod Selecting
+pub mod Growing

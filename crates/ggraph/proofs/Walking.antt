@@ -89,6 +89,12 @@ begins g starts = record {
 
 -- ---- one id taken
 
+-- the mark that was read at the place of an id
+pub mark_read : {A : Type 0} (g : List (Entry A)) (a : List ℕ) (marks : List Bool) (p : ℕ) (b : Bool) → place_of g a ≡ Some p → length marks ≡ length g → b ≡ get_or marks p b → (p < length marks) × (get_or marks p false ≡ b)
+mark_read g a marks p b e long is =
+    let inside : p < length marks = let h = place_inside g a p e in omega arith in
+    (inside, sym (get_or_read marks p b inside is false))
+
 -- where the id taken is the one asked for, or the id was seen already
 taken_cases : {A : Type 0} (g : List (Entry A)) (marks : List Bool) (todo lost : List (List ℕ)) (a b : List ℕ) (Q : Type 0) → (a ≡ b → Q) → (IsSeen g marks todo lost b → Q) → IsSeen g marks (todo ++ a ∷ []) lost b → Q
 taken_cases g marks todo lost a b Q same other (inl k) =

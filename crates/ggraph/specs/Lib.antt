@@ -4,3 +4,4 @@ pub mod Levels
 pub mod Offer
 pub mod Reach
 pub mod Walks
+pub mod Insert

@@ -33,3 +33,7 @@ Agree {A} g h = (a : List ℕ) (m n : Node A) → IsNode g a m → IsNode h a n 
 -- objects only came, behind those that were there
 abbrev pub Grows : {A : Type 0} → List (Entry A) → List (Entry A) → Type 0
 Grows {A} g h = (more : List (Entry A)) × (h ≡ g ++ more)
+
+-- what was held is held, with the same node
+abbrev pub Keeps : {A : Type 0} → List (Entry A) → List (Entry A) → Type 0
+Keeps {A} g h = (a : List ℕ) (node : Node A) → IsNode g a node → IsNode h a node

@@ -4,10 +4,13 @@
 mod fault;
 mod graph;
 mod haves;
+mod insert;
 pub mod laws;
 mod levels;
 mod node;
 mod walk;
+#[cfg(test)]
+mod walk_tests;
 
 pub use crate::fault::GraphFault;
 pub use crate::graph::{Graph, MAX_NODES};

@@ -1,8 +1,7 @@
-use Rattle.std.proofs.Common.{◌≡◌, ◌<◌, length, replicate, false, sym, ◌∙◌, arith}
-use Rattle.std.proofs.lemmas.List.{get_or_read, nil_from_length}
-use Rattle.ggraph.proofs.Reaching.{place_inside}
-use Rattle.ggraph.proofs.Walking.{begins, is_none, loses, passes, takes, finishes}
-use Rattle.ggraph.proofs.Counting.{begins_count, counts, counts_less, counts_fit}
+use Rattle.std.proofs.Common.{◌≡◌, length, replicate, false, sym, ◌∙◌, arith}
+use Rattle.std.proofs.lemmas.List.{nil_from_length}
+use Rattle.ggraph.proofs.Walking.{begins, mark_read, is_none, loses, passes, takes, finishes}
+use Rattle.ggraph.proofs.Counting.{begins_count, fewer_left, counts, counts_fit}
 use Rattle.ggraph.proofs.walk.walk_from.Goals as goal
 
 pub loop-id-init : goal.loop-id-init
@@ -23,24 +22,24 @@ pub loop-id-preserved-then-index : goal.loop-id-preserved-then-index
 loop-id-preserved-then-index g c =
     let old = rw c.in-Some.ensures.items at c.loop-id.invariant.0 in
     let place = sym c.in-Some-place_of.ensures in
-    let inside : c.in-Some-place_of.place < length c.loop-id.marks.items = let h = place_inside c.args.entries.now c.in-Some.id c.in-Some-place_of.place place in let l = c.loop-id.invariant.0.long in omega arith in
-    let marked = sym (get_or_read c.loop-id.marks.items c.in-Some-place_of.place c.index.result.now inside c.index.ensures false) ∙ c.if-index.true in
+    let read = mark_read c.args.entries.now c.in-Some.id c.loop-id.marks.items c.in-Some-place_of.place c.index.result.now place c.loop-id.invariant.0.long c.index.ensures in
+    let marked = read.1 ∙ c.if-index.true in
     (passes c.args.entries.now c.args.starts.now c.loop-id.marks.items c.pop.new.self.items c.loop-id.lost.items c.in-Some.id old c.in-Some-place_of.place place marked, c.loop-id.invariant.1)
 
 pub overflow_add-count-in-Some : goal.overflow_add-count-in-Some
 overflow_add-count-in-Some g c =
     let place = sym c.in-Some-place_of.ensures in
-    let inside : c.in-Some-place_of.place < length c.loop-id.marks.items = let h = place_inside c.args.entries.now c.in-Some.id c.in-Some-place_of.place place in let l = c.loop-id.invariant.0.long in omega arith in
-    let free = sym (get_or_read c.loop-id.marks.items c.in-Some-place_of.place c.index.result.now inside c.index.ensures false) ∙ c.if-index.false in
-    let fits = counts_fit c.args.entries.now c.loop-id.marks.items c.loop-id.count.ids c.loop-id.count.parents c.loop-id.invariant.1 c.in-Some-place_of.place c.parents_at-parents.result.now inside free c.parents_at-parents.ensures c.loop-id.invariant.0.long c.requires in
+    let read = mark_read c.args.entries.now c.in-Some.id c.loop-id.marks.items c.in-Some-place_of.place c.index.result.now place c.loop-id.invariant.0.long c.index.ensures in
+    let free = read.1 ∙ c.if-index.false in
+    let fits = counts_fit c.args.entries.now c.loop-id.marks.items c.loop-id.count.ids c.loop-id.count.parents c.loop-id.invariant.1 c.in-Some-place_of.place c.parents_at-parents.result.now read.0 free c.parents_at-parents.ensures c.loop-id.invariant.0.long c.requires in
     omega (arith, fits)
 
 pub loop-id-smaller : goal.loop-id-smaller
 loop-id-smaller g c =
     let place = sym c.in-Some-place_of.ensures in
-    let inside : c.in-Some-place_of.place < length c.loop-id.marks.items = let h = place_inside c.args.entries.now c.in-Some.id c.in-Some-place_of.place place in let l = c.loop-id.invariant.0.long in omega arith in
-    let free = sym (get_or_read c.loop-id.marks.items c.in-Some-place_of.place c.index.result.now inside c.index.ensures false) ∙ c.if-index.false in
-    let less = counts_less c.args.entries.now c.loop-id.marks.items c.loop-id.count.ids c.loop-id.count.parents c.loop-id.invariant.1 c.in-Some-place_of.place c.parents_at-parents.result.now inside free c.parents_at-parents.ensures c.loop-id.invariant.0.long in
+    let read = mark_read c.args.entries.now c.in-Some.id c.loop-id.marks.items c.in-Some-place_of.place c.index.result.now place c.loop-id.invariant.0.long c.index.ensures in
+    let free = read.1 ∙ c.if-index.false in
+    let less = fewer_left c.loop-id.marks.items c.in-Some-place_of.place (length c.args.entries.now) read.0 free c.loop-id.invariant.0.long in
     let more = c.in_ok-extend_from_slice.ensures.len in
     let small = c.extend_from_slice.new.self.small in
     omega arith
@@ -49,11 +48,11 @@ pub loop-id-preserved : goal.loop-id-preserved
 loop-id-preserved g c =
     let old = rw c.in-Some.ensures.items at c.loop-id.invariant.0 in
     let place = sym c.in-Some-place_of.ensures in
-    let inside : c.in-Some-place_of.place < length c.loop-id.marks.items = let h = place_inside c.args.entries.now c.in-Some.id c.in-Some-place_of.place place in let l = c.loop-id.invariant.0.long in omega arith in
-    let free = sym (get_or_read c.loop-id.marks.items c.in-Some-place_of.place c.index.result.now inside c.index.ensures false) ∙ c.if-index.false in
+    let read = mark_read c.args.entries.now c.in-Some.id c.loop-id.marks.items c.in-Some-place_of.place c.index.result.now place c.loop-id.invariant.0.long c.index.ensures in
+    let free = read.1 ∙ c.if-index.false in
     let new = takes c.args.entries.now c.args.starts.now c.loop-id.marks.items c.pop.new.self.items c.loop-id.lost.items c.in-Some.id old c.in-Some-place_of.place c.parents_at-parents.result.now place c.parents_at-parents.ensures in (
       rw c.in_ok-extend_from_slice.ensures.items new,
-      counts c.args.entries.now c.loop-id.marks.items c.loop-id.count.ids c.loop-id.count.parents c.loop-id.invariant.1 c.in-Some-place_of.place c.parents_at-parents.result.now inside free c.parents_at-parents.ensures,
+      counts c.args.entries.now c.loop-id.marks.items c.loop-id.count.ids c.loop-id.count.parents c.loop-id.invariant.1 c.in-Some-place_of.place c.parents_at-parents.result.now read.0 free c.parents_at-parents.ensures,
     )
 
 pub returns-clause-met : goal.returns-clause-met

@@ -1,6 +1,6 @@
 use Rattle.std.proofs.Common.{◌+◌, ◌-◌, ◌*◌, ◌^◌, length, vec_len}
 use Rattle.ggraph.proofs.Walking.{IsUnderway}
-use Rattle.ggraph.proofs.Counting.{IsCounted}
+use Rattle.ggraph.proofs.Counting.{IsCounted, count_marks}
 use Rattle.ggraph.proofs.walk.walk_from.Given as goal
 
 abbrev pub invariant-loop-id : goal.invariant-loop-id
@@ -8,4 +8,4 @@ invariant-loop-id g l =
     IsUnderway l.entries l.starts l.marks.items l.todo.items l.lost.items × IsCounted l.entries l.marks.items l.count.ids l.count.parents
 
 abbrev pub decreases-loop-id : goal.decreases-loop-id
-decreases-loop-id g l = (length l.entries - l.count.ids) * 2 ^ 64 + vec_len l.todo
+decreases-loop-id g l = (length l.entries - count_marks l.marks.items) * 2 ^ 64 + vec_len l.todo
