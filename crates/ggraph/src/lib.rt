@@ -26,6 +26,7 @@ mod fault;
 mod graph;
 mod head;
 mod haves;
+mod insert;
 pub mod laws;
 mod levels;
 mod node;

@@ -1,9 +1,8 @@
 // What is offered of small graphs. An id is forty times one digit.
 use crate::graph::Graph;
-use crate::haves::haves_of;
 use crate::node::{Entry, Kind, Node, Parents};
-use gname::{Oid, OidFault};
-use std::alloc::{AllocError, Allocator};
+use gname::Oid;
+use std::alloc::Allocator;
 use std::test::Fail;
 
 fn ids_of<A: Allocator + Copy>(alloc: A, digits: &[u8]) -> Result<Vec<Oid, A>, Fail> {
@@ -15,8 +14,8 @@ fn ids_of<A: Allocator + Copy>(alloc: A, digits: &[u8]) -> Result<Vec<Oid, A>, F
     Ok(ids)
 }
 
-// A commit for each row, which is the digit of its id and those of its parents.
-fn entries_of<A: Allocator + Copy>(alloc: A, rows: &[&[u8]]) -> Result<Vec<Entry<A>, A>, Fail> {
+// A graph with a commit for each row, which is the digit of its id and those of its parents.
+fn graph_of<A: Allocator + Copy>(alloc: A, rows: &[&[u8]]) -> Result<Graph<A>, Fail> {
     let mut entries = Vec::new(alloc);
     for row in rows {
         let ids = ids_of(alloc, row)?;
@@ -29,7 +28,9 @@ fn entries_of<A: Allocator + Copy>(alloc: A, rows: &[&[u8]]) -> Result<Vec<Entry
             })?;
         }
     }
-    Ok(entries)
+    let mut graph = Graph::new(alloc);
+    graph.insert_all(&entries)?;
+    Ok(graph)
 }
 
 #[derive(Clone, Copy)]
@@ -192,11 +193,11 @@ fn offers_level_by_level(rt: HostRuntime) -> Result<(), Fail> {
     ];
     let alloc = rt.alloc();
     for case in cases {
-        let entries = entries_of(alloc, case.rows)?;
+        let graph = graph_of(alloc, case.rows)?;
         let tips = ids_of(alloc, case.tips)?;
         let commons = ids_of(alloc, case.commons)?;
         let sent = ids_of(alloc, case.sent)?;
-        let offer = haves_of(alloc, &entries, &tips, &commons, &sent, case.n)?;
+        let offer = graph.haves(&tips, &commons, &sent, case.n)?;
         let wanted = ids_of(alloc, case.offer)?;
         assert_eq!(rt; offer.as_slice(), wanted.as_slice());
     }
