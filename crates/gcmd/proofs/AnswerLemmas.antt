@@ -18,7 +18,7 @@ module _ {A : Type 0} (graph : List (Entry A)) (at : Head A) (asked : LsRefs) wh
   AreLinesOf-append (ref ∷ refs) more (line ∷ lines) others p q = (p.0, AreLinesOf-append refs more lines others p.1 q)
 
   pub AddsLines-nil : (lines : List (RefLine A)) → AddsLines graph at asked [] lines lines
-  AddsLines-nil lines = record { more = []; grown = sym (append-nil lines); lines = tt; }
+  AddsLines-nil lines = record { more = []; grown = sym (append-nil lines); lines = tt }
 
   pub AddsLines-then : (refs more : RefList) (a b c : List (RefLine A)) → AddsLines graph at asked refs a b → AddsLines graph at asked more b c → AddsLines graph at asked (refs ++ more) a c
   AddsLines-then refs more a b c first second = record {

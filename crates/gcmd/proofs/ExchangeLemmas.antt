@@ -19,14 +19,14 @@ module _ {A : Type 0} (graph : List (Entry A)) (refs : RefList) (at : Head A) (r
   pub exchange-replied : (down : Bool) (lines : List Packet) (asked : LsRefs) (ended : LsEnd) → ReadsLines read_old read_new lines → Says lines (Ls asked)
       → Replies graph refs at asked written_old written_new down ended → Exchanges graph refs at read_old read_new written_old written_new ended
   exchange-replied down lines asked end.Answered read says h =
-      (reply_bytes h.0, record { lines = lines; asked = asked; read = read; says = says; reply = h.0; answer = h.1; bytes = refl; }, h.2)
+      (reply_bytes h.0, record { lines = lines; asked = asked; read = read; says = says; reply = h.0; answer = h.1; bytes = refl }, h.2)
   exchange-replied down lines asked end.Closed read says h = absurd h
   exchange-replied down lines asked end.Ended read says h = absurd h
   exchange-replied down lines asked (end.Refused fault) read says h =
       let P : LsFault → Type 0 = λ f. IsRefusal graph refs at read_old read_new f × Appends written_old written_new (err_bytes f) in
       subst P (sym h.0) ((lines, asked, read, says), h.1)
   exchange-replied down lines asked end.WriteFailed read says (inl h) =
-      (reply_bytes h.0, inl (record { lines = lines; asked = asked; read = read; says = says; reply = h.0; answer = h.1; bytes = refl; }), h.2)
+      (reply_bytes h.0, inl (record { lines = lines; asked = asked; read = read; says = says; reply = h.0; answer = h.1; bytes = refl }), h.2)
   exchange-replied down lines asked end.WriteFailed read says (inr h) =
       (err_bytes Memory, inr (Memory, (lines, asked, read, says), refl), h.0)
 

@@ -79,7 +79,7 @@ module _ {M : Type 0} (judge : List Packet → Packet → Verdict) (holds : M �
   ends_there old new last message after frame packet going read taken = record {
     lines = going.lines ++ packet ∷ [];
     read = record {
-      whole = record { front = going.lines; last = packet; parts = refl; goes = going.goes; ends = taken.0; };
+      whole = record { front = going.lines; last = packet; parts = refl; goes = going.goes; ends = taken.0 };
       bytes = ReadsLines-push old new last going.lines packet going.bytes read;
     };
     held = taken.1;

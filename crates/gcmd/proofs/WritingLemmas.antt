@@ -62,7 +62,7 @@ module _ {W : Type 0} (contents : W → Option (List ℕ)) (is_down : W → Bool
     seat = h.seat;
   }
   failed_of_more a b xs more Payload h fits = absurd fits
-  failed_of_more a b xs more Failed h _ = record { outcome = h.outcome; seat = h.seat; }
+  failed_of_more a b xs more Failed h _ = record { outcome = h.outcome; seat = h.seat }
 
   -- a writer from which any write is one of all of it, behind these bytes
   pub record IsBehind (start now : Writer W) (bytes : List ℕ) : Type 0 where
@@ -74,5 +74,5 @@ module _ {W : Type 0} (contents : W → Option (List ℕ)) (is_down : W → Bool
   pub IsBehind-push : (start now next : Writer W) (bytes more : List ℕ) → IsBehind start now bytes → HasWritten contents is_down seat now next (Ok tt) more → IsBehind start next (bytes ++ more)
   IsBehind-push start now next bytes more behind wrote = record {
     joins = λ new result ys h fits.
-      rw append_assoc (behind.joins new result (more ++ ys) (written_then now next new more ys result wrote h fits) fits);
+        rw append_assoc (behind.joins new result (more ++ ys) (written_then now next new more ys result wrote h fits) fits);
   }

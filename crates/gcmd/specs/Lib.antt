@@ -16,5 +16,4 @@ pub use Rattle.gname.specs.Names
 pub use Rattle.ggraph.specs.Graphs
 pub use Rattle.ggraph.specs.Peeling
 pub use Rattle.ggraph.specs.RefLists
-pub use Rattle.ggraph.specs.Loading
 pub use Rattle.ggraph.specs.RepositoryText

@@ -5,8 +5,8 @@ use Rattle.std.specs.declared.alloc.AllocError.{AllocError}
 use Rattle.gname.specs.Names.{head_name}
 use Rattle.ggraph.specs.Graphs.{Holds}
 use Rattle.ggraph.specs.RefLists.{RefList}
-use Rattle.ggraph.specs.Reading.{Item, HasRead, StopsAt}
-use Rattle.ggraph.specs.Loading.{finished}
+use Rattle.ggraph.specs.Reading.{StopsAt}
+use Rattle.ggraph.specs.RepositoryText.{repository_text, IsLoadable}
 use Rattle.ggraph.specs.declared.node.Entry.{Entry}
 use Rattle.ggraph.specs.declared.head.Head.{Head}
 use Rattle.ggraph.specs.declared.head.Head.TheVariants as head
@@ -23,9 +23,10 @@ repo_fault_code (ParentLater line) = 68
 repo_fault_code (RefMissing name) = 71
 repo_fault_code Memory = 64
 
--- the text names this, line by line, with parents before their children
+-- the text is that of the repository, with parents before their children
 abbrev pub Names : {A : Type 0} → List ℕ → Repository A → Type 0
-Names {A} text repo = (items : List (Item A)) × HasRead ParentsFirst text items [] (finished repo)
+Names text repo =
+    (text ≡ repository_text repo.graph repo.refs repo.head) × IsLoadable ParentsFirst repo.graph repo.refs repo.head
 
 -- each ref stands at an object that is there
 abbrev pub HoldsRefs : {A : Type 0} → List (Entry A) → RefList → Type 0

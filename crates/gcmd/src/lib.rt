@@ -13,7 +13,7 @@ mod repository;
 mod request;
 
 pub use crate::answer::ls_refs;
-pub use crate::command::{cmd_ls, file_failed, memory_failed};
+pub use crate::command::{cmd_check, cmd_ls, file_failed, memory_failed};
 pub use crate::exchange::{LsEnd, LsFault, ls_once};
 pub use crate::fault::{MessageFault, PeerText, Why};
 pub use crate::reply::{RefLine, write_ls_reply};

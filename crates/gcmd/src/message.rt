@@ -53,8 +53,14 @@ pub(crate) fn read_message<S: Source, A: Allocator + Copy, M: Message>(
     for frame in 0..u64::MAX {
         let line = match reader.next() {
             Ok(Some(line)) => line,
-            Ok(None) => return Err(MessageFault { frame, why: Why::Ended }),
-            Err(fault) => return Err(MessageFault { frame, why: Why::Line(fault) }),
+            Ok(None) => return Err(MessageFault {
+                frame,
+                why: Why::Ended,
+            }),
+            Err(fault) => return Err(MessageFault {
+                frame,
+                why: Why::Line(fault),
+            }),
         };
         match message.take(line) {
             Ok(Step::Goes) => {}

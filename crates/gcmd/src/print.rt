@@ -5,6 +5,7 @@
 use crate::exchange::LsFault;
 use crate::fault::{MessageFault, Why};
 use crate::repository::RepoFault;
+use ggraph::GraphFault;
 use gpkt::LineFault;
 use std::alloc::Allocator;
 use std::io;
@@ -51,6 +52,17 @@ impl<'a> FaultLine<'a> {
         }
     }
 
+    /// A fault of loading or of a walk.
+    pub(crate) fn of_graph(fault: &GraphFault) -> FaultLine<'a> {
+        FaultLine {
+            number: fault.code(),
+            name: graph_fault_name(fault),
+            frame: None,
+            line: graph_fault_line(fault),
+            text: None,
+        }
+    }
+
     pub(crate) fn of_exchange(fault: &'a LsFault) -> FaultLine<'a> {
         match fault {
             LsFault::Buffer | LsFault::Memory => FaultLine::plain(fault.code(), "Memory"),
@@ -88,7 +100,11 @@ impl<'a> FaultLine<'a> {
 fn print_text<W: Write>(text: &[u8], errors: &mut W) -> io::Result<()> {
     write!(errors, " ")?;
     for byte in text {
-        let shown = if (32..=126).contains(byte) { *byte } else { b'?' };
+        let shown = if (32..=126).contains(byte) {
+            *byte
+        } else {
+            b'?'
+        };
         write!(errors, "{}", char::from(shown))?;
     }
     Ok(())
@@ -98,6 +114,28 @@ fn peer_text(why: &Why) -> Option<&[u8]> {
     match why {
         Why::RemoteErr(text) => Some(text.as_bytes()),
         _ => None,
+    }
+}
+
+fn graph_fault_line(fault: &GraphFault) -> Option<usize> {
+    match fault {
+        GraphFault::Text { line } | GraphFault::ParentLater { line } => Some(*line),
+        _ => None,
+    }
+}
+
+fn graph_fault_name(fault: &GraphFault) -> &'static str {
+    match fault {
+        GraphFault::Conflict { .. } => "Conflict",
+        GraphFault::TooMany => "TooMany",
+        GraphFault::TooManyParents => "TooManyParents",
+        GraphFault::TagShape => "TagShape",
+        GraphFault::Memory => "Memory",
+        GraphFault::Pack(_) => "Pack",
+        GraphFault::Index(_) => "Index",
+        GraphFault::Text { .. } => "Text",
+        GraphFault::ParentLater { .. } => "ParentLater",
+        GraphFault::Refs => "Refs",
     }
 }
 

@@ -66,6 +66,8 @@ stops_refused order text rest line behind old number faults.TooMany progress nex
 stops_refused order text rest line behind old number faults.TooManyParents progress next clean refuses = absurd refuses
 stops_refused order text rest line behind old number faults.TagShape progress next clean refuses = absurd refuses
 stops_refused order text rest line behind old number faults.Refs progress next clean refuses = absurd refuses
+stops_refused order text rest line behind old number (faults.Pack why) progress next clean refuses = absurd refuses
+stops_refused order text rest line behind old number (faults.Index why) progress next clean refuses = absurd refuses
 
 pub stops_early : {A : Type 0} (order : Order) (text rest : List ℕ) (old : Reading A) (number : ℕ) → Progress order text rest old number → HasNoLf rest → (rest ≡ [] → old.stage ≡ Done → ⊥) → StopsAt A order text (faults.Text number)
 stops_early order text rest old number (items, so_far, counted, small) clean early =

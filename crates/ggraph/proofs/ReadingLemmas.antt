@@ -160,6 +160,8 @@ node_stopped order old line number entry (Err faults.TooMany) here is valid fact
 node_stopped order old line number entry (Err faults.TooManyParents) here is valid facts = absurd facts
 node_stopped order old line number entry (Err faults.TagShape) here is valid facts = absurd facts
 node_stopped order old line number entry (Err faults.Refs) here is valid facts = absurd facts
+node_stopped order old line number entry (Err (faults.Pack why)) here is valid facts = absurd facts
+node_stopped order old line number entry (Err (faults.Index why)) here is valid facts = absurd facts
 
 pub ref_taken : {A : Type 0} (order : Order) (old : Reading A) (line : List ℕ) (refs : List (List ℕ × List ℕ)) (it : List ℕ × List ℕ) (r : Result (Unit {0}) GraphFault) → TakesRefs old.stage → line ≡ ref_line it → OnOk r (RefMayFollow old.refs it × (refs ≡ old.refs ++ it ∷ [])) → OnOk r (Takes order old line (record old { stage = Refs; refs = refs }))
 ref_taken {A} order old line refs it (Ok u) due is (may, grown) =
@@ -177,3 +179,5 @@ ref_stopped order old line number it (Err faults.TooMany) due is valid facts = a
 ref_stopped order old line number it (Err faults.TooManyParents) due is valid facts = absurd facts
 ref_stopped order old line number it (Err faults.TagShape) due is valid facts = absurd facts
 ref_stopped order old line number it (Err faults.Refs) due is valid facts = absurd facts
+ref_stopped order old line number it (Err (faults.Pack why)) due is valid facts = absurd facts
+ref_stopped order old line number it (Err (faults.Index why)) due is valid facts = absurd facts

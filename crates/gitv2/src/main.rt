@@ -5,7 +5,7 @@
 mod words;
 
 use crate::words::Command;
-use gcmd::{cmd_ls, file_failed, memory_failed};
+use gcmd::{cmd_check, cmd_ls, file_failed, memory_failed};
 use std::io::{BufReader, BufWriter, Write};
 use std::process::ExitCode;
 use std::rt::{Env, Files};
@@ -32,8 +32,24 @@ where
     E: Write,
 {
     match command {
+        Command::Check { file } => check(rt, file.as_str(), errors),
         Command::LsStdioServer { file } => serve_ls(rt, file.as_str(), errors),
     }
+}
+
+// Tells of a repository on standard output.
+fn check<R, E>(rt: &R, file: &str, errors: &mut E) -> u8
+where
+    R: Files + Print + AllocGlobal,
+    E: Write,
+{
+    let Ok(text) = fs::read(rt, file) else {
+        return file_failed(errors);
+    };
+    let Ok(mut output) = BufWriter::new(rt.alloc(), io::writer(rt)) else {
+        return memory_failed(errors);
+    };
+    cmd_check(rt.alloc(), text.as_slice(), &mut output, errors)
 }
 
 // Answers one request of standard input on standard output.

@@ -6,6 +6,8 @@ use std::alloc::{AllocError, Global};
 /// What the words ask for.
 #[derive(Debug, Drop)]
 pub(crate) enum Command {
+    /// `check FILE`
+    Check { file: String },
     /// `ls --stdio-server FILE`
     LsStdioServer { file: String },
 }
@@ -16,23 +18,35 @@ pub(crate) fn read(alloc: Global, words: &[String]) -> Option<Command> {
     if words.iter().any(|word| word.as_str() == "--") {
         return None;
     }
-    let program = program(alloc).ok()?;
-    let matches = program.try_get_matches_from(words).ok()?;
+    let matches = parse(alloc, words)?;
     match matches.subcommand()? {
+        ("check", check) => check_command(alloc, check),
         ("ls", ls) => ls_command(alloc, ls),
         _ => None,
     }
 }
 
-fn program(alloc: Global) -> Result<clap::Command<'static>, AllocError> {
+fn parse<'a>(alloc: Global, words: &'a [String]) -> Option<ArgMatches<'a>> {
+    program(alloc).ok()?.try_get_matches_from(words).ok()
+}
+
+fn program<'a>(alloc: Global) -> Result<clap::Command<'a>, AllocError> {
     let stdio_server = Arg::new(alloc, "stdio-server")
         .long("stdio-server")
         .action(ArgAction::SetTrue);
-    let file = Arg::new(alloc, "file").required(true);
     let ls = clap::Command::new(alloc, "ls")
         .arg(stdio_server)?
-        .arg(file)?;
-    clap::Command::new(alloc, "gitv2").subcommand(ls)
+        .arg(Arg::new(alloc, "file").required(true))?;
+    let check =
+        clap::Command::new(alloc, "check").arg(Arg::new(alloc, "file").required(true))?;
+    clap::Command::new(alloc, "gitv2")
+        .subcommand(check)?
+        .subcommand(ls)
+}
+
+fn check_command(alloc: Global, matches: &ArgMatches<'_>) -> Option<Command> {
+    let file = String::from_str(alloc, matches.get_str("file")?).ok()?;
+    Some(Command::Check { file })
 }
 
 fn ls_command(alloc: Global, matches: &ArgMatches<'_>) -> Option<Command> {
@@ -41,4 +55,71 @@ fn ls_command(alloc: Global, matches: &ArgMatches<'_>) -> Option<Command> {
     }
     let file = String::from_str(alloc, matches.get_str("file")?).ok()?;
     Some(Command::LsStdioServer { file })
+}
+
+#[cfg(test)]
+mod tests {
+    use super::*;
+    use std::test::Fail;
+
+    // The file that the words name, where they are a line of the usage.
+    fn file_in(alloc: Global, line: &str) -> Result<Option<String>, AllocError> {
+        let mut words = Vec::new(alloc);
+        for word in line.split(' ') {
+            words.push(String::from_str(alloc, word)?)?;
+        }
+        match read(alloc, words.as_slice()) {
+            Some(Command::LsStdioServer { file } | Command::Check { file }) => Ok(Some(file)),
+            None => Ok(None),
+        }
+    }
+
+    #[test]
+    fn takes_a_file(rt: HostRuntime) -> Result<(), Fail> {
+        let lines = [
+            ("gitv2 ls --stdio-server server.repo", "server.repo"),
+            ("gitv2 ls server.repo --stdio-server", "server.repo"),
+            ("other-name ls --stdio-server a/b", "a/b"),
+            ("gitv2 ls --stdio-server ls", "ls"),
+            ("gitv2 check server.repo", "server.repo"),
+        ];
+        for (line, want) in lines {
+            let file = file_in(rt.alloc(), line)?.ok_or("usage")?;
+            assert_eq!(rt; file.as_str(), want, "{line}");
+        }
+        Ok(())
+    }
+
+    #[test]
+    fn refuses_other_words(rt: HostRuntime) -> Result<(), Fail> {
+        let lines = [
+            "gitv2",
+            "gitv2 ls",
+            "gitv2 ls server.repo",
+            "gitv2 ls --stdio-server",
+            "gitv2 ls --stdio-server server.repo other.repo",
+            "gitv2 ls --stdio-server --stdio-server server.repo",
+            "gitv2 ls --stdio server.repo",
+            "gitv2 ls --stdio-server=yes server.repo",
+            "gitv2 ls --stdio-server -- server.repo",
+            "gitv2 -- ls --stdio-server server.repo",
+            "gitv2 l --stdio-server server.repo",
+            "gitv2 LS --stdio-server server.repo",
+            "gitv2 ls -s server.repo",
+            "gitv2 --help",
+            "gitv2 help",
+            "gitv2 help ls",
+            "gitv2 ls --help",
+            "gitv2 --version",
+            "gitv2 ls --stdio-server server.repo --help",
+            "gitv2 upload server.repo",
+            "gitv2 check",
+            "gitv2 check a b",
+            "gitv2 check --stdio-server a",
+        ];
+        for line in lines {
+            assert!(rt; file_in(rt.alloc(), line)?.is_none(), "{line}");
+        }
+        Ok(())
+    }
 }
