@@ -1,3 +1,29 @@
+//! The programs of gitv2 as functions over bytes, readers and writers, and what they do of Git's protocol,
+//! version 2: one request for ls-refs is read, answered from a repository's file, and refused where it is
+//! wrong.
+//!
+//! # Proved, of every input
+//!
+//! - [`ls_once`]: what is written is the answer to the request that the bytes read spell, or the line that
+//!   tells of the first refusal, at its packet and with its reason; the end of the exchange says which. Nothing
+//!   is written for a lone flush or no input. Where the sink fails, a beginning of what was due stands.
+//! - [`read_request`] reads a request exactly where the grammar has one, and nothing behind it; else it
+//!   refuses the first packet that does not fit. [`laws`] say that the grammar is the manual's.
+//! - [`ls_refs`] answers exactly HEAD and the refs that are asked for, in order, with the attributes asked
+//!   for; [`write_ls_reply`] writes exactly their canonical bytes.
+//! - [`RepoFile::read`] accepts exactly the texts of repositories with parents first whose refs stand at
+//!   objects that are there, and tells the fault of others at its line or by its ref.
+//!
+//! Want of memory is open: a call that takes memory may tell it at any time.
+//!
+//! # Only tested
+//!
+//! The printed lines, the exit statuses, what [`cmd_check`] tells, and that the sink is flushed.
+//!
+//! # Stands on
+//!
+//! `gpkt` for packet lines, `gname` for names and ids, `ggraph` for graphs and their text, `arrayvec` for lines of
+//! bounded length, `thiserror`.
 #![tactic(auto)]
 
 mod answer;
@@ -19,3 +45,6 @@ pub use crate::fault::{MessageFault, PeerText, Why};
 pub use crate::reply::{RefLine, write_ls_reply};
 pub use crate::repository::{RepoFault, RepoFile};
 pub use crate::request::{LsRefs, Request, read_request};
+
+#[cfg(test)]
+mod tests;
