@@ -37,8 +37,7 @@ fn program<'a>(alloc: Global) -> Result<clap::Command<'a>, AllocError> {
     let ls = clap::Command::new(alloc, "ls")
         .arg(stdio_server)?
         .arg(Arg::new(alloc, "file").required(true))?;
-    let check =
-        clap::Command::new(alloc, "check").arg(Arg::new(alloc, "file").required(true))?;
+    let check = clap::Command::new(alloc, "check").arg(Arg::new(alloc, "file").required(true))?;
     clap::Command::new(alloc, "gitv2")
         .subcommand(check)?
         .subcommand(ls)

@@ -7,8 +7,6 @@ use std::alloc::Global;
 use std::process::Abort;
 use std::test::Fail;
 
-const READ_FAILED: &[u8] = b"0021ERR upload-pack: read failed\n";
-
 // The read after so many fails.
 fn run_reading(alloc: Global, repo: &RepoFile<Global>, input: &[u8], calls: usize) -> Ran {
     let source = Hindered::new(SliceSource::new(input))
@@ -32,6 +30,7 @@ fn check_reads(
     repo: &RepoFile<Global>,
     (input, output, end): Case,
 ) {
+    let told = b"0021ERR upload-pack: read failed\n";
     let reads = input.len() + if is_cut(end) { 1 } else { 0 };
     for calls in 0..reads {
         let ran = run_reading(alloc, repo, input, calls);
@@ -39,7 +38,7 @@ fn check_reads(
             matches!(ran.end, End::Refused { code: 24, .. }),
             "at {calls}"
         );
-        assert_eq!(rt; ran.written.as_slice(), READ_FAILED, "at {calls}");
+        assert_eq!(rt; ran.written.as_slice(), told.as_slice(), "at {calls}");
         assert_eq!(rt; ran.flushes, 1, "at {calls}");
     }
     let ran = run_reading(alloc, repo, input, reads);
