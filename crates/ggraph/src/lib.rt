@@ -15,10 +15,17 @@
 //   lines that read well, where that line may not come; a later parent only where the line is right
 //   but for the order. Want of memory may come at any line.
 // - `save` writes that one text, or answers want of memory.
+// - `Graph::insert_all` adds each new object of a list once, behind the others, or nothing; a refusal comes
+//   for its cause alone, in a fixed order.
+// - `Graph::missing`, `missing_counted`, `reaches`, `ready`, `send_list` and `haves` answer what reachability
+//   along held objects says, each id taken up once. `laws` say what levels and offers are.
+// - `PlainPack` writes one text for a list and reads exactly such texts; a bad text is told at its line.
+//   What a packer and an indexer that lose nothing owe is `Faithful`.
 //
-// Tested, and not proved: that a text which `save` wrote loads again.
+// Tested, and not proved: that a text which `save` wrote loads again, and that the largest pack is not passed.
 //
-// It stands on `gname` for ids and names, `memchr` for the ends of lines and `thiserror`.
+// It stands on `gname` for ids and names, `memchr` for the ends of lines, `itoa` for the count of a pack,
+// and `thiserror`; its proofs cite `hex`.
 #![tactic(auto)]
 
 mod entry_ids;
