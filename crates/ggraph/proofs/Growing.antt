@@ -32,7 +32,7 @@ node_behind (entry ∷ g) more a absent =
 pub node_at_end : {A : Type 0} (g : List (Entry A)) (entry : Entry A) → node_at g entry.id ≡ None → IsNode (g ++ entry ∷ []) entry.id entry.node
 node_at_end g entry absent = node_behind g (entry ∷ []) entry.id absent ∙ node_here entry [] entry.id (is_has_id entry.id entry refl)
 
-other_id : {A : Type 0} (first entry : Entry A) → has_id entry.id first ≡ false → has_id first.id entry ≡ false
+pub other_id : {A : Type 0} (first entry : Entry A) → has_id entry.id first ≡ false → has_id first.id entry ≡ false
 other_id first entry other =
     elim (id_cases first.id entry) [
       | inl same ↦ absurd (false≢true (sym other ∙ is_has_id entry.id first (sym (has_id_is first.id entry same))))

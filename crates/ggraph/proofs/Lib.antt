@@ -23,3 +23,8 @@ pub mod PlainPackLines
 pub mod PlainPackReading
 pub mod PlainPackLaw
 pub mod WholeLemmas
+pub mod Lines
+pub mod Items
+pub mod OneReading
+pub mod Stopping
+pub mod Loadable

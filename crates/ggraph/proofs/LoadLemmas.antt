@@ -3,14 +3,13 @@ use Rattle.std.specs.Prelude.{◌==◌}
 use Rattle.std.proofs.lemmas.Bool.Decides.{nat_tests}
 use Rattle.std.proofs.Common.{true, ◌≡◌, inl, inr, ℕ, ◌+◌, ◌≤◌, List, [], ◌∷◌, ◌++◌, length, map, codes, refl, sym, ◌∙◌, ap, subst, arith}
 use Rattle.std.proofs.lemmas.List.{append_assoc, length-append}
-use Rattle.ggraph.specs.declared.fault.GraphFault.{GraphFault}
-use Rattle.ggraph.specs.declared.fault.GraphFault.TheVariants as faults
 use Rattle.ggraph.specs.declared.text.Order.{Order}
 use Rattle.ggraph.specs.declared.text.reading.Stage.TheVariants.{Done}
 use Rattle.ggraph.specs.declared.text.reading.Stage.{Stage}
 use Rattle.ggraph.specs.declared.text.reading.Reading.{Reading}
 use Rattle.ggraph.specs.RepositoryText.{text_of}
-use Rattle.ggraph.specs.Reading.{HasNoLf, HasRead, Item, MayCome, ReadsTo, Refuses, StopsAt, Takes, after, items_text, line_of, nothing_read}
+use Rattle.ggraph.specs.Reading.{Item, MayCome, Takes, after, line_of, nothing_read}
+use Rattle.ggraph.proofs.Items.{HasRead, ReadsTo, items_text}
 
 pub reads_more : {A : Type 0} (order : Order) (old mid new : Reading A) (items : List (Item A)) (item : Item A) → ReadsTo order old items mid → MayCome order mid item → new ≡ after mid item → ReadsTo order old (items ++ item ∷ []) new
 reads_more {A} order old mid new [] item here may e = (subst (λ (r : Reading A). MayCome order r item) here may, e ∙ ap (λ (r : Reading A). after r item) here)
@@ -22,7 +21,7 @@ text_of-append (line ∷ lines) more =
     ap (λ (t : List ℕ). line ++ (codes "\n" ++ t)) (text_of-append lines more)
     ∙ sym (append_assoc line (codes "\n" ++ text_of lines) (text_of more))
 
-map_more : {A : Type 0} (items : List (Item A)) (item : Item A) → map line_of (items ++ item ∷ []) ≡ map line_of items ++ line_of item ∷ []
+pub map_more : {A : Type 0} (items : List (Item A)) (item : Item A) → map line_of (items ++ item ∷ []) ≡ map line_of items ++ line_of item ∷ []
 map_more [] item = refl
 map_more (first ∷ items) item = ap (λ (ls : List (List ℕ)). line_of first ∷ ls) (map_more items item)
 
@@ -54,24 +53,6 @@ progress_more order text rest line behind old new number (items, so_far, counted
   omega (arith, length-append items (item ∷ [])),
   omega (arith, ap length next, length-append line (codes "\n" ++ behind)),
 )
-
-pub stops_refused : {A : Type 0} (order : Order) (text rest line behind : List ℕ) (old : Reading A) (number : ℕ) (fault : GraphFault) → Progress order text rest old number → rest ≡ line ++ (codes "\n" ++ behind) → HasNoLf line → Refuses order old line number fault → StopsAt A order text fault
-stops_refused order text rest line behind old number faults.Memory progress next clean refuses = tt
-stops_refused order text rest line behind old number (faults.Text at) (items, so_far, counted, small) next clean refuses =
-    (items, rest, old, so_far, inl (line, behind, next, clean, (refuses.0 ∙ counted, refuses.1)))
-stops_refused order text rest line behind old number (faults.ParentLater at) (items, so_far, counted, small) next clean refuses =
-    (items, rest, old, so_far, inl (line, behind, next, clean, (refuses.0 ∙ counted, refuses.1, refuses.2, refuses.3, refuses.4, refuses.5)))
-stops_refused order text rest line behind old number (faults.Conflict id) progress next clean refuses = absurd refuses
-stops_refused order text rest line behind old number faults.TooMany progress next clean refuses = absurd refuses
-stops_refused order text rest line behind old number faults.TooManyParents progress next clean refuses = absurd refuses
-stops_refused order text rest line behind old number faults.TagShape progress next clean refuses = absurd refuses
-stops_refused order text rest line behind old number faults.Refs progress next clean refuses = absurd refuses
-stops_refused order text rest line behind old number (faults.Pack why) progress next clean refuses = absurd refuses
-stops_refused order text rest line behind old number (faults.Index why) progress next clean refuses = absurd refuses
-
-pub stops_early : {A : Type 0} (order : Order) (text rest : List ℕ) (old : Reading A) (number : ℕ) → Progress order text rest old number → HasNoLf rest → (rest ≡ [] → old.stage ≡ Done → ⊥) → StopsAt A order text (faults.Text number)
-stops_early order text rest old number (items, so_far, counted, small) clean early =
-    (items, rest, old, so_far, inr (ap faults.Text counted, clean, early))
 
 empty_one : (rest : List ℕ) → true ≡ (length rest == 0) → rest ≡ []
 empty_one [] e = refl

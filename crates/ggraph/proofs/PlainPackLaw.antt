@@ -15,7 +15,8 @@ use Rattle.ggraph.specs.declared.node.Node.{Node}
 use Rattle.ggraph.specs.declared.node.Entry.{Entry}
 use Rattle.ggraph.specs.declared.pack.IndexFault.{IndexFault}
 use Rattle.ggraph.specs.declared.pack.IndexFault.TheVariants as index_faults
-use Rattle.ggraph.specs.Packs.{max_pack, HasIds, LosesNothing}
+use Rattle.ggraph.specs.Graphs.{HasIds}
+use Rattle.ggraph.specs.Packs.{max_pack, LosesNothing}
 use Rattle.ggraph.specs.PlainPackText.{line, header, letter, ids_of, ids_text, node_text, nodes_text, end_text, pack_text, PackRefuses, IsInLine, IsIdsText, IsNodeText, IsNodesText, IsFront, MayStand, IsPack, IsFollowed, IsBadLine, IndexRefuses}
 use Rattle.ggraph.proofs.NodeLemmas.{node_same}
 use Rattle.ggraph.proofs.PlainPackLines.{IsIdsText-one}
@@ -278,7 +279,7 @@ IsIdsText-image (id ∷ ids) h =
 IsNodeText-image : {A : Type 0} (entry : Entry A) → HasIds entry → IsNodeText (node_text entry) entry
 IsNodeText-image entry h =
     let parents = IsIdsText-image entry.node.parents h.parents in
-    (ids_text (ids_of entry), refl, (id_text entry.id, ids_text entry.node.parents, refl, IsIdText-id_text entry.id h.own, parents))
+    (ids_text (ids_of entry), refl, (id_text entry.id, ids_text entry.node.parents, refl, IsIdText-id_text entry.id h.id, parents))
 
 IsNodesText-image : {A : Type 0} (list : List (Entry A)) → All HasIds list → IsNodesText (nodes_text list) list
 IsNodesText-image [] h = refl

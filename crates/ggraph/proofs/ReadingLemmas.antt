@@ -16,16 +16,20 @@ use Rattle.ggraph.specs.declared.text.Order.TheVariants.{Any, ParentsFirst}
 use Rattle.ggraph.specs.declared.text.reading.Stage.{Stage}
 use Rattle.ggraph.specs.declared.text.reading.Stage.TheVariants.{First, Nodes, Refs, Last, Done}
 use Rattle.ggraph.specs.declared.text.reading.Reading.{Reading}
-use Rattle.ggraph.specs.RepositoryText.{HasIds, MayFollow, RefMayFollow, first_line, head_line, kind_letter, last_line, node_line, ref_line, spaced_ids}
-use Rattle.ggraph.specs.Reading.{begins, node, ref, heads, ends, Refuses, RefusesEntry, RefusesRef, Takes, TakesNot, TakesRefs}
+use Rattle.ggraph.specs.Graphs.{HasIds}
+use Rattle.ggraph.specs.RepositoryText.{IsHead, MayFollow, RefMayFollow, first_line, head_line, kind_letter, last_line, node_line, ref_line, spaced_ids}
+use Rattle.ggraph.specs.Reading.{Item, MayCome, begins, line_of, node, ref, heads, ends, Refuses, RefusesEntry, RefusesRef, Takes, TakesNot, TakesRefs}
 use Rattle.ggraph.specs.TextParts.{IsNoNode, IsNoRef, IsNoHead}
 use Rattle.ggraph.proofs.NodeLemmas.{node_same}
-use Rattle.ggraph.proofs.TextLemmas.{one_front}
+use Rattle.ggraph.proofs.TextLemmas.{one_front, one_id}
 
 -- ---- lines that differ
 
 abbrev first_byte : List ℕ → ℕ
 first_byte xs = get_or xs 0 0
+
+abbrev third_byte : List ℕ → ℕ
+third_byte xs = get_or xs 2 0
 
 far : (a b : ℕ) → b < a → a ≡ b → ⊥
 far a b lt e = omega arith
@@ -90,6 +94,17 @@ one_ref a b va vb e =
     let names = append_cancel_left (codes " ") a.0 b.0 parts.1 in
     ap (λ (n : List ℕ). (n, a.1)) names ∙ ap (λ (i : List ℕ). (b.0, i)) parts.0
 
+pub one_head : {A : Type 0} → (a b : Head A) → IsHead a → IsHead b → head_line a ≡ head_line b → a ≡ b
+one_head heads_of.None heads_of.None va vb e = refl
+one_head heads_of.None (heads_of.Id id) va vb e = absurd (far 110 105 (lit< tt) (ap third_byte e))
+one_head heads_of.None (heads_of.Symref target) va vb e = absurd (far 114 110 (lit< tt) (sym (ap third_byte e)))
+one_head (heads_of.Id id) heads_of.None va vb e = absurd (far 110 105 (lit< tt) (sym (ap third_byte e)))
+one_head (heads_of.Id a) (heads_of.Id b) va vb e = ap heads_of.Id (one_id a b va vb (append_cancel_left (codes "h id ") (id_text a) (id_text b) e))
+one_head (heads_of.Id id) (heads_of.Symref target) va vb e = absurd (far 114 105 (lit< tt) (sym (ap third_byte e)))
+one_head (heads_of.Symref target) heads_of.None va vb e = absurd (far 114 110 (lit< tt) (ap third_byte e))
+one_head (heads_of.Symref target) (heads_of.Id id) va vb e = absurd (far 114 105 (lit< tt) (ap third_byte e))
+one_head (heads_of.Symref a) (heads_of.Symref b) va vb e = ap heads_of.Symref (append_cancel_left (codes "h ref ") a b e)
+
 -- ---- lines that may not come
 
 no_refs_at : (stage : Stage) (s : Stage) → stage ≡ s → (s ≡ Nodes → ⊥) → (s ≡ Refs → ⊥) → TakesRefs stage → ⊥
@@ -141,6 +156,35 @@ module _ {A : Type 0} (order : Order) (old : Reading A) (line : List ℕ) where
   ref_refused it due is valid never (ref other) e may = never (subst (λ (x : List ℕ × List ℕ). RefMayFollow old.refs x) (one_ref other it may.1.id valid (sym e ∙ is)) may.1)
   ref_refused it due is valid never (heads head) e may = ref_not_head it head (sym is ∙ e)
   ref_refused it due is valid never ends e may = not_at Last due (λ h. cc) (λ h. cc) may
+
+-- ---- a line that may come stands for one item
+
+pub one_item : {A : Type 0} → (order other : Order) (old : Reading A) (a b : Item A) → MayCome order old a → MayCome other old b → line_of a ≡ line_of b → a ≡ b
+one_item order other old begins begins may there e = refl
+one_item order other old begins (node entry) may there e = let h = sym may ∙ there.0 in cc
+one_item order other old begins (ref it) may there e = absurd (no_refs_at old.stage First may (λ h. cc) (λ h. cc) there.0)
+one_item order other old begins (heads head) may there e = absurd (no_refs_at old.stage First may (λ h. cc) (λ h. cc) there.0)
+one_item order other old begins ends may there e = let h = sym may ∙ there in cc
+one_item order other old (node entry) begins may there e = let h = sym may.0 ∙ there in cc
+one_item order other old (node a) (node b) may there e = ap node (one_entry a b may.1.ids there.1.ids e)
+one_item order other old (node entry) (ref it) may there e = absurd (node_not_ref entry it e)
+one_item order other old (node entry) (heads head) may there e = absurd (node_not_head entry head e)
+one_item order other old (node entry) ends may there e = let h = sym may.0 ∙ there in cc
+one_item order other old (ref it) begins may there e = absurd (no_refs_at old.stage First there (λ h. cc) (λ h. cc) may.0)
+one_item order other old (ref it) (node entry) may there e = absurd (node_not_ref entry it (sym e))
+one_item order other old (ref a) (ref b) may there e = ap ref (one_ref a b may.1.id there.1.id e)
+one_item order other old (ref it) (heads head) may there e = absurd (ref_not_head it head e)
+one_item order other old (ref it) ends may there e = absurd (no_refs_at old.stage Last there (λ h. cc) (λ h. cc) may.0)
+one_item order other old (heads head) begins may there e = absurd (no_refs_at old.stage First there (λ h. cc) (λ h. cc) may.0)
+one_item order other old (heads head) (node entry) may there e = absurd (node_not_head entry head (sym e))
+one_item order other old (heads head) (ref it) may there e = absurd (ref_not_head it head (sym e))
+one_item order other old (heads a) (heads b) may there e = ap heads (one_head a b may.1 there.1 e)
+one_item order other old (heads head) ends may there e = absurd (no_refs_at old.stage Last there (λ h. cc) (λ h. cc) may.0)
+one_item order other old ends begins may there e = let h = sym may ∙ there in cc
+one_item order other old ends (node entry) may there e = let h = sym may ∙ there.0 in cc
+one_item order other old ends (ref it) may there e = absurd (no_refs_at old.stage Last may (λ h. cc) (λ h. cc) there.0)
+one_item order other old ends (heads head) may there e = absurd (no_refs_at old.stage Last may (λ h. cc) (λ h. cc) there.0)
+one_item order other old ends ends may there e = refl
 
 -- ---- what taking a node or a ref answers
 

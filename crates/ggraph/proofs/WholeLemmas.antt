@@ -3,13 +3,16 @@ use Rattle.std.proofs.Common.{◌≡◌, inl, inr, ℕ, List, [], ◌∷◌, ◌
 use Rattle.std.proofs.lemmas.List.{append_assoc, append-nil}
 use Rattle.ggraph.specs.declared.node.Entry.{Entry}
 use Rattle.ggraph.specs.declared.head.Head.{Head}
+use Rattle.ggraph.specs.declared.head.Head.TheVariants.{None}
 use Rattle.ggraph.specs.declared.text.Order.{Order}
 use Rattle.ggraph.specs.declared.text.reading.Stage.{Stage}
 use Rattle.ggraph.specs.declared.text.reading.Stage.TheVariants.{First, Nodes, Refs, Last, Done}
 use Rattle.ggraph.specs.declared.text.reading.Reading.{Reading}
 use Rattle.ggraph.specs.RefLists.{RefList}
 use Rattle.ggraph.specs.RepositoryText.{EachBehind, IsLoadable, MayFollow, RefMayFollow, first_line, head_line, last_line, lines_of, node_line, ref_line, repository_text, text_of}
-use Rattle.ggraph.specs.Reading.{HasRead, Item, MayCome, ReadsTo, TakesRefs, after, begins, ends, heads, items_text, line_of, node, nothing_read, ref}
+use Rattle.ggraph.specs.Reading.{Item, MayCome, TakesRefs, after, begins, ends, heads, line_of, node, nothing_read, ref}
+use Rattle.ggraph.specs.Loading.{Begins}
+use Rattle.ggraph.proofs.Items.{HasRead, ReadsTo, items_text}
 
 -- ---- each element behind those before it
 
@@ -108,3 +111,55 @@ pub whole_read : {A : Type 0} (order : Order) (text : List ℕ) (items : List (I
 whole_read {A} order text items g refs head all =
     let fine = reads_fine order nothing_read (record { stage = Done; graph = g; refs = refs; head = head }) items [] (begin_fine order) all.reads in
     (all.spells ∙ append-nil (items_text items) ∙ ap text_of fine.shape, fine.valid)
+
+-- ---- what is read so far begins a text
+
+at_begin : {A : Type 0} (order : Order) (lines : List (List ℕ)) → lines ≡ [] → Begins A order lines
+at_begin {A} order lines none =
+    let valid = (begin_fine {A = A} order).valid in
+    record { graph = []; refs = []; head = None; loadable = valid; more = lines_of {A = A} [] [] None; parts = ap (λ (ls : List (List ℕ)). ls ++ lines_of {A = A} [] [] None) (sym none) }
+
+-- HEAD may stand at nothing, and then all lines but the last two are those of nodes and refs
+at_refs : {A : Type 0} (order : Order) (r : Reading A) (lines : List (List ℕ)) → lines ≡ first_line ∷ (map node_line r.graph ++ map ref_line r.refs) → IsLoadable order r.graph r.refs r.head → Begins A order lines
+at_refs {A} order r lines shape valid = record {
+  graph = r.graph;
+  refs = r.refs;
+  head = None;
+  loadable = record { nodes = valid.nodes; refs_follow = valid.refs_follow; stands = tt };
+  more = head_line {A = A} None ∷ last_line ∷ [];
+  parts =
+      ap (λ (ls : List (List ℕ)). first_line ∷ ls) (sym (append_assoc (map node_line r.graph) (map ref_line r.refs) (head_line {A = A} None ∷ last_line ∷ [])))
+      ∙ ap (λ (ls : List (List ℕ)). ls ++ head_line {A = A} None ∷ last_line ∷ []) (sym shape);
+}
+
+at_last : {A : Type 0} (order : Order) (r : Reading A) (lines : List (List ℕ)) → lines ≡ first_line ∷ (map node_line r.graph ++ (map ref_line r.refs ++ head_line r.head ∷ [])) → IsLoadable order r.graph r.refs r.head → Begins A order lines
+at_last order r lines shape valid = record {
+  graph = r.graph;
+  refs = r.refs;
+  head = r.head;
+  loadable = valid;
+  more = last_line ∷ [];
+  parts =
+      ap (λ (ls : List (List ℕ)). first_line ∷ (map node_line r.graph ++ ls)) (sym (append_assoc (map ref_line r.refs) (head_line r.head ∷ []) (last_line ∷ [])))
+      ∙ ap (λ (ls : List (List ℕ)). first_line ∷ ls) (sym (append_assoc (map node_line r.graph) (map ref_line r.refs ++ head_line r.head ∷ []) (last_line ∷ [])))
+      ∙ ap (λ (ls : List (List ℕ)). ls ++ last_line ∷ []) (sym shape);
+}
+
+at_stage : {A : Type 0} (order : Order) (r : Reading A) (lines : List (List ℕ)) (s : Stage) → r.stage ≡ s → ShapeAt s r lines → IsLoadable order r.graph r.refs r.head → Begins A order lines
+at_stage order r lines First here shape valid = at_begin order lines shape.0
+at_stage order r lines Nodes here shape valid = at_refs order r lines (so_far order r lines (inl here) (subst (λ (s : Stage). ShapeAt s r lines) (sym here) shape)) valid
+at_stage order r lines Refs here shape valid = at_refs order r lines shape valid
+at_stage order r lines Last here shape valid = at_last order r lines shape valid
+at_stage order r lines Done here shape valid = record {
+  graph = r.graph;
+  refs = r.refs;
+  head = r.head;
+  loadable = valid;
+  more = [];
+  parts = sym shape ∙ sym (append-nil lines);
+}
+
+pub begins_so_far : {A : Type 0} (order : Order) (items : List (Item A)) (r : Reading A) → ReadsTo order nothing_read items r → Begins A order (map line_of items)
+begins_so_far {A} order items r reads =
+    let fine = reads_fine order nothing_read r items [] (begin_fine order) reads in
+    at_stage order r (map line_of items) r.stage refl fine.shape fine.valid

@@ -3,6 +3,7 @@
 use Rattle.std.specs.Prelude.{◌≡◌, ℕ, ◌≤◌, ⊤, Bool, List, [], ◌∷◌, length, find, position, Contains, All, Option, None, Some, IsSome}
 use Rattle.std.specs.Str.{bytes_eq}
 use Rattle.std.specs.Option.{option_map}
+use Rattle.gname.specs.Ids.{IsId}
 use Rattle.ggraph.specs.declared.node.Kind.TheVariants.{Tag}
 use Rattle.ggraph.specs.declared.node.Node.{Node}
 use Rattle.ggraph.specs.declared.node.Entry.{Entry}
@@ -22,6 +23,11 @@ node_at g a = option_map (λ entry. entry.node) (find (has_id a) g)
 -- the place of that entry
 abbrev pub place_of : {A : Type 0} → List (Entry A) → List ℕ → Option ℕ
 place_of g a = position (has_id a) g
+
+-- the id of an entry and those of its parents are object ids
+pub record HasIds {A : Type 0} (entry : Entry A) : Type 0 where
+  pub id : IsId entry.id
+  pub parents : All IsId entry.node.parents
 
 -- an id is one of the graph's, and this is its node
 abbrev pub IsNode : {A : Type 0} → List (Entry A) → List ℕ → Node A → Type 0

@@ -1,5 +1,6 @@
 pub mod Faults
 pub mod Graphs
+pub mod Loading
 pub mod Peeling
 pub mod Reading
 pub mod RefLists

@@ -1,22 +1,16 @@
 -- Packs: what a packer may write of a list of entries, what an indexer may read, and when nothing is lost between the two.
 use Rattle.std.specs.Prelude.{◌≡◌, ℕ, ◌<◌, ◌≤◌, List, length, All}
-use Rattle.gname.specs.Ids.{IsId}
 use Rattle.ggraph.specs.declared.node.Entry.{Entry}
 use Rattle.ggraph.specs.declared.pack.PackFault.{PackFault}
 use Rattle.ggraph.specs.declared.pack.PackFault.TheVariants.{TooLarge}
 use Rattle.ggraph.specs.declared.pack.PackFault.TheVariants as pack_faults
 use Rattle.ggraph.specs.declared.pack.IndexFault.{IndexFault}
 use Rattle.ggraph.specs.declared.pack.IndexFault.TheVariants as index_faults
-use Rattle.ggraph.specs.Graphs.{IdsDiffer}
+use Rattle.ggraph.specs.Graphs.{HasIds, IdsDiffer}
 
 -- the most bytes of a pack
 abbrev pub max_pack : ℕ
 max_pack = 67108864
-
--- the id of an entry and those of its parents are object ids
-pub record HasIds {A : Type 0} (entry : Entry A) : Type 0 where
-  pub own : IsId entry.id
-  pub parents : All IsId entry.node.parents
 
 -- entries as a graph has them: under object ids, none of which comes twice
 pub record AreEntries {A : Type 0} (list : List (Entry A)) : Type 0 where

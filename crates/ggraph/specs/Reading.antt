@@ -1,5 +1,5 @@
 -- Reading a repository text line by line: which lines may come next, and what they add.
-use Rattle.std.specs.Prelude.{◌≡◌, ◌≢◌, ◌⊎◌, ⊤, ℕ, ◌+◌, ◌<◌, List, [], ◌∷◌, ◌++◌, length, map, slice_index, codes}
+use Rattle.std.specs.Prelude.{◌≡◌, ◌⊎◌, ⊤, ℕ, List, [], ◌∷◌, ◌++◌}
 use Rattle.ggraph.specs.declared.node.Entry.{Entry}
 use Rattle.ggraph.specs.declared.head.Head.{Head}
 use Rattle.ggraph.specs.declared.head.Head.TheVariants.{None}
@@ -11,7 +11,7 @@ use Rattle.ggraph.specs.declared.text.reading.Stage.{Stage}
 use Rattle.ggraph.specs.declared.text.reading.Stage.TheVariants.{First, Nodes, Refs, Last, Done}
 use Rattle.ggraph.specs.declared.text.reading.Reading.{Reading}
 use Rattle.ggraph.specs.RefLists.{RefList}
-use Rattle.ggraph.specs.RepositoryText.{IsHead, MayFollow, RefMayFollow, first_line, head_line, last_line, node_line, ref_line, text_of}
+use Rattle.ggraph.specs.RepositoryText.{IsHead, MayFollow, RefMayFollow, first_line, head_line, last_line, node_line, ref_line}
 
 -- what a line stands for
 pub data Item (A : Type 0) : Type 0 where
@@ -80,39 +80,3 @@ abbrev pub RefusesRef : RefList → List ℕ × List ℕ → ℕ → GraphFault 
 RefusesRef refs it number Memory = ⊤
 RefusesRef refs it number (Text at) = (at ≡ number) × (RefMayFollow refs it → ⊥)
 RefusesRef refs it number _ = ⊥
-
--- ---- whole texts
-
--- items one after the other
-abbrev pub ReadsTo : {A : Type 0} → Order → Reading A → List (Item A) → Reading A → Type 0
-ReadsTo order old [] new = new ≡ old
-ReadsTo order old (item ∷ items) new = MayCome order old item × ReadsTo order (after old item) items new
-
--- the text of items
-abbrev pub items_text : {A : Type 0} → List (Item A) → List ℕ
-items_text items = text_of (map line_of items)
-
--- the front of the text is these items, and the rest is left
-pub record HasRead {A : Type 0} (order : Order) (text : List ℕ) (items : List (Item A)) (rest : List ℕ) (new : Reading A) : Type 0 where
-  pub spells : text ≡ items_text items ++ rest
-  pub reads : ReadsTo order nothing_read items new
-
--- no byte is an LF
-abbrev pub HasNoLf : List ℕ → Type 0
-HasNoLf text = (k : ℕ) → k < length text → slice_index text k ≢ 10
-
--- the text goes on with a line that is refused
-abbrev pub NextRefused : {A : Type 0} → Order → Reading A → List ℕ → ℕ → GraphFault → Type 0
-NextRefused order old rest number fault =
-    (line : List ℕ) × (behind : List ℕ) × (rest ≡ line ++ (codes "\n" ++ behind)) × HasNoLf line × Refuses order old line number fault
-
--- the text ends in a line, or before its last line
-abbrev pub EndsEarly : {A : Type 0} → Reading A → List ℕ → ℕ → GraphFault → Type 0
-EndsEarly old rest number fault = (fault ≡ Text number) × HasNoLf rest × (rest ≡ [] → old.stage ≡ Done → ⊥)
-
--- reading stops behind some items, at the next line
-abbrev pub StopsAt : (A : Type 0) → Order → List ℕ → GraphFault → Type 0
-StopsAt A order text Memory = ⊤
-StopsAt A order text fault =
-    (items : List (Item A)) × (rest : List ℕ) × (old : Reading A) × HasRead order text items rest old
-    × (NextRefused order old rest (length items + 1) fault ⊎ EndsEarly old rest (length items + 1) fault)

@@ -9,7 +9,7 @@ use Rattle.ggraph.specs.declared.head.Head.{Head}
 use Rattle.ggraph.specs.declared.head.Head.TheVariants.{Id, Symref}
 use Rattle.ggraph.specs.declared.text.Order.{Order}
 use Rattle.ggraph.specs.declared.text.Order.TheVariants.{Any, ParentsFirst}
-use Rattle.ggraph.specs.Graphs.{Holds, IsShaped, node_at, max_nodes}
+use Rattle.ggraph.specs.Graphs.{HasIds, Holds, IsShaped, node_at, max_nodes}
 use Rattle.ggraph.specs.RefLists.{RefList, AreBelow, IsBelowRefs, max_refs}
 
 -- ---- lines
@@ -59,11 +59,6 @@ abbrev pub repository_text : {A : Type 0} → List (Entry A) → RefList → Hea
 repository_text g refs head = text_of (lines_of g refs head)
 
 -- ---- what may stand in a text
-
--- the ids of an entry are ids
-pub record HasIds {A : Type 0} (entry : Entry A) : Type 0 where
-  pub id : IsId entry.id
-  pub parents : All IsId entry.node.parents
 
 -- what HEAD stands at is an id, or a name below refs/
 abbrev pub IsHead : {A : Type 0} → Head A → Type 0

@@ -5,7 +5,8 @@ use Rattle.ggraph.specs.declared.node.Entry.{Entry}
 use Rattle.ggraph.specs.declared.head.Head.{Head}
 use Rattle.ggraph.specs.declared.head.Head.TheVariants.{Id, Symref}
 use Rattle.ggraph.specs.RefLists.{IsBelowRefs}
-use Rattle.ggraph.specs.RepositoryText.{HasIds, IsHead, node_line, ref_line, head_line, spaced_ids}
+use Rattle.ggraph.specs.Graphs.{HasIds}
+use Rattle.ggraph.specs.RepositoryText.{IsHead, node_line, ref_line, head_line, spaced_ids}
 
 -- the text does not begin with an id
 abbrev pub BeginsWithNoId : List ℕ → Type 0

@@ -3,7 +3,7 @@
 
 ghost use Rattle.std.specs.Prelude.{All};
 ghost use Rattle.gname.specs.Ids.{IsId};
-ghost use Rattle.ggraph.specs.Packs.{HasIds};
+ghost use Rattle.ggraph.specs.Graphs.{HasIds};
 
 use crate::node::Entry;
 use gname::Oid;

@@ -10,11 +10,11 @@
 //   chain leaves the graph or never ends.
 // - `Refs` are in strictly ascending order. `Refs::set` puts one name at an id and leaves all others,
 //   or changes nothing, and answers `Refs` exactly for HEAD and for one name too many.
-// - What `load` answers is kept by the text: the text is the one of that graph, those refs and that
-//   HEAD, and each node and ref may follow those before it. A fault is told at the line behind the
-//   lines that read well, where that line may not come; a later parent only where the line is right
-//   but for the order. Want of memory may come at any line.
-// - `save` writes that one text, or answers want of memory.
+// - `load` accepts exactly the texts of repositories: the text of a graph, refs and HEAD whose nodes and refs
+//   may each follow those before it is read as these, or there is no memory. Any other text is refused at the
+//   first line with which it begins no such text, or where it ends early; as a later parent only where the
+//   line is right but for the order. Want of memory may come at any line.
+// - `save` writes the one text of what it is given, which `load` reads back, or answers want of memory.
 // - `Graph::insert_all` adds each new object of a list once, behind the others, or nothing; a refusal comes
 //   for its cause alone, in a fixed order.
 // - `Graph::missing`, `missing_counted`, `reaches`, `ready`, `send_list` and `haves` answer what reachability
@@ -22,7 +22,7 @@
 // - `PlainPack` writes one text for a list and reads exactly such texts; a bad text is told at its line.
 //   What a packer and an indexer that lose nothing owe is `Faithful`.
 //
-// Tested, and not proved: that a text which `save` wrote loads again, and that the largest pack is not passed.
+// Tested, and not proved: that the largest pack is not passed.
 //
 // It stands on `gname` for ids and names, `memchr` for the ends of lines, `itoa` for the count of a pack,
 // and `thiserror`; its proofs cite `hex`.

@@ -51,6 +51,7 @@ impl Oid {
     pub fn to_hex(&self, out: &mut [u8; ID_TEXT_LENGTH])
         ensures text { out.new ≡ id_text self.now }
         ensures reads_back { IsIdText out.new self.now }
+        ensures id { IsId self.now }
     {
         hex::encode_to_slice(self.bytes, out).unwrap();
     }

@@ -2,7 +2,8 @@
 #![tactic(auto)]
 
 ghost use Rattle.std.specs.Prelude.{◌≡◌, MatchOption, IfOk, ◌∷◌};
-ghost use Rattle.ggraph.specs.RepositoryText.{HasIds, IsHead, node_line, ref_line, head_line, spaced_ids};
+ghost use Rattle.ggraph.specs.Graphs.{HasIds};
+ghost use Rattle.ggraph.specs.RepositoryText.{IsHead, node_line, ref_line, head_line, spaced_ids};
 ghost use Rattle.ggraph.specs.RefLists.{IsBelowRefs};
 ghost use Rattle.ggraph.specs.TextParts.{IsNoNode, IsNoEntry, IsNoRef, IsNoHead, IsNoIdText, IsHeadAt, IsHeadOn};
 ghost use Rattle.gname.specs.Ids.{IsId};

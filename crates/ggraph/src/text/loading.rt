@@ -2,7 +2,7 @@
 #![tactic(auto)]
 
 ghost use Rattle.std.specs.Prelude.{◌≡◌, ◌++◌, MatchOption, IfOk, IfErr, codes};
-ghost use Rattle.ggraph.specs.Reading.{HasNoLf, StopsAt};
+ghost use Rattle.ggraph.specs.Loading.{Accepts, HasNoLf, StopsAt};
 ghost use Rattle.ggraph.specs.RepositoryText.{IsLoadable, repository_text};
 
 use crate::fault::GraphFault;
@@ -28,6 +28,7 @@ pub fn load<A: Allocator + Copy>(
     ensures ok { IfOk result (λ it.
         (text.now ≡ repository_text it.graph it.refs it.head) × IsLoadable order it.graph it.refs it.head) }
     ensures refused { IfErr result (StopsAt A order text.now) }
+    ensures accepts { Accepts A order text.now result }
 {
     let mut reading = Reading::new(alloc);
     let mut rest = text;

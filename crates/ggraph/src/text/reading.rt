@@ -3,9 +3,9 @@
 
 ghost use Rattle.std.specs.Prelude.{◌≡◌, ◌++◌, ◌∷◌, [], IfErr, OnOk, OnErr, IsTrue, ◌↔◌, All};
 ghost use Rattle.gname.specs.Ids.{IsId};
-ghost use Rattle.ggraph.specs.Graphs.{Holds};
+ghost use Rattle.ggraph.specs.Graphs.{HasIds, Holds};
 ghost use Rattle.ggraph.specs.RefLists.{IsBelowRefs};
-ghost use Rattle.ggraph.specs.RepositoryText.{HasIds, MayFollow, RefMayFollow};
+ghost use Rattle.ggraph.specs.RepositoryText.{MayFollow, RefMayFollow};
 ghost use Rattle.ggraph.specs.Reading.{RefusesEntry, RefusesRef};
 
 use crate::fault::GraphFault;

@@ -1,27 +1,32 @@
 // Writing a repository text.
 #![tactic(auto)]
 
-ghost use Rattle.std.specs.Prelude.{◌≡◌, ◌++◌, IfOk, OnOk, MatchResult, map, codes};
-ghost use Rattle.gname.specs.Ids.{id_text};
-ghost use Rattle.ggraph.specs.RepositoryText.{head_line, node_line, ref_line, repository_text, spaced_ids, text_of};
+ghost use Rattle.std.specs.Prelude.{◌≡◌, ◌++◌, All, IfOk, OnOk, MatchResult, map, codes};
+ghost use Rattle.gname.specs.Ids.{IsId, id_text};
+ghost use Rattle.ggraph.specs.Graphs.{HasIds};
+ghost use Rattle.ggraph.specs.RefLists.{StandsAtId};
+ghost use Rattle.ggraph.specs.RepositoryText.{IsHead, IsLoadable, head_line, node_line, ref_line, repository_text, spaced_ids, text_of};
 
 use crate::fault::GraphFault;
 use crate::graph::Graph;
 use crate::head::Head;
 use crate::node::{Entry, Kind};
 use crate::refs::Refs;
+use crate::text::Order;
 use gname::{ID_TEXT_LENGTH, Oid, RefName};
 use std::alloc::{AllocError, Allocator};
 
-/// Writes the one text that keeps these. It fails where there is no memory, and then with `Memory`.
+/// Writes the one text that keeps these, which `load` reads back in any order of nodes. It fails where
+/// there is no memory, and then with `Memory`.
 pub fn save<A: Allocator + Copy>(
     alloc: A,
     graph: &Graph<A>,
     refs: &Refs<A>,
     head: &Head<A>,
 ) -> Result<Vec<u8, A>, GraphFault>
-    ensures { MatchResult result (λ text. text.items ≡ repository_text graph.now refs.now head.now)
+    ensures text { MatchResult result (λ text. text.items ≡ repository_text graph.now refs.now head.now)
         (λ fault. fault ≡ GraphFault.Memory) }
+    ensures loadable { IfOk result (λ text. IsLoadable Order.Any graph.now refs.now head.now) }
 {
     match written(alloc, graph, refs, head) {
         Ok(text) => Ok(text),
@@ -35,7 +40,8 @@ fn written<A: Allocator + Copy>(
     refs: &Refs<A>,
     head: &Head<A>,
 ) -> Result<Vec<u8, A>, AllocError>
-    ensures { IfOk result (λ text. text.items ≡ repository_text graph.now refs.now head.now) }
+    ensures text { IfOk result (λ text. text.items ≡ repository_text graph.now refs.now head.now) }
+    ensures loadable { IfOk result (λ text. IsLoadable Order.Any graph.now refs.now head.now) }
 {
     let mut text = Vec::new(alloc);
     text.extend_from_slice(b"gitv2 1\n")?;
@@ -50,7 +56,8 @@ fn put_nodes<A: Allocator + Copy>(
     text: &mut Vec<u8, A>,
     entries: &[Entry<A>],
 ) -> Result<(), AllocError>
-    ensures { OnOk result (text.new.items ≡ text.old.items ++ text_of (map node_line entries.now)) }
+    ensures text { OnOk result (text.new.items ≡ text.old.items ++ text_of (map node_line entries.now)) }
+    ensures ids { OnOk result (All HasIds entries.now) }
 {
     for entry in entries {
         put_node(text, entry)?;
@@ -59,7 +66,8 @@ fn put_nodes<A: Allocator + Copy>(
 }
 
 fn put_node<A: Allocator + Copy>(text: &mut Vec<u8, A>, entry: &Entry<A>) -> Result<(), AllocError>
-    ensures { OnOk result (text.new.items ≡ text.old.items ++ (node_line entry.now ++ codes "\n")) }
+    ensures text { OnOk result (text.new.items ≡ text.old.items ++ (node_line entry.now ++ codes "\n")) }
+    ensures ids { OnOk result (HasIds entry.now) }
 {
     match entry.node.kind {
         Kind::Commit => text.extend_from_slice(b"c ")?,
@@ -72,7 +80,8 @@ fn put_node<A: Allocator + Copy>(text: &mut Vec<u8, A>, entry: &Entry<A>) -> Res
 
 // The ids, a space before each.
 fn put_ids<A: Allocator + Copy>(text: &mut Vec<u8, A>, ids: &[Oid]) -> Result<(), AllocError>
-    ensures { OnOk result (text.new.items ≡ text.old.items ++ spaced_ids ids.now) }
+    ensures text { OnOk result (text.new.items ≡ text.old.items ++ spaced_ids ids.now) }
+    ensures ids { OnOk result (All IsId ids.now) }
 {
     for id in ids {
         text.extend_from_slice(b" ")?;
@@ -82,7 +91,8 @@ fn put_ids<A: Allocator + Copy>(text: &mut Vec<u8, A>, ids: &[Oid]) -> Result<()
 }
 
 fn put_id<A: Allocator + Copy>(text: &mut Vec<u8, A>, id: &Oid) -> Result<(), AllocError>
-    ensures { OnOk result (text.new.items ≡ text.old.items ++ id_text id.now) }
+    ensures text { OnOk result (text.new.items ≡ text.old.items ++ id_text id.now) }
+    ensures id { IsId id.now }
 {
     let mut digits = [0; ID_TEXT_LENGTH];
     id.to_hex(&mut digits);
@@ -93,7 +103,8 @@ fn put_refs<A: Allocator + Copy>(
     text: &mut Vec<u8, A>,
     refs: &[(RefName<A>, Oid)],
 ) -> Result<(), AllocError>
-    ensures { OnOk result (text.new.items ≡ text.old.items ++ text_of (map ref_line refs.now)) }
+    ensures text { OnOk result (text.new.items ≡ text.old.items ++ text_of (map ref_line refs.now)) }
+    ensures ids { OnOk result (All StandsAtId refs.now) }
 {
     for pair in refs {
         put_ref(text, pair)?;
@@ -105,7 +116,8 @@ fn put_ref<A: Allocator + Copy>(
     text: &mut Vec<u8, A>,
     pair: &(RefName<A>, Oid),
 ) -> Result<(), AllocError>
-    ensures { OnOk result (text.new.items ≡ text.old.items ++ (ref_line pair.now ++ codes "\n")) }
+    ensures text { OnOk result (text.new.items ≡ text.old.items ++ (ref_line pair.now ++ codes "\n")) }
+    ensures id { OnOk result (IsId pair.now.1) }
 {
     text.extend_from_slice(b"r ")?;
     put_id(text, &pair.1)?;
@@ -115,7 +127,8 @@ fn put_ref<A: Allocator + Copy>(
 }
 
 fn put_head<A: Allocator + Copy>(text: &mut Vec<u8, A>, head: &Head<A>) -> Result<(), AllocError>
-    ensures { OnOk result (text.new.items ≡ text.old.items ++ (head_line head.now ++ codes "\n")) }
+    ensures text { OnOk result (text.new.items ≡ text.old.items ++ (head_line head.now ++ codes "\n")) }
+    ensures head { OnOk result (IsHead head.now) }
 {
     match head {
         Head::None => text.extend_from_slice(b"h none\n"),

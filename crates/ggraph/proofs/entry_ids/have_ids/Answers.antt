@@ -2,7 +2,7 @@ use Rattle.std.proofs.Common.{◌≡◌, ◌<◌, length, subst, sym, take, rule
 use Rattle.std.proofs.lemmas.List.{take_all}
 use Rattle.std.proofs.lemmas.List.Elements.{All-more, All-same}
 use Rattle.ggraph.specs.declared.node.Entry.{Entry}
-use Rattle.ggraph.specs.Packs.{HasIds}
+use Rattle.ggraph.specs.Graphs.{HasIds}
 use Rattle.ggraph.proofs.entry_ids.have_ids.Goals as goal
 
 pub loop-entry-preserved : goal.loop-entry-preserved

@@ -1,6 +1,6 @@
 use Rattle.std.proofs.Common.{take}
 use Rattle.std.specs.List.{All}
-use Rattle.ggraph.specs.Packs.{HasIds}
+use Rattle.ggraph.specs.Graphs.{HasIds}
 use Rattle.ggraph.proofs.entry_ids.have_ids.Given as goal
 
 abbrev pub invariant-loop-entry : goal.invariant-loop-entry

@@ -1,0 +1,117 @@
+-- Lines of a text: none has an LF, so that a text has one list of lines.
+use Rattle.std.specs.Prelude.{⊤}
+use Rattle.std.proofs.Common.{◌≡◌, ◌≢◌, ℕ, zero, suc, ◌+◌, ◌<◌, List, [], ◌∷◌, ◌++◌, length, All, codes, refl, sym, ◌∙◌, ap, subst, arith, lit<}
+use Rattle.std.proofs.lemmas.List.{append_assoc}
+use Rattle.std.proofs.lemmas.List.Elements.{All-head, All-tail}
+use Rattle.gname.specs.Laws.{IsClean}
+use Rattle.ggraph.specs.RepositoryText.{text_of}
+use Rattle.ggraph.specs.Loading.{HasNoLf}
+
+-- no byte of a line is an LF
+abbrev pub IsLine : List ℕ → Type 0
+IsLine [] = ⊤
+IsLine (b ∷ bs) = (b ≢ 10) × IsLine bs
+
+-- none of the lines has one
+abbrev pub AreLines : List (List ℕ) → Type 0
+AreLines [] = ⊤
+AreLines (line ∷ lines) = IsLine line × AreLines lines
+
+pub line_from : (text : List ℕ) → HasNoLf text → IsLine text
+line_from [] none = tt
+line_from (b ∷ bs) none = (none 0 (omega arith), line_from bs (λ k inside. none (suc k) (omega (arith, inside))))
+
+above_lf : (b : ℕ) → 32 < b → b ≢ 10
+above_lf b above is = omega (arith, above, is)
+
+pub clean_line : (text : List ℕ) → IsClean text → IsLine text
+clean_line [] clean = tt
+clean_line (b ∷ bs) clean = (above_lf b (All-head (λ (c : ℕ). 32 < c) b bs clean), clean_line bs (All-tail (λ (c : ℕ). 32 < c) b bs clean))
+
+pub line-append : (xs ys : List ℕ) → IsLine xs → IsLine ys → IsLine (xs ++ ys)
+line-append [] ys lx ly = ly
+line-append (x ∷ xs) ys lx ly = (lx.0, line-append xs ys lx.1 ly)
+
+pub lines-append : (xs ys : List (List ℕ)) → AreLines xs → AreLines ys → AreLines (xs ++ ys)
+lines-append [] ys lx ly = ly
+lines-append (x ∷ xs) ys lx ly = (lx.0, lines-append xs ys lx.1 ly)
+
+pub front_lines : (xs ys : List (List ℕ)) → AreLines (xs ++ ys) → AreLines xs
+front_lines [] ys each = tt
+front_lines (x ∷ xs) ys each = (each.0, front_lines xs ys each.1)
+
+abbrev head_of : List ℕ → ℕ
+head_of [] = 0
+head_of (x ∷ xs) = x
+
+abbrev tail_of : List ℕ → List ℕ
+tail_of [] = []
+tail_of (x ∷ xs) = xs
+
+-- the first line of some bytes, and what is behind its LF, are one
+pub one_line : (a b r s : List ℕ) → IsLine a → IsLine b → a ++ (codes "\n" ++ r) ≡ b ++ (codes "\n" ++ s) → (a ≡ b) × (r ≡ s)
+one_line [] [] r s la lb e = (refl, ap tail_of e)
+one_line [] (y ∷ b) r s la lb e = absurd (lb.0 (sym (ap head_of e)))
+one_line (x ∷ a) [] r s la lb e = absurd (la.0 (ap head_of e))
+one_line (x ∷ a) (y ∷ b) r s la lb e =
+    let rest = one_line a b r s la.1 lb.1 (ap tail_of e) in
+    (ap (λ (n : ℕ). n ∷ a) (ap head_of e) ∙ ap (λ (t : List ℕ). y ∷ t) rest.0, rest.1)
+
+-- bytes without an LF have no line before them
+pub not_a_line : (line behind rest : List ℕ) → IsLine rest → rest ≡ line ++ (codes "\n" ++ behind) → ⊥
+not_a_line [] behind [] clean e = let h = e in cc
+not_a_line [] behind (b ∷ rest) clean e = clean.0 (ap head_of e)
+not_a_line (x ∷ line) behind [] clean e = let h = e in cc
+not_a_line (x ∷ line) behind (b ∷ rest) clean e = not_a_line line behind rest clean.1 (ap tail_of e)
+
+-- where some lines are at the front of a text, they are the first of its lines
+pub more_lines : (lines whole : List (List ℕ)) (rest : List ℕ) → AreLines lines → AreLines whole → text_of whole ≡ text_of lines ++ rest → (more : List (List ℕ)) × (whole ≡ lines ++ more) × (rest ≡ text_of more)
+more_lines [] whole rest ll lw e = (whole, refl, sym e)
+more_lines (line ∷ lines) [] rest ll lw e =
+    absurd (nothing_left line (text_of lines) rest e)
+  where
+    nothing_left : (line behind rest : List ℕ) → [] ≡ (line ++ (codes "\n" ++ behind)) ++ rest → ⊥
+    nothing_left [] behind rest e = let h = e in cc
+    nothing_left (x ∷ line) behind rest e = let h = e in cc
+more_lines (line ∷ lines) (first ∷ whole) rest ll lw e =
+    let here = one_line first line (text_of whole) (text_of lines ++ rest) lw.0 ll.0 (e ∙ append_assoc line (codes "\n" ++ text_of lines) rest) in
+    let further = more_lines lines whole rest ll.1 lw.1 here.1 in
+    (further.0, ap (λ (l : List ℕ). l ∷ whole) here.0 ∙ ap (λ (ls : List (List ℕ)). line ∷ ls) further.1, further.2)
+
+-- where the text goes on with a line, that is the next of its lines
+pub next_line : (lines whole : List (List ℕ)) (line behind : List ℕ) → AreLines lines → AreLines whole → IsLine line → text_of whole ≡ text_of lines ++ (line ++ (codes "\n" ++ behind)) → (more : List (List ℕ)) × (whole ≡ lines ++ line ∷ more)
+next_line lines whole line behind ll lw clean e =
+    let left = more_lines lines whole (line ++ (codes "\n" ++ behind)) ll lw e in
+    first_left left.0 (lines-back lines left.0 (subst AreLines left.1 lw)) left.1 left.2
+  where
+    lines-back : (lines more : List (List ℕ)) → AreLines (lines ++ more) → AreLines more
+    lines-back [] more all = all
+    lines-back (l ∷ lines) more all = lines-back lines more all.1
+
+    first_left : (more : List (List ℕ)) → AreLines more → whole ≡ lines ++ more → line ++ (codes "\n" ++ behind) ≡ text_of more → (rest : List (List ℕ)) × (whole ≡ lines ++ line ∷ rest)
+    first_left [] each parts same = absurd (not_a_line line behind [] tt (sym same))
+    first_left (first ∷ rest) each parts same =
+        let here = one_line line first behind (text_of rest) clean each.0 same in
+        (rest, parts ∙ ap (λ (l : List ℕ). lines ++ l ∷ rest) (sym here.0))
+
+-- where what is left has no LF, nothing is left
+pub no_line_left : (lines whole : List (List ℕ)) (rest : List ℕ) → AreLines lines → AreLines whole → IsLine rest → text_of whole ≡ text_of lines ++ rest → (rest ≡ []) × (whole ≡ lines)
+no_line_left lines whole rest ll lw clean e =
+    let left = more_lines lines whole rest ll lw e in none_left left.0 left.1 left.2
+  where
+    append-none : (xs : List (List ℕ)) → xs ++ [] ≡ xs
+    append-none [] = refl
+    append-none (x ∷ xs) = ap (λ (ys : List (List ℕ)). x ∷ ys) (append-none xs)
+
+    none_left : (more : List (List ℕ)) → whole ≡ lines ++ more → rest ≡ text_of more → (rest ≡ []) × (whole ≡ lines)
+    none_left [] parts same = (same, parts ∙ append-none lines)
+    none_left (first ∷ more) parts same = absurd (not_a_line first (text_of more) rest clean same)
+
+-- a text has one list of lines
+pub one_list : (a b : List (List ℕ)) → AreLines a → AreLines b → text_of a ≡ text_of b → a ≡ b
+one_list [] [] la lb e = refl
+one_list [] (y ∷ b) la lb e = absurd (not_a_line y (text_of b) [] tt e)
+one_list (x ∷ a) [] la lb e = absurd (not_a_line x (text_of a) [] tt (sym e))
+one_list (x ∷ a) (y ∷ b) la lb e =
+    let here = one_line x y (text_of a) (text_of b) la.0 lb.0 e in
+    ap (λ (l : List ℕ). l ∷ a) here.0 ∙ ap (λ (ls : List (List ℕ)). y ∷ ls) (one_list a b la.1 lb.1 here.1)
