@@ -1,9 +1,9 @@
 -- Writes one after the other.
-use Rattle.std.proofs.Common.{◌≡◌, ◌≢◌, ℕ, ◌<◌, ◌≤◌, Bool, true, false, List, [], ◌∷◌, ◌++◌, length, Option, Some, None, Result, Ok, Err, refl, sym, ap, ◌∙◌, append_assoc, arith, length-append, subst}
+use Rattle.std.proofs.Common.{◌≢◌, ℕ, Bool, List, [], ◌++◌, Option, Result, Ok, Err, refl, sym, ap, ◌∙◌, append_assoc, arith, length-append}
 use Rattle.std.proofs.lemmas.Bool.{false≢true}
 use Rattle.std.specs.Result.{IfErr}
 use Rattle.std.proofs.KnownBytes.{Appends-trans}
-use Rattle.gpkt.specs.Writing.{Writer, HasWritten, AppendsFront}
+use Rattle.gpkt.specs.Writing.{Writer, HasWritten}
 use Rattle.gpkt.specs.declared.fault.WriteFault.{WriteFault}
 use Rattle.gpkt.specs.declared.fault.WriteFault.TheVariants.{Failed, Payload, Io}
 
