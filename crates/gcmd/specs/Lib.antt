@@ -1,4 +1,5 @@
 pub mod Answer
+pub mod Commands
 pub mod Sending
 pub mod Exchange
 pub mod Repository
