@@ -4,6 +4,7 @@ pub mod Sending
 pub mod Exchange
 pub mod Repository
 pub mod Reply
+pub mod Printing
 pub mod Faults
 pub mod Forms
 pub mod Grammar
