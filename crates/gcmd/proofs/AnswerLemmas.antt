@@ -1,13 +1,12 @@
 -- Lines of refs, one list behind the other.
-use Rattle.std.proofs.Common.{◌≡◌, ℕ, ◌+◌, ◌<◌, List, [], ◌∷◌, ◌++◌, length, take, get_or, refl, sym, ap, ◌∙◌, append_assoc, append-nil, subst}
-use Rattle.std.specs.List.{filter}
+use Rattle.std.proofs.Common.{◌≡◌, ℕ, ◌+◌, ◌<◌, List, [], ◌∷◌, ◌++◌, length, take, get_or, sym, ap, ◌∙◌, append_assoc, append-nil, subst}
 use Rattle.std.proofs.lemmas.List.Elements.{filter-append}
 use Rattle.std.proofs.lemmas.List.{take_more}
 use Rattle.ggraph.specs.RefLists.{RefList}
 use Rattle.ggraph.specs.declared.node.Entry.{Entry}
 use Rattle.ggraph.specs.declared.head.Head.{Head}
 use Rattle.gcmd.specs.Request.{LsRefs}
-use Rattle.gcmd.specs.Answer.{AreLinesOf, AddsLines, IsAnswer, is_asked, head_refs, shown_refs}
+use Rattle.gcmd.specs.Answer.{AreLinesOf, AddsLines, IsAnswer, head_refs}
 use Rattle.gcmd.specs.declared.reply.RefLine.{RefLine}
 
 module _ {A : Type 0} (graph : List (Entry A)) (at : Head A) (asked : LsRefs) where

@@ -1,5 +1,5 @@
 -- From the steps of an exchange to the whole.
-use Rattle.std.proofs.Common.{◌≡◌, ℕ, ◌⊎◌, Bool, List, Option, Some, None, Ok, Err, refl, sym, subst, inl, inr}
+use Rattle.std.proofs.Common.{◌≡◌, ℕ, Bool, List, Option, Err, [], ◌∷◌, refl, sym, subst, inl, inr}
 use Rattle.gpkt.specs.Packets.{Packet}
 use Rattle.ggraph.specs.RefLists.{RefList}
 use Rattle.ggraph.specs.declared.node.Entry.{Entry}
@@ -8,7 +8,7 @@ use Rattle.std.specs.Io.KnownBytes.{Appends}
 use Rattle.gcmd.specs.Request.{LsRefs, Ls, Says}
 use Rattle.gcmd.specs.Reading.{ReadsLines}
 use Rattle.gcmd.specs.Reply.{reply_bytes}
-use Rattle.gcmd.specs.Exchange.{err_bytes, IsAnswered, IsRefusal, Exchanges, TakesRequest, Refuses, Replies}
+use Rattle.gcmd.specs.Exchange.{err_bytes, IsRefusal, Exchanges, TakesRequest, Refuses, Replies}
 use Rattle.gcmd.specs.declared.exchange.LsFault.{LsFault}
 use Rattle.gcmd.specs.declared.exchange.LsFault.TheVariants.{Buffer, Reading, Memory}
 use Rattle.gcmd.specs.declared.exchange.LsEnd.{LsEnd}
@@ -46,3 +46,7 @@ module _ {A : Type 0} (graph : List (Entry A)) (refs : RefList) (at : Head A) (r
       let P : LsFault → Type 0 = λ f. IsRefusal graph refs at read_old read_new f × Appends written_old written_new (err_bytes f) in
       subst P (sym h.0) (refused, h.1)
   exchange-refused down fault end.WriteFailed refused h = (err_bytes fault, inr (fault, refused, refl), h.0)
+
+-- the seat of a loan is its name
+pub seat_name : (a b : ℕ) → a ∷ [] ≡ b ∷ [] → a ≡ b
+seat_name a b e = cc

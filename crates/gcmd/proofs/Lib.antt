@@ -12,3 +12,5 @@ pub mod ReplyLemmas
 pub mod AnswerLemmas
 pub mod ExchangeLemmas
 pub mod RepositoryLemmas
+pub mod CheckLemmas
+pub mod PrintLemmas

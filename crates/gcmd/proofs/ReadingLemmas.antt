@@ -1,19 +1,16 @@
 -- Lines read one after the other.
-use Rattle.std.proofs.Common.{◌≡◌, ℕ, List, [], ◌∷◌, ◌++◌, length, Option, Some, None, Ok, Err, Result, Bool, true, false, ◌+◌, arith, refl, sym, ap, ◌∙◌, append_assoc, append-nil, subst}
+use Rattle.std.proofs.Common.{◌≡◌, ℕ, List, [], ◌∷◌, ◌++◌, length, Option, Some, None, Ok, Err, Result, Bool, true, ◌+◌, refl, sym, ap, ◌∙◌, append_assoc, append-nil}
 use Rattle.gpkt.specs.Packets.{Packet, Spells, SpellsAll}
 use Rattle.gpkt.specs.Reading.{Reads}
-use Rattle.gcmd.specs.Grammar.{Verdict, Goes, IsOpen}
+use Rattle.gcmd.specs.Grammar.{Verdict, IsOpen}
 use Rattle.gpkt.specs.Packets.{packet_of}
 use Rattle.gpkt.specs.Reading.{Reader, HasRead, read_of}
 use Rattle.gpkt.specs.declared.line.Line.{Line}
 use Rattle.gpkt.specs.declared.fault.LineFault.{LineFault}
 use Rattle.gpkt.specs.declared.fault.LineFault.TheVariants.{BadDigits, Reserved, TooLong, Truncated, Io, Failed, Memory}
-use Rattle.gcmd.specs.Grammar.{Ends, IsWhole}
-use Rattle.gcmd.specs.Reading.{ReadsLines, ReadsWhole, ReadsRefused, HasTaken, Takes, IsReadFailure}
+use Rattle.gcmd.specs.Reading.{ReadsLines, ReadsRefused, HasTaken, Takes, IsReadFailure}
 use Rattle.gcmd.specs.declared.fault.Why.TheVariants as why
-use Rattle.gcmd.specs.declared.message.Step.{Step}
 use Rattle.gcmd.specs.declared.message.Step.TheVariants as step
-use Rattle.gcmd.specs.declared.fault.Why.{Why}
 use Rattle.std.proofs.lemmas.List.{length_push}
 use Rattle.std.proofs.lemmas.Bool.{false≢true}
 use Rattle.gcmd.proofs.GrammarLemmas.{IsOpen-push}

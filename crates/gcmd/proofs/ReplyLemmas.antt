@@ -4,7 +4,7 @@ use Rattle.std.proofs.Math.Seq.{take-nil, drop-nil}
 use Rattle.std.proofs.lemmas.List.{drop_all}
 use Rattle.gpkt.specs.Packets.{Packet, Flush, canonical, canonical_all}
 use Rattle.gcmd.specs.declared.reply.RefLine.{RefLine}
-use Rattle.gcmd.specs.Reply.{line_packet, line_packets, line_bytes, reply_bytes}
+use Rattle.gcmd.specs.Reply.{line_packet, line_bytes, reply_bytes}
 
 pub canonical_all-append : (xs ys : List Packet) → canonical_all (xs ++ ys) ≡ canonical_all xs ++ canonical_all ys
 canonical_all-append [] ys = refl

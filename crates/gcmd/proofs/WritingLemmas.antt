@@ -1,9 +1,12 @@
 -- Writes one after the other.
-use Rattle.std.proofs.Common.{◌≡◌, ◌≢◌, ℕ, ◌<◌, ◌≤◌, Bool, true, false, List, [], ◌∷◌, ◌++◌, length, Option, Some, None, Result, Ok, Err, refl, sym, ap, ◌∙◌, append_assoc, arith, length-append, subst}
+use Rattle.std.proofs.Common.{◌≡◌, ◌≢◌, ℕ, ◌+◌, ◌<◌, Bool, List, [], ◌∷◌, ◌++◌, map, take, length, get_or, subst, Option, Result, Ok, Err, refl, sym, ap, ◌∙◌, append_assoc, arith, length-append}
 use Rattle.std.proofs.lemmas.Bool.{false≢true}
 use Rattle.std.specs.Result.{IfErr}
 use Rattle.std.proofs.KnownBytes.{Appends-trans}
-use Rattle.gpkt.specs.Writing.{Writer, HasWritten, AppendsFront}
+use Rattle.std.proofs.lemmas.List.{take_more}
+use Rattle.std.specs.Io.KnownBytes.{Appends}
+use mathlib.Core.List.{map-append}
+use Rattle.gpkt.specs.Writing.{Writer, HasWritten}
 use Rattle.gpkt.specs.declared.fault.WriteFault.{WriteFault}
 use Rattle.gpkt.specs.declared.fault.WriteFault.TheVariants.{Failed, Payload, Io}
 
@@ -76,3 +79,9 @@ module _ {W : Type 0} (contents : W → Option (List ℕ)) (is_down : W → Bool
     joins = λ new result ys h fits.
         rw append_assoc (behind.joins new result (more ++ ys) (written_then now next new more ys result wrote h fits) fits);
   }
+
+-- one byte more, each written as f has it
+pub appends_more : (f : ℕ → ℕ) (xs : List ℕ) (i x : ℕ) (a b c : Option (List ℕ)) → i < length xs → x ≡ get_or xs i x → Appends a b (map f (take i xs)) → Appends b c (f x ∷ []) → Appends a c (map f (take (i + 1) xs))
+appends_more f xs i x a b c inside is before last =
+    let more : take (i + 1) xs ≡ take i xs ++ x ∷ [] = take_more xs i x inside ∙ ap (λ (y : ℕ). take i xs ++ y ∷ []) (sym is) in
+    subst (λ (ys : List ℕ). Appends a c ys) (sym (ap (map f) more ∙ map-append f (take i xs) (x ∷ []))) (Appends-trans a b c (map f (take i xs)) (f x ∷ []) before last)

@@ -4,11 +4,10 @@ use Rattle.std.specs.Prelude.{◌≡◌, ℕ, ◌⊎◌, Bool, true, false, List
 use Rattle.std.specs.Io.KnownBytes.{Appends, Keeps}
 use Rattle.gpkt.specs.Packets.{Packet, Data, canonical}
 use Rattle.gpkt.specs.Reading.{Reads}
-use Rattle.gpkt.specs.LineFault.{line_fault_code}
 use Rattle.gpkt.specs.declared.fault.LineFault.{LineFault}
 use Rattle.gpkt.specs.declared.fault.LineFault.TheVariants as line
 use Rattle.gcmd.specs.Faults.{why_code}
-use Rattle.gcmd.specs.Request.{LsRefs, Request, Empty, Ls, Says, judge}
+use Rattle.gcmd.specs.Request.{LsRefs, Empty, Ls, Says, judge}
 use Rattle.gcmd.specs.Reading.{ReadsLines, ReadsRefused, IsReadFailure}
 use Rattle.gcmd.specs.Reply.{reply_bytes}
 use Rattle.gcmd.specs.Sending.{AppendsSome}

@@ -1,8 +1,10 @@
 pub mod Answer
+pub mod Commands
 pub mod Sending
 pub mod Exchange
 pub mod Repository
 pub mod Reply
+pub mod Printing
 pub mod Faults
 pub mod Forms
 pub mod Grammar

@@ -1,6 +1,6 @@
 -- The repository that is served: what its text names, with each ref, and HEAD as an id, at an object that
 -- is there.
-use Rattle.std.specs.Prelude.{◌≡◌, ℕ, ◌<◌, ◌⊎◌, ⊤, List, [], length, take, All, Some, slice_get, Result, Ok, Err}
+use Rattle.std.specs.Prelude.{◌≡◌, ℕ, ◌⊎◌, ⊤, List, take, All, Some, slice_get, Result, Ok, Err}
 use Rattle.std.specs.declared.alloc.AllocError.{AllocError}
 use Rattle.gname.specs.Names.{head_name}
 use Rattle.ggraph.specs.Graphs.{Holds}

@@ -1,7 +1,6 @@
 -- What a reader of requests keeps, without where it lies in memory.
-use Rattle.std.specs.Prelude.{List, ℕ, Option}
 use Rattle.std.specs.Option.{option_map}
-use Rattle.gcmd.specs.Request.{Place, Command, Capabilities, Arguments, LsRefs, Request, Empty, Ls}
+use Rattle.gcmd.specs.Request.{Place, Command, Capabilities, Arguments, Request, Empty, Ls}
 use Rattle.gcmd.specs.RequestState.{State}
 use Rattle.gcmd.specs.declared.request.RequestReader.{RequestReader}
 use Rattle.gcmd.specs.declared.request.Request as read

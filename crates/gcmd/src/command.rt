@@ -1,14 +1,19 @@
 //! The programs, as functions over bytes, readers and writers. Each answers its exit status: 0 where
 //! it did what it is for, 1 where it printed a fault.
 
-ghost use Rattle.std.specs.Prelude.{◌≡◌, ◌≤◌};
+ghost use Rattle.std.specs.Prelude.{◌≡◌, ◌≤◌, ◌↔◌, All, IfErr, IfOk, IsTrue, OnOk, map};
+ghost use Rattle.std.specs.Io.KnownBytes.{Appends};
+ghost use Rattle.ggraph.specs.Graphs.{Holds};
+ghost use Rattle.ggraph.specs.Reach.{IsClosed, IsSafe};
+ghost use Rattle.gcmd.specs.Commands.{end_status, EndsAs, Serves, Checks, HoldsParents, IsReport, report_line, yes_or_no};
 
 use crate::exchange::{LsEnd, ls_once};
+use crate::lent::{LentReader, LentWriter};
 use crate::print::FaultLine;
 use crate::repository::RepoFile;
-use ggraph::{Graph, GraphFault, Order, Repository, load};
-use gname::Oid;
-use gpkt::{FromRead, ToWrite, WriteFault};
+use ggraph::{Entry, Graph, GraphFault, Order, Repository, load};
+use gname::{Oid, RefName};
+use gpkt::WriteFault;
 use std::alloc::Allocator;
 use std::io;
 use std::io::{Read, Write};
@@ -24,17 +29,46 @@ pub fn cmd_ls<A: Allocator + Copy, R: Read, W: Write, E: Write>(
     output: &mut W,
     errors: &mut E,
 ) -> u8
-    ensures { result ≤ 1 }
+    ensures serves { Serves A file.now (R.remaining input.old) (R.remaining input.new)
+        (W.contents output.old) (W.contents output.new) result }
+    ensures quiet { result ≡ 0 → E.contents errors.new ≡ E.contents errors.old }
+    ensures status { result ≤ 1 }
 {
     let repo = match RepoFile::read(alloc, file) {
         Ok(repo) => repo,
         Err(fault) => return fail(&FaultLine::of_repository(&fault), errors),
     };
-    let mut source = FromRead::new(input);
-    let mut sink = ToWrite::new(output);
-    match ls_once(alloc, &repo, &mut source, &mut sink) {
+    let end = serve(alloc, &repo, input, output);
+    tell_end(&end, errors)
+}
+
+// One exchange over a reader and a writer.
+fn serve<A: Allocator + Copy, R: Read, W: Write>(
+    alloc: A,
+    repo: &RepoFile<A>,
+    input: &mut R,
+    output: &mut W,
+) -> LsEnd
+    ensures { EndsAs (record { graph = repo.now.graph; refs = repo.now.refs; head = repo.now.head })
+        (R.remaining input.old) (R.remaining input.new) (W.contents output.old) (W.contents output.new) result }
+{
+    let mut source = LentReader::new(input);
+    let mut sink = LentWriter::new(output);
+    let end = ls_once(alloc, repo, &mut source, &mut sink);
+    let _input = source.into_inner();
+    let _output = sink.into_inner();
+    end
+}
+
+// Prints the fault with which an exchange ended, and answers the status.
+fn tell_end<E: Write>(end: &LsEnd, errors: &mut E) -> u8
+    ensures status { result ≡ end_status end.now }
+    ensures bound { result ≤ 1 }
+    ensures quiet { result ≡ 0 → E.contents errors.new ≡ E.contents errors.old }
+{
+    match end {
         LsEnd::Answered | LsEnd::Closed | LsEnd::Ended => 0,
-        LsEnd::Refused(fault) => fail(&FaultLine::of_exchange(&fault), errors),
+        LsEnd::Refused(fault) => fail(&FaultLine::of_exchange(fault), errors),
         LsEnd::WriteFailed => fail(&FaultLine::plain(WriteFault::Io.code(), "Io"), errors),
     }
 }
@@ -48,31 +82,57 @@ pub fn cmd_check<A: Allocator + Copy, W: Write, E: Write>(
     output: &mut W,
     errors: &mut E,
 ) -> u8
-    ensures { result ≤ 1 }
+    ensures checks { Checks A file.now (W.contents output.old) (W.contents output.new) result }
+    ensures quiet { result ≡ 0 → E.contents errors.new ≡ E.contents errors.old }
+    ensures status { result ≤ 1 }
 {
     let repo = match load(alloc, file, Order::Any) {
         Ok(repo) => repo,
         Err(fault) => return fail(&FaultLine::of_graph(&fault), errors),
     };
-    let is_safe = match is_safe(alloc, &repo) {
-        Ok(is_safe) => is_safe,
+    let report = match report_of(alloc, &repo) {
+        Ok(report) => report,
         Err(fault) => return fail(&FaultLine::of_graph(&fault), errors),
     };
-    match print_check(&repo, is_safe, output) {
+    match print_report(&report, output) {
         Ok(()) => 0,
         Err(_) => fail(&FaultLine::plain(WriteFault::Io.code(), "Io"), errors),
     }
 }
 
-fn print_check<A: Allocator + Copy, W: Write>(
-    repo: &Repository<A>,
-    is_safe: bool,
-    output: &mut W,
-) -> io::Result<()> {
-    let nodes = repo.graph.len();
-    let refs = repo.refs.len();
-    let closed = yes_or_no(is_closed(&repo.graph));
-    let safe = yes_or_no(is_safe);
+// What is told of a repository.
+#[derive(Clone, Copy)]
+struct Report {
+    nodes: usize,
+    refs: usize,
+    closed: bool,
+    safe: bool,
+}
+
+fn report_of<A: Allocator + Copy>(alloc: A, repo: &Repository<A>) -> Result<Report, GraphFault>
+    ensures told { IfOk result (IsReport repo.now) }
+    ensures fault { IfErr result (λ fault. fault ≡ GraphFault.Memory) }
+{
+    let safe = is_safe(alloc, repo)?;
+    Ok(Report {
+        nodes: repo.graph.len(),
+        refs: repo.refs.len(),
+        closed: is_closed(&repo.graph),
+        safe,
+    })
+}
+
+fn print_report<W: Write>(report: &Report, output: &mut W) -> io::Result<()>
+    ensures { OnOk result (Appends (W.contents output.old) (W.contents output.new) (report_line report.now)) }
+{
+    let Report {
+        nodes,
+        refs,
+        closed,
+        safe,
+    } = *report;
+    let closed = yes_or_no(closed);
+    let safe = yes_or_no(safe);
     writeln!(
         output,
         "nodes {nodes} refs {refs} closed {closed} safe {safe}"
@@ -80,30 +140,62 @@ fn print_check<A: Allocator + Copy, W: Write>(
     output.flush()
 }
 
-fn yes_or_no(holds: bool) -> &'static str {
+fn yes_or_no(holds: bool) -> &'static str
+    ensures { result.now ≡ yes_or_no holds }
+{
     if holds { "yes" } else { "no" }
 }
 
 // Whether each parent of a node is one of the graph's.
-fn is_closed<A: Allocator + Copy>(graph: &Graph<A>) -> bool {
-    graph
-        .entries()
-        .iter()
-        .all(|entry| holds_all(graph, entry.node.parents.as_slice()))
+fn is_closed<A: Allocator + Copy>(graph: &Graph<A>) -> bool
+    ensures { IsTrue result ↔ IsClosed graph.now }
+{
+    all_hold_parents(graph, graph.entries())
 }
 
-fn holds_all<A: Allocator + Copy>(graph: &Graph<A>, ids: &[Oid]) -> bool {
+// Whether the graph holds the parents of each of the entries.
+fn all_hold_parents<A: Allocator + Copy>(graph: &Graph<A>, entries: &[Entry<A>]) -> bool
+    ensures { IsTrue result ↔ All (HoldsParents graph.now) entries.now }
+{
+    entries.iter().all(|entry| holds_parents(graph, entry))
+}
+
+#[tactic(auto, unfolding(crate::specs::Commands::HoldsParents))]
+fn holds_parents<A: Allocator + Copy>(graph: &Graph<A>, entry: &Entry<A>) -> bool
+    ensures { IsTrue result ↔ HoldsParents graph.now entry.now }
+{
+    holds_all(graph, entry.node.parents.as_slice())
+}
+
+fn holds_all<A: Allocator + Copy>(graph: &Graph<A>, ids: &[Oid]) -> bool
+    ensures { IsTrue result ↔ All (Holds graph.now) ids.now }
+{
     ids.iter().all(|id| graph.contains(id))
 }
 
 // Whether every object that a ref reaches is one of the graph's.
-fn is_safe<A: Allocator + Copy>(alloc: A, repo: &Repository<A>) -> Result<bool, GraphFault> {
-    let mut tips = Vec::new(alloc);
-    for pair in repo.refs.as_slice() {
-        tips.push(pair.1)?;
-    }
+fn is_safe<A: Allocator + Copy>(alloc: A, repo: &Repository<A>) -> Result<bool, GraphFault>
+    ensures safe { IfOk result (λ safe. IsTrue safe ↔ IsSafe repo.now.graph repo.now.refs) }
+    ensures fault { IfErr result (λ fault. fault ≡ GraphFault.Memory) }
+{
+    let tips = tips_of(alloc, repo.refs.as_slice())?;
     let missing = repo.graph.missing(tips.as_slice())?;
     Ok(missing.is_none())
+}
+
+// The ids at which the refs stand.
+fn tips_of<A: Allocator + Copy>(
+    alloc: A,
+    refs: &[(RefName<A>, Oid)],
+) -> Result<Vec<Oid, A>, GraphFault>
+    ensures tips { IfOk result (λ tips. tips.items ≡ map (λ ref. ref.1) refs.now) }
+    ensures fault { IfErr result (λ fault. fault ≡ GraphFault.Memory) }
+{
+    let mut tips = Vec::new(alloc);
+    for pair in refs {
+        tips.push(pair.1)?;
+    }
+    Ok(tips)
 }
 
 /// Prints that a file could not be read, and answers the status.

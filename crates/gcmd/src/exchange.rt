@@ -170,6 +170,7 @@ fn send_reply<W: Sink, A: Allocator + Copy>(
     sink: &mut W,
 ) -> Result<(), WriteFault>
     ensures sent { HasSent (W.contents sink.old) (W.contents sink.new) (W.is_down sink.new) result (reply_bytes lines.now) }
+    ensures fault { IfErr result (λ fault. fault ≡ WriteFault.Io) }
     ensures seat { W.seat sink.new ≡ W.seat sink.old }
 {
     let mut writer = LineWriter::new(sink);
@@ -195,6 +196,7 @@ fn refuse<W: Sink>(fault: LsFault, sink: &mut W) -> LsEnd
 #[tactic(auto, unfolding(crate::specs::Exchange::err_bytes))]
 fn send_err<W: Sink>(fault: &LsFault, sink: &mut W) -> Result<(), WriteFault>
     ensures sent { HasSent (W.contents sink.old) (W.contents sink.new) (W.is_down sink.new) result (err_bytes fault.now) }
+    ensures fault { IfErr result (λ fault. fault ≡ WriteFault.Io) }
     ensures seat { W.seat sink.new ≡ W.seat sink.old }
 {
     let mut writer = LineWriter::new(sink);

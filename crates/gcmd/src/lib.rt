@@ -32,6 +32,7 @@ mod exchange;
 mod fault;
 mod forms;
 pub mod laws;
+mod lent;
 mod message;
 mod print;
 mod reply;

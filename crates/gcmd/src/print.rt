@@ -2,6 +2,11 @@
 //! order, ` frame K`, ` line K`, and a space and the name or the text, each byte outside 32 to 126
 //! as `?`.
 
+ghost use Rattle.std.specs.Prelude.{◌≡◌, None, OnOk, codes, map};
+ghost use Rattle.std.specs.Io.KnownBytes.{Appends};
+ghost use Rattle.std.specs.Option.{option_copied};
+ghost use Rattle.gcmd.specs.Printing.{exchange_line, graph_line, graph_name, line_in_text, message_line, number_part, packet_name, peer_text, printed, repository_line, shown, text_part, why_name};
+
 use crate::exchange::LsFault;
 use crate::fault::{MessageFault, Why};
 use crate::repository::RepoFault;
@@ -23,7 +28,11 @@ pub(crate) struct FaultLine<'a> {
 
 impl<'a> FaultLine<'a> {
     /// A fault of which only the number and the name are printed.
-    pub(crate) fn plain(number: u32, name: &'static str) -> FaultLine<'a> {
+    pub(crate) fn plain(number: u32, name: &'static str) -> FaultLine<'a>
+        ensures number { result.number ≡ number }
+        ensures name { result.name.now ≡ name.now }
+        ensures alone { (result.frame ≡ None) × (result.line ≡ None) × (option_copied result.text ≡ None) }
+    {
         FaultLine {
             number,
             name,
@@ -33,7 +42,9 @@ impl<'a> FaultLine<'a> {
         }
     }
 
-    pub(crate) fn of_repository<A: Allocator + Copy>(fault: &'a RepoFault<A>) -> FaultLine<'a> {
+    pub(crate) fn of_repository<A: Allocator + Copy>(fault: &'a RepoFault<A>) -> FaultLine<'a>
+        ensures { printed result ≡ repository_line fault.now }
+    {
         let number = fault.code();
         match fault {
             RepoFault::Text { line } => FaultLine {
@@ -53,7 +64,9 @@ impl<'a> FaultLine<'a> {
     }
 
     /// A fault of loading or of a walk.
-    pub(crate) fn of_graph(fault: &GraphFault) -> FaultLine<'a> {
+    pub(crate) fn of_graph(fault: &GraphFault) -> FaultLine<'a>
+        ensures { printed result ≡ graph_line fault.now }
+    {
         FaultLine {
             number: fault.code(),
             name: graph_fault_name(fault),
@@ -63,14 +76,18 @@ impl<'a> FaultLine<'a> {
         }
     }
 
-    pub(crate) fn of_exchange(fault: &'a LsFault) -> FaultLine<'a> {
+    pub(crate) fn of_exchange(fault: &'a LsFault) -> FaultLine<'a>
+        ensures { printed result ≡ exchange_line fault.now }
+    {
         match fault {
             LsFault::Buffer | LsFault::Memory => FaultLine::plain(fault.code(), "Memory"),
             LsFault::Reading(fault) => FaultLine::of_message(fault),
         }
     }
 
-    fn of_message(fault: &'a MessageFault) -> FaultLine<'a> {
+    fn of_message(fault: &'a MessageFault) -> FaultLine<'a>
+        ensures { printed result ≡ message_line fault.now }
+    {
         FaultLine {
             number: fault.why.code(),
             name: why_name(&fault.why),
@@ -81,50 +98,89 @@ impl<'a> FaultLine<'a> {
     }
 
     /// Prints the line, and passes it on.
-    pub(crate) fn print<W: Write>(&self, errors: &mut W) -> io::Result<()> {
+    pub(crate) fn print<W: Write>(&self, errors: &mut W) -> io::Result<()>
+        ensures { OnOk result (Appends (W.contents errors.old) (W.contents errors.new) (printed self.now)) }
+    {
         write!(errors, "gitv2: fault {} {}", self.number, self.name)?;
-        if let Some(frame) = self.frame {
-            write!(errors, " frame {frame}")?;
-        }
-        if let Some(line) = self.line {
-            write!(errors, " line {line}")?;
-        }
-        if let Some(text) = self.text {
-            print_text(text, errors)?;
-        }
+        print_frame(self.frame, errors)?;
+        print_line(self.line, errors)?;
+        print_end(self.text, errors)?;
         writeln!(errors)?;
         errors.flush()
     }
 }
 
-fn print_text<W: Write>(text: &[u8], errors: &mut W) -> io::Result<()> {
-    write!(errors, " ")?;
+fn print_frame<W: Write>(frame: Option<u64>, errors: &mut W) -> io::Result<()>
+    ensures { OnOk result (Appends (W.contents errors.old) (W.contents errors.new) (number_part (codes " frame ") frame)) }
+{
+    match frame {
+        Some(frame) => write!(errors, " frame {frame}"),
+        None => Ok(()),
+    }
+}
+
+fn print_line<W: Write>(line: Option<usize>, errors: &mut W) -> io::Result<()>
+    ensures { OnOk result (Appends (W.contents errors.old) (W.contents errors.new) (number_part (codes " line ") line)) }
+{
+    match line {
+        Some(line) => write!(errors, " line {line}"),
+        None => Ok(()),
+    }
+}
+
+fn print_end<W: Write>(text: Option<&[u8]>, errors: &mut W) -> io::Result<()>
+    ensures { OnOk result (Appends (W.contents errors.old) (W.contents errors.new) (text_part (option_copied text.entry))) }
+{
+    match text {
+        Some(text) => {
+            write!(errors, " ")?;
+            print_text(text, errors)
+        }
+        None => Ok(()),
+    }
+}
+
+fn print_text<W: Write>(text: &[u8], errors: &mut W) -> io::Result<()>
+    ensures { OnOk result (Appends (W.contents errors.old) (W.contents errors.new) (map shown text.now)) }
+{
     for byte in text {
-        let shown = if (32..=126).contains(byte) {
-            *byte
-        } else {
-            b'?'
-        };
-        write!(errors, "{}", char::from(shown))?;
+        errors.write_all(&[shown(*byte)])?;
     }
     Ok(())
 }
 
-fn peer_text(why: &Why) -> Option<&[u8]> {
+// The byte, or `?` where it is none that can be printed.
+fn shown(byte: u8) -> u8
+    ensures { result ≡ shown byte }
+{
+    if (32..=126).contains(&byte) {
+        byte
+    } else {
+        b'?'
+    }
+}
+
+fn peer_text(why: &Why) -> Option<&[u8]>
+    ensures { option_copied result ≡ peer_text why.now }
+{
     match why {
         Why::RemoteErr(text) => Some(text.as_bytes()),
         _ => None,
     }
 }
 
-fn graph_fault_line(fault: &GraphFault) -> Option<usize> {
+fn graph_fault_line(fault: &GraphFault) -> Option<usize>
+    ensures { result ≡ line_in_text fault.now }
+{
     match fault {
         GraphFault::Text { line } | GraphFault::ParentLater { line } => Some(*line),
         _ => None,
     }
 }
 
-fn graph_fault_name(fault: &GraphFault) -> &'static str {
+fn graph_fault_name(fault: &GraphFault) -> &'static str
+    ensures { result.now ≡ graph_name fault.now }
+{
     match fault {
         GraphFault::Conflict { .. } => "Conflict",
         GraphFault::TooMany => "TooMany",
@@ -139,7 +195,9 @@ fn graph_fault_name(fault: &GraphFault) -> &'static str {
     }
 }
 
-fn why_name(why: &Why) -> &'static str {
+fn why_name(why: &Why) -> &'static str
+    ensures { result.now ≡ why_name why.now }
+{
     match why {
         Why::Line(fault) => line_fault_name(*fault),
         Why::UnexpectedFrame => "UnexpectedFrame",
@@ -156,7 +214,9 @@ fn why_name(why: &Why) -> &'static str {
     }
 }
 
-fn line_fault_name(fault: LineFault) -> &'static str {
+fn line_fault_name(fault: LineFault) -> &'static str
+    ensures { result.now ≡ packet_name fault }
+{
     match fault {
         LineFault::BadDigits => "BadDigits",
         LineFault::Reserved => "Reserved",

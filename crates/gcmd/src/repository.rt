@@ -7,6 +7,7 @@ use crate::answer::head_name;
 use ggraph::{Graph, GraphFault, Head, Order, Refs, Repository, load};
 use gname::{Oid, RefName};
 use std::alloc::{AllocError, Allocator};
+use thiserror::Error;
 
 /// A repository that was read from its text: each ref, and HEAD where it is an id, stands at an
 /// object that is there.
@@ -19,15 +20,19 @@ pub struct RepoFile<A: Allocator + Copy> {
 }
 
 /// Why a text is no repository that can be served.
-#[derive(Debug, Drop)]
+#[derive(Debug, Drop, Error)]
 pub enum RepoFault<A: Allocator + Copy> {
     /// 67: this line, from 1, is not as the format has it.
+    #[error("line {line} of the repository text is wrong")]
     Text { line: usize },
     /// 68: this line names a parent that is on no earlier line.
+    #[error("line {line} of the repository text names a parent that comes later")]
     ParentLater { line: usize },
     /// 71: this ref, or HEAD, stands at an object that is not there.
+    #[error("a ref stands at an object that is not there")]
     RefMissing { name: RefName<A> },
     /// 64: no memory.
+    #[error("out of memory")]
     Memory,
 }
 

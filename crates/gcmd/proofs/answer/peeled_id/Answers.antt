@@ -1,4 +1,4 @@
-use Rattle.std.proofs.Common.{◌≡◌, List, ℕ, Option, Some, None, sym, ◌∙◌}
+use Rattle.std.proofs.Common.{◌≡◌, List, ℕ, Option, Some, None, sym}
 use Rattle.std.specs.Option.{IfSome}
 use Rattle.ggraph.specs.Peeling.{PeelsTo}
 use Rattle.ggraph.specs.declared.node.Entry.{Entry}

@@ -1,4 +1,4 @@
-use Rattle.std.proofs.Common.{◌≡◌, ◌≤◌, length, ap, subst, arith}
+use Rattle.std.proofs.Common.{length, ap, arith}
 use Rattle.gname.proofs.NameLemmas.{NameFacts-of_name}
 use Rattle.gcmd.proofs.reply.add_name.Goals as goal
 

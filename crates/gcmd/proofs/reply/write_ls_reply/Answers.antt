@@ -1,10 +1,10 @@
-use Rattle.std.proofs.Common.{◌≡◌, ◌++◌, ◌+◌, ◌≤◌, List, [], length, take, drop, sym, ◌∙◌, ap, subst, Ok, Err, add-one, arith}
+use Rattle.std.proofs.Common.{◌≡◌, ◌+◌, drop, ◌∙◌, ap, subst, Err, add-one}
 use Rattle.std.proofs.lemmas.Result.{err_from_is_err_and}
 use Rattle.gpkt.specs.Packets.{canonical}
 use Rattle.gpkt.specs.Writing.{HasWritten}
-use Rattle.gcmd.specs.Reply.{line_packet, line_bytes, reply_bytes}
-use Rattle.gcmd.proofs.WritingLemmas.{failed_of_more, IsBehind, IsBehind-push, no_payload, no_payload_if}
-use Rattle.gcmd.proofs.ReplyLemmas.{line_bytes-more, reply_bytes-split, reply_bytes-behind, reply_bytes-end}
+use Rattle.gcmd.specs.Reply.{line_packet, reply_bytes}
+use Rattle.gcmd.proofs.WritingLemmas.{failed_of_more, IsBehind-push, no_payload, no_payload_if}
+use Rattle.gcmd.proofs.ReplyLemmas.{line_bytes-more, reply_bytes-behind, reply_bytes-end}
 use Rattle.gcmd.proofs.reply.write_ls_reply.Goals as goal
 
 pub returns-in_err-write_line-clause-written : goal.returns-in_err-write_line-clause-written
