@@ -1,27 +1,36 @@
-// Whole texts, as the format's own example has them, and texts that are refused.
-use crate::{Graph, GraphFault, Head, Kind, Order, Refs, Repository, Target, load, save};
+// Whole texts, as the format's own example has them, texts that are refused, and the limits of refs.
+use crate::{Graph, GraphFault, Head, Kind, MAX_REFS, Order, Refs, Repository, Target, load, save};
 use gname::{Oid, RefName};
-use std::alloc::{AllocError, Global};
 use std::process::Abort;
-use std::test::Fail;
 
 const SERVER: &str =
     "gitv2 1\nc A\nc B A\nc C B\nr C refs/heads/main\nh ref refs/heads/main\nend\n";
 
 // A letter from A to F stands for an id of forty such digits in lower case, T for one of forty 1,
 // `!` for forty A, and `$` for HEAD.
-fn spelled(alloc: Global, short: &str) -> Result<Vec<u8>, AllocError> {
-    let mut text = Vec::new(alloc);
+fn spelled(rt: &(impl Abort + AllocGlobal), short: &str) -> Vec<u8> {
+    let mut text = Vec::new(rt.alloc());
     for b in short.as_bytes() {
         match *b {
-            b'A'..=b'F' => text.extend_from_slice(&[*b + 32; 40])?,
-            b'T' => text.extend_from_slice(&[b'1'; 40])?,
-            b'!' => text.extend_from_slice(&[b'A'; 40])?,
-            b'$' => text.extend_from_slice(b"HEAD")?,
-            other => text.push(other)?,
+            b'A'..=b'F' | b'T' | b'!' => {
+                let id = [id_digit(*b); 40];
+                text.extend_from_slice(&id).expect(rt, "memory");
+            }
+            b'$' => text.extend_from_slice(b"HEAD").expect(rt, "memory"),
+            other => text.push(other).expect(rt, "memory"),
         }
     }
-    Ok(text)
+    text
+}
+
+// The digit of a letter's id; any other byte is its own.
+fn id_digit(letter: u8) -> u8 {
+    match letter {
+        b'A'..=b'F' => letter.to_ascii_lowercase(),
+        b'T' => b'1',
+        b'!' => b'A',
+        other => other,
+    }
 }
 
 fn read(
@@ -29,7 +38,7 @@ fn read(
     short: &str,
     order: Order,
 ) -> Result<Repository, GraphFault> {
-    let text = spelled(rt.alloc(), short).expect(rt, "memory");
+    let text = spelled(rt, short);
     load(rt.alloc(), text.as_slice(), order)
 }
 
@@ -56,140 +65,240 @@ fn name(rt: &(impl Abort + AllocGlobal), text: &str) -> RefName {
 }
 
 #[test]
-fn loads_the_example(rt: HostRuntime) -> Result<(), Fail> {
+fn loads_the_example(rt: HostRuntime) {
     let it = read(&rt, SERVER, Order::ParentsFirst).expect(&rt, "the example");
     assert_eq!(rt; it.graph.len(), 3);
     assert!(rt; it.graph.contains(&id(&rt, b'b')));
     assert!(rt; !it.graph.contains(&id(&rt, b'd')));
-    assert_eq!(rt; it.refs.len(), 1);
+    check_second(&rt, &it.graph);
     let main = name(&rt, "refs/heads/main");
+    assert_eq!(rt; it.refs.len(), 1);
     assert!(rt; it.refs.get(&main) == Some(id(&rt, b'c')));
     match &it.head {
         Head::Symref(target) => assert!(rt; *target.name() == main),
         _ => assert!(rt; false, "HEAD is on main"),
     }
-    match it.graph.at(1) {
+}
+
+// The second node of the example.
+fn check_second(rt: &impl Abort, graph: &Graph) {
+    match graph.at(1) {
         Some((second, node)) => {
-            assert!(rt; *second == id(&rt, b'b'));
+            assert!(rt; *second == id(rt, b'b'));
             assert!(rt; node.kind == Kind::Commit);
             assert_eq!(rt; node.parents.as_slice().len(), 1);
         }
         None => assert!(rt; false, "a second node"),
     }
-    Ok(())
 }
 
+const SAVED: &[&str] = &[
+    SERVER,
+    "gitv2 1\nh none\nend\n",
+    "gitv2 1\nt T C\nh id D\nend\n",
+    "gitv2 1\nc A A B A\nr A refs/a\nr T refs/a/b\nr B refs/b\nh none\nend\n",
+];
+
 #[test]
-fn saves_what_it_loads(rt: HostRuntime) -> Result<(), Fail> {
-    for short in [
-        SERVER,
-        "gitv2 1\nh none\nend\n",
-        "gitv2 1\nt T C\nh id D\nend\n",
-        "gitv2 1\nc A A B A\nr A refs/a\nr T refs/a/b\nr B refs/b\nh none\nend\n",
-    ] {
+fn saves_what_it_loads(rt: HostRuntime) {
+    for short in SAVED {
         let it = read(&rt, short, Order::Any).expect(&rt, short);
         let text = save(rt.alloc(), &it.graph, &it.refs, &it.head).expect(&rt, short);
-        let same = spelled(rt.alloc(), short)?;
+        let same = spelled(&rt, short);
         assert_eq!(rt; text.as_slice(), same.as_slice());
     }
-    Ok(())
 }
 
-#[test]
-fn tells_the_first_wrong_line(rt: HostRuntime) -> Result<(), Fail> {
-    for (short, order, code, line) in [
-        ("", Order::Any, 67, 1),
-        ("gitv2 1", Order::Any, 67, 1),
-        ("gitv2 2\n", Order::Any, 67, 1),
-        ("gitv2 1\n", Order::Any, 67, 2),
-        ("gitv2 1\nh none\n", Order::Any, 67, 3),
-        ("gitv2 1\nh none\nend", Order::Any, 67, 3),
-        ("gitv2 1\nh none\nend\n\n", Order::Any, 67, 4),
-        ("gitv2 1\nh none\nend\nx", Order::Any, 67, 4),
-        ("gitv2 1\nc !\nh none\nend\n", Order::Any, 67, 2),
-        ("gitv2 1\nc A\nc A\nh none\nend\n", Order::Any, 67, 3),
-        ("gitv2 1\nc  A\nh none\nend\n", Order::Any, 67, 2),
-        ("gitv2 1\nt T\nh none\nend\n", Order::Any, 67, 2),
-        ("gitv2 1\nt T A B\nh none\nend\n", Order::Any, 67, 2),
-        ("gitv2 1\nc B A\nc A\nx\n", Order::ParentsFirst, 68, 2),
-        ("gitv2 1\nc A A\nh none\nend\n", Order::ParentsFirst, 68, 2),
-        (
-            "gitv2 1\nt T A B\nh none\nend\n",
-            Order::ParentsFirst,
-            67,
-            2,
-        ),
-        (
-            "gitv2 1\nr A refs/b\nr A refs/a\nh none\nend\n",
-            Order::Any,
-            67,
-            3,
-        ),
-        (
-            "gitv2 1\nr A refs/b\nr A refs/b\nh none\nend\n",
-            Order::Any,
-            67,
-            3,
-        ),
-        ("gitv2 1\nr A $\nh none\nend\n", Order::Any, 67, 2),
-        ("gitv2 1\nr A refs/b\nc A\nh none\nend\n", Order::Any, 67, 3),
-        ("gitv2 1\nh ref $\nend\n", Order::Any, 67, 2),
-        ("gitv2 1\nh id AB\nend\n", Order::Any, 67, 2),
-    ] {
-        assert_eq!(rt;
-            fault_of(&rt, short, order),
-            Some((code, line)),
-            "of {short:?}"
-        );
-    }
-    Ok(())
-}
-
-#[test]
-fn peels_tags(rt: HostRuntime) -> Result<(), Fail> {
-    let it = read(
-        &rt,
-        "gitv2 1\nc A\nt B A\nt C B\nt D E\nt T T\nh none\nend\n",
+// Texts, and the number and the line of the fault that each is refused with.
+const WRONG: &[(&str, Order, u32, usize)] = &[
+    ("", Order::Any, 67, 1),
+    ("gitv2 1", Order::Any, 67, 1),
+    ("gitv2 2\n", Order::Any, 67, 1),
+    ("gitv2 1\n", Order::Any, 67, 2),
+    ("gitv2 1\nh none\n", Order::Any, 67, 3),
+    ("gitv2 1\nh none\nend", Order::Any, 67, 3),
+    ("gitv2 1\nh none\nend\n\n", Order::Any, 67, 4),
+    ("gitv2 1\nh none\nend\nx", Order::Any, 67, 4),
+    ("gitv2 1\nc !\nh none\nend\n", Order::Any, 67, 2),
+    ("gitv2 1\nc A\nc A\nh none\nend\n", Order::Any, 67, 3),
+    ("gitv2 1\nc  A\nh none\nend\n", Order::Any, 67, 2),
+    ("gitv2 1\nt T\nh none\nend\n", Order::Any, 67, 2),
+    ("gitv2 1\nt T A B\nh none\nend\n", Order::Any, 67, 2),
+    ("gitv2 1\nc B A\nc A\nx\n", Order::ParentsFirst, 68, 2),
+    ("gitv2 1\nc A A\nh none\nend\n", Order::ParentsFirst, 68, 2),
+    (
+        "gitv2 1\nt T A B\nh none\nend\n",
+        Order::ParentsFirst,
+        67,
+        2,
+    ),
+    (
+        "gitv2 1\nr A refs/b\nr A refs/a\nh none\nend\n",
         Order::Any,
-    )
-    .expect(&rt, "tags");
-    for (from, to) in [
-        (b'a', Some(b'a')),
-        (b'b', Some(b'a')),
-        (b'c', Some(b'a')),
-        (b'd', None),
-        (b'1', None),
-        (b'f', None),
-    ] {
-        let found = it.graph.peel(&id(&rt, from));
+        67,
+        3,
+    ),
+    (
+        "gitv2 1\nr A refs/b\nr A refs/b\nh none\nend\n",
+        Order::Any,
+        67,
+        3,
+    ),
+    ("gitv2 1\nr A $\nh none\nend\n", Order::Any, 67, 2),
+    ("gitv2 1\nr A refs/b\nc A\nh none\nend\n", Order::Any, 67, 3),
+    ("gitv2 1\nh ref $\nend\n", Order::Any, 67, 2),
+    ("gitv2 1\nh id AB\nend\n", Order::Any, 67, 2),
+];
+
+#[test]
+fn tells_the_first_wrong_line(rt: HostRuntime) {
+    for (short, order, code, line) in WRONG {
+        let told = fault_of(&rt, short, *order);
+        assert_eq!(rt; told, Some((*code, *line)), "of {short:?}");
+    }
+}
+
+// A text with one commit with so many parents.
+fn wide_text(rt: &(impl Abort + AllocGlobal), parents: usize) -> String {
+    let mut text = String::new(rt.alloc());
+    text.push_str("gitv2 1\nc A\nc B").expect(rt, "memory");
+    for _ in 0..parents {
+        text.push_str(" A").expect(rt, "memory");
+    }
+    text.push_str("\nh none\nend\n").expect(rt, "memory");
+    text
+}
+
+#[test]
+fn loads_64_parents_and_no_more(rt: HostRuntime) {
+    let widest = wide_text(&rt, 64);
+    assert_eq!(rt; fault_of(&rt, widest.as_str(), Order::Any), None);
+    let wider = wide_text(&rt, 65);
+    assert_eq!(rt; fault_of(&rt, wider.as_str(), Order::Any), Some((67, 3)));
+}
+
+// A tag of a tag of a tag of a commit, and a tag of what is not held.
+const CHAINS: &str = "gitv2 1\nc A\nt B A\nt C B\nt D C\nt T E\nh none\nend\n";
+
+// A tag that names itself, three tags in a ring, and one that names a tag of the ring.
+const RINGS: &str = "gitv2 1\nt A A\nt B C\nt C D\nt D B\nt E B\nh none\nend\n";
+
+// What each id of the texts peels to.
+const PEELED: &[(&str, u8, Option<u8>)] = &[
+    (CHAINS, b'a', Some(b'a')),
+    (CHAINS, b'b', Some(b'a')),
+    (CHAINS, b'c', Some(b'a')),
+    (CHAINS, b'd', Some(b'a')),
+    (CHAINS, b'1', None),
+    (CHAINS, b'e', None),
+    (RINGS, b'a', None),
+    (RINGS, b'b', None),
+    (RINGS, b'c', None),
+    (RINGS, b'd', None),
+    (RINGS, b'e', None),
+];
+
+#[test]
+fn peels_tags(rt: HostRuntime) {
+    for (text, from, to) in PEELED {
+        let it = read(&rt, text, Order::Any).expect(&rt, "tags");
+        let found = it.graph.peel(&id(&rt, *from));
         assert!(rt; found == to.map(|digit| id(&rt, digit)));
     }
-    Ok(())
 }
 
+const SET: &[(&str, u8)] = &[
+    ("refs/b", b'1'),
+    ("refs/a", b'2'),
+    ("refs/c", b'3'),
+    ("refs/b", b'4'),
+];
+
 #[test]
-fn sets_refs(rt: HostRuntime) -> Result<(), Fail> {
+fn sets_refs(rt: HostRuntime) {
     let mut refs = Refs::new(rt.alloc());
-    for (text, digit) in [
-        ("refs/b", b'1'),
-        ("refs/a", b'2'),
-        ("refs/c", b'3'),
-        ("refs/b", b'4'),
-    ] {
-        refs.set(name(&rt, text), id(&rt, digit)).expect(&rt, text);
+    for (text, digit) in SET {
+        refs.set(name(&rt, text), id(&rt, *digit)).expect(&rt, text);
     }
     assert_eq!(rt; refs.len(), 3);
     assert!(rt; refs.get(&name(&rt, "refs/b")) == Some(id(&rt, b'4')));
     assert!(rt; refs.get(&name(&rt, "refs/d")).is_none());
     for (place, text) in [(0, "refs/a"), (1, "refs/b"), (2, "refs/c")] {
-        match refs.at(place) {
-            Some((at, _)) => assert!(rt; *at == name(&rt, text)),
-            None => assert!(rt; false, "a ref at each place"),
-        }
+        assert!(rt; is_name_at(&refs, place, &name(&rt, text)));
     }
     assert!(rt; refs.set(name(&rt, "HEAD"), id(&rt, b'1')) == Err(GraphFault::Refs));
+}
+
+fn is_name_at(refs: &Refs, place: usize, wanted: &RefName) -> bool {
+    match refs.at(place) {
+        Some((name, _)) => name == wanted,
+        None => false,
+    }
+}
+
+#[test]
+fn points_head_below_refs(rt: HostRuntime) {
     assert!(rt; Target::new(name(&rt, "HEAD")).is_none());
     assert!(rt; Target::new(name(&rt, "refs/x")).is_some());
-    assert!(rt; Graph::new(rt.alloc()).is_empty());
-    Ok(())
+}
+
+// The name with this number.
+fn numbered(rt: &(impl Abort + AllocGlobal), number: usize) -> RefName {
+    let text = format!(in rt.alloc(); "refs/{number:05}").expect(rt, "memory");
+    name(rt, text.as_str())
+}
+
+// As many refs as there can be, at the id of forty 1.
+fn most_refs(rt: &(impl Abort + AllocGlobal)) -> Refs {
+    let mut refs = Refs::new(rt.alloc());
+    for number in 0..MAX_REFS {
+        let set = refs.set(numbered(rt, number), id(rt, b'1'));
+        assert!(rt; set == Ok(()), "ref {number}");
+    }
+    refs
+}
+
+// There are as many refs, and at a place that with its number.
+fn check_most_refs(rt: &(impl Abort + AllocGlobal), refs: &Refs) {
+    assert_eq!(rt; refs.len(), 65_536);
+    for place in [0, 1, 40_000, 65_535] {
+        assert!(rt; is_name_at(refs, place, &numbered(rt, place)), "at {place}");
+    }
+}
+
+#[test]
+fn sets_65536_refs_and_no_more(rt: HostRuntime) {
+    let mut refs = most_refs(&rt);
+    for text in ["refs/65536", "refs/0", "refs/a"] {
+        let set = refs.set(name(&rt, text), id(&rt, b'2'));
+        assert!(rt; set == Err(GraphFault::Refs), "{text}");
+    }
+    check_most_refs(&rt, &refs);
+    assert!(rt; refs.set(numbered(&rt, 7), id(&rt, b'2')) == Ok(()));
+    assert!(rt; refs.get(&numbered(&rt, 7)) == Some(id(&rt, b'2')));
+    assert!(rt; refs.get(&numbered(&rt, 8)) == Some(id(&rt, b'1')));
+}
+
+// A text with so many refs.
+fn refs_text(rt: &(impl Abort + AllocGlobal), count: usize) -> String {
+    let mut text = String::new(rt.alloc());
+    text.push_str("gitv2 1\n").expect(rt, "memory");
+    for number in 0..count {
+        let line = format!(in rt.alloc(); "r T refs/{number:05}\n").expect(rt, "memory");
+        text.push_str(line.as_str()).expect(rt, "memory");
+    }
+    text.push_str("h none\nend\n").expect(rt, "memory");
+    text
+}
+
+#[test]
+fn loads_65536_refs_and_no_more(rt: HostRuntime) {
+    let most = refs_text(&rt, 65_536);
+    let it = read(&rt, most.as_str(), Order::Any).expect(&rt, "the most refs");
+    check_most_refs(&rt, &it.refs);
+    let more = refs_text(&rt, 65_537);
+    assert_eq!(rt;
+        fault_of(&rt, more.as_str(), Order::Any),
+        Some((67, 65_538))
+    );
 }

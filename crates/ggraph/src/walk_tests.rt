@@ -1,193 +1,282 @@
-// Tests of walks and of adding entries.
-
+// Tests of walks and of adding entries. An id is a number below 256, as forty digits.
 use crate::{Count, Entry, Graph, GraphFault, Kind, Node, Parents};
-use gname::{Oid, OidFault};
-use std::alloc::Global;
-use std::test::Fail;
+use gname::Oid;
+use std::process::Abort;
 
 const DIGITS: [u8; 16] = *b"0123456789abcdef";
 
-// The id of a number below 256.
-fn id(number: usize) -> Result<Oid, OidFault> {
+// A node: what it is, its id and its parents.
+type Row = (Kind, usize, &'static [usize]);
+
+fn id(rt: &impl Abort, number: usize) -> Oid {
     let mut text = [b'0'; 40];
     text[38] = DIGITS[number / 16 % 16];
     text[39] = DIGITS[number % 16];
-    Oid::from_hex(&text)
+    Oid::from_hex(&text).expect(rt, "an id")
 }
 
-fn entry(alloc: Global, number: usize, kind: Kind, parents: &[usize]) -> Result<Entry, Fail> {
-    let mut ids = Parents::new(alloc);
-    for parent in parents {
-        ids.push(id(*parent)?)?;
+fn ids_of(rt: &(impl Abort + AllocGlobal), numbers: &[usize]) -> Vec<Oid> {
+    let mut ids = Vec::new(rt.alloc());
+    for number in numbers {
+        ids.push(id(rt, *number)).expect(rt, "memory");
     }
-    Ok(Entry {
-        id: id(number)?,
-        node: Node { kind, parents: ids },
-    })
+    ids
 }
 
-fn commit(alloc: Global, number: usize, parents: &[usize]) -> Result<Entry, Fail> {
-    entry(alloc, number, Kind::Commit, parents)
+fn entry(rt: &(impl Abort + AllocGlobal), kind: Kind, number: usize, parents: &[usize]) -> Entry {
+    let ids = ids_of(rt, parents);
+    let parents = Parents::from_slice(rt.alloc(), ids.as_slice()).expect(rt, "memory");
+    let node = Node { kind, parents };
+    Entry {
+        id: id(rt, number),
+        node,
+    }
 }
 
-fn tag(alloc: Global, number: usize, parents: &[usize]) -> Result<Entry, Fail> {
-    entry(alloc, number, Kind::Tag, parents)
+fn entries_of(rt: &(impl Abort + AllocGlobal), rows: &[Row]) -> Vec<Entry> {
+    let mut entries = Vec::new(rt.alloc());
+    for (kind, number, parents) in rows {
+        let next = entry(rt, *kind, *number, parents);
+        entries.push(next).expect(rt, "memory");
+    }
+    entries
+}
+
+fn graph_of(rt: &(impl Abort + AllocGlobal), rows: &[Row]) -> Graph {
+    let mut graph = Graph::new(rt.alloc());
+    check_insert(rt, &mut graph, rows, Ok(rows.len()));
+    graph
+}
+
+// Adding the rows answers so.
+fn check_insert(
+    rt: &(impl Abort + AllocGlobal),
+    graph: &mut Graph,
+    rows: &[Row],
+    wanted: Result<usize, GraphFault>,
+) {
+    let entries = entries_of(rt, rows);
+    let answer = graph.insert_all(entries.as_slice());
+    assert_eq!(rt; answer, wanted);
+}
+
+fn check_missing(
+    rt: &(impl Abort + AllocGlobal),
+    graph: &Graph,
+    ids: &[usize],
+    wanted: Option<usize>,
+) {
+    let ids = ids_of(rt, ids);
+    let missing = graph.missing(ids.as_slice()).expect(rt, "memory");
+    assert_eq!(rt; missing, wanted.map(|number| id(rt, number)));
+}
+
+fn check_count(rt: &(impl Abort + AllocGlobal), graph: &Graph, ids: &[usize], wanted: Count) {
+    let ids = ids_of(rt, ids);
+    let answer = graph.missing_counted(ids.as_slice()).expect(rt, "memory");
+    assert_eq!(rt; answer, (None, wanted));
+}
+
+fn check_reaches(rt: &impl Abort, graph: &Graph, a: usize, b: usize, wanted: bool) {
+    let answer = graph.reaches(&id(rt, a), &id(rt, b)).expect(rt, "memory");
+    assert_eq!(rt; answer, wanted, "{a} reaches {b}");
+}
+
+fn check_ready(
+    rt: &(impl Abort + AllocGlobal),
+    graph: &Graph,
+    wants: &[usize],
+    commons: &[usize],
+    wanted: bool,
+) {
+    let wants = ids_of(rt, wants);
+    let commons = ids_of(rt, commons);
+    let answer = graph.ready(wants.as_slice(), commons.as_slice());
+    assert_eq!(rt; answer, Ok(wanted));
+}
+
+fn sent(
+    rt: &(impl Abort + AllocGlobal),
+    graph: &Graph,
+    wants: &[usize],
+    commons: &[usize],
+) -> Vec<Entry> {
+    let wants = ids_of(rt, wants);
+    let commons = ids_of(rt, commons);
+    let list = graph.send_list(wants.as_slice(), commons.as_slice());
+    list.expect(rt, "memory")
+}
+
+// The list to send has these ids, in this order.
+fn check_sent(
+    rt: &(impl Abort + AllocGlobal),
+    graph: &Graph,
+    wants: &[usize],
+    commons: &[usize],
+    wanted: &[usize],
+) {
+    let list = sent(rt, graph, wants, commons);
+    assert_eq!(rt; list.len(), wanted.len());
+    for (entry, number) in list.iter().zip(wanted) {
+        assert!(rt; entry.id == id(rt, *number), "{number}");
+    }
 }
 
 // Sixty-four levels of two commits, each with both commits of the next level as its parents.
-fn ladder(alloc: Global) -> Result<Graph, Fail> {
-    let mut entries = Vec::new(alloc);
+fn ladder(rt: &(impl Abort + AllocGlobal)) -> Graph {
+    let mut entries = Vec::new(rt.alloc());
     for number in 0..128usize {
         let next = number / 2 * 2 + 2;
-        if next < 128 {
-            entries.push(commit(alloc, number, &[next, next + 1])?)?;
-        } else {
-            entries.push(commit(alloc, number, &[])?)?;
-        }
+        let both = [next, next + 1];
+        let parents = if next < 128 { both.as_slice() } else { &[] };
+        let next = entry(rt, Kind::Commit, number, parents);
+        entries.push(next).expect(rt, "memory");
     }
-    let mut graph = Graph::new(alloc);
-    graph.insert_all(&entries)?;
-    Ok(graph)
+    let mut graph = Graph::new(rt.alloc());
+    let answer = graph.insert_all(entries.as_slice());
+    assert_eq!(rt; answer, Ok(128));
+    graph
 }
 
 #[test]
-fn a_ladder_is_walked_once(rt: HostRuntime) -> Result<(), Fail> {
-    let graph = ladder(rt.alloc())?;
-    assert_eq!(rt; graph.len(), 128);
+fn a_ladder_is_walked_once(rt: HostRuntime) {
+    let graph = ladder(&rt);
     let count = Count {
         ids: 127,
         parents: 250,
     };
-    assert_eq!(rt; graph.missing_counted(&[id(0)?])?, (None, count));
-    assert_eq!(rt; graph.missing(&[id(0)?, id(1)?])?, None);
-    assert_eq!(rt; graph.send_list(&[id(0)?], &[])?.len(), 127);
-    assert_eq!(rt; graph.send_list(&[id(0)?], &[id(64)?])?.len(), 64);
-    assert!(rt; graph.reaches(&id(0)?, &id(127)?)?);
-    assert!(rt; !graph.reaches(&id(0)?, &id(1)?)?);
-    assert!(rt; !graph.reaches(&id(0)?, &id(200)?)?);
-    assert!(rt; graph.ready(&[id(0)?, id(1)?], &[id(200)?, id(126)?])?);
-    Ok(())
+    check_count(&rt, &graph, &[0], count);
+    check_missing(&rt, &graph, &[0, 1], None);
+    assert_eq!(rt; sent(&rt, &graph, &[0], &[]).len(), 127);
+    assert_eq!(rt; sent(&rt, &graph, &[0], &[64]).len(), 64);
+    for (to, answer) in [(127, true), (1, false), (200, false)] {
+        check_reaches(&rt, &graph, 0, to, answer);
+    }
+    check_ready(&rt, &graph, &[0, 1], &[200, 126], true);
+}
+
+const DANGLING: &[Row] = &[
+    (Kind::Commit, 1, &[]),
+    (Kind::Commit, 2, &[1]),
+    (Kind::Commit, 3, &[2, 9]),
+];
+
+#[test]
+fn what_is_missing_is_told(rt: HostRuntime) {
+    let graph = graph_of(&rt, DANGLING);
+    check_missing(&rt, &graph, &[], None);
+    check_missing(&rt, &graph, &[2], None);
+    check_missing(&rt, &graph, &[2, 3], Some(9));
+    check_missing(&rt, &graph, &[8], Some(8));
+    for (from, to, answer) in [(3, 9, true), (8, 8, true), (2, 3, false)] {
+        check_reaches(&rt, &graph, from, to, answer);
+    }
+}
+
+const CHAIN: &[Row] = &[
+    (Kind::Commit, 3, &[2]),
+    (Kind::Commit, 1, &[]),
+    (Kind::Commit, 2, &[1]),
+    (Kind::Commit, 4, &[]),
+];
+
+#[test]
+fn readiness_is_told(rt: HostRuntime) {
+    let graph = graph_of(&rt, CHAIN);
+    check_ready(&rt, &graph, &[3, 2], &[1], true);
+    check_ready(&rt, &graph, &[3, 4], &[1], false);
+    check_ready(&rt, &graph, &[3], &[], false);
+    check_ready(&rt, &graph, &[], &[1], true);
+    check_ready(&rt, &graph, &[], &[], false);
 }
 
 #[test]
-fn what_is_missing_is_told(rt: HostRuntime) -> Result<(), Fail> {
-    let alloc = rt.alloc();
-    let mut graph = Graph::new(alloc);
-    let entries = [
-        commit(alloc, 1, &[])?,
-        commit(alloc, 2, &[1])?,
-        commit(alloc, 3, &[2, 9])?,
-    ];
-    assert_eq!(rt; graph.insert_all(&entries), Ok(3));
-    assert_eq!(rt; graph.missing(&[])?, None);
-    assert_eq!(rt; graph.missing(&[id(2)?])?, None);
-    assert_eq!(rt; graph.missing(&[id(2)?, id(3)?])?, Some(id(9)?));
-    assert_eq!(rt; graph.missing(&[id(8)?])?, Some(id(8)?));
-    assert!(rt; graph.reaches(&id(3)?, &id(9)?)?);
-    assert!(rt; graph.reaches(&id(8)?, &id(8)?)?);
-    assert!(rt; !graph.reaches(&id(2)?, &id(3)?)?);
-    Ok(())
+fn the_list_to_send_is_in_store_order(rt: HostRuntime) {
+    let graph = graph_of(&rt, CHAIN);
+    check_sent(&rt, &graph, &[3], &[1], &[3, 2]);
+    check_sent(&rt, &graph, &[3], &[9], &[3, 1, 2]);
+    check_sent(&rt, &graph, &[], &[], &[]);
+}
+
+const CYCLES: &[Row] = &[
+    (Kind::Commit, 1, &[2]),
+    (Kind::Commit, 2, &[1]),
+    (Kind::Tag, 3, &[4]),
+    (Kind::Tag, 4, &[3]),
+    (Kind::Commit, 5, &[5]),
+];
+
+#[test]
+fn cycles_end(rt: HostRuntime) {
+    let graph = graph_of(&rt, CYCLES);
+    let all = Count { ids: 5, parents: 5 };
+    check_missing(&rt, &graph, &[1, 3, 5], None);
+    check_count(&rt, &graph, &[1, 3, 5], all);
+    for (from, to, answer) in [(1, 2, true), (4, 3, true), (4, 5, false), (5, 1, false)] {
+        check_reaches(&rt, &graph, from, to, answer);
+    }
+    check_ready(&rt, &graph, &[1, 4], &[2, 3], true);
+    check_ready(&rt, &graph, &[1, 5], &[2, 3], false);
+    check_sent(&rt, &graph, &[1, 4], &[2], &[3, 4]);
+}
+
+const WIDE: [usize; 65] = [7; 65];
+
+fn wide(
+    rt: &(impl Abort + AllocGlobal),
+    kind: Kind,
+    parents: &[usize],
+) -> Result<usize, GraphFault> {
+    let mut graph = Graph::new(rt.alloc());
+    graph.insert_all(&[entry(rt, kind, 1, parents)])
 }
 
 #[test]
-fn readiness_and_the_list_to_send(rt: HostRuntime) -> Result<(), Fail> {
-    let alloc = rt.alloc();
-    let mut graph = Graph::new(alloc);
-    let entries = [
-        commit(alloc, 3, &[2])?,
-        commit(alloc, 1, &[])?,
-        commit(alloc, 2, &[1])?,
-        commit(alloc, 4, &[])?,
-    ];
-    assert_eq!(rt; graph.insert_all(&entries), Ok(4));
-    assert!(rt; graph.ready(&[id(3)?, id(2)?], &[id(1)?])?);
-    assert!(rt; !graph.ready(&[id(3)?, id(4)?], &[id(1)?])?);
-    assert!(rt; !graph.ready(&[id(3)?], &[])?);
-    assert!(rt; graph.ready(&[], &[id(1)?])?);
-    let list = graph.send_list(&[id(3)?], &[id(1)?])?;
-    assert_eq!(rt; list.len(), 2);
-    assert_eq!(rt; list[0].id, id(3)?);
-    assert_eq!(rt; list[1].id, id(2)?);
-    assert_eq!(rt; graph.send_list(&[id(3)?], &[id(9)?])?.len(), 3);
-    assert_eq!(rt; graph.send_list(&[], &[])?.len(), 0);
-    Ok(())
+fn a_node_has_64_parents_and_no_more(rt: HostRuntime) {
+    assert_eq!(rt; wide(&rt, Kind::Commit, &WIDE[..64]), Ok(1));
+    for kind in [Kind::Commit, Kind::Tag] {
+        let fault = GraphFault::TooManyParents;
+        assert_eq!(rt; wide(&rt, kind, &WIDE), Err(fault));
+    }
 }
 
-#[test]
-fn cycles_end(rt: HostRuntime) -> Result<(), Fail> {
-    let alloc = rt.alloc();
-    let mut graph = Graph::new(alloc);
-    let entries = [
-        commit(alloc, 1, &[2])?,
-        commit(alloc, 2, &[1])?,
-        tag(alloc, 3, &[4])?,
-        tag(alloc, 4, &[3])?,
-        commit(alloc, 5, &[5])?,
-    ];
-    assert_eq!(rt; graph.insert_all(&entries), Ok(5));
-    assert_eq!(rt; graph.missing(&[id(1)?, id(3)?, id(5)?])?, None);
-    assert!(rt; graph.reaches(&id(1)?, &id(2)?)?);
-    assert!(rt; graph.reaches(&id(4)?, &id(3)?)?);
-    assert!(rt; !graph.reaches(&id(4)?, &id(5)?)?);
-    assert_eq!(rt; graph.send_list(&[id(1)?, id(4)?], &[id(2)?])?.len(), 2);
-    Ok(())
-}
+const TWO_TARGETS: &[Row] = &[(Kind::Tag, 1, &[7, 7])];
+
+const NO_TARGET: &[Row] = &[(Kind::Tag, 4, &[])];
+
+const ONE_TARGET: &[Row] = &[(Kind::Tag, 4, &[7])];
 
 #[test]
-fn shapes_are_judged(rt: HostRuntime) -> Result<(), Fail> {
-    let alloc = rt.alloc();
-    let parents = [7usize; 65];
-    let mut graph = Graph::new(alloc);
-    assert_eq!(rt;
-        graph.insert_all(&[commit(alloc, 1, &parents[..64])?]),
-        Ok(1)
-    );
-    assert_eq!(rt;
-        graph.insert_all(&[commit(alloc, 2, &parents)?]),
-        Err(GraphFault::TooManyParents)
-    );
-    assert_eq!(rt;
-        graph.insert_all(&[tag(alloc, 2, &parents)?]),
-        Err(GraphFault::TooManyParents)
-    );
-    assert_eq!(rt;
-        graph.insert_all(&[tag(alloc, 1, &[7, 7])?]),
-        Err(GraphFault::TagShape)
-    );
-    assert_eq!(rt;
-        graph.insert_all(&[tag(alloc, 2, &[])?]),
-        Err(GraphFault::TagShape)
-    );
-    assert_eq!(rt; graph.insert_all(&[tag(alloc, 2, &[7])?]), Ok(1));
-    assert_eq!(rt; graph.len(), 2);
-    Ok(())
+fn a_tag_has_one_parent(rt: HostRuntime) {
+    let mut graph = graph_of(&rt, DANGLING);
+    for rows in [TWO_TARGETS, NO_TARGET] {
+        check_insert(&rt, &mut graph, rows, Err(GraphFault::TagShape));
+    }
+    check_insert(&rt, &mut graph, ONE_TARGET, Ok(1));
+    assert_eq!(rt; graph.len(), 4);
 }
 
+const CONFLICTING: &[Row] = &[(Kind::Commit, 4, &[2]), (Kind::Commit, 1, &[4])];
+
+const AT_ODDS: &[Row] = &[(Kind::Commit, 5, &[2]), (Kind::Commit, 5, &[2, 2])];
+
+const AGAIN: &[Row] = &[
+    (Kind::Commit, 6, &[2]),
+    (Kind::Commit, 1, &[]),
+    (Kind::Commit, 6, &[2]),
+];
+
 #[test]
-fn all_entries_come_in_or_none(rt: HostRuntime) -> Result<(), Fail> {
-    let alloc = rt.alloc();
-    let mut graph = Graph::new(alloc);
-    let first = [commit(alloc, 1, &[])?, commit(alloc, 2, &[1])?];
-    assert_eq!(rt; graph.insert_all(&first), Ok(2));
-    assert_eq!(rt; graph.insert_all(&first), Ok(0));
-    let conflict = [commit(alloc, 3, &[2])?, commit(alloc, 1, &[4])?];
-    assert_eq!(rt;
-        graph.insert_all(&conflict),
-        Err(GraphFault::Conflict { id: id(1)? })
-    );
-    assert!(rt; !graph.contains(&id(3)?));
-    let within = [commit(alloc, 5, &[2])?, commit(alloc, 5, &[2, 2])?];
-    assert_eq!(rt;
-        graph.insert_all(&within),
-        Err(GraphFault::Conflict { id: id(5)? })
-    );
-    assert_eq!(rt; graph.len(), 2);
-    let again = [
-        commit(alloc, 6, &[2])?,
-        commit(alloc, 1, &[])?,
-        commit(alloc, 6, &[2])?,
-    ];
-    assert_eq!(rt; graph.insert_all(&again), Ok(1));
-    assert_eq!(rt; graph.len(), 3);
-    Ok(())
+fn all_entries_come_in_or_none(rt: HostRuntime) {
+    let mut graph = graph_of(&rt, DANGLING);
+    check_insert(&rt, &mut graph, DANGLING, Ok(0));
+    for (rows, number) in [(CONFLICTING, 1), (AT_ODDS, 5)] {
+        let id = id(&rt, number);
+        let fault = Err(GraphFault::Conflict { id });
+        check_insert(&rt, &mut graph, rows, fault);
+        assert_eq!(rt; graph.len(), 3);
+    }
+    assert!(rt; !graph.contains(&id(&rt, 4)));
+    check_insert(&rt, &mut graph, AGAIN, Ok(1));
+    assert_eq!(rt; graph.len(), 4);
 }

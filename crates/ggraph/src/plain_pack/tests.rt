@@ -3,9 +3,7 @@ use crate::node::{Entry, Kind, Node, Parents};
 use crate::pack::{IndexFault, Indexer, Packer};
 use crate::plain_pack::PlainPack;
 use gname::Oid;
-use std::alloc::Global;
 use std::process::Abort;
-use std::test::Fail;
 
 // Three commits, each the parent of the next.
 const THREE: &[u8; 222] =
@@ -25,15 +23,19 @@ const NONE: &[u8; 11] = b"GPK1\nend 0\n";
 const UPPER: &[u8; 222] =
     b"GPK1\nc AAAAAAAAAAAAAAAAAAAAAAAAAAAAAAAAAAAAAAAA\nc bbbbbbbbbbbbbbbbbbbbbbbbbbbbbbbbbbbbbbbb aaaaaaaaaaaaaaaaaaaaaaaaaaaaaaaaaaaaaaaA\nc CCCCCCCCCCCCCCCCCCCCcccccccccccccccccccc BbbbbbbbbbbbbbbbbbbbbbbbbbbbbbbbbbbbbbbB\nend 3\n";
 
-fn entry(alloc: Global, kind: Kind, id: u8, parents: &[u8]) -> Result<Entry, Fail> {
-    let mut ids = Parents::new(alloc);
+fn entry(rt: &(impl Abort + AllocGlobal), kind: Kind, id: u8, parents: &[u8]) -> Entry {
+    let mut ids = Parents::new(rt.alloc());
     for parent in parents {
-        ids.push(Oid::from_hex(&[*parent; 40])?)?;
+        ids.push(id_of(rt, *parent)).expect(rt, "memory");
     }
-    Ok(Entry {
-        id: Oid::from_hex(&[id; 40])?,
+    Entry {
+        id: id_of(rt, id),
         node: Node { kind, parents: ids },
-    })
+    }
+}
+
+fn id_of(rt: &impl Abort, digit: u8) -> Oid {
+    Oid::from_hex(&[digit; 40]).expect(rt, "an id")
 }
 
 fn is_same_list(left: &[Entry], right: &[Entry]) -> bool {
@@ -44,108 +46,119 @@ fn is_same_list(left: &[Entry], right: &[Entry]) -> bool {
             .all(|(a, b)| a.id == b.id && a.node.is_same(&b.node))
 }
 
-// The entries are written as the bytes, and the bytes are read as the entries.
-fn check<R: Abort + AllocGlobal>(rt: &R, entries: &[Entry], bytes: &[u8]) -> Result<(), Fail> {
-    let pack = PlainPack.pack(rt.alloc(), entries)?;
+// What the bytes are read as, which are a pack.
+fn read(rt: &(impl Abort + AllocGlobal), bytes: &[u8]) -> Vec<Entry> {
+    PlainPack.index(rt.alloc(), bytes).expect(rt, "a pack")
+}
+
+// The entries are written as the bytes.
+fn check_written(rt: &(impl Abort + AllocGlobal), entries: &[Entry], bytes: &[u8]) {
+    let pack = PlainPack.pack(rt.alloc(), entries).expect(rt, "memory");
     assert_eq!(rt; pack.as_slice(), bytes);
-    let read = PlainPack.index(rt.alloc(), bytes)?;
-    assert!(rt; is_same_list(read.as_slice(), entries));
-    Ok(())
+}
+
+// The entries are written as the bytes, and the bytes are read as the entries.
+fn check(rt: &(impl Abort + AllocGlobal), entries: &[Entry], bytes: &[u8]) {
+    check_written(rt, entries, bytes);
+    let list = read(rt, bytes);
+    assert!(rt; is_same_list(list.as_slice(), entries));
 }
 
 #[test]
-fn writes_and_reads_packs(rt: HostRuntime) -> Result<(), Fail> {
-    let first = entry(rt.alloc(), Kind::Commit, b'a', b"")?;
-    let second = entry(rt.alloc(), Kind::Commit, b'b', b"a")?;
-    let third = entry(rt.alloc(), Kind::Commit, b'c', b"b")?;
-    let tag = entry(rt.alloc(), Kind::Tag, b'd', b"c")?;
-    let list = [first, second, third];
+fn writes_and_reads_packs(rt: HostRuntime) {
+    let list = [
+        entry(&rt, Kind::Commit, b'a', b""),
+        entry(&rt, Kind::Commit, b'b', b"a"),
+        entry(&rt, Kind::Commit, b'c', b"b"),
+        entry(&rt, Kind::Tag, b'd', b"c"),
+    ];
     let list = list.as_slice();
-    check(&rt, list, THREE)?;
-    check(&rt, &list[1..], TWO)?;
-    check(&rt, &[tag], ONE)?;
-    check(&rt, &[], NONE)
+    check(&rt, &list[..3], THREE);
+    check(&rt, &list[1..3], TWO);
+    check(&rt, &list[3..], ONE);
+    check(&rt, &[], NONE);
 }
 
 #[test]
-fn reads_ids_in_upper_case(rt: HostRuntime) -> Result<(), Fail> {
-    let list = PlainPack.index(rt.alloc(), UPPER)?;
-    let pack = PlainPack.pack(rt.alloc(), list.as_slice())?;
-    assert_eq!(rt; pack.as_slice(), THREE.as_slice());
-    Ok(())
+fn reads_ids_in_upper_case(rt: HostRuntime) {
+    let list = read(&rt, UPPER);
+    check_written(&rt, list.as_slice(), THREE);
 }
 
 #[test]
-fn judges_no_number_of_parents(rt: HostRuntime) -> Result<(), Fail> {
-    let bare = entry(rt.alloc(), Kind::Tag, b'1', b"")?;
-    let same = entry(rt.alloc(), Kind::Tag, b'1', b"")?;
-    let wide = entry(rt.alloc(), Kind::Tag, b'1', b"1122")?;
-    let list = [bare, same, wide];
-    let pack = PlainPack.pack(rt.alloc(), &list)?;
-    let read = PlainPack.index(rt.alloc(), pack.as_slice())?;
-    assert!(rt; is_same_list(read.as_slice(), &list));
-    Ok(())
+fn judges_no_number_of_parents(rt: HostRuntime) {
+    let list = [
+        entry(&rt, Kind::Tag, b'1', b""),
+        entry(&rt, Kind::Tag, b'1', b""),
+        entry(&rt, Kind::Tag, b'1', b"1122"),
+    ];
+    let pack = PlainPack.pack(rt.alloc(), &list).expect(&rt, "memory");
+    let again = read(&rt, pack.as_slice());
+    assert!(rt; is_same_list(again.as_slice(), &list));
 }
 
-fn fault_of(alloc: Global, bytes: &[u8]) -> Option<IndexFault> {
-    PlainPack.index(alloc, bytes).err()
+fn check_bad(rt: &(impl Abort + AllocGlobal), bytes: &[u8], line: usize) {
+    let fault = PlainPack.index(rt.alloc(), bytes).err();
+    assert_eq!(rt; fault, Some(IndexFault::Bad { line }), "of {bytes:?}");
 }
+
+// Bytes that are no pack, and the line at which they are not.
+const BAD: &[(&[u8], usize)] = &[
+    (b"", 1),
+    (b"GPK1", 1),
+    (b"GPK2\nend 0\n", 1),
+    (b"gpk1\nend 0\n", 1),
+    (b" GPK1\nend 0\n", 1),
+    (b"GPK1\n", 2),
+    (b"GPK1\nend 0", 2),
+    (b"GPK1\nend\n", 2),
+    (b"GPK1\nend 1\n", 2),
+    (b"GPK1\nend 00\n", 2),
+    (b"GPK1\nend 0 \n", 2),
+    (b"GPK1\nend  0\n", 2),
+    (b"GPK1\n\nend 0\n", 2),
+    (b"GPK1\nc\nend 1\n", 2),
+    (b"GPK1\nc \nend 1\n", 2),
+    (
+        b"GPK1\nc 0000000000000000000000000000000000000000 \nend 1\n",
+        2,
+    ),
+    (
+        b"GPK1\nc  0000000000000000000000000000000000000000\nend 1\n",
+        2,
+    ),
+    (
+        b"GPK1\nC 0000000000000000000000000000000000000000\nend 1\n",
+        2,
+    ),
+    (
+        b"GPK1\nc 00000000000000000000000000000000000000000\nend 1\n",
+        2,
+    ),
+    (
+        b"GPK1\nc 0000000000000000000000000000000000000000\r\nend 1\n",
+        2,
+    ),
+    (
+        b"GPK1\nc 0000000000000000000000000000000000000000\nend 0\n",
+        3,
+    ),
+    (
+        b"GPK1\nc 0000000000000000000000000000000000000000\nend 01\n",
+        3,
+    ),
+    (b"GPK1\nend 0\n\n", 3),
+    (b"GPK1\nend 0\nend 0\n", 3),
+    (
+        b"GPK1\nc 0000000000000000000000000000000000000000\nend 1\n ",
+        4,
+    ),
+];
 
 #[test]
 fn tells_the_first_bad_line(rt: HostRuntime) {
-    let table = [
-        (b"".as_slice(), 1),
-        (b"GPK1".as_slice(), 1),
-        (b"GPK2\nend 0\n".as_slice(), 1),
-        (b"gpk1\nend 0\n".as_slice(), 1),
-        (b" GPK1\nend 0\n".as_slice(), 1),
-        (b"GPK1\n".as_slice(), 2),
-        (b"GPK1\nend 0".as_slice(), 2),
-        (b"GPK1\nend\n".as_slice(), 2),
-        (b"GPK1\nend 1\n".as_slice(), 2),
-        (b"GPK1\nend 00\n".as_slice(), 2),
-        (b"GPK1\nend 0 \n".as_slice(), 2),
-        (b"GPK1\nend  0\n".as_slice(), 2),
-        (b"GPK1\n\nend 0\n".as_slice(), 2),
-        (b"GPK1\nc\nend 1\n".as_slice(), 2),
-        (b"GPK1\nc \nend 1\n".as_slice(), 2),
-        (
-            b"GPK1\nc 0000000000000000000000000000000000000000 \nend 1\n".as_slice(),
-            2,
-        ),
-        (
-            b"GPK1\nc  0000000000000000000000000000000000000000\nend 1\n".as_slice(),
-            2,
-        ),
-        (
-            b"GPK1\nC 0000000000000000000000000000000000000000\nend 1\n".as_slice(),
-            2,
-        ),
-        (
-            b"GPK1\nc 00000000000000000000000000000000000000000\nend 1\n".as_slice(),
-            2,
-        ),
-        (
-            b"GPK1\nc 0000000000000000000000000000000000000000\r\nend 1\n".as_slice(),
-            2,
-        ),
-        (
-            b"GPK1\nc 0000000000000000000000000000000000000000\nend 0\n".as_slice(),
-            3,
-        ),
-        (
-            b"GPK1\nc 0000000000000000000000000000000000000000\nend 01\n".as_slice(),
-            3,
-        ),
-        (b"GPK1\nend 0\n\n".as_slice(), 3),
-        (b"GPK1\nend 0\nend 0\n".as_slice(), 3),
-        (
-            b"GPK1\nc 0000000000000000000000000000000000000000\nend 1\n ".as_slice(),
-            4,
-        ),
-    ];
-    for (bytes, line) in table {
-        assert_eq!(rt; fault_of(rt.alloc(), bytes), Some(IndexFault::Bad { line }));
+    for (bytes, line) in BAD {
+        check_bad(&rt, bytes, *line);
     }
 }
 
@@ -158,8 +171,7 @@ fn line_at_end(bytes: &[u8]) -> usize {
 fn tells_where_a_pack_is_cut(rt: HostRuntime) {
     for end in 0..THREE.len() {
         let front = &THREE[..end];
-        let line = line_at_end(front);
-        assert_eq!(rt; fault_of(rt.alloc(), front), Some(IndexFault::Bad { line }));
+        check_bad(&rt, front, line_at_end(front));
     }
 }
 
@@ -194,34 +206,28 @@ fn bad_line(at: usize, byte: u8) -> usize {
     }
 }
 
-fn check_change<R: Abort + AllocGlobal>(rt: &R, at: usize, byte: u8) -> Result<(), Fail> {
+fn check_change(rt: &(impl Abort + AllocGlobal), at: usize, byte: u8) {
     let mut bytes = *THREE;
     let mut wanted = *THREE;
     if at >= bytes.len() || bytes[at] == byte {
-        return Ok(());
+        return;
     }
     bytes[at] = byte;
-    let Some(same) = read_as(at, byte) else {
-        let line = bad_line(at, byte);
-        assert_eq!(rt;
-            fault_of(rt.alloc(), &bytes),
-            Some(IndexFault::Bad { line })
-        );
-        return Ok(());
-    };
-    wanted[at] = same;
-    let list = PlainPack.index(rt.alloc(), &bytes)?;
-    let pack = PlainPack.pack(rt.alloc(), list.as_slice())?;
-    assert_eq!(rt; pack.as_slice(), wanted.as_slice());
-    Ok(())
+    match read_as(at, byte) {
+        Some(same) => {
+            wanted[at] = same;
+            let list = read(rt, &bytes);
+            check_written(rt, list.as_slice(), &wanted);
+        }
+        None => check_bad(rt, &bytes, bad_line(at, byte)),
+    }
 }
 
 #[test]
-fn reads_each_change_of_a_byte_as_it_stands(rt: HostRuntime) -> Result<(), Fail> {
+fn reads_each_change_of_a_byte_as_it_stands(rt: HostRuntime) {
     for at in 0..THREE.len() {
         for byte in 0..=255 {
-            check_change(&rt, at, byte)?;
+            check_change(&rt, at, byte);
         }
     }
-    Ok(())
 }
