@@ -1,12 +1,20 @@
 -- Refs that stand at objects, one by one.
-use Rattle.std.proofs.Common.{◌≡◌, ℕ, ◌+◌, ◌<◌, ◌≤◌, List, [], ◌∷◌, ◌++◌, length, take, get_or, sym, ap, ◌∙◌, subst, refl}
+use Rattle.std.proofs.Common.{◌≡◌, inl, inr, Ok, Err, ℕ, zero, suc, Some, All, ◌+◌, ◌<◌, ◌≤◌, List, [], ◌∷◌, ◌++◌, length, take, get_or, sym, ap, ◌∙◌, subst, refl}
+use Rattle.std.specs.List.{slice_get}
 use Rattle.std.proofs.lemmas.List.{take_more, take_all}
-use Rattle.std.proofs.lemmas.List.Elements.{All-append, All-cons, All-nil}
+use Rattle.std.proofs.lemmas.List.Elements.{All-append, All-cons, All-head, All-nil, All-tail}
 use Rattle.std.proofs.lemmas.Option.{slice_get_read}
 use Rattle.ggraph.specs.Graphs.{Holds}
 use Rattle.ggraph.specs.RefLists.{RefList}
 use Rattle.ggraph.specs.declared.node.Entry.{Entry}
-use Rattle.gcmd.specs.Repository.{HoldsRefs, IsFirstMissing}
+use Rattle.ggraph.specs.declared.head.Head.{Head}
+use Rattle.ggraph.specs.declared.fault.GraphFault.{GraphFault}
+use Rattle.ggraph.specs.declared.text.Order.TheVariants.{ParentsFirst}
+use Rattle.ggraph.specs.declared.text.Repository.{Repository}
+use Rattle.ggraph.specs.Loading as load
+use Rattle.gcmd.specs.declared.repository.RepoFault.{RepoFault}
+use Rattle.gcmd.specs.declared.repository.RepoFault.TheVariants.{Text, ParentLater, RefMissing, Memory}
+use Rattle.gcmd.specs.Repository.{Accepts, HoldsHead, IsTextFault, RefusesRefs, HoldsRefs, IsFirstMissing}
 
 module _ {A : Type 0} (graph : List (Entry A)) (refs : RefList) where
   abbrev Stands : List ℕ × List ℕ → Type 0
@@ -28,3 +36,35 @@ module _ {A : Type 0} (graph : List (Entry A)) (refs : RefList) where
     before = before;
     missing = missing;
   }
+
+-- ---- a repository that can be served is not refused
+
+all_there : {X : Type 0} (P : X → Type 0) (xs : List X) (place : ℕ) (x : X) → All P xs → slice_get xs place ≡ Some x → P x
+all_there P [] place x all at = let h = at in cc
+all_there P (y ∷ xs) zero x all at = let same : y ≡ x = (cc) in subst P same (All-head P y xs all)
+all_there P (y ∷ xs) (suc place) x all at = all_there P xs place x (All-tail P y xs all) at
+
+none_missing : {A : Type 0} (graph : List (Entry A)) (refs : RefList) (name : List ℕ) → HoldsRefs graph refs → IsFirstMissing graph refs name → ⊥
+none_missing graph refs name all first = first.missing (all_there (λ (ref : List ℕ × List ℕ). Holds graph ref.1) refs first.place (name, first.id) all first.there)
+
+pub accepts_unloaded : {A : Type 0} (text : List ℕ) (fault : GraphFault) (told : RepoFault A) → load.Accepts A ParentsFirst text (Err fault) → IsTextFault fault told → Accepts A text (Err told)
+accepts_unloaded text fault told accepts is repo names refs head =
+    subst (λ (f : GraphFault). IsTextFault f told) (accepts repo.graph repo.refs repo.head names.1 names.0) is
+
+pub accepts_refused : {A : Type 0} (text : List ℕ) (it : Repository A) (told : RepoFault A) → load.Accepts A ParentsFirst text (Ok it) → RefusesRefs it told → Accepts A text (Err told)
+accepts_refused text it Memory accepts refuses repo names refs head = refl
+accepts_refused {A} text it (RefMissing name) accepts refuses repo names refs head =
+    let same = accepts repo.graph repo.refs repo.head names.1 names.0 in
+    let held : HoldsRefs it.graph it.refs =
+      subst (λ (rs : RefList). HoldsRefs it.graph rs) (sym same.1) (subst (λ (g : List (Entry A)). HoldsRefs g repo.refs) (sym same.0) refs) in
+    let at : HoldsHead it.graph it.head =
+      subst (λ (h : Head A). HoldsHead it.graph h) (sym same.2) (subst (λ (g : List (Entry A)). HoldsHead g repo.head) (sym same.0) head) in
+    elim refuses [
+      | inl first ↦ absurd (none_missing it.graph it.refs name held first)
+      | inr here ↦ absurd (here.2 at)
+    ]
+accepts_refused text it (Text line) accepts refuses repo names refs head = absurd refuses
+accepts_refused text it (ParentLater line) accepts refuses repo names refs head = absurd refuses
+
+pub accepts_served : {A : Type 0} (text : List ℕ) (it : Repository A) → load.Accepts A ParentsFirst text (Ok it) → Accepts A text (Ok (record { graph = it.graph; refs = it.refs; head = it.head }))
+accepts_served text it accepts repo names refs head = accepts repo.graph repo.refs repo.head names.1 names.0

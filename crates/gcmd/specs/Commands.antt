@@ -4,7 +4,7 @@ use Rattle.std.specs.Fmt.{decimal}
 use Rattle.std.specs.Io.KnownBytes.{Appends}
 use Rattle.ggraph.specs.Graphs.{Holds}
 use Rattle.ggraph.specs.Reach.{IsClosed, IsSafe}
-use Rattle.ggraph.specs.Reading.{StopsAt}
+use Rattle.ggraph.specs.Loading.{StopsAt}
 use Rattle.ggraph.specs.RepositoryText.{repository_text, IsLoadable}
 use Rattle.ggraph.specs.declared.node.Entry.{Entry}
 use Rattle.ggraph.specs.declared.fault.GraphFault.{GraphFault}

@@ -1,11 +1,11 @@
 -- The repository that is served: what its text names, with each ref, and HEAD as an id, at an object that
 -- is there.
-use Rattle.std.specs.Prelude.{◌≡◌, ℕ, ◌⊎◌, ⊤, List, take, All, Some, slice_get, Result, Ok, Err}
+use Rattle.std.specs.Prelude.{◌≡◌, ℕ, ◌⊎◌, ⊤, List, take, All, Some, slice_get, Result, Ok, Err, MatchResult}
 use Rattle.std.specs.declared.alloc.AllocError.{AllocError}
 use Rattle.gname.specs.Names.{head_name}
 use Rattle.ggraph.specs.Graphs.{Holds}
 use Rattle.ggraph.specs.RefLists.{RefList}
-use Rattle.ggraph.specs.Reading.{StopsAt}
+use Rattle.ggraph.specs.Loading.{StopsAt}
 use Rattle.ggraph.specs.RepositoryText.{repository_text, IsLoadable}
 use Rattle.ggraph.specs.declared.node.Entry.{Entry}
 use Rattle.ggraph.specs.declared.head.Head.{Head}
@@ -14,6 +14,7 @@ use Rattle.ggraph.specs.declared.text.Repository.{Repository}
 use Rattle.ggraph.specs.declared.text.Order.TheVariants.{ParentsFirst}
 use Rattle.ggraph.specs.declared.fault.GraphFault.{GraphFault}
 use Rattle.ggraph.specs.declared.fault.GraphFault.TheVariants as load
+use Rattle.gcmd.specs.declared.repository.RepoFile.{RepoFile}
 use Rattle.gcmd.specs.declared.repository.RepoFault.{RepoFault}
 use Rattle.gcmd.specs.declared.repository.RepoFault.TheVariants.{Text, ParentLater, RefMissing, Memory}
 
@@ -75,3 +76,9 @@ IsTextFault _ fault = fault ≡ Memory
 abbrev pub missing_fault : {A : Type 0} → Result (List ℕ) AllocError → RepoFault A
 missing_fault (Ok name) = RefMissing name
 missing_fault (Err e) = Memory
+
+-- the text of a repository that can be served is read as that one, where there is memory
+abbrev pub Accepts : (A : Type 0) → List ℕ → Result (RepoFile A) (RepoFault A) → Type 0
+Accepts A text result =
+    (repo : Repository A) → Names text repo → HoldsRefs repo.graph repo.refs → HoldsHead repo.graph repo.head
+    → MatchResult result (λ it. (it.graph ≡ repo.graph) × (it.refs ≡ repo.refs) × (it.head ≡ repo.head)) (λ fault. fault ≡ Memory)

@@ -1,7 +1,7 @@
 //! The repository that is served.
 
 ghost use Rattle.std.specs.Prelude.{◌≡◌, ◌↔◌, IfOk, IfErr, IsTrue, MatchOption, MatchResult};
-ghost use Rattle.gcmd.specs.Repository.{repo_fault_code, Names, HoldsRefs, HoldsHead, IsFirstMissing, RefusesText, RefusesRefs, IsTextFault, missing_fault};
+ghost use Rattle.gcmd.specs.Repository.{Accepts, repo_fault_code, Names, HoldsRefs, HoldsHead, IsFirstMissing, RefusesText, RefusesRefs, IsTextFault, missing_fault};
 
 use crate::answer::head_name;
 use ggraph::{Graph, GraphFault, Head, Order, Refs, Repository, load};
@@ -61,6 +61,7 @@ impl<A: Allocator + Copy> RepoFile<A> {
         ensures refs { IfOk result (λ repo. HoldsRefs repo.graph repo.refs) }
         ensures head { IfOk result (λ repo. HoldsHead repo.graph repo.head) }
         ensures refused { IfErr result (RefusesText text.now) }
+        ensures accepts { Accepts A text.now result }
     {
         let repo = match load(alloc, text, Order::ParentsFirst) {
             Ok(repo) => repo,
