@@ -28,7 +28,7 @@
 //! # Stands on
 //!
 //! `gpkt` for packet lines, `gname` for names and ids, `ggraph` for graphs and their text, `arrayvec` for lines of
-//! bounded length, `thiserror`.
+//! bounded length, `thiserror`; in tests `bumpalo`, for memory that ends.
 #![tactic(auto)]
 
 mod answer;
