@@ -13,17 +13,22 @@
 //!   for; [`write_ls_reply`] writes exactly their canonical bytes.
 //! - [`RepoFile::read`] accepts exactly the texts of repositories with parents first whose refs stand at
 //!   objects that are there, and tells the fault of others at its line or by its ref.
+//! - [`cmd_ls`] is one such exchange over a reader and a writer, with the status of its end; of a file that is no
+//!   repository, nothing is read or written, and the status is 1.
+//! - [`cmd_check`] ends with 0 only where its line is written: the counts, and whether the graph is closed and the
+//!   refs are safe.
+//! - The line that is printed of each fault, where it is printed whole.
 //!
 //! Want of memory is open: a call that takes memory may tell it at any time.
 //!
 //! # Only tested
 //!
-//! The printed lines, the exit statuses, what [`cmd_check`] tells, and that the sink is flushed.
+//! That the line of a fault is printed, and that the sink is flushed.
 //!
 //! # Stands on
 //!
 //! `gpkt` for packet lines, `gname` for names and ids, `ggraph` for graphs and their text, `arrayvec` for lines of
-//! bounded length, `thiserror`.
+//! bounded length, `thiserror`; in tests `bumpalo`, for memory that ends.
 #![tactic(auto)]
 
 mod answer;

@@ -3,4 +3,5 @@ mod calls;
 mod commands;
 mod devices;
 mod exchanges;
+mod memory;
 mod sample;
