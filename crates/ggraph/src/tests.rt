@@ -1,6 +1,9 @@
 // Whole texts, as the format's own example has them, texts that are refused, and the limits of refs.
+ghost use Rattle.std.specs.Prelude.{◌≡◌, MatchResult};
+
 use crate::{Graph, GraphFault, Head, Kind, MAX_REFS, Order, Refs, Repository, Target, load, save};
 use gname::{Oid, RefName};
+use std::alloc::Allocator;
 use std::process::Abort;
 
 const SERVER: &str =
@@ -106,7 +109,19 @@ fn saves_what_it_loads(rt: HostRuntime) {
         let text = save(rt.alloc(), &it.graph, &it.refs, &it.head).expect(&rt, short);
         let same = spelled(&rt, short);
         assert_eq!(rt; text.as_slice(), same.as_slice());
+        let again = reload(rt.alloc(), &it).expect(&rt, short);
+        assert_eq!(rt; again.graph.len(), it.graph.len());
     }
+}
+
+// What is saved is loaded again as it was, or there is no memory: the contracts of `save` and `load` say so.
+fn reload<A: Allocator + Copy>(alloc: A, it: &Repository<A>) -> Result<Repository<A>, GraphFault>
+    ensures { MatchResult result
+        (λ again. (again.graph ≡ it.now.graph) × (again.refs ≡ it.now.refs) × (again.head ≡ it.now.head))
+        (λ fault. fault ≡ GraphFault.Memory) }
+{
+    let text = save(alloc, &it.graph, &it.refs, &it.head)?;
+    load(alloc, text.as_slice(), Order::Any)
 }
 
 // Texts, and the number and the line of the fault that each is refused with.
