@@ -56,9 +56,9 @@ accepts_refused text it Memory accepts refuses repo names refs head = refl
 accepts_refused {A} text it (RefMissing name) accepts refuses repo names refs head =
     let same = accepts repo.graph repo.refs repo.head names.1 names.0 in
     let held : HoldsRefs it.graph it.refs =
-      subst (λ (rs : RefList). HoldsRefs it.graph rs) (sym same.1) (subst (λ (g : List (Entry A)). HoldsRefs g repo.refs) (sym same.0) refs) in
+    subst (λ (rs : RefList). HoldsRefs it.graph rs) (sym same.1) (subst (λ (g : List (Entry A)). HoldsRefs g repo.refs) (sym same.0) refs) in
     let at : HoldsHead it.graph it.head =
-      subst (λ (h : Head A). HoldsHead it.graph h) (sym same.2) (subst (λ (g : List (Entry A)). HoldsHead g repo.head) (sym same.0) head) in
+    subst (λ (h : Head A). HoldsHead it.graph h) (sym same.2) (subst (λ (g : List (Entry A)). HoldsHead g repo.head) (sym same.0) head) in
     elim refuses [
       | inl first ↦ absurd (none_missing it.graph it.refs name held first)
       | inr here ↦ absurd (here.2 at)

@@ -1,6 +1,5 @@
 -- Where a text is refused, and that no text of a repository is.
-use Rattle.std.proofs.Common.{◌≡◌, inl, inr, ℕ, ◌+◌, List, [], ◌∷◌, ◌++◌, length, map, codes, Result, Ok, Err, refl, sym, ◌∙◌, ap, subst}
-use Rattle.std.specs.Prelude.{MatchResult}
+use Rattle.std.proofs.Common.{◌≡◌, inl, inr, ℕ, ◌+◌, List, [], ◌∷◌, ◌++◌, length, map, codes, Ok, Err, refl, sym, ◌∙◌, ap, subst}
 use Rattle.std.proofs.lemmas.List.{append_assoc, length-map}
 use Rattle.ggraph.specs.declared.node.Entry.{Entry}
 use Rattle.ggraph.specs.declared.head.Head.{Head}
@@ -9,17 +8,16 @@ use Rattle.ggraph.specs.declared.fault.GraphFault.TheVariants as faults
 use Rattle.ggraph.specs.declared.text.Order.{Order}
 use Rattle.ggraph.specs.declared.text.Order.TheVariants.{Any, ParentsFirst}
 use Rattle.ggraph.specs.declared.text.Repository.{Repository}
-use Rattle.ggraph.specs.declared.text.reading.Stage.{Stage}
 use Rattle.ggraph.specs.declared.text.reading.Stage.TheVariants.{Done}
 use Rattle.ggraph.specs.declared.text.reading.Reading.{Reading}
 use Rattle.ggraph.specs.RefLists.{RefList}
-use Rattle.ggraph.specs.RepositoryText.{IsLoadable, MayFollow, lines_of, repository_text, text_of}
+use Rattle.ggraph.specs.RepositoryText.{IsLoadable, lines_of, repository_text}
 use Rattle.ggraph.specs.Reading.{Item, MayCome, Refuses, TakesNot, after, begins, ends, heads, line_of, node, nothing_read, ref}
-use Rattle.ggraph.specs.Loading.{Accepts, Begins, EndsEarly, GoesOn, HasNoLf, IsWhole, IsWrongLine, NamesLaterParent, StopsAt}
+use Rattle.ggraph.specs.Loading.{Accepts, Begins, EndsEarly, GoesOn, HasNoLf, IsWhole, IsWrongLine, StopsAt}
 use Rattle.ggraph.proofs.Items.{HasRead, ReadsTo, items_text}
 use Rattle.ggraph.proofs.Lines.{AreLines, front_lines, line_from, next_line, no_line_left}
 use Rattle.ggraph.proofs.LoadLemmas.{Progress, map_more, reads_more}
-use Rattle.ggraph.proofs.OneReading.{items_are_lines, lines_are_lines, lines_whole, next_item, one_repository, reads_whole, same_reading, whole_items, whole_reading}
+use Rattle.ggraph.proofs.OneReading.{lines_are_lines, lines_whole, next_item, one_repository, reads_whole, same_reading, whole_items, whole_reading}
 use Rattle.ggraph.proofs.WholeLemmas.{begins_so_far}
 
 -- ---- reading in any order
