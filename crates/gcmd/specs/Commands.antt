@@ -33,7 +33,7 @@ EndsAs repo read_old read_new written_old written_new ended =
     Exchanges repo.graph repo.refs repo.head read_old read_new written_old written_new ended × IsLate ended
 
 module _ (A : Type 0) (file : List ℕ) (read_old read_new written_old written_new : Option (List ℕ)) (status : ℕ) where
-  -- the file is no repository that can be served: nothing is read, and nothing is written
+  -- the file is no repository that can be served, or there is no memory for it: nothing is read, and nothing is written
   pub record IsUnserved : Type 0 where
     pub fault : RepoFault A
     pub refused : RefusesText file fault
