@@ -5,7 +5,8 @@ ghost use Rattle.std.specs.Prelude.{◌≡◌, ℕ, List, Some, nat_eq, refl};
 ghost use Rattle.std.specs.Ordering.{nat_cmp};
 ghost use Rattle.std.specs.Cmp as Cmp;
 ghost use Rattle.std.specs.Cmp.Lexicographic.{pointwise, slice_cmp, nat_list_eq_equiv, nat_list_cmp_total, texts_ties, texts_po};
-ghost use Rattle.gname.specs.Ids.{IsId, IsIdText, ReadsId, id_text, id_fault_code, id_fault_of};
+ghost use Rattle.gname.specs.Ids.{IsId, IsIdText, ReadsId, id_text, id_fault_of};
+ghost use Rattle.gname.specs.Faults.{id_fault_row};
 
 use hex::{FromHex, FromHexError};
 use std::cmp::Ordering;
@@ -115,13 +116,27 @@ pub enum OidFault {
 }
 
 impl OidFault {
-    /// The fault's number.
+    /// The number of the fault.
     pub fn code(&self) -> u32
-        ensures { result ≡ id_fault_code self.now }
+        ensures { result ≡ (id_fault_row self.now).0 }
+    {
+        self.row().0
+    }
+
+    /// The name of the fault.
+    pub fn name(&self) -> &'static str
+        ensures { result.now ≡ (id_fault_row self.now).1 }
+    {
+        self.row().1
+    }
+
+    // The table: the number and the name of each fault.
+    fn row(&self) -> (u32, &'static str)
+        ensures { (result.0, result.1.now) ≡ id_fault_row self.now }
     {
         match self {
-            OidFault::Length => 1,
-            OidFault::Digit { .. } => 2,
+            OidFault::Length => (1, "Length"),
+            OidFault::Digit { .. } => (2, "Digit"),
         }
     }
 }
