@@ -6,7 +6,7 @@ use Rattle.ggraph.specs.declared.node.Entry.{Entry}
 use Rattle.ggraph.specs.declared.head.Head.{Head}
 use Rattle.std.specs.Io.KnownBytes.{Appends}
 use Rattle.gcmd.specs.Request.{LsRefs, Ls, Says}
-use Rattle.gcmd.specs.Reading.{ReadsLines}
+use Rattle.gcmd.specs.MessageReading.{ReadsLines}
 use Rattle.gcmd.specs.Reply.{reply_bytes}
 use Rattle.gcmd.specs.Exchange.{err_bytes, IsRefusal, Exchanges, TakesRequest, Refuses, Replies}
 use Rattle.gcmd.specs.declared.exchange.LsFault.{LsFault}

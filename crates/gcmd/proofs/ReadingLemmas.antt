@@ -8,7 +8,7 @@ use Rattle.gpkt.specs.Reading.{Reader, HasRead, read_of}
 use Rattle.gpkt.specs.declared.line.Line.{Line}
 use Rattle.gpkt.specs.declared.fault.LineFault.{LineFault}
 use Rattle.gpkt.specs.declared.fault.LineFault.TheVariants.{BadDigits, Reserved, TooLong, Truncated, Io, Failed, Memory}
-use Rattle.gcmd.specs.Reading.{ReadsLines, ReadsRefused, HasTaken, Takes, IsReadFailure}
+use Rattle.gcmd.specs.MessageReading.{ReadsLines, ReadsRefused, HasTaken, Takes, IsReadFailure}
 use Rattle.gcmd.specs.declared.fault.Why.TheVariants as why
 use Rattle.gcmd.specs.declared.message.Step.TheVariants as step
 use Rattle.std.proofs.lemmas.List.{length_push}

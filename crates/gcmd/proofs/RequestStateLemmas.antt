@@ -13,7 +13,7 @@ use Rattle.gcmd.specs.Forms.{is_word, begins, capability_form, argument_form}
 use Rattle.gcmd.specs.Grammar.{Verdict, Goes, Ends, Refuses, IsOpen}
 use Rattle.gcmd.specs.Request.{Place, Command, Capabilities, Arguments, LsRefs, next_place, place_after, text_there, argument_texts, is_agent, is_format, is_ref_prefix, agent_value, prefix_value, agents, formats, first_of, is_none_yet, judge_capability, judge_argument, judge_text, judge_delim, judge}
 use Rattle.gcmd.specs.RequestState.{State, state_of, judge_capability_at, judge_argument_at, judge_text_at, judge_at, with_capability, with_argument, with_text, with_delim, with_packet}
-use Rattle.gcmd.specs.Reading.{TakesAs}
+use Rattle.gcmd.specs.MessageReading.{TakesAs}
 use Rattle.gcmd.specs.declared.fault.Why.{Why}
 use Rattle.gcmd.specs.declared.fault.Why.TheVariants.{Line, UnexpectedFrame, BadText, UnknownCommand, UnknownCapability, UnknownArgument, BadName, Limit, RemoteErr, Format, Memory, Ended}
 use Rattle.gcmd.specs.declared.message.Step.{Step}

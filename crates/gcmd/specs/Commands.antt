@@ -1,7 +1,7 @@
--- The programs: what each reads and writes, and its exit status.
-use Rattle.std.specs.Prelude.{◌≡◌, ◌↔◌, ℕ, ◌≤◌, ◌⊎◌, ◌++◌, Bool, IsTrue, if◌then◌else◌, List, length, codes, All, Option}
+-- The programs: what each reads, writes and prints, and its exit status.
+use Rattle.std.specs.Prelude.{◌≡◌, ◌↔◌, ℕ, ◌⊎◌, ◌++◌, Bool, IsTrue, if◌then◌else◌, List, length, codes, All, Option, None, Some, Result, Ok, Err}
 use Rattle.std.specs.Fmt.{decimal}
-use Rattle.std.specs.Io.KnownBytes.{Appends}
+use Rattle.gpkt.specs.declared.fault.WriteFault.TheVariants.{Io}
 use Rattle.ggraph.specs.Graphs.{Holds}
 use Rattle.ggraph.specs.Reach.{IsClosed, IsSafe}
 use Rattle.ggraph.specs.Loading.{StopsAt}
@@ -11,45 +11,55 @@ use Rattle.ggraph.specs.declared.fault.GraphFault.{GraphFault}
 use Rattle.ggraph.specs.declared.text.Order.TheVariants.{Any}
 use Rattle.ggraph.specs.declared.text.Repository.{Repository}
 use Rattle.gcmd.specs.Repository.{Names, HoldsRefs, HoldsHead, RefusesText}
-use Rattle.gcmd.specs.Exchange.{Exchanges, IsLate}
-use Rattle.gcmd.specs.declared.command.Report.{Report}
+use Rattle.gcmd.specs.Exchange.{Exchanges}
+use Rattle.gcmd.specs.Printing.{graph_fault_line, ls_fault_line, repo_fault_line, write_fault_line}
+use Rattle.gcmd.specs.Sending.{Input, Output, IsUnread, IsUnwritten, Sends, SendsSome}
+use Rattle.gcmd.specs.declared.check.CheckFault.{CheckFault}
+use Rattle.gcmd.specs.declared.check.CheckFault.TheVariants.{Graph, WriteFailed}
+use Rattle.gcmd.specs.declared.check.Report.{Report}
 use Rattle.gcmd.specs.declared.repository.RepoFault.{RepoFault}
 use Rattle.gcmd.specs.declared.exchange.LsEnd.{LsEnd}
 use Rattle.gcmd.specs.declared.exchange.LsEnd.TheVariants as end
 
+-- ---- how programs end
+
+-- a line is printed and passed on; or a beginning of it is printed, and the sink is down
+abbrev pub Prints : Output → List ℕ → Type 0
+Prints errors line = Sends errors line ⊎ SendsSome errors line
+
+-- the status is 0, and nothing is printed; or it is 1, and the line of a fault is
+abbrev pub EndsWith : Option (List ℕ) → Output → ℕ → Type 0
+EndsWith None errors status = IsUnwritten errors × (status ≡ 0)
+EndsWith (Some line) errors status = Prints errors line × (status ≡ 1)
+
 -- ---- `ls --stdio-server`
 
--- the status at the end of an exchange
-abbrev pub end_status : LsEnd → ℕ
-end_status end.Answered = 0
-end_status end.Closed = 0
-end_status end.Ended = 0
-end_status (end.Refused fault) = 1
-end_status end.WriteFailed = 1
+-- the line that is printed at the end, if one is
+abbrev pub line_at_end : LsEnd → Option (List ℕ)
+line_at_end end.Answered = None
+line_at_end end.Closed = None
+line_at_end end.Ended = None
+line_at_end (end.Refused fault) = Some (ls_fault_line fault)
+line_at_end end.WriteFailed = Some (write_fault_line Io)
 
--- an exchange over a repository, and its end
-abbrev pub EndsAs : {A : Type 0} → Repository A → Option (List ℕ) → Option (List ℕ) → Option (List ℕ) → Option (List ℕ) → LsEnd → Type 0
-EndsAs repo read_old read_new written_old written_new ended =
-    Exchanges repo.graph repo.refs repo.head read_old read_new written_old written_new ended × IsLate ended
-
-module _ (A : Type 0) (file : List ℕ) (read_old read_new written_old written_new : Option (List ℕ)) (status : ℕ) where
-  -- the file is no repository that can be served, or there is no memory for it: nothing is read, and nothing is written
+module _ (A : Type 0) (file : List ℕ) (input : Input) (output errors : Output) (status : ℕ) where
+  -- the file is no repository that can be served, or there is no memory for it: nothing is read or written
   pub record IsUnserved : Type 0 where
     pub fault : RepoFault A
     pub refused : RefusesText file fault
-    pub read : read_new ≡ read_old
-    pub written : written_new ≡ written_old
-    pub exits : status ≡ 1
+    pub unread : IsUnread input
+    pub unwritten : IsUnwritten output
+    pub ends : EndsWith (Some (repo_fault_line fault)) errors status
 
-  -- the file is a repository, and one request was answered from it
+  -- the file is a repository, and there was one exchange over it
   pub record IsServed : Type 0 where
     pub repo : Repository A
     pub names : Names file repo
     pub refs : HoldsRefs repo.graph repo.refs
     pub head : HoldsHead repo.graph repo.head
     pub ended : LsEnd
-    pub exchange : EndsAs repo read_old read_new written_old written_new ended
-    pub exits : status ≡ end_status ended
+    pub exchange : Exchanges repo.graph repo.refs repo.head input output ended
+    pub ends : EndsWith (line_at_end ended) errors status
 
   -- what `ls --stdio-server` does
   abbrev pub Serves : Type 0
@@ -61,7 +71,7 @@ module _ (A : Type 0) (file : List ℕ) (read_old read_new written_old written_n
 unfoldable pub HoldsParents : {A : Type 0} → List (Entry A) → Entry A → Type 0
 HoldsParents g entry = All (Holds g) entry.node.parents
 
--- what there is to tell of a repository
+-- what there is to report of a repository
 pub record IsReport {A : Type 0} (repo : Repository A) (report : Report) : Type 0 where
   pub nodes : report.nodes ≡ length repo.graph
   pub refs : report.refs ≡ length repo.refs
@@ -71,29 +81,34 @@ pub record IsReport {A : Type 0} (repo : Repository A) (report : Report) : Type 
 abbrev pub yes_or_no : Bool → List ℕ
 yes_or_no holds = if holds then codes "yes" else codes "no"
 
--- the line that tells it
+-- the line that reports it
 abbrev pub report_line : Report → List ℕ
 report_line report =
-    codes "nodes " ++ decimal report.nodes ++ codes " refs " ++ decimal report.refs ++ codes " closed " ++ yes_or_no report.closed ++ codes " safe " ++ yes_or_no report.safe ++ codes "\n"
+    codes "nodes " ++ decimal report.nodes ++ codes " refs " ++ decimal report.refs
+    ++ codes " closed " ++ yes_or_no report.closed ++ codes " safe " ++ yes_or_no report.safe ++ codes "\n"
 
-module _ (A : Type 0) (file : List ℕ) (written_old written_new : Option (List ℕ)) (status : ℕ) where
-  -- the file is no repository, or there is no memory to judge it: nothing is written
-  pub record IsUnchecked : Type 0 where
-    pub fault : GraphFault
-    pub refused : StopsAt A Any file fault
-    pub written : written_new ≡ written_old
-    pub exits : status ≡ 1
+-- the repository that the file names, and its report
+pub record IsReported (A : Type 0) (file : List ℕ) (report : Report) : Type 0 where
+  pub repo : Repository A
+  pub names : file ≡ repository_text repo.graph repo.refs repo.head
+  pub loadable : IsLoadable Any repo.graph repo.refs repo.head
+  pub reports : IsReport repo report
 
-  -- the file is a repository; at status 0 its line is written, and at status 1 the writing failed
-  pub record IsChecked : Type 0 where
-    pub repo : Repository A
-    pub names : file ≡ repository_text repo.graph repo.refs repo.head
-    pub loadable : IsLoadable Any repo.graph repo.refs repo.head
-    pub report : Report
-    pub tells : IsReport repo report
-    pub written : status ≡ 0 → Appends written_old written_new (report_line report)
-    pub exits : status ≤ 1
+-- the line is written; or a beginning of it, where the sink is down; or nothing, where the file is no repository or
+-- there is no memory to judge it
+abbrev pub HasChecked : (A : Type 0) → List ℕ → Output → Result (Unit {0}) CheckFault → Type 0
+HasChecked A file output (Ok done) = (report : Report) × IsReported A file report × Sends output (report_line report)
+HasChecked A file output (Err WriteFailed) =
+    (report : Report) × IsReported A file report × SendsSome output (report_line report)
+HasChecked A file output (Err (Graph fault)) = StopsAt A Any file fault × IsUnwritten output
 
-  -- what `check` does
-  abbrev pub Checks : Type 0
-  Checks = IsChecked ⊎ IsUnchecked
+-- the line that is printed at the end, if one is
+abbrev pub line_of_check : Result (Unit {0}) CheckFault → Option (List ℕ)
+line_of_check (Ok done) = None
+line_of_check (Err WriteFailed) = Some (write_fault_line Io)
+line_of_check (Err (Graph fault)) = Some (graph_fault_line fault)
+
+-- what `check` does
+abbrev pub Checks : (A : Type 0) → List ℕ → Output → Output → ℕ → Type 0
+Checks A file output errors status =
+    (result : Result (Unit {0}) CheckFault) × HasChecked A file output result × EndsWith (line_of_check result) errors status

@@ -1,16 +1,15 @@
 -- One request for ls-refs, from the bytes that are read to the bytes that are written
 -- (gitprotocol-v2(5); the ERR line is gitprotocol-pack(5)'s "error-line").
-use Rattle.std.specs.Prelude.{◌≡◌, ℕ, ◌⊎◌, Bool, true, false, List, [], ◌∷◌, ◌++◌, codes, Option, Result, Ok, Err, None, Some, ⊤, ◌≢◌}
-use Rattle.std.specs.Io.KnownBytes.{Appends, Keeps}
+use Rattle.std.specs.Prelude.{◌≡◌, ◌≢◌, ℕ, ◌⊎◌, false, List, [], ◌∷◌, ◌++◌, codes, Option, Result, Ok, Err, None, Some}
+use Rattle.gpkt.specs.Change.{Change}
 use Rattle.gpkt.specs.Packets.{Packet, Data, canonical}
-use Rattle.gpkt.specs.Reading.{Reads}
+use Rattle.gpkt.specs.LineReading.{Reads}
 use Rattle.gpkt.specs.declared.fault.LineFault.{LineFault}
 use Rattle.gpkt.specs.declared.fault.LineFault.TheVariants as line
-use Rattle.gcmd.specs.Faults.{why_code}
-use Rattle.gcmd.specs.Request.{LsRefs, Empty, Ls, Says, judge}
-use Rattle.gcmd.specs.Reading.{ReadsLines, ReadsRefused, IsReadFailure}
+use Rattle.gcmd.specs.Request.{LsRefs, Request, Empty, Ls, Says, judge}
+use Rattle.gcmd.specs.MessageReading.{ReadsLines, ReadsRefused, IsReadFailure}
 use Rattle.gcmd.specs.Reply.{reply_bytes}
-use Rattle.gcmd.specs.Sending.{AppendsSome}
+use Rattle.gcmd.specs.Sending.{Input, Output, IsUnread, IsUnwritten, Sends, SendsSome}
 use Rattle.gcmd.specs.RequestReader.{request_view}
 use Rattle.gcmd.specs.declared.request.Request as read
 use Rattle.gcmd.specs.Answer.{IsAnswer}
@@ -21,14 +20,9 @@ use Rattle.gcmd.specs.declared.reply.RefLine.{RefLine}
 use Rattle.gcmd.specs.declared.fault.Why.{Why}
 use Rattle.gcmd.specs.declared.fault.Why.TheVariants as why
 use Rattle.gcmd.specs.declared.exchange.LsFault.{LsFault}
-use Rattle.gcmd.specs.declared.exchange.LsFault.TheVariants.{Buffer, Reading, Memory}
+use Rattle.gcmd.specs.declared.exchange.LsFault.TheVariants.{Buffer, Message, Memory}
 use Rattle.gcmd.specs.declared.exchange.LsEnd.{LsEnd}
 use Rattle.gcmd.specs.declared.exchange.LsEnd.TheVariants as end
-
-abbrev pub ls_fault_code : LsFault → ℕ
-ls_fault_code Buffer = 28
-ls_fault_code (Reading fault) = why_code fault.why
-ls_fault_code Memory = 64
 
 -- ---- the ERR line
 
@@ -58,7 +52,7 @@ why_text why.Ended = codes "upload-pack: unexpected end"
 -- what the peer is told of a refusal
 abbrev pub err_text : LsFault → List ℕ
 err_text Buffer = codes "upload-pack: out of memory"
-err_text (Reading fault) = why_text fault.why
+err_text (Message fault) = why_text fault.why
 err_text Memory = codes "upload-pack: out of memory"
 
 -- the bytes of the line that tells it
@@ -67,79 +61,64 @@ err_bytes fault = canonical (Data (codes "ERR " ++ err_text fault ++ 10 ∷ []))
 
 -- ---- what was read and what was due
 
+-- the lines that are read say this
+abbrev pub ReadsRequest : Change → Request → Type 0
+ReadsRequest read request = (lines : List Packet) × ReadsLines read.old read.new lines × Says lines request
+
+-- Why there is no answer: no memory for the buffer, before anything is read; a message that is refused, where the
+-- fault is the source's exactly where it is down, and an end of the input comes after the first packet; no memory
+-- for the answer to a request.
+abbrev pub IsRefusal : Input → LsFault → Type 0
+IsRefusal input Buffer = IsUnread input
+IsRefusal input (Message fault) =
+    ReadsRefused judge input.read.old input.read.new fault × IsReadFailure false input.is_down fault.why
+    × (fault.why ≡ why.Ended → fault.frame ≢ 0)
+IsRefusal input Memory = (asked : LsRefs) × ReadsRequest input.read (Ls asked)
+
 module _ {A : Type 0} (graph : List (Entry A)) (refs : RefList) (at : Head A) where
   -- the lines that are read are a request for ls-refs, and these are the bytes of its answer
-  pub record IsAnswered (old new : Option (List ℕ)) (due : List ℕ) : Type 0 where
+  pub record IsAnswered (read : Change) (due : List ℕ) : Type 0 where
     pub lines : List Packet
     pub asked : LsRefs
-    pub read : ReadsLines old new lines
+    pub read : ReadsLines read.old read.new lines
     pub says : Says lines (Ls asked)
     pub reply : List (RefLine A)
     pub answer : IsAnswer graph refs at asked reply
     pub bytes : due ≡ reply_bytes reply
 
-  -- why there is no answer: no memory for the buffer, before anything is read; the request is refused; no memory
-  -- for the answer to a request
-  abbrev pub IsRefusal : Option (List ℕ) → Option (List ℕ) → LsFault → Type 0
-  IsRefusal old new Buffer = new ≡ old
-  IsRefusal old new (Reading fault) = ReadsRefused judge old new fault
-  IsRefusal old new Memory = (lines : List Packet) × (asked : LsRefs) × ReadsLines old new lines × Says lines (Ls asked)
-
-  -- what was to be written: the answer, or the line that tells of the refusal
-  abbrev pub IsDue : Option (List ℕ) → Option (List ℕ) → List ℕ → Type 0
-  IsDue old new due = IsAnswered old new due ⊎ ((fault : LsFault) × IsRefusal old new fault × (due ≡ err_bytes fault))
+  -- what was to be written: the answer, or the line that reports the refusal
+  abbrev pub IsDue : Input → List ℕ → Type 0
+  IsDue input due = IsAnswered input.read due ⊎ ((fault : LsFault) × IsRefusal input fault × (due ≡ err_bytes fault))
 
   -- what was read, and what was written for it
-  abbrev pub Exchanges : Option (List ℕ) → Option (List ℕ) → Option (List ℕ) → Option (List ℕ) → LsEnd → Type 0
-  Exchanges read_old read_new written_old written_new end.Answered = (due : List ℕ) × IsAnswered read_old read_new due × Appends written_old written_new due
-  Exchanges read_old read_new written_old written_new end.Closed = (lines : List Packet) × ReadsLines read_old read_new lines × Says lines Empty × Keeps written_old written_new
-  Exchanges read_old read_new written_old written_new end.Ended = Reads read_old read_new (Ok None) × Keeps written_old written_new
-  Exchanges read_old read_new written_old written_new (end.Refused fault) = IsRefusal read_old read_new fault × Appends written_old written_new (err_bytes fault)
-  Exchanges read_old read_new written_old written_new end.WriteFailed =
-      (due : List ℕ) × IsDue read_old read_new due × AppendsSome written_old written_new due
-
--- a refusal for a failed read comes exactly where the source is down
-abbrev pub TellsSource : Bool → LsEnd → Type 0
-TellsSource down (end.Refused (Reading fault)) = IsReadFailure false down fault.why
-TellsSource down _ = ⊤
-
--- a failed write is told exactly where the sink is down
-abbrev pub TellsSink : Bool → LsEnd → Type 0
-TellsSink down end.WriteFailed = down ≡ true
-TellsSink down end.Answered = down ≡ false
-TellsSink down (end.Refused fault) = down ≡ false
-TellsSink down end.Closed = ⊤
-TellsSink down end.Ended = ⊤
-
--- the end of the input inside a request is a refusal behind its first packet
-abbrev pub IsLate : LsEnd → Type 0
-IsLate (end.Refused (Reading fault)) = fault.why ≡ why.Ended → fault.frame ≢ 0
-IsLate _ = ⊤
+  abbrev pub Exchanges : Input → Output → LsEnd → Type 0
+  Exchanges input output end.Answered = (due : List ℕ) × IsAnswered input.read due × Sends output due
+  Exchanges input output end.Closed = ReadsRequest input.read Empty × IsUnwritten output
+  Exchanges input output end.Ended = Reads input.read.old input.read.new (Ok None) × IsUnwritten output
+  Exchanges input output (end.Refused fault) = IsRefusal input fault × Sends output (err_bytes fault)
+  Exchanges input output end.WriteFailed = (due : List ℕ) × IsDue input due × SendsSome output due
 
 -- ---- its steps
 
 -- the request is read
-abbrev pub TakesRequest : {A : Type 0} → Option (List ℕ) → Option (List ℕ) → Result (Option (read.Request A)) LsFault → Type 0
-TakesRequest old new (Ok (Some request)) = (lines : List Packet) × ReadsLines old new lines × Says lines (request_view request)
-TakesRequest old new (Ok None) = Reads old new (Ok None)
-TakesRequest old new (Err Buffer) = new ≡ old
-TakesRequest old new (Err (Reading fault)) = ReadsRefused judge old new fault
-TakesRequest old new (Err Memory) = ⊥
+abbrev pub TakesRequest : {A : Type 0} → Input → Result (Option (read.Request A)) LsFault → Type 0
+TakesRequest input (Ok (Some request)) = ReadsRequest input.read (request_view request)
+TakesRequest input (Ok None) = Reads input.read.old input.read.new (Ok None)
+TakesRequest input (Err Memory) = ⊥
+TakesRequest input (Err fault) = IsRefusal input fault
 
--- the refusal is told
-abbrev pub Refuses : LsFault → Option (List ℕ) → Option (List ℕ) → Bool → LsEnd → Type 0
-Refuses fault old new down end.Answered = ⊥
-Refuses fault old new down end.Closed = ⊥
-Refuses fault old new down end.Ended = ⊥
-Refuses fault old new down (end.Refused told) = (told ≡ fault) × Appends old new (err_bytes fault) × (down ≡ false)
-Refuses fault old new down end.WriteFailed = AppendsSome old new (err_bytes fault) × (down ≡ true)
+-- the refusal is reported
+abbrev pub ReportsRefusal : LsFault → Output → LsEnd → Type 0
+ReportsRefusal fault output (end.Refused reported) = (reported ≡ fault) × Sends output (err_bytes fault)
+ReportsRefusal fault output end.WriteFailed = SendsSome output (err_bytes fault)
+ReportsRefusal fault output _ = ⊥
 
--- the request is answered, or want of memory is told
-abbrev pub Replies : {A : Type 0} → List (Entry A) → RefList → Head A → LsRefs → Option (List ℕ) → Option (List ℕ) → Bool → LsEnd → Type 0
-Replies {A} graph refs at asked old new down end.Answered = (reply : List (RefLine A)) × IsAnswer graph refs at asked reply × Appends old new (reply_bytes reply) × (down ≡ false)
-Replies graph refs at asked old new down end.Closed = ⊥
-Replies graph refs at asked old new down end.Ended = ⊥
-Replies graph refs at asked old new down (end.Refused fault) = (fault ≡ Memory) × Appends old new (err_bytes Memory) × (down ≡ false)
-Replies {A} graph refs at asked old new down end.WriteFailed =
-    ((reply : List (RefLine A)) × IsAnswer graph refs at asked reply × AppendsSome old new (reply_bytes reply) × (down ≡ true))
-    ⊎ (AppendsSome old new (err_bytes Memory) × (down ≡ true))
+-- the request is answered, or it is reported that there is no memory for the answer
+abbrev pub Replies : {A : Type 0} → List (Entry A) → RefList → Head A → LsRefs → Output → LsEnd → Type 0
+Replies {A} graph refs at asked output end.Answered =
+    (reply : List (RefLine A)) × IsAnswer graph refs at asked reply × Sends output (reply_bytes reply)
+Replies graph refs at asked output (end.Refused fault) = (fault ≡ Memory) × Sends output (err_bytes Memory)
+Replies {A} graph refs at asked output end.WriteFailed =
+    ((reply : List (RefLine A)) × IsAnswer graph refs at asked reply × SendsSome output (reply_bytes reply))
+    ⊎ SendsSome output (err_bytes Memory)
+Replies graph refs at asked output _ = ⊥

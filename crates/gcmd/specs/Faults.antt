@@ -1,24 +1,90 @@
--- Faults of reading a message: the number of each, and what is kept of a peer's text.
-use Rattle.std.specs.Prelude.{ℕ, List, take}
+-- The tables of faults: the number and the name of each, as they are printed; and what is kept of a peer's text.
+use Rattle.std.specs.Prelude.{ℕ, List, codes, take}
+use Rattle.gname.specs.Faults.{FaultRow}
 use Rattle.gpkt.specs.Packets.{text}
 use Rattle.gpkt.specs.LineFault.{line_fault_code}
+use Rattle.gpkt.specs.WriteFault.{write_fault_code}
+use Rattle.gpkt.specs.declared.fault.LineFault.{LineFault}
+use Rattle.gpkt.specs.declared.fault.LineFault.TheVariants as line
+use Rattle.gpkt.specs.declared.fault.WriteFault.{WriteFault}
+use Rattle.gpkt.specs.declared.fault.WriteFault.TheVariants as write
+use Rattle.ggraph.specs.Faults.{code_of}
+use Rattle.ggraph.specs.declared.fault.GraphFault.{GraphFault}
+use Rattle.ggraph.specs.declared.fault.GraphFault.TheVariants as graph
+use Rattle.gcmd.specs.declared.exchange.LsFault.{LsFault}
+use Rattle.gcmd.specs.declared.exchange.LsFault.TheVariants as ls
 use Rattle.gcmd.specs.declared.fault.Why.{Why}
-use Rattle.gcmd.specs.declared.fault.Why.TheVariants.{Line, UnexpectedFrame, BadText, UnknownCommand, UnknownCapability, UnknownArgument, BadName, Limit, RemoteErr, Format, Memory, Ended}
+use Rattle.gcmd.specs.declared.fault.Why.TheVariants as why
+use Rattle.gcmd.specs.declared.program.ProgramFault.{ProgramFault}
+use Rattle.gcmd.specs.declared.program.ProgramFault.TheVariants as program
+use Rattle.gcmd.specs.declared.repository.RepoFault.{RepoFault}
+use Rattle.gcmd.specs.declared.repository.RepoFault.TheVariants as repo
 
 -- the first 256 bytes of the text, which is the payload without one line feed at its end
 abbrev pub kept_text : List ℕ → List ℕ
 kept_text payload = take 256 (text payload)
 
-abbrev pub why_code : Why → ℕ
-why_code (Line fault) = line_fault_code fault
-why_code UnexpectedFrame = 41
-why_code BadText = 42
-why_code UnknownCommand = 43
-why_code UnknownCapability = 44
-why_code UnknownArgument = 45
-why_code BadName = 47
-why_code Limit = 48
-why_code (RemoteErr said) = 49
-why_code Format = 52
-why_code Memory = 53
-why_code Ended = 54
+-- ---- faults of the crates below
+
+abbrev pub line_fault_row : LineFault → FaultRow
+line_fault_row line.BadDigits = (20, codes "BadDigits")
+line_fault_row line.Reserved = (21, codes "Reserved")
+line_fault_row line.TooLong = (22, codes "TooLong")
+line_fault_row line.Truncated = (23, codes "Truncated")
+line_fault_row line.Io = (24, codes "Io")
+line_fault_row line.Failed = (25, codes "Failed")
+line_fault_row line.Memory = (28, codes "Memory")
+
+abbrev pub write_fault_row : WriteFault → FaultRow
+write_fault_row write.Failed = (25, codes "Failed")
+write_fault_row write.Payload = (26, codes "Payload")
+write_fault_row write.Io = (27, codes "Io")
+
+abbrev pub graph_fault_row : GraphFault → FaultRow
+graph_fault_row (graph.Conflict id) = (60, codes "Conflict")
+graph_fault_row graph.TooMany = (61, codes "TooMany")
+graph_fault_row graph.TooManyParents = (62, codes "TooManyParents")
+graph_fault_row graph.TagShape = (63, codes "TagShape")
+graph_fault_row graph.Memory = (64, codes "Memory")
+graph_fault_row (graph.Pack cause) = (65, codes "Pack")
+graph_fault_row (graph.Index cause) = (66, codes "Index")
+graph_fault_row (graph.Text at) = (67, codes "Text")
+graph_fault_row (graph.ParentLater at) = (68, codes "ParentLater")
+graph_fault_row graph.Refs = (69, codes "Refs")
+
+-- ---- faults of messages
+
+-- why a packet is refused
+abbrev pub why_row : Why → FaultRow
+why_row (why.Line fault) = line_fault_row fault
+why_row why.UnexpectedFrame = (41, codes "UnexpectedFrame")
+why_row why.BadText = (42, codes "BadText")
+why_row why.UnknownCommand = (43, codes "UnknownCommand")
+why_row why.UnknownCapability = (44, codes "UnknownCapability")
+why_row why.UnknownArgument = (45, codes "UnknownArgument")
+why_row why.BadName = (47, codes "BadName")
+why_row why.Limit = (48, codes "Limit")
+why_row (why.RemoteErr said) = (49, codes "RemoteErr")
+why_row why.Format = (52, codes "Format")
+why_row why.Memory = (53, codes "Memory")
+why_row why.Ended = (54, codes "Ended")
+
+-- why a request got no answer
+abbrev pub ls_fault_row : LsFault → FaultRow
+ls_fault_row ls.Buffer = (28, codes "Memory")
+ls_fault_row (ls.Message fault) = why_row fault.why
+ls_fault_row ls.Memory = (64, codes "Memory")
+
+-- ---- faults of files and programs
+
+-- why a text is no repository that can be served
+abbrev pub repo_fault_row : {A : Type 0} → RepoFault A → FaultRow
+repo_fault_row (repo.Text line) = (67, codes "Text")
+repo_fault_row (repo.ParentLater line) = (68, codes "ParentLater")
+repo_fault_row (repo.RefMissing name) = (71, codes "RefMissing")
+repo_fault_row repo.Memory = (64, codes "Memory")
+
+-- the programs' own
+abbrev pub program_fault_row : ProgramFault → FaultRow
+program_fault_row program.Memory = (64, codes "Memory")
+program_fault_row program.File = (95, codes "File")

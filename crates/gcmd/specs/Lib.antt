@@ -8,7 +8,7 @@ pub mod Printing
 pub mod Faults
 pub mod Forms
 pub mod Grammar
-pub mod Reading
+pub mod MessageReading
 pub mod Request
 pub mod Manual
 pub mod RequestState

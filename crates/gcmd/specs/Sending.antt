@@ -1,13 +1,60 @@
--- A message that is written and passed on.
+-- What is read from a source and written to a sink, before a call and after it.
 use Rattle.std.specs.Prelude.{◌≡◌, ℕ, Bool, true, false, List, ◌++◌, Option, Result, Ok, Err}
 use Rattle.std.specs.Io.KnownBytes.{Appends}
-use Rattle.gpkt.specs.declared.fault.WriteFault.{WriteFault}
+use Rattle.gpkt.specs.Change.{Change, change_of}
+use Rattle.gpkt.specs.Devices.{PassesAll}
 
--- a beginning of the bytes, and perhaps all of them
-abbrev pub AppendsSome : Option (List ℕ) → Option (List ℕ) → List ℕ → Type 0
-AppendsSome old new bytes = (front : List ℕ) × (rest : List ℕ) × (bytes ≡ front ++ rest) × Appends old new front
+-- a source before a call and after it: the bytes still to come, where they are known, and whether it is down
+pub record Input : Type 0 where
+  pub read : Change
+  pub was_down : Bool
+  pub is_down : Bool
 
--- the bytes are written and passed on, and the sink is well; or it is down, and a beginning stands written
-abbrev pub HasSent : Option (List ℕ) → Option (List ℕ) → Bool → Result (Unit {0}) WriteFault → List ℕ → Type 0
-HasSent old new down (Ok done) bytes = Appends old new bytes × (down ≡ false)
-HasSent old new down (Err fault) bytes = AppendsSome old new bytes × (down ≡ true)
+abbrev pub input_of : {S : Type 0} → (S → Option (List ℕ)) → (S → Bool) → S → S → Input
+input_of remaining is_down old new = record { read = change_of remaining old new; was_down = is_down old; is_down = is_down new }
+
+-- a sink before a call and after it: the bytes that were written, and those that were passed on, where they are
+-- known, and whether it is down
+pub record Output : Type 0 where
+  pub written : Change
+  pub passed_on : Change
+  pub was_down : Bool
+  pub is_down : Bool
+
+abbrev pub output_of : {W : Type 0} → (W → Option (List ℕ)) → (W → Option (List ℕ)) → (W → Bool) → W → W → Output
+output_of contents passed_on is_down old new = record {
+  written = change_of contents old new;
+  passed_on = change_of passed_on old new;
+  was_down = is_down old;
+  is_down = is_down new;
+}
+
+-- nothing was read
+pub record IsUnread (input : Input) : Type 0 where
+  pub read : input.read.new ≡ input.read.old
+  pub down : input.is_down ≡ input.was_down
+
+-- nothing was written or passed on
+pub record IsUnwritten (output : Output) : Type 0 where
+  pub written : output.written.new ≡ output.written.old
+  pub passed_on : output.passed_on.new ≡ output.passed_on.old
+  pub down : output.is_down ≡ output.was_down
+
+-- these bytes were written, and all that was written is passed on
+pub record Sends (output : Output) (bytes : List ℕ) : Type 0 where
+  pub written : Appends output.written.old output.written.new bytes
+  pub passed_on : PassesAll output.written.new output.passed_on
+  pub up : output.is_down ≡ false
+
+-- a beginning of these bytes was written, perhaps all of them, and the sink is down
+pub record SendsSome (output : Output) (bytes : List ℕ) : Type 0 where
+  pub front : List ℕ
+  pub rest : List ℕ
+  pub parts : bytes ≡ front ++ rest
+  pub written : Appends output.written.old output.written.new front
+  pub down : output.is_down ≡ true
+
+-- what a call did that was to write these bytes and to pass them on
+abbrev pub HasSent : {E : Type 0} → Output → Result (Unit {0}) E → List ℕ → Type 0
+HasSent output (Ok done) bytes = Sends output bytes
+HasSent output (Err fault) bytes = SendsSome output bytes

@@ -22,21 +22,35 @@ pub enum LsFault {
     Buffer,
     /// 20 to 54: the request was refused.
     #[error("{0}")]
-    Reading(MessageFault),
+    Message(MessageFault),
     /// 64: no memory for the answer.
     #[error("out of memory")]
     Memory,
 }
 
 impl LsFault {
-    /// The fault's number.
+    /// The number of the fault.
     pub fn code(&self) -> u32
-        ensures { result ≡ ls_fault_code self.now }
+        ensures { result ≡ (ls_fault_row self.now).0 }
+    {
+        self.row().0
+    }
+
+    /// The name of the fault.
+    pub fn name(&self) -> &'static str
+        ensures { result.now ≡ (ls_fault_row self.now).1 }
+    {
+        self.row().1
+    }
+
+    // The table: the number and the name of each fault.
+    fn row(&self) -> (u32, &'static str)
+        ensures { (result.0, result.1.now) ≡ ls_fault_row self.now }
     {
         match self {
-            LsFault::Buffer => 28,
-            LsFault::Reading(fault) => fault.why.code(),
-            LsFault::Memory => 64,
+            LsFault::Buffer => (28, "Memory"),
+            LsFault::Message(fault) => (fault.code(), fault.name()),
+            LsFault::Memory => (64, "Memory"),
         }
     }
 
@@ -46,7 +60,7 @@ impl LsFault {
     {
         match self {
             LsFault::Buffer | LsFault::Memory => b"upload-pack: out of memory",
-            LsFault::Reading(fault) => why_text(&fault.why),
+            LsFault::Message(fault) => why_text(&fault.why),
         }
     }
 }
@@ -141,7 +155,7 @@ fn take_request<S: Source, A: Allocator + Copy>(
     let _source = reader.into_inner();
     match request {
         Ok(request) => Ok(request),
-        Err(fault) => Err(LsFault::Reading(fault)),
+        Err(fault) => Err(LsFault::Message(fault)),
     }
 }
 

@@ -1,7 +1,7 @@
 //! Why a message is refused, and at which of its packets.
 
 ghost use Rattle.std.specs.Prelude.{◌≡◌, ◌≤◌, length};
-ghost use Rattle.gcmd.specs.Faults.{why_code, kept_text};
+ghost use Rattle.gcmd.specs.Faults.{why_row, kept_text};
 
 use arrayvec::ArrayVec;
 use gpkt::{LineFault, text_of};
@@ -97,23 +97,37 @@ pub enum Why {
 }
 
 impl Why {
-    /// The fault's number.
+    /// The number of the fault.
     pub fn code(&self) -> u32
-        ensures { result ≡ why_code self.now }
+        ensures { result ≡ (why_row self.now).0 }
+    {
+        self.row().0
+    }
+
+    /// The name of the fault.
+    pub fn name(&self) -> &'static str
+        ensures { result.now ≡ (why_row self.now).1 }
+    {
+        self.row().1
+    }
+
+    // The table: the number and the name of each fault.
+    fn row(&self) -> (u32, &'static str)
+        ensures { (result.0, result.1.now) ≡ why_row self.now }
     {
         match self {
-            Why::Line(fault) => fault.code(),
-            Why::UnexpectedFrame => 41,
-            Why::BadText => 42,
-            Why::UnknownCommand => 43,
-            Why::UnknownCapability => 44,
-            Why::UnknownArgument => 45,
-            Why::BadName => 47,
-            Why::Limit => 48,
-            Why::RemoteErr(_) => 49,
-            Why::Format => 52,
-            Why::Memory => 53,
-            Why::Ended => 54,
+            Why::Line(fault) => line_fault_row(*fault),
+            Why::UnexpectedFrame => (41, "UnexpectedFrame"),
+            Why::BadText => (42, "BadText"),
+            Why::UnknownCommand => (43, "UnknownCommand"),
+            Why::UnknownCapability => (44, "UnknownCapability"),
+            Why::UnknownArgument => (45, "UnknownArgument"),
+            Why::BadName => (47, "BadName"),
+            Why::Limit => (48, "Limit"),
+            Why::RemoteErr(_) => (49, "RemoteErr"),
+            Why::Format => (52, "Format"),
+            Why::Memory => (53, "Memory"),
+            Why::Ended => (54, "Ended"),
         }
     }
 }
@@ -124,4 +138,20 @@ impl Why {
 pub struct MessageFault {
     pub frame: u64,
     pub why: Why,
+}
+
+impl MessageFault {
+    /// The number of the fault.
+    pub fn code(&self) -> u32
+        ensures { result ≡ (why_row self.now.why).0 }
+    {
+        self.why.code()
+    }
+
+    /// The name of the fault.
+    pub fn name(&self) -> &'static str
+        ensures { result.now ≡ (why_row self.now.why).1 }
+    {
+        self.why.name()
+    }
 }

@@ -3,7 +3,7 @@
 ghost use Rattle.std.specs.Prelude.{◌≡◌, ◌<◌, ◌^◌, List, [], length, MatchResult, IfErr, OnOk, false};
 ghost use Rattle.gpkt.specs.Packets.{Packet, packet_of};
 ghost use Rattle.gcmd.specs.Grammar.{Verdict, IsOpen};
-ghost use Rattle.gcmd.specs.Reading.{Takes, HasTaken, ReadsWhole, ReadsRefused, IsReadFailure};
+ghost use Rattle.gcmd.specs.MessageReading.{Takes, HasTaken, ReadsWhole, ReadsRefused, IsReadFailure};
 
 use crate::fault::{MessageFault, Why};
 use gpkt::{Line, LineReader, Source};

@@ -1,152 +1,225 @@
 //! How faults are printed: `gitv2: fault NUMBER NAME`, and then, where the fault has them and in this
-//! order, ` frame K`, ` line K`, and a space and the name or the text, each byte outside 32 to 126
-//! as `?`.
+//! order, ` frame K`, ` line K`, ` at K`, and a space and the id, the name or the text, each byte outside
+//! 32 to 126 as `?`.
 
-ghost use Rattle.std.specs.Prelude.{◌≡◌, None, OnOk, codes, map};
-ghost use Rattle.std.specs.Io.KnownBytes.{Appends};
-ghost use Rattle.std.specs.Option.{option_copied};
-ghost use Rattle.gcmd.specs.Printing.{exchange_line, graph_line, graph_name, line_in_text, message_line, number_part, packet_name, peer_text, printed, repository_line, shown, text_part, why_name};
+ghost use Rattle.std.specs.Prelude.{◌≡◌, ◌+◌, ◌≤◌, ◌++◌, length, codes, map, None};
+ghost use Rattle.gpkt.specs.WriteFault.{write_fault_row};
+ghost use Rattle.gname.specs.Faults.{id_fault_row, name_fault_row};
+ghost use Rattle.gcmd.specs.Faults.{graph_fault_row, why_row};
+ghost use Rattle.gcmd.specs.Printing.{fault_line, graph_fault_line, id_fault_line, id_in_conflict, line_in_pack, line_in_text, ls_fault_line, message_fault_line, name_fault_line, number_part, peer_text, place_in_id, place_in_name, printed, repo_fault_line, shown, subject_part, text_part, write_fault_line, IsShort, IsShortSubject};
+ghost use Rattle.gcmd.specs.Sending.{output_of, HasSent};
 
+use crate::compose::{add, add_id, add_number};
 use crate::exchange::LsFault;
 use crate::fault::{MessageFault, Why};
 use crate::repository::RepoFault;
-use ggraph::GraphFault;
-use gpkt::LineFault;
+use crate::send::send;
+use arrayvec::ArrayVec;
+use ggraph::{GraphFault, IndexFault};
+use gname::{NameFault, Oid, OidFault};
+use gpkt::{Down, Sink, WriteFault};
 use std::alloc::Allocator;
-use std::io;
-use std::io::Write;
+
+/// The most bytes of a fault's line: its words, a name of 32, four numbers of 20, and a text of 1,000.
+const MAX_FAULT_LINE: usize = 1_145;
+
+/// What a fault is about.
+#[derive(Clone, Copy)]
+pub(crate) enum Subject<'a> {
+    Id(Oid),
+    /// A name, or a text.
+    Text(&'a [u8]),
+}
 
 /// What is printed of a fault.
-#[derive(Drop)]
+#[derive(Clone, Copy)]
 pub(crate) struct FaultLine<'a> {
     number: u32,
     name: &'static str,
     frame: Option<u64>,
     line: Option<usize>,
-    text: Option<&'a [u8]>,
+    at: Option<usize>,
+    subject: Option<Subject<'a>>,
 }
 
 impl<'a> FaultLine<'a> {
     /// A fault of which only the number and the name are printed.
     pub(crate) fn plain(number: u32, name: &'static str) -> FaultLine<'a>
-        ensures number { result.number ≡ number }
-        ensures name { result.name.now ≡ name.now }
-        ensures alone { (result.frame ≡ None) × (result.line ≡ None) × (option_copied result.text ≡ None) }
+        requires { length name.now ≤ 32 }
+        ensures line { printed result ≡ fault_line (number, name.now) None None None [] }
+        ensures short { IsShort result }
     {
         FaultLine {
             number,
             name,
             frame: None,
             line: None,
-            text: None,
+            at: None,
+            subject: None,
         }
     }
 
-    pub(crate) fn of_repository<A: Allocator + Copy>(fault: &'a RepoFault<A>) -> FaultLine<'a>
-        ensures { printed result ≡ repository_line fault.now }
+    /// A text that is no object id, with the place of a byte that is no digit.
+    pub(crate) fn of_id(fault: &OidFault) -> FaultLine<'a>
+        ensures line { printed result ≡ id_fault_line fault.now }
+        ensures short { IsShort result }
     {
-        let number = fault.code();
+        FaultLine {
+            at: place_in_id(fault),
+            ..FaultLine::plain(fault.code(), fault.name())
+        }
+    }
+
+    /// A text that is no ref name, or no prefix, with the place of what is wrong.
+    pub(crate) fn of_name(fault: &NameFault) -> FaultLine<'a>
+        ensures line { printed result ≡ name_fault_line fault.now }
+        ensures short { IsShort result }
+    {
+        FaultLine {
+            at: place_in_name(fault),
+            ..FaultLine::plain(fault.code(), fault.name())
+        }
+    }
+
+    /// A line that was not written.
+    pub(crate) fn of_write(fault: &WriteFault) -> FaultLine<'a>
+        ensures line { printed result ≡ write_fault_line fault.now }
+        ensures short { IsShort result }
+    {
+        FaultLine::plain(fault.code(), fault.name())
+    }
+
+    /// A refusal of a graph or of a repository text, with the line of a text or of a pack, or the id that
+    /// two objects have.
+    pub(crate) fn of_graph(fault: &GraphFault) -> FaultLine<'a>
+        ensures line { printed result ≡ graph_fault_line fault.now }
+        ensures short { IsShort result }
+    {
+        FaultLine {
+            line: line_in_text(fault),
+            subject: id_in_conflict(fault),
+            ..FaultLine::plain(fault.code(), graph_fault_name(fault))
+        }
+    }
+
+    /// A text that is no repository that can be served, with its line, or the ref that is missing.
+    pub(crate) fn of_repository<A: Allocator + Copy>(fault: &'a RepoFault<A>) -> FaultLine<'a>
+        ensures line { printed result ≡ repo_fault_line fault.now }
+        ensures short { IsShort result }
+    {
+        let plain = FaultLine::plain(fault.code(), fault.name());
         match fault {
-            RepoFault::Text { line } => FaultLine {
+            RepoFault::Text { line } | RepoFault::ParentLater { line } => FaultLine {
                 line: Some(*line),
-                ..FaultLine::plain(number, "Text")
-            },
-            RepoFault::ParentLater { line } => FaultLine {
-                line: Some(*line),
-                ..FaultLine::plain(number, "ParentLater")
+                ..plain
             },
             RepoFault::RefMissing { name } => FaultLine {
-                text: Some(name.as_bytes()),
-                ..FaultLine::plain(number, "RefMissing")
+                subject: Some(Subject::Text(name.as_bytes())),
+                ..plain
             },
-            RepoFault::Memory => FaultLine::plain(number, "Memory"),
+            RepoFault::Memory => plain,
         }
     }
 
-    /// A fault of loading or of a walk.
-    pub(crate) fn of_graph(fault: &GraphFault) -> FaultLine<'a>
-        ensures { printed result ≡ graph_line fault.now }
-    {
-        FaultLine {
-            number: fault.code(),
-            name: graph_fault_name(fault),
-            frame: None,
-            line: graph_fault_line(fault),
-            text: None,
-        }
-    }
-
+    /// A request that got no answer.
     pub(crate) fn of_exchange(fault: &'a LsFault) -> FaultLine<'a>
-        ensures { printed result ≡ exchange_line fault.now }
+        ensures line { printed result ≡ ls_fault_line fault.now }
+        ensures short { IsShort result }
     {
         match fault {
-            LsFault::Buffer | LsFault::Memory => FaultLine::plain(fault.code(), "Memory"),
-            LsFault::Reading(fault) => FaultLine::of_message(fault),
+            LsFault::Buffer | LsFault::Memory => FaultLine::plain(fault.code(), fault.name()),
+            LsFault::Message(fault) => FaultLine::of_message(fault),
         }
     }
 
-    fn of_message(fault: &'a MessageFault) -> FaultLine<'a>
-        ensures { printed result ≡ message_line fault.now }
+    /// A message that was refused, with the packet, and the text of a peer's error.
+    pub(crate) fn of_message(fault: &'a MessageFault) -> FaultLine<'a>
+        ensures line { printed result ≡ message_fault_line fault.now }
+        ensures short { IsShort result }
     {
         FaultLine {
-            number: fault.why.code(),
-            name: why_name(&fault.why),
             frame: Some(fault.frame),
-            line: None,
-            text: peer_text(&fault.why),
+            subject: peer_text(&fault.why),
+            ..FaultLine::plain(fault.code(), fault.name())
         }
     }
 
-    /// Prints the line, and passes it on.
-    pub(crate) fn print<W: Write>(&self, errors: &mut W) -> io::Result<()>
-        ensures { OnOk result (Appends (W.contents errors.old) (W.contents errors.new) (printed self.now)) }
+    /// Prints the line, and passes it on. At an error a beginning of the line stands printed, and the
+    /// sink is down.
+    pub(crate) fn print<E: Sink>(&self, errors: &mut E) -> Result<(), Down>
+        requires { IsShort self.now }
+        ensures sent { HasSent (output_of E.contents E.passed_on E.is_down errors.old errors.new) result (printed self.now) }
+        ensures seat { E.seat errors.new ≡ E.seat errors.old }
     {
-        write!(errors, "gitv2: fault {} {}", self.number, self.name)?;
-        print_frame(self.frame, errors)?;
-        print_line(self.line, errors)?;
-        print_end(self.text, errors)?;
-        writeln!(errors)?;
-        errors.flush()
+        let mut text = ArrayVec::new();
+        self.compose(&mut text);
+        send(text.as_slice(), errors)
+    }
+
+    // Puts the line together.
+    fn compose(&self, text: &mut ArrayVec<u8, MAX_FAULT_LINE>)
+        requires short { IsShort self.now }
+        requires empty { text.old.items ≡ [] }
+        ensures { text.new.items ≡ printed self.now }
+    {
+        add(b"gitv2: fault ", text);
+        add_number(u64::from(self.number), text);
+        add(b" ", text);
+        add(self.name.as_bytes(), text);
+        add_place(b" frame ", self.frame, text);
+        add_place(b" line ", as_number(self.line), text);
+        add_place(b" at ", as_number(self.at), text);
+        add_subject(self.subject, text);
+        add(b"\n", text);
     }
 }
 
-fn print_frame<W: Write>(frame: Option<u64>, errors: &mut W) -> io::Result<()>
-    ensures { OnOk result (Appends (W.contents errors.old) (W.contents errors.new) (number_part (codes " frame ") frame)) }
+fn as_number(place: Option<usize>) -> Option<u64>
+    ensures { result ≡ place }
 {
-    match frame {
-        Some(frame) => write!(errors, " frame {frame}"),
-        None => Ok(()),
+    place.map(|place| place as u64)
+}
+
+// Adds a number after its word, where there is one.
+fn add_place(word: &[u8], place: Option<u64>, text: &mut ArrayVec<u8, MAX_FAULT_LINE>)
+    requires { length text.old.items + length word.now + 20 ≤ 1145 }
+    ensures text { text.new.items ≡ text.old.items ++ number_part word.now place }
+    ensures long { length text.new.items ≤ length text.old.items + length word.now + 20 }
+{
+    if let Some(place) = place {
+        add(word, text);
+        add_number(place, text);
     }
 }
 
-fn print_line<W: Write>(line: Option<usize>, errors: &mut W) -> io::Result<()>
-    ensures { OnOk result (Appends (W.contents errors.old) (W.contents errors.new) (number_part (codes " line ") line)) }
+fn add_subject(subject: Option<Subject<'_>>, text: &mut ArrayVec<u8, MAX_FAULT_LINE>)
+    requires room { length text.old.items + 1001 ≤ 1145 }
+    requires short { IsShortSubject subject }
+    ensures text { text.new.items ≡ text.old.items ++ subject_part subject }
+    ensures long { length text.new.items ≤ length text.old.items + 1001 }
 {
-    match line {
-        Some(line) => write!(errors, " line {line}"),
-        None => Ok(()),
-    }
-}
-
-fn print_end<W: Write>(text: Option<&[u8]>, errors: &mut W) -> io::Result<()>
-    ensures { OnOk result (Appends (W.contents errors.old) (W.contents errors.new) (text_part (option_copied text.entry))) }
-{
-    match text {
-        Some(text) => {
-            write!(errors, " ")?;
-            print_text(text, errors)
+    match subject {
+        None => {}
+        Some(Subject::Id(id)) => {
+            add(b" ", text);
+            add_id(&id, text);
         }
-        None => Ok(()),
+        Some(Subject::Text(shown)) => {
+            add(b" ", text);
+            add_shown(shown, text);
+        }
     }
 }
 
-fn print_text<W: Write>(text: &[u8], errors: &mut W) -> io::Result<()>
-    ensures { OnOk result (Appends (W.contents errors.old) (W.contents errors.new) (map shown text.now)) }
+// Adds a text as it is shown.
+fn add_shown(piece: &[u8], text: &mut ArrayVec<u8, MAX_FAULT_LINE>)
+    requires { length text.old.items + length piece.now ≤ 1145 }
+    ensures text { text.new.items ≡ text.old.items ++ map shown piece.now }
+    ensures long { length text.new.items ≡ length text.old.items + length piece.now }
 {
-    for byte in text {
-        errors.write_all(&[shown(*byte)])?;
+    for byte in piece {
+        text.push(shown(*byte));
     }
-    Ok(())
 }
 
 // The byte, or `?` where it is none that can be printed.
@@ -160,26 +233,59 @@ fn shown(byte: u8) -> u8
     }
 }
 
-fn peer_text(why: &Why) -> Option<&[u8]>
-    ensures { option_copied result ≡ peer_text why.now }
+fn place_in_id(fault: &OidFault) -> Option<usize>
+    ensures { result ≡ place_in_id fault.now }
 {
-    match why {
-        Why::RemoteErr(text) => Some(text.as_bytes()),
+    match fault {
+        OidFault::Length => None,
+        OidFault::Digit { at } => Some(*at),
+    }
+}
+
+fn place_in_name(fault: &NameFault) -> Option<usize>
+    ensures { result ≡ place_in_name fault.now }
+{
+    match fault {
+        NameFault::BadByte { at }
+        | NameFault::Component { at }
+        | NameFault::DoubleDot { at }
+        | NameFault::AtBrace { at } => Some(*at),
         _ => None,
     }
 }
 
-fn graph_fault_line(fault: &GraphFault) -> Option<usize>
+fn line_in_text(fault: &GraphFault) -> Option<usize>
     ensures { result ≡ line_in_text fault.now }
 {
     match fault {
         GraphFault::Text { line } | GraphFault::ParentLater { line } => Some(*line),
+        GraphFault::Index(IndexFault::Bad { line }) => Some(*line),
+        _ => None,
+    }
+}
+
+fn id_in_conflict<'a>(fault: &GraphFault) -> Option<Subject<'a>>
+    ensures part { subject_part result ≡ id_in_conflict fault.now }
+    ensures short { IsShortSubject result }
+{
+    match fault {
+        GraphFault::Conflict { id } => Some(Subject::Id(*id)),
+        _ => None,
+    }
+}
+
+fn peer_text(why: &Why) -> Option<Subject<'_>>
+    ensures part { subject_part result ≡ peer_text why.now }
+    ensures short { IsShortSubject result }
+{
+    match why {
+        Why::RemoteErr(text) => Some(Subject::Text(text.as_bytes())),
         _ => None,
     }
 }
 
 fn graph_fault_name(fault: &GraphFault) -> &'static str
-    ensures { result.now ≡ graph_name fault.now }
+    ensures name { result.now ≡ (graph_fault_row fault.now).1 }
 {
     match fault {
         GraphFault::Conflict { .. } => "Conflict",
@@ -192,38 +298,5 @@ fn graph_fault_name(fault: &GraphFault) -> &'static str
         GraphFault::Text { .. } => "Text",
         GraphFault::ParentLater { .. } => "ParentLater",
         GraphFault::Refs => "Refs",
-    }
-}
-
-fn why_name(why: &Why) -> &'static str
-    ensures { result.now ≡ why_name why.now }
-{
-    match why {
-        Why::Line(fault) => line_fault_name(*fault),
-        Why::UnexpectedFrame => "UnexpectedFrame",
-        Why::BadText => "BadText",
-        Why::UnknownCommand => "UnknownCommand",
-        Why::UnknownCapability => "UnknownCapability",
-        Why::UnknownArgument => "UnknownArgument",
-        Why::BadName => "BadName",
-        Why::Limit => "Limit",
-        Why::RemoteErr(_) => "RemoteErr",
-        Why::Format => "Format",
-        Why::Memory => "Memory",
-        Why::Ended => "Ended",
-    }
-}
-
-fn line_fault_name(fault: LineFault) -> &'static str
-    ensures { result.now ≡ packet_name fault }
-{
-    match fault {
-        LineFault::BadDigits => "BadDigits",
-        LineFault::Reserved => "Reserved",
-        LineFault::TooLong => "TooLong",
-        LineFault::Truncated => "Truncated",
-        LineFault::Io => "Io",
-        LineFault::Failed => "Failed",
-        LineFault::Memory => "Memory",
     }
 }

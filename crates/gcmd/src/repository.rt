@@ -1,7 +1,8 @@
 //! The repository that is served.
 
 ghost use Rattle.std.specs.Prelude.{◌≡◌, ◌↔◌, IfOk, IfErr, IsTrue, MatchOption, MatchResult};
-ghost use Rattle.gcmd.specs.Repository.{Accepts, repo_fault_code, Names, HoldsRefs, HoldsHead, IsFirstMissing, RefusesText, RefusesRefs, IsTextFault, missing_fault};
+ghost use Rattle.gcmd.specs.Faults.{repo_fault_row};
+ghost use Rattle.gcmd.specs.Repository.{Accepts, Names, HoldsRefs, HoldsHead, IsFirstMissing, RefusesText, RefusesRefs, IsTextFault, missing_fault};
 
 use crate::answer::head_name;
 use ggraph::{Graph, GraphFault, Head, Order, Refs, Repository, load};
@@ -37,15 +38,29 @@ pub enum RepoFault<A: Allocator + Copy> {
 }
 
 impl<A: Allocator + Copy> RepoFault<A> {
-    /// The fault's number.
+    /// The number of the fault.
     pub fn code(&self) -> u32
-        ensures { result ≡ repo_fault_code self.now }
+        ensures { result ≡ (repo_fault_row self.now).0 }
+    {
+        self.row().0
+    }
+
+    /// The name of the fault.
+    pub fn name(&self) -> &'static str
+        ensures { result.now ≡ (repo_fault_row self.now).1 }
+    {
+        self.row().1
+    }
+
+    // The table: the number and the name of each fault.
+    fn row(&self) -> (u32, &'static str)
+        ensures { (result.0, result.1.now) ≡ repo_fault_row self.now }
     {
         match self {
-            RepoFault::Text { .. } => 67,
-            RepoFault::ParentLater { .. } => 68,
-            RepoFault::RefMissing { .. } => 71,
-            RepoFault::Memory => 64,
+            RepoFault::Text { .. } => (67, "Text"),
+            RepoFault::ParentLater { .. } => (68, "ParentLater"),
+            RepoFault::RefMissing { .. } => (71, "RefMissing"),
+            RepoFault::Memory => (64, "Memory"),
         }
     }
 }

@@ -2,7 +2,7 @@
 
 ghost use Rattle.std.specs.Prelude.{◌≡◌, ◌<◌, ◌≤◌, ◌↔◌, [], length, option_copied, IsTrue, IfOk, IfErr, IfSome, false};
 ghost use Rattle.gpkt.specs.Packets.{packet_of, text};
-ghost use Rattle.gcmd.specs.Reading.{TakesAs, ReadsMaybe, IsReadFailure};
+ghost use Rattle.gcmd.specs.MessageReading.{TakesAs, ReadsMaybe, IsReadFailure};
 ghost use Rattle.gcmd.specs.RequestState.{judge_at, with_packet, judge_capability_at, with_capability, judge_argument_at, with_argument, judge_data_at, with_text, with_delim, state_of};
 ghost use Rattle.gcmd.specs.Request.{Command, judge, judge_command, judge_delim, request_at, Says};
 ghost use Rattle.gcmd.specs.RequestReader.{request_view};

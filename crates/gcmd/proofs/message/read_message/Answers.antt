@@ -1,7 +1,7 @@
 use Rattle.std.proofs.Common.{◌∙◌, ap, subst, Ok, arith}
 use Rattle.gpkt.specs.Packets.{packet_of}
 use Rattle.gpkt.specs.Reading.{Reads, HasRead, read_of}
-use Rattle.gcmd.specs.Reading.{Takes}
+use Rattle.gcmd.specs.MessageReading.{Takes}
 use Rattle.gcmd.proofs.ReadingLemmas.{read_some, read_none, refused_at_end, goes_on, ends_there, read_failure, not_failed}
 use Rattle.gcmd.proofs.message.read_message.Goals as goal
 

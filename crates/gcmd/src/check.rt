@@ -1,0 +1,188 @@
+//! `gitv2 check`, as a function over bytes and devices.
+
+ghost use Rattle.std.specs.Prelude.{◌≡◌, ◌+◌, ◌≤◌, ◌++◌, ◌↔◌, [], length, All, IfErr, IfOk, IsTrue, map};
+ghost use Rattle.ggraph.specs.Graphs.{Holds};
+ghost use Rattle.ggraph.specs.Reach.{IsClosed, IsSafe};
+ghost use Rattle.gcmd.specs.Commands.{line_of_check, report_line, yes_or_no, Checks, EndsWith, HasChecked, HoldsParents, IsReport};
+ghost use Rattle.gcmd.specs.Sending.{output_of, HasSent};
+
+use crate::compose::{add, add_number};
+use crate::print::FaultLine;
+use crate::program::fail;
+use crate::send::send;
+use arrayvec::ArrayVec;
+use ggraph::{Entry, Graph, GraphFault, Order, Repository, load};
+use gname::{Oid, RefName};
+use gpkt::{Down, Sink, WriteFault};
+use std::alloc::{AllocError, Allocator};
+
+/// The most bytes of a report: its words, and two numbers of 20.
+const MAX_REPORT: usize = 76;
+
+/// `gitv2 check FILE`: reports of the repository whose text is `file`, in any order of its nodes, how many
+/// nodes and refs it has, whether each parent of a node is there (`closed`), and whether the whole ancestry
+/// of each ref is (`safe`). A fault is one line on `errors`.
+///
+/// It answers the exit status: 0 where the report is written and passed on, 1 where a fault was met.
+pub fn cmd_check<A: Allocator + Copy, W: Sink, E: Sink>(
+    alloc: A,
+    file: &[u8],
+    output: &mut W,
+    errors: &mut E,
+) -> u8
+    ensures checks { Checks A file.now (output_of W.contents W.passed_on W.is_down output.old output.new)
+        (output_of E.contents E.passed_on E.is_down errors.old errors.new) result }
+    ensures output_seat { W.seat output.new ≡ W.seat output.old }
+    ensures errors_seat { E.seat errors.new ≡ E.seat errors.old }
+{
+    let checked = check(alloc, file, output);
+    status_of(&checked, errors)
+}
+
+/// Why there is no report.
+#[derive(Drop)]
+enum CheckFault {
+    /// The text is no repository, or there is no memory.
+    Graph(GraphFault),
+    /// The output failed.
+    WriteFailed,
+}
+
+// The status, after a fault was printed.
+fn status_of<E: Sink>(checked: &Result<(), CheckFault>, errors: &mut E) -> u8
+    ensures ends { EndsWith (line_of_check checked.now)
+        (output_of E.contents E.passed_on E.is_down errors.old errors.new) result }
+    ensures seat { E.seat errors.new ≡ E.seat errors.old }
+{
+    match checked {
+        Ok(()) => 0,
+        Err(CheckFault::Graph(fault)) => fail(&FaultLine::of_graph(fault), errors),
+        Err(CheckFault::WriteFailed) => fail(&FaultLine::of_write(&WriteFault::Io), errors),
+    }
+}
+
+// Writes the report.
+fn check<A: Allocator + Copy, W: Sink>(
+    alloc: A,
+    file: &[u8],
+    output: &mut W,
+) -> Result<(), CheckFault>
+    ensures checked { HasChecked A file.now (output_of W.contents W.passed_on W.is_down output.old output.new) result }
+    ensures seat { W.seat output.new ≡ W.seat output.old }
+{
+    let repo = match load(alloc, file, Order::Any) {
+        Ok(repo) => repo,
+        Err(fault) => return Err(CheckFault::Graph(fault)),
+    };
+    let report = match report_of(alloc, &repo) {
+        Ok(report) => report,
+        Err(_) => return Err(CheckFault::Graph(GraphFault::Memory)),
+    };
+    match send_report(&report, output) {
+        Ok(()) => Ok(()),
+        Err(_) => Err(CheckFault::WriteFailed),
+    }
+}
+
+// What is reported of a repository.
+#[derive(Clone, Copy)]
+struct Report {
+    nodes: usize,
+    refs: usize,
+    closed: bool,
+    safe: bool,
+}
+
+fn report_of<A: Allocator + Copy>(alloc: A, repo: &Repository<A>) -> Result<Report, AllocError>
+    ensures told { IfOk result (IsReport repo.now) }
+{
+    let safe = is_safe(alloc, repo)?;
+    Ok(Report {
+        nodes: repo.graph.len(),
+        refs: repo.refs.len(),
+        closed: is_closed(&repo.graph),
+        safe,
+    })
+}
+
+fn send_report<W: Sink>(report: &Report, output: &mut W) -> Result<(), Down>
+    ensures sent { HasSent (output_of W.contents W.passed_on W.is_down output.old output.new) result (report_line report.now) }
+    ensures seat { W.seat output.new ≡ W.seat output.old }
+{
+    let mut text = ArrayVec::new();
+    compose_report(report, &mut text);
+    send(text.as_slice(), output)
+}
+
+fn compose_report(report: &Report, text: &mut ArrayVec<u8, MAX_REPORT>)
+    requires { text.old.items ≡ [] }
+    ensures { text.new.items ≡ report_line report.now }
+{
+    add(b"nodes ", text);
+    add_number(report.nodes as u64, text);
+    add(b" refs ", text);
+    add_number(report.refs as u64, text);
+    add(b" closed ", text);
+    add(yes_or_no(report.closed), text);
+    add(b" safe ", text);
+    add(yes_or_no(report.safe), text);
+    add(b"\n", text);
+}
+
+fn yes_or_no(holds: bool) -> &'static [u8]
+    ensures word { result.now ≡ yes_or_no holds }
+    ensures short { length result.now ≤ 3 }
+{
+    if holds { b"yes" } else { b"no" }
+}
+
+// Whether each parent of a node is one of the graph's.
+fn is_closed<A: Allocator + Copy>(graph: &Graph<A>) -> bool
+    ensures { IsTrue result ↔ IsClosed graph.now }
+{
+    all_hold_parents(graph, graph.entries())
+}
+
+// Whether the graph holds the parents of each of the entries.
+fn all_hold_parents<A: Allocator + Copy>(graph: &Graph<A>, entries: &[Entry<A>]) -> bool
+    ensures { IsTrue result ↔ All (HoldsParents graph.now) entries.now }
+{
+    entries.iter().all(|entry| holds_parents(graph, entry))
+}
+
+#[tactic(auto, unfolding(crate::specs::Commands::HoldsParents))]
+fn holds_parents<A: Allocator + Copy>(graph: &Graph<A>, entry: &Entry<A>) -> bool
+    ensures { IsTrue result ↔ HoldsParents graph.now entry.now }
+{
+    holds_all(graph, entry.node.parents.as_slice())
+}
+
+fn holds_all<A: Allocator + Copy>(graph: &Graph<A>, ids: &[Oid]) -> bool
+    ensures { IsTrue result ↔ All (Holds graph.now) ids.now }
+{
+    ids.iter().all(|id| graph.contains(id))
+}
+
+// Whether every object that a ref reaches is one of the graph's.
+fn is_safe<A: Allocator + Copy>(alloc: A, repo: &Repository<A>) -> Result<bool, AllocError>
+    ensures safe { IfOk result (λ safe. IsTrue safe ↔ IsSafe repo.now.graph repo.now.refs) }
+{
+    let tips = tips_of(alloc, repo.refs.as_slice())?;
+    let missing = repo.graph.missing(tips.as_slice()).map_err(|_| AllocError)?;
+    Ok(missing.is_none())
+}
+
+// The ids at which the refs stand.
+fn tips_of<A: Allocator + Copy>(
+    alloc: A,
+    refs: &[(RefName<A>, Oid)],
+) -> Result<Vec<Oid, A>, AllocError>
+    ensures tips { IfOk result (λ tips. tips.items ≡ map (λ ref. ref.1) refs.now) }
+{
+    let mut tips = Vec::new(alloc);
+    for pair in refs {
+        tips.push(pair.1)?;
+    }
+    Ok(tips)
+}
+
