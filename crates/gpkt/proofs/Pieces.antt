@@ -3,9 +3,10 @@ use Rattle.std.proofs.Common.{◌≡◌, ℕ, ◌+◌, ◌-◌, ◌≤◌, List,
 use Rattle.std.proofs.lemmas.List.{take_rest}
 use Rattle.std.specs.Io.KnownBytes.{Appends}
 use Rattle.std.proofs.KnownBytes.{Appends-trans}
-use Rattle.gpkt.specs.Writing.{AppendsFront}
+use Rattle.gpkt.specs.LineWriting.{AppendsFront}
 use Rattle.std.proofs.lemmas.Slice.{take-put_mid_below}
 use borrow.Rule.Slice.PartMut.{put_mid, post_of}
+use Rattle.gpkt.proofs.Steps.{change}
 use lib.Seq.{take-add, take-append-le}
 
 -- a buffer whose part from `at` was written, up to the first n bytes of that part
@@ -22,7 +23,7 @@ split_more all done rest n e =
     e ∙ ap (λ l. done ++ l) (sym (take-append-drop n rest)) ∙ sym (append_assoc done (take n rest) (drop n rest)) ∙ ap (λ l. (done ++ take n rest) ++ l) (sym (take_rest rest n))
 
 -- a beginning of the bytes begins what is longer
-pub AppendsFront-more : (old new : Option (List ℕ)) (xs ys : List ℕ) → AppendsFront old new xs → AppendsFront old new (xs ++ ys)
+pub AppendsFront-more : (old new : Option (List ℕ)) (xs ys : List ℕ) → AppendsFront (change old new) xs → AppendsFront (change old new) (xs ++ ys)
 AppendsFront-more old new xs ys (front, rest, split, some, appended) = (
   front,
   rest ++ ys,
@@ -32,7 +33,7 @@ AppendsFront-more old new xs ys (front, rest, split, some, appended) = (
 )
 
 -- all of the first bytes, and a beginning of the next
-pub AppendsFront-after : (old mid new : Option (List ℕ)) (xs ys : List ℕ) → Appends old mid xs → AppendsFront mid new ys → AppendsFront old new (xs ++ ys)
+pub AppendsFront-after : (old mid new : Option (List ℕ)) (xs ys : List ℕ) → Appends old mid xs → AppendsFront (change mid new) ys → AppendsFront (change old new) (xs ++ ys)
 AppendsFront-after old mid new xs ys first (front, rest, split, some, appended) = (
   xs ++ front,
   rest,

@@ -9,8 +9,8 @@ use Rattle.hex.proofs.HexLemmas.{decode_of-ok, decode_of-encode_lower}
 use Rattle.hex.proofs.OnLiterals.{hex_on_literals}
 use Rattle.gpkt.specs.declared.fault.LineFault.{LineFault}
 use Rattle.gpkt.specs.declared.fault.LineFault.TheVariants.{BadDigits, Reserved, TooLong, Truncated, Io, Failed, Memory}
-use Rattle.gpkt.specs.Packets.{Packet, Data, Flush, Delim, ResponseEnd, Spells, SpellsAll, number_in, number_of, digits_of, canonical, canonical_all, payload_of}
-use Rattle.gpkt.specs.Reading.{NoLine}
+use Rattle.gpkt.specs.Packets.{Packet, Data, Flush, Delim, ResponseEnd, Spells, SpellsAll, number_in, number_of, digits_of, canonical, canonical_all, payload_of, max_payload}
+use Rattle.gpkt.specs.LineReading.{NoLine}
 use Rattle.gpkt.specs.Laws.{OneReading, RefusedIsNoLine, HasDigits, Fits, CanonicalSpells, CanonicalSpellsAll, CanonicalJoins, SpellingsJoin, SpellingsSplit, BeginsWith, OneBegins}
 
 -- ---- lists
@@ -92,7 +92,7 @@ record Parts (line : Packet) (bytes : List ℕ) : Type 0 where
   split : bytes ≡ digits ++ payload_of line
   four : length digits ≡ 4
   number : number_of digits ≡ Some (announced line)
-  fits : length (payload_of line) ≤ 65516
+  fits : length (payload_of line) ≤ max_payload
 
 parts_of : (line : Packet) (bytes : List ℕ) → Spells line bytes → Parts line bytes
 parts_of (Data payload) bytes (digits, split, number, fits) = record { digits = digits; split = split; four = number_of-four digits _ number; number = number; fits = fits }
@@ -146,8 +146,8 @@ refused_parts BadDigits line bytes front rest h same p = let n = front_number li
 refused_parts Reserved line bytes front rest h same p =
     announced-not_three line (some_value _ _ (sym (front_number line bytes front rest p same) ∙ h.1))
 refused_parts TooLong line bytes front rest h same p =
-    let number : announced line ≡ h.1.0 = some_value _ _ (sym (front_number line bytes front rest p same) ∙ h.1.1) in
-    let over = h.1.2 in
+    let number : announced line ≡ h.0 = some_value _ _ (sym (front_number line bytes front rest p same) ∙ h.1.1) in
+    let over = h.2 in
     let fits = p.fits in
     let most = announced-at_most line in omega arith
 refused_parts Truncated line bytes front rest h same p =
@@ -155,8 +155,8 @@ refused_parts Truncated line bytes front rest h same p =
     elim h.1 as (λ _. ⊥) [
       | inl few ↦ omega arith
       | inr cut ↦
-          let number : announced line ≡ cut.0 = some_value _ _ (sym (front_number line bytes front rest p same) ∙ cut.1) in
-          let short = cut.4 in
+          let number : announced line ≡ cut.0 = some_value _ _ (sym (front_number line bytes front rest p same) ∙ cut.1.1) in
+          let short = cut.3 in
           let most = announced-at_most line in omega arith
     ]
 refused_parts Io line bytes front rest h same p = h

@@ -1,8 +1,8 @@
 -- The laws of packet lines.
 use Rattle.std.specs.Prelude.{◌≡◌, ℕ, ◌≤◌, ◌⊎◌, All, List, [], ◌∷◌, ◌++◌, length}
 use Rattle.gpkt.specs.declared.fault.LineFault.{LineFault}
-use Rattle.gpkt.specs.Packets.{Packet, Spells, SpellsAll, canonical, canonical_all, payload_of, text}
-use Rattle.gpkt.specs.Reading.{NoLine}
+use Rattle.gpkt.specs.Packets.{Packet, Spells, SpellsAll, canonical, canonical_all, payload_of, text, digit_count, line_feed, max_payload}
+use Rattle.gpkt.specs.LineReading.{NoLine}
 
 -- at most one line is spelt at the front of the bytes, in one way
 abbrev pub OneReading : Type 0
@@ -19,11 +19,11 @@ OneFault = (fault other : LineFault) (bytes : List ℕ) → NoLine fault bytes �
 
 -- a spelling has four bytes at least
 abbrev pub HasDigits : Type 0
-HasDigits = (line : Packet) (bytes : List ℕ) → Spells line bytes → 4 ≤ length bytes
+HasDigits = (line : Packet) (bytes : List ℕ) → Spells line bytes → digit_count ≤ length bytes
 
 -- a line can carry it
 abbrev pub Fits : Packet → Type 0
-Fits line = length (payload_of line) ≤ 65516
+Fits line = length (payload_of line) ≤ max_payload
 
 -- the canonical spelling is a spelling
 abbrev pub CanonicalSpells : Type 0
@@ -54,8 +54,8 @@ OneBegins = (lines others : List Packet) (front next rest after : List ℕ) → 
 
 -- a line feed at the end is taken off
 abbrev pub TextOfLine : Type 0
-TextOfLine = (words : List ℕ) → text (words ++ 10 ∷ []) ≡ words
+TextOfLine = (words : List ℕ) → text (words ++ line_feed ∷ []) ≡ words
 
 -- and nothing else is
 abbrev pub TextOrLine : Type 0
-TextOrLine = (payload : List ℕ) → (payload ≡ text payload) ⊎ (payload ≡ text payload ++ 10 ∷ [])
+TextOrLine = (payload : List ℕ) → (payload ≡ text payload) ⊎ (payload ≡ text payload ++ line_feed ∷ [])

@@ -1,9 +1,10 @@
 pub mod Packets
+pub mod Change
 pub mod Devices
 pub mod LineFault
 pub mod WriteFault
-pub mod Reading
-pub mod Frames
+pub mod LineReading
+pub mod Heads
 pub mod Lending
-pub mod Writing
+pub mod LineWriting
 pub mod Laws

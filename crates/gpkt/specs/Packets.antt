@@ -14,6 +14,22 @@ pub data Packet : Type 0 where
   Delim : Packet
   ResponseEnd : Packet
 
+-- how many digits a line begins with
+abbrev pub digit_count : ℕ
+digit_count = 4
+
+-- the most bytes of a line, its digits counted
+abbrev pub max_packet : ℕ
+max_packet = 65520
+
+-- the most bytes of a payload
+abbrev pub max_payload : ℕ
+max_payload = 65516
+
+-- LF
+abbrev pub line_feed : ℕ
+line_feed = 10
+
 -- the number of two bytes, the high one first
 abbrev pub number_in : Result (List ℕ) FromHexError → Option ℕ
 number_in (Ok (high ∷ low ∷ [])) = Some (high * 256 + low)
@@ -26,7 +42,9 @@ number_of digits = number_in (decode_of digits)
 
 -- the bytes spell the line: four digits, and what they announce
 abbrev pub Spells : Packet → List ℕ → Type 0
-Spells (Data payload) bytes = (digits : List ℕ) × (bytes ≡ digits ++ payload) × (number_of digits ≡ Some (length payload + 4)) × (length payload ≤ 65516)
+Spells (Data payload) bytes =
+    (digits : List ℕ) × (bytes ≡ digits ++ payload) × (number_of digits ≡ Some (length payload + digit_count))
+    × (length payload ≤ max_payload)
 Spells Flush bytes = number_of bytes ≡ Some 0
 Spells Delim bytes = number_of bytes ≡ Some 1
 Spells ResponseEnd bytes = number_of bytes ≡ Some 2
@@ -34,7 +52,8 @@ Spells ResponseEnd bytes = number_of bytes ≡ Some 2
 -- the bytes are the spellings of the lines, one after the other
 abbrev pub SpellsAll : List Packet → List ℕ → Type 0
 SpellsAll [] bytes = bytes ≡ []
-SpellsAll (line ∷ lines) bytes = (front : List ℕ) × (rest : List ℕ) × (bytes ≡ front ++ rest) × Spells line front × SpellsAll lines rest
+SpellsAll (line ∷ lines) bytes =
+    (front : List ℕ) × (rest : List ℕ) × (bytes ≡ front ++ rest) × Spells line front × SpellsAll lines rest
 
 -- a number below 65,536 as four digits, with lower-case letters
 unfoldable pub digits_of : ℕ → List ℕ
@@ -42,7 +61,7 @@ digits_of n = encode_lower (to_be_bytes w16 n)
 
 -- the spelling with lower-case digits
 abbrev pub canonical : Packet → List ℕ
-canonical (Data payload) = digits_of (length payload + 4) ++ payload
+canonical (Data payload) = digits_of (length payload + digit_count) ++ payload
 canonical Flush = codes "0000"
 canonical Delim = codes "0001"
 canonical ResponseEnd = codes "0002"
@@ -67,4 +86,4 @@ payload_of ResponseEnd = []
 
 -- the payload without one line feed at its very end, if there is one
 abbrev pub text : List ℕ → List ℕ
-text payload = strip_last 10 payload
+text payload = strip_last line_feed payload

@@ -1,6 +1,7 @@
 //! The buffer of a line reader.
 
 ghost use Rattle.std.specs.Prelude.{◌≡◌, IsOkUnless, vec_len};
+ghost use Rattle.gpkt.specs.Packets.{max_payload};
 
 use crate::fault::LineFault;
 use crate::line::MAX_PAYLOAD;
@@ -10,7 +11,7 @@ use std::alloc::{Allocator, Global};
 #[derive(Drop)]
 pub struct LineBuffer<A: Allocator + Copy = Global> {
     pub(crate) bytes: Vec<u8, A>,
-    ghost whole: { vec_len bytes ≡ 65516 },
+    ghost whole: { vec_len bytes ≡ max_payload },
 }
 
 impl<A: Allocator + Copy> LineBuffer<A> {

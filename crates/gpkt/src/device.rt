@@ -1,10 +1,12 @@
 //! Where bytes come from and go to.
 
-ghost use Rattle.std.specs.Prelude.{◌≡◌, ℕ, ◌∷◌, List, Bool, Option, is_err};
+ghost use Rattle.std.specs.Prelude.{◌≡◌, ℕ, ◌∷◌, List, Bool, Option, OnOk, IsErr, is_err, true, false};
 ghost use Rattle.std.specs.Io.{ReadsAtMost, WritesAtMost};
 ghost use Rattle.std.specs.Io.KnownBytes.{Keeps, ReadConsumes, WriteAppends};
-ghost use Rattle.gpkt.specs.Devices.{AnswersDown, TakesSome};
+ghost use Rattle.gpkt.specs.Change.{change_of};
+ghost use Rattle.gpkt.specs.Devices.{AnswersDown, PassesAll, TakesSome};
 
+use std::marker::Model;
 use thiserror::Error;
 
 /// A device failed. It is down from this call on, and every later call answers the same.
@@ -42,6 +44,9 @@ pub trait Sink {
     // The bytes written so far, where they are known.
     ghost contents: { Self → Option (List ℕ) };
 
+    // The bytes that were passed on and are no longer held back, where they are known.
+    ghost passed_on: { Self → Option (List ℕ) };
+
     // Whether it has failed.
     ghost is_down: { Self → Bool };
 
@@ -53,6 +58,7 @@ pub trait Sink {
         ensures bound { WritesAtMost result buf.now }
         ensures some { TakesSome result buf.now }
         ensures bytes { WriteAppends (contents self.old) (contents self.new) result buf.now }
+        ensures passed_on { Keeps (passed_on self.old) (passed_on self.new) }
         ensures down { is_down self.new ≡ is_err result }
         ensures stays_down { AnswersDown (is_down self.old) result }
         ensures seat { seat self.new ≡ seat self.old };
@@ -60,6 +66,8 @@ pub trait Sink {
     /// Passes on what was written and is still held back.
     fn flush(&mut self) -> Result<(), Down>
         ensures bytes { Keeps (contents self.old) (contents self.new) }
+        ensures passed_on { OnOk result
+            (PassesAll (contents self.new) (change_of passed_on self.old self.new)) }
         ensures down { is_down self.new ≡ is_err result }
         ensures stays_down { AnswersDown (is_down self.old) result }
         ensures seat { seat self.new ≡ seat self.old };
@@ -80,6 +88,8 @@ impl<S: Source> Source for &mut S {
 impl<W: Sink> Sink for &mut W {
     ghost contents = { λ w. W.contents w.now };
 
+    ghost passed_on = { λ w. W.passed_on w.now };
+
     ghost is_down = { λ w. W.is_down w.now };
 
     ghost seat = { λ w. w.ghost_name ∷ W.seat w.now };
@@ -90,5 +100,43 @@ impl<W: Sink> Sink for &mut W {
 
     fn flush(&mut self) -> Result<(), Down> {
         (**self).flush()
+    }
+}
+
+/// Whether a device has failed. One that has stays down.
+#[derive(Drop)]
+pub(crate) struct Latch {
+    down: bool,
+}
+
+impl Model for Latch {
+    ghost use Rattle.std.specs.Coded.{coded_bool};
+    ghost use Rattle.std.specs.Prelude.{Bool};
+
+    ghost Value = { Bool };
+
+    ghost view = { λ l. l.down };
+}
+
+impl Latch {
+    pub(crate) fn new() -> Latch
+        ensures { result ≡ false }
+    {
+        Latch { down: false }
+    }
+
+    pub(crate) fn is_down(&self) -> bool
+        ensures { result ≡ self.now }
+    {
+        self.down
+    }
+
+    /// Notes that the device has failed, and answers so.
+    pub(crate) fn fail<T>(&mut self) -> Result<T, Down>
+        ensures down { self.new ≡ true }
+        ensures err { IsErr result }
+    {
+        self.down = true;
+        Err(Down)
     }
 }

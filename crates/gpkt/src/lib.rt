@@ -38,7 +38,7 @@
 mod buffer;
 mod device;
 mod fault;
-mod frame;
+mod head;
 pub mod laws;
 mod line;
 pub mod memory;
@@ -52,6 +52,7 @@ pub use crate::buffer::LineBuffer;
 pub use crate::device::{Down, Sink, Source};
 pub use crate::fault::{LineFault, WriteFault};
 pub use crate::line::{Line, MAX_PAYLOAD};
+pub use crate::put::write_all;
 pub use crate::reading::LineReader;
 pub use crate::standard::{FromRead, ToWrite};
 pub use crate::text::text_of;

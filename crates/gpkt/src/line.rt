@@ -1,6 +1,12 @@
 //! One packet line.
 
-/// The most bytes that a packet line carries behind its four digits.
+/// How many bytes the digits of a packet line have.
+pub(crate) const DIGITS: usize = 4;
+
+/// The most bytes that a packet line has, its four digits counted.
+pub(crate) const MAX_PACKET: u16 = 65_520;
+
+/// The most bytes that a packet line carries after its four digits.
 pub const MAX_PAYLOAD: usize = 65_516;
 
 /// A packet line, whose payload is lent (gitprotocol-common(5), "pkt-line Format").

@@ -3,7 +3,7 @@
 
 ghost use Rattle.std.specs.Prelude.{◌≡◌, ◌<◌, ◌≤◌, ◌⊎◌, ◌++◌, [], false, Some, length, take, drop};
 
-use crate::device::{Down, Sink, Source};
+use crate::device::{Down, Latch, Sink, Source};
 use std::alloc::{Allocator, Global};
 use std::marker::Model;
 
@@ -68,29 +68,40 @@ fn copy_front(from: &[u8], to: &mut [u8]) -> usize
 #[derive(Drop)]
 pub struct VecSink<A: Allocator + Copy = Global> {
     written: Vec<u8, A>,
+    // How many of these bytes were passed on.
+    passed_on: usize,
     flushes: usize,
-    down: bool,
+    down: Latch,
 }
 
 impl<A: Allocator + Copy> Model for VecSink<A> {
+    ghost use Rattle.std.specs.Prelude.{◌≤◌, length, take};
     ghost use Rattle.gpkt.specs.Devices.{Written, written_code};
 
     ghost Value = { Written };
 
     ghost coded = { written_code };
 
-    ghost view = { λ s. record { bytes = s.written.items; flushes = s.flushes; down = s.down } };
+    ghost view = { λ s. record {
+      bytes = s.written.items;
+      passed_on = take s.passed_on s.written.items;
+      flushes = s.flushes;
+      down = s.down;
+    } };
+
+    ghost invariant = { λ s. s.passed_on ≤ length s.written.items };
 }
 
 impl<A: Allocator + Copy> VecSink<A> {
     /// A sink that holds nothing. It takes no memory yet.
     pub fn new(alloc: A) -> VecSink<A>
-        ensures { result ≡ record { bytes = []; flushes = 0; down = false } }
+        ensures { result ≡ record { bytes = []; passed_on = []; flushes = 0; down = false } }
     {
         VecSink {
             written: Vec::new(alloc),
+            passed_on: 0,
             flushes: 0,
-            down: false,
+            down: Latch::new(),
         }
     }
 
@@ -99,6 +110,13 @@ impl<A: Allocator + Copy> VecSink<A> {
         ensures { result.now ≡ self.now.bytes }
     {
         self.written.as_slice()
+    }
+
+    /// What was written before the last flush.
+    pub fn passed_on(&self) -> &[u8]
+        ensures { result.now ≡ self.now.passed_on }
+    {
+        &self.written.as_slice()[..self.passed_on]
     }
 
     /// How often it was flushed.
@@ -114,6 +132,7 @@ impl<A: Allocator + Copy> VecSink<A> {
     {
         let VecSink {
             written,
+            passed_on: _,
             flushes: _,
             down: _,
         } = self;
@@ -124,27 +143,27 @@ impl<A: Allocator + Copy> VecSink<A> {
 impl<A: Allocator + Copy> Sink for VecSink<A> {
     ghost contents = { λ s. Some s.bytes };
 
+    ghost passed_on = { λ s. Some s.passed_on };
+
     ghost is_down = { λ s. s.down };
 
     ghost seat = { λ _. [] };
 
     fn write(&mut self, buf: &[u8]) -> Result<usize, Down> {
-        if self.down {
+        if self.down.is_down() {
             return Err(Down);
         }
         match self.written.extend_from_slice(buf) {
             Ok(()) => Ok(buf.len()),
-            Err(_) => {
-                self.down = true;
-                Err(Down)
-            }
+            Err(_) => self.down.fail(),
         }
     }
 
     fn flush(&mut self) -> Result<(), Down> {
-        if self.down {
+        if self.down.is_down() {
             return Err(Down);
         }
+        self.passed_on = self.written.len();
         self.flushes = self.flushes.saturating_add(1);
         Ok(())
     }
@@ -159,7 +178,7 @@ pub struct Hindered<D> {
     device: D,
     most: usize,
     calls_left: Option<usize>,
-    down: bool,
+    down: Latch,
 }
 
 impl<D> Model for Hindered<D> {
@@ -182,7 +201,7 @@ impl<D> Hindered<D> {
             device,
             most: usize::MAX,
             calls_left: None,
-            down: false,
+            down: Latch::new(),
         }
     }
 
@@ -236,17 +255,13 @@ impl<S: Source> Source for Hindered<S> {
     ghost seat = { λ h. S.seat h.inner };
 
     fn read(&mut self, buf: &mut [u8]) -> Result<usize, Down> {
-        if self.down || !goes_on(&mut self.calls_left) {
-            self.down = true;
-            return Err(Down);
+        if self.down.is_down() || !goes_on(&mut self.calls_left) {
+            return self.down.fail();
         }
         let room = buf.len().min(self.most.max(1));
         match self.device.read(&mut buf[..room]) {
             Ok(count) => Ok(count),
-            Err(down) => {
-                self.down = true;
-                Err(down)
-            }
+            Err(_) => self.down.fail(),
         }
     }
 }
@@ -254,35 +269,30 @@ impl<S: Source> Source for Hindered<S> {
 impl<W: Sink> Sink for Hindered<W> {
     ghost contents = { λ h. W.contents h.inner };
 
+    ghost passed_on = { λ h. W.passed_on h.inner };
+
     ghost is_down = { λ h. h.down };
 
     ghost seat = { λ h. W.seat h.inner };
 
     fn write(&mut self, buf: &[u8]) -> Result<usize, Down> {
-        if self.down || !goes_on(&mut self.calls_left) {
-            self.down = true;
-            return Err(Down);
+        if self.down.is_down() || !goes_on(&mut self.calls_left) {
+            return self.down.fail();
         }
         let part = buf.len().min(self.most.max(1));
         match self.device.write(&buf[..part]) {
             Ok(count) => Ok(count),
-            Err(down) => {
-                self.down = true;
-                Err(down)
-            }
+            Err(_) => self.down.fail(),
         }
     }
 
     fn flush(&mut self) -> Result<(), Down> {
-        if self.down {
+        if self.down.is_down() {
             return Err(Down);
         }
         match self.device.flush() {
             Ok(()) => Ok(()),
-            Err(down) => {
-                self.down = true;
-                Err(down)
-            }
+            Err(_) => self.down.fail(),
         }
     }
 }

@@ -1,18 +1,23 @@
 //! Bytes written whole.
 
 ghost use Rattle.std.specs.Prelude.{◌≡◌, ◌+◌, ◌<◌, ◌≤◌, ◌^◌, ◌++◌, false, true, length, is_err, MatchOption, OnErr, OnOk};
-ghost use Rattle.std.specs.Io.KnownBytes.{Appends};
-ghost use Rattle.gpkt.specs.Packets.{digits_of};
-ghost use Rattle.gpkt.specs.Writing.{AppendsFront};
+ghost use Rattle.std.specs.Io.KnownBytes.{Appends, Keeps};
+ghost use Rattle.gpkt.specs.Change.{change_of};
+ghost use Rattle.gpkt.specs.Packets.{digits_of, max_payload};
+ghost use Rattle.gpkt.specs.LineWriting.{AppendsFront};
 
 use crate::device::{Down, Sink};
 use crate::line::MAX_PAYLOAD;
 
-// Writes all of the bytes, which may be none.
-fn put_all<W: Sink>(sink: &mut W, bytes: &[u8]) -> Result<(), Down>
+/// Writes all of the bytes, in as many calls of the sink as it takes; none, where there are no bytes.
+///
+/// At an error a beginning of the bytes stands written, and the sink is down. What was written may
+/// still be held back: [`Sink::flush`] passes it on.
+pub fn write_all<W: Sink>(sink: &mut W, bytes: &[u8]) -> Result<(), Down>
     ensures ok { OnOk result (Appends (W.contents sink.old) (W.contents sink.new) bytes.now) }
     ensures err { OnErr result
-        (AppendsFront (W.contents sink.old) (W.contents sink.new) bytes.now) }
+        (AppendsFront (change_of W.contents sink.old sink.new) bytes.now) }
+    ensures passed_on { Keeps (W.passed_on sink.old) (W.passed_on sink.new) }
     ensures asked { 0 < length bytes.now → W.is_down sink.new ≡ is_err result }
     ensures up { W.is_down sink.old ≡ false → W.is_down sink.new ≡ is_err result }
     ensures seat { W.seat sink.new ≡ W.seat sink.old }
@@ -39,21 +44,22 @@ pub(crate) fn put_line<W: Sink>(
     ensures ok { OnOk result
         (Appends (W.contents sink.old) (W.contents sink.new) (digits.now ++ (first.now ++ second.now ++ end.now))) }
     ensures err { OnErr result
-        (AppendsFront (W.contents sink.old) (W.contents sink.new) (digits.now ++ (first.now ++ second.now ++ end.now))) }
+        (AppendsFront (change_of W.contents sink.old sink.new) (digits.now ++ (first.now ++ second.now ++ end.now))) }
+    ensures passed_on { Keeps (W.passed_on sink.old) (W.passed_on sink.new) }
     ensures down { W.is_down sink.new ≡ is_err result }
     ensures seat { W.seat sink.new ≡ W.seat sink.old }
 {
-    put_all(sink, digits)?;
-    put_all(sink, first)?;
-    put_all(sink, second)?;
-    put_all(sink, end)
+    write_all(sink, digits)?;
+    write_all(sink, first)?;
+    write_all(sink, second)?;
+    write_all(sink, end)
 }
 
 /// The length of a payload in three pieces, where a line can carry it.
 pub(crate) fn payload_len(first: &[u8], second: &[u8], end: &[u8]) -> Option<usize>
     ensures { MatchOption result
-        (65516 < length (first.now ++ second.now ++ end.now))
-        (λ len. (len ≡ length (first.now ++ second.now ++ end.now)) × (len ≤ 65516)) }
+        (max_payload < length (first.now ++ second.now ++ end.now))
+        (λ len. (len ≡ length (first.now ++ second.now ++ end.now)) × (len ≤ max_payload)) }
 {
     let both = first.len().checked_add(second.len())?;
     let len = both.checked_add(end.len())?;

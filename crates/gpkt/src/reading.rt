@@ -1,13 +1,13 @@
 //! Reading lines.
 
 ghost use Rattle.std.specs.Prelude.{◌≡◌, ◌≤◌, ◌↔◌, true, false, length, IfOk, IfErr, IfSome, IsErrOf};
-ghost use Rattle.gpkt.specs.Packets.{packet_of, payload_of};
-ghost use Rattle.gpkt.specs.Reading.{IsReadFault};
+ghost use Rattle.gpkt.specs.Packets.{max_payload, packet_of, payload_of};
+ghost use Rattle.gpkt.specs.LineReading.{IsReadFault};
 
 use crate::buffer::LineBuffer;
 use crate::device::Source;
 use crate::fault::LineFault;
-use crate::frame::{line_in, read_frame};
+use crate::head::{line_in, read_into};
 use crate::line::Line;
 use std::alloc::{Allocator, Global};
 use std::marker::Model;
@@ -23,7 +23,7 @@ pub struct LineReader<S, A: Allocator + Copy = Global> {
 }
 
 impl<S, A: Allocator + Copy> Model for LineReader<S, A> {
-    ghost use Rattle.gpkt.specs.Reading.{Reader, reader_code};
+    ghost use Rattle.gpkt.specs.LineReading.{Reader, reader_code};
 
     ghost Value = { Reader S };
 
@@ -34,7 +34,7 @@ impl<S, A: Allocator + Copy> Model for LineReader<S, A> {
 
 impl<S: Source, A: Allocator + Copy> LineReader<S, A> {
     ghost use Rattle.std.specs.Borrow.{sem};
-    ghost use Rattle.gpkt.specs.Lending.{EndsAs};
+    ghost use Rattle.gpkt.specs.Lending.{LendsLine};
 
     /// A reader that has not failed. Its only fault is [`LineFault::Memory`], and the source is then
     /// dropped unread: a caller that lends its source and asks for what is left of it makes the
@@ -75,16 +75,16 @@ impl<S: Source, A: Allocator + Copy> LineReader<S, A> {
     pub fn next(&mut self) -> Result<Option<Line<'_>>, LineFault>
         ensures refused { IsErrOf result LineFault.Failed ↔ (self.old.failed ≡ true) }
         ensures limit { IfOk result
-            (λ line. IfSome line (λ found. length (payload_of (packet_of found)) ≤ 65516)) }
+            (λ line. IfSome line (λ found. length (payload_of (packet_of found)) ≤ max_payload)) }
         ensures faults { IfErr result IsReadFault }
-        ensures* rests { sem 𝓛 (EndsAs S.row A.row A.Allocator S.remaining
+        ensures* rests { sem 𝓛 (LendsLine S.row A.row A.Allocator S.remaining
             S.is_down S.seat self.entry result) }
     {
         if self.failed {
             return Err(LineFault::Failed);
         }
-        match read_frame(&mut self.source, self.buffer.bytes.as_mut_slice()) {
-            Ok(Some(frame)) => Ok(Some(line_in(frame, self.buffer.bytes.as_slice()))),
+        match read_into(&mut self.source, self.buffer.bytes.as_mut_slice()) {
+            Ok(Some(head)) => Ok(Some(line_in(head, self.buffer.bytes.as_slice()))),
             Ok(None) => Ok(None),
             Err(fault) => {
                 self.failed = true;

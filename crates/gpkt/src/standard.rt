@@ -1,149 +1,120 @@
 //! Devices made of std's readers and writers.
 
-ghost use Rattle.std.specs.Prelude.{◌≡◌, [], false};
+ghost use Rattle.std.specs.Prelude.{◌≡◌, ◌∷◌, [], false, None};
 
-use crate::device::{Down, Sink, Source};
+use crate::device::{Down, Latch, Sink, Source};
 use std::io::{Read, Write};
-use std::marker::Model;
 
-/// A source that reads from one of std's readers.
+/// A source that reads from one of std's readers, which is lent.
 ///
 /// At any error of the reader, an interrupted call too, it is down.
 #[derive(Drop)]
-pub struct FromRead<R> {
-    reader: R,
-    down: bool,
+pub struct FromRead<'a, R> {
+    reader: &'a mut R,
+    down: Latch,
 }
 
-impl<R> Model for FromRead<R> {
-    ghost use Rattle.gpkt.specs.Devices.{Device, device_code};
-
-    ghost Value = { Device R };
-
-    ghost coded = { device_code R.code };
-
-    ghost view = { λ d. record { inner = d.reader; down = d.down } };
-}
-
-impl<R> FromRead<R> {
+impl<'a, R> FromRead<'a, R> {
     /// A source that is not down.
-    pub fn new(reader: R) -> FromRead<R>
-        ensures inner { result.inner ≡ reader }
+    pub fn new(reader: &'a mut R) -> FromRead<'a, R>
+        ensures same { result.reader.ghost_name ≡ reader.entry.ghost_name }
+        ensures reader { result.reader.now ≡ reader.old }
         ensures down { result.down ≡ false }
     {
         FromRead {
             reader,
-            down: false,
+            down: Latch::new(),
         }
     }
 
     /// The reader, as the calls left it.
-    pub fn into_inner(self) -> R
-        ensures { result ≡ self.inner }
+    pub fn into_inner(self) -> &'a mut R
+        ensures same { result.ghost_name ≡ self.entry.reader.ghost_name }
+        ensures reader { result.now ≡ self.entry.reader.now }
     {
         let FromRead { reader, down: _ } = self;
         reader
     }
 }
 
-impl<R: Read> Source for FromRead<R> {
-    ghost remaining = { λ s. R.remaining s.inner };
+impl<R: Read> Source for FromRead<'_, R> {
+    ghost remaining = { λ s. R.remaining s.reader.now };
 
     ghost is_down = { λ s. s.down };
 
-    ghost seat = { λ _. [] };
+    ghost seat = { λ s. s.reader.ghost_name ∷ [] };
 
     fn read(&mut self, buf: &mut [u8]) -> Result<usize, Down> {
-        if self.down {
+        if self.down.is_down() {
             return Err(Down);
         }
         match self.reader.read(buf) {
             Ok(count) => Ok(count),
-            Err(_) => {
-                self.down = true;
-                Err(Down)
-            }
+            Err(_) => self.down.fail(),
         }
     }
 }
 
-/// A sink that writes to one of std's writers.
+/// A sink that writes to one of std's writers, which is lent. What that passes on is not known.
 ///
 /// At any error of the writer, an interrupted call too, it is down, and so it is where a write takes
 /// none of some bytes.
 #[derive(Drop)]
-pub struct ToWrite<W> {
-    writer: W,
-    down: bool,
+pub struct ToWrite<'a, W> {
+    writer: &'a mut W,
+    down: Latch,
 }
 
-impl<W> Model for ToWrite<W> {
-    ghost use Rattle.gpkt.specs.Devices.{Device, device_code};
-
-    ghost Value = { Device W };
-
-    ghost coded = { device_code W.code };
-
-    ghost view = { λ d. record { inner = d.writer; down = d.down } };
-}
-
-impl<W> ToWrite<W> {
+impl<'a, W> ToWrite<'a, W> {
     /// A sink that is not down.
-    pub fn new(writer: W) -> ToWrite<W>
-        ensures inner { result.inner ≡ writer }
+    pub fn new(writer: &'a mut W) -> ToWrite<'a, W>
+        ensures same { result.writer.ghost_name ≡ writer.entry.ghost_name }
+        ensures writer { result.writer.now ≡ writer.old }
         ensures down { result.down ≡ false }
     {
         ToWrite {
             writer,
-            down: false,
+            down: Latch::new(),
         }
     }
 
     /// The writer, as the calls left it.
-    pub fn into_inner(self) -> W
-        ensures { result ≡ self.inner }
+    pub fn into_inner(self) -> &'a mut W
+        ensures same { result.ghost_name ≡ self.entry.writer.ghost_name }
+        ensures writer { result.now ≡ self.entry.writer.now }
     {
         let ToWrite { writer, down: _ } = self;
         writer
     }
 }
 
-impl<W: Write> Sink for ToWrite<W> {
-    ghost contents = { λ s. W.contents s.inner };
+impl<W: Write> Sink for ToWrite<'_, W> {
+    ghost contents = { λ s. W.contents s.writer.now };
+
+    ghost passed_on = { λ _. None };
 
     ghost is_down = { λ s. s.down };
 
-    ghost seat = { λ _. [] };
+    ghost seat = { λ s. s.writer.ghost_name ∷ [] };
 
     fn write(&mut self, buf: &[u8]) -> Result<usize, Down> {
-        if self.down {
+        if self.down.is_down() {
             return Err(Down);
         }
         match self.writer.write(buf) {
-            Ok(count) => {
-                if count == 0 && !buf.is_empty() {
-                    self.down = true;
-                    return Err(Down);
-                }
-                Ok(count)
-            }
-            Err(_) => {
-                self.down = true;
-                Err(Down)
-            }
+            Ok(0) if !buf.is_empty() => self.down.fail(),
+            Ok(count) => Ok(count),
+            Err(_) => self.down.fail(),
         }
     }
 
     fn flush(&mut self) -> Result<(), Down> {
-        if self.down {
+        if self.down.is_down() {
             return Err(Down);
         }
         match self.writer.flush() {
             Ok(()) => Ok(()),
-            Err(_) => {
-                self.down = true;
-                Err(Down)
-            }
+            Err(_) => self.down.fail(),
         }
     }
 }

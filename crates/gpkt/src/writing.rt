@@ -1,12 +1,13 @@
 //! Writing lines.
 
 ghost use Rattle.std.specs.Prelude.{◌≡◌, ◌≢◌, ◌<◌, ◌≤◌, ◌↔◌, ◌++◌, [], ◌∷◌, true, false, length, codes, IfErr, IsErrOf};
-ghost use Rattle.gpkt.specs.Packets.{canonical, Packet};
+ghost use Rattle.gpkt.specs.Packets.{canonical, line_feed, max_payload, Packet};
 ghost use Rattle.gpkt.specs.Packets as packets;
-ghost use Rattle.gpkt.specs.Writing.{HasWritten, HasPushed};
+ghost use Rattle.gpkt.specs.LineWriting.{HasWritten, HasPushed};
 
 use crate::device::Sink;
 use crate::fault::WriteFault;
+use crate::line::DIGITS;
 use crate::put::{digits_of, payload_len, put_line};
 use std::marker::Model;
 
@@ -23,7 +24,7 @@ pub struct LineWriter<W> {
 }
 
 impl<W> Model for LineWriter<W> {
-    ghost use Rattle.gpkt.specs.Writing.{Writer, writer_code};
+    ghost use Rattle.gpkt.specs.LineWriting.{Writer, writer_code};
 
     ghost Value = { Writer W };
 
@@ -46,47 +47,47 @@ impl<W: Sink> LineWriter<W> {
 
     /// Writes one data line. An empty payload is written as `0004`, which is no flush.
     pub fn put(&mut self, payload: &[u8]) -> Result<(), WriteFault>
-        ensures written { HasWritten W.contents W.is_down W.seat self.old self.new result
+        ensures written { HasWritten W.contents W.passed_on W.is_down W.seat self.old self.new result
             (canonical (packets.Data payload.now)) }
         ensures too_long { IsErrOf result WriteFault.Payload
-            ↔ ((self.old.failed ≡ false) × (65516 < length payload.now)) }
+            ↔ ((self.old.failed ≡ false) × (max_payload < length payload.now)) }
     {
         self.put_parts(payload, b"", b"")
     }
 
     /// Writes one data line of both pieces.
     pub fn put2(&mut self, first: &[u8], second: &[u8]) -> Result<(), WriteFault>
-        ensures written { HasWritten W.contents W.is_down W.seat self.old self.new result
+        ensures written { HasWritten W.contents W.passed_on W.is_down W.seat self.old self.new result
             (canonical (packets.Data (first.now ++ second.now))) }
         ensures too_long { IsErrOf result WriteFault.Payload
-            ↔ ((self.old.failed ≡ false) × (65516 < length (first.now ++ second.now))) }
+            ↔ ((self.old.failed ≡ false) × (max_payload < length (first.now ++ second.now))) }
     {
         self.put_parts(first, second, b"")
     }
 
     /// Writes one text line: the text and a line feed.
     pub fn text(&mut self, text: &[u8]) -> Result<(), WriteFault>
-        ensures written { HasWritten W.contents W.is_down W.seat self.old self.new result
-            (canonical (packets.Data (text.now ++ 10 ∷ []))) }
+        ensures written { HasWritten W.contents W.passed_on W.is_down W.seat self.old self.new result
+            (canonical (packets.Data (text.now ++ line_feed ∷ []))) }
         ensures too_long { IsErrOf result WriteFault.Payload
-            ↔ ((self.old.failed ≡ false) × (65516 < length (text.now ++ 10 ∷ []))) }
+            ↔ ((self.old.failed ≡ false) × (max_payload < length (text.now ++ line_feed ∷ []))) }
     {
         self.put_parts(text, b"", b"\n")
     }
 
     /// Writes one text line: both pieces and a line feed.
     pub fn text2(&mut self, first: &[u8], second: &[u8]) -> Result<(), WriteFault>
-        ensures written { HasWritten W.contents W.is_down W.seat self.old self.new result
-            (canonical (packets.Data (first.now ++ second.now ++ 10 ∷ []))) }
+        ensures written { HasWritten W.contents W.passed_on W.is_down W.seat self.old self.new result
+            (canonical (packets.Data (first.now ++ second.now ++ line_feed ∷ []))) }
         ensures too_long { IsErrOf result WriteFault.Payload
-            ↔ ((self.old.failed ≡ false) × (65516 < length (first.now ++ second.now ++ 10 ∷ []))) }
+            ↔ ((self.old.failed ≡ false) × (max_payload < length (first.now ++ second.now ++ line_feed ∷ []))) }
     {
         self.put_parts(first, second, b"\n")
     }
 
     /// Writes a flush, `0000`, which ends a message. It is never [`Payload`](WriteFault::Payload).
     pub fn flush_pkt(&mut self) -> Result<(), WriteFault>
-        ensures written { HasWritten W.contents W.is_down W.seat self.old self.new result
+        ensures written { HasWritten W.contents W.passed_on W.is_down W.seat self.old self.new result
             (canonical packets.Flush) }
         ensures fits { IfErr result (λ fault. fault ≢ WriteFault.Payload) }
     {
@@ -95,7 +96,7 @@ impl<W: Sink> LineWriter<W> {
 
     /// Writes a delimiter, `0001`, which separates the sections of a message.
     pub fn delim(&mut self) -> Result<(), WriteFault>
-        ensures written { HasWritten W.contents W.is_down W.seat self.old self.new result
+        ensures written { HasWritten W.contents W.passed_on W.is_down W.seat self.old self.new result
             (canonical packets.Delim) }
         ensures fits { IfErr result (λ fault. fault ≢ WriteFault.Payload) }
     {
@@ -104,7 +105,7 @@ impl<W: Sink> LineWriter<W> {
 
     /// Writes a response-end, `0002`, which ends a response on a stateless connection.
     pub fn response_end(&mut self) -> Result<(), WriteFault>
-        ensures written { HasWritten W.contents W.is_down W.seat self.old self.new result
+        ensures written { HasWritten W.contents W.passed_on W.is_down W.seat self.old self.new result
             (canonical packets.ResponseEnd) }
         ensures fits { IfErr result (λ fault. fault ≢ WriteFault.Payload) }
     {
@@ -113,7 +114,7 @@ impl<W: Sink> LineWriter<W> {
 
     /// Flushes the sink, so that what was written is passed on.
     pub fn push(&mut self) -> Result<(), WriteFault>
-        ensures { HasPushed W.contents W.is_down W.seat self.old self.new result }
+        ensures { HasPushed W.contents W.passed_on W.is_down W.seat self.old self.new result }
     {
         if self.failed {
             return Err(WriteFault::Failed);
@@ -137,17 +138,17 @@ impl<W: Sink> LineWriter<W> {
 
     // Writes one data line whose payload is the three pieces.
     fn put_parts(&mut self, first: &[u8], second: &[u8], end: &[u8]) -> Result<(), WriteFault>
-        ensures written { HasWritten W.contents W.is_down W.seat self.old self.new result
+        ensures written { HasWritten W.contents W.passed_on W.is_down W.seat self.old self.new result
             (canonical (packets.Data (first.now ++ second.now ++ end.now))) }
         ensures too_long { IsErrOf result WriteFault.Payload
-            ↔ ((self.old.failed ≡ false) × (65516 < length (first.now ++ second.now ++ end.now))) }
+            ↔ ((self.old.failed ≡ false) × (max_payload < length (first.now ++ second.now ++ end.now))) }
     {
         if self.failed {
             return Err(WriteFault::Failed);
         }
         match payload_len(first, second, end) {
             None => Err(WriteFault::Payload),
-            Some(len) => self.put_pieces(&digits_of(len as u16 + 4), first, second, end),
+            Some(len) => self.put_pieces(&digits_of((DIGITS + len) as u16), first, second, end),
         }
     }
 
@@ -160,7 +161,7 @@ impl<W: Sink> LineWriter<W> {
         end: &[u8],
     ) -> Result<(), WriteFault>
         requires { 0 < length digits.now }
-        ensures written { HasWritten W.contents W.is_down W.seat self.old self.new result
+        ensures written { HasWritten W.contents W.passed_on W.is_down W.seat self.old self.new result
             (digits.now ++ (first.now ++ second.now ++ end.now)) }
         ensures fits { IfErr result (λ fault. fault ≢ WriteFault.Payload) }
     {

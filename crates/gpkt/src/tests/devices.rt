@@ -40,23 +40,23 @@ impl Write for Full {
 
 #[test]
 fn std_readers_are_read(rt: HostRuntime) -> Result<(), Fail> {
-    let bytes: &[u8] = b"0005a0000";
-    let mut reader = LineReader::new(rt.alloc(), FromRead::new(bytes))?;
+    let mut bytes: &[u8] = b"0005a0000";
+    let mut reader = LineReader::new(rt.alloc(), FromRead::new(&mut bytes))?;
     assert_eq!(rt; reader.next()?, Some(Line::Data(b"a")));
     assert_eq!(rt; reader.next()?, Some(Line::Flush));
     assert_eq!(rt; reader.next()?, None);
-    assert_eq!(rt; reader.into_inner().into_inner(), b"".as_slice());
+    assert_eq!(rt; *reader.into_inner().into_inner(), b"".as_slice());
     Ok(())
 }
 
 #[test]
 fn nothing_is_read_again(rt: HostRuntime) -> Result<(), Fail> {
     let rest: &[u8] = b"0005a0000";
-    let source = FromRead::new(Interrupted { calls: 0, rest });
-    let mut reader = LineReader::new(rt.alloc(), source)?;
+    let mut left = Interrupted { calls: 0, rest };
+    let mut reader = LineReader::new(rt.alloc(), FromRead::new(&mut left))?;
     assert_eq!(rt; reader.next(), Err(LineFault::Io));
     assert_eq!(rt; reader.next(), Err(LineFault::Failed));
-    let left = reader.into_inner().into_inner();
+    drop(reader);
     assert_eq!(rt; left.calls, 1);
     assert_eq!(rt; left.rest.len(), 9);
     Ok(())
@@ -76,13 +76,15 @@ fn std_writers_are_written(rt: HostRuntime) -> Result<(), Fail> {
 
 #[test]
 fn nothing_is_written_again(rt: HostRuntime) {
-    let mut writer = LineWriter::new(ToWrite::new(Full { calls: 0 }));
+    let mut full = Full { calls: 0 };
+    let mut writer = LineWriter::new(ToWrite::new(&mut full));
     assert_eq!(rt; writer.delim(), Err(WriteFault::Io));
     assert_eq!(rt; writer.delim(), Err(WriteFault::Failed));
     assert_eq!(rt; writer.push(), Err(WriteFault::Failed));
-    assert_eq!(rt; writer.into_inner().into_inner().calls, 1);
-    let mut writer = LineWriter::new(ToWrite::new(Full { calls: 0 }));
+    assert_eq!(rt; full.calls, 1);
+    let mut full = Full { calls: 0 };
+    let mut writer = LineWriter::new(ToWrite::new(&mut full));
     assert_eq!(rt; writer.push(), Err(WriteFault::Io));
     assert_eq!(rt; writer.push(), Err(WriteFault::Failed));
-    assert_eq!(rt; writer.into_inner().into_inner().calls, 1);
+    assert_eq!(rt; full.calls, 1);
 }

@@ -1,6 +1,6 @@
 use Rattle.std.proofs.Common.{◌≡◌, false, refl, sym, ap, ◌∙◌}
-use Rattle.gpkt.specs.Reading.{Reader}
-use Rattle.gpkt.proofs.Ending.{HasRead-at_fault, IsReadFault-of_frame, IsFrameFault-other}
+use Rattle.gpkt.specs.LineReading.{Reader}
+use Rattle.gpkt.proofs.Ending.{HasRead-at_fault, IsReadFault-of_new, IsNewFault-other}
 use Rattle.gpkt.proofs.reading.LineReader.next.Goals as goal
 
 pub returns-in-Err : goal.returns-in-Err
@@ -13,9 +13,9 @@ returns-in-Err g c =
         rw (← c.self.view_is) (HasRead-at_fault _ _ _ _ _ _ was refl said.faults said.down said.bytes said.seat),
       ),
       record {
-        refused = (λ e. absurd (IsFrameFault-other _ said.faults cc), λ e. let open_was : c.args.self.now.failed ≡ false = sym (ap (λ (r : Reader g.row.S.Denot). r.failed) c.self.view_is) ∙ was in cc);
+        refused = (λ e. absurd (IsNewFault-other _ said.faults cc), λ e. let open_was : c.args.self.now.failed ≡ false = sym (ap (λ (r : Reader g.row.S.Denot). r.failed) c.self.view_is) ∙ was in cc);
         limit = tt;
-        faults = IsReadFault-of_frame _ said.faults;
+        faults = IsReadFault-of_new _ said.faults;
         rests = tt;
       },
     )

@@ -2,7 +2,7 @@ use Rattle.std.proofs.Common.{sym, subst, rules}
 use Rattle.std.specs.Io.KnownBytes.{Consumes}
 use Rattle.std.proofs.KnownBytes.{Consumes-trans}
 use Rattle.gpkt.proofs.Pieces.{take-put_mid_front}
-use Rattle.gpkt.proofs.frame.fill.Goals as goal
+use Rattle.gpkt.proofs.head.fill.Goals as goal
 
 pub loop-at-preserved : goal.loop-at-preserved
 loop-at-preserved g c = record {

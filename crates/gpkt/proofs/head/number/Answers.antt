@@ -1,6 +1,6 @@
 use Rattle.gpkt.proofs.Digits.{number_of-decoded, number_of-refused}
 use Rattle.std.proofs.Common.{ap, ◌∙◌, Some, refl}
-use Rattle.gpkt.proofs.frame.number.Goals as goal
+use Rattle.gpkt.proofs.head.number.Goals as goal
 
 pub returns-in-Ok : goal.returns-in-Ok
 returns-in-Ok c =

@@ -1,10 +1,11 @@
 use Rattle.std.proofs.Common.{◌≡◌, ◌<◌, ℕ, List, ◌++◌, false, length}
-use Rattle.std.specs.Io.KnownBytes.{Appends}
-use Rattle.gpkt.proofs.put.put_all.Given as goal
+use Rattle.std.specs.Io.KnownBytes.{Appends, Keeps}
+use Rattle.gpkt.proofs.put.write_all.Given as goal
 
 abbrev pub invariant-loop-rest : goal.invariant-loop-rest
 invariant-loop-rest g l = record {
   written : (front : List ℕ) × (l.initial.rest ≡ front ++ l.rest) × Appends (g.W.Sink.contents l.initial.sink) (g.W.Sink.contents l.sink) front;
+  passed_on : Keeps (g.W.Sink.passed_on l.initial.sink) (g.W.Sink.passed_on l.sink);
   asked : length l.rest < length l.initial.rest → g.W.Sink.is_down l.sink ≡ false;
   up : g.W.Sink.is_down l.initial.sink ≡ false → g.W.Sink.is_down l.sink ≡ false;
   same_seat : g.W.Sink.seat l.sink ≡ g.W.Sink.seat l.initial.sink;

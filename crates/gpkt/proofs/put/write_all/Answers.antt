@@ -1,7 +1,7 @@
 use Rattle.std.proofs.Common.{◌++◌, take, rules}
-use Rattle.std.proofs.KnownBytes.{Appends-trans}
+use Rattle.std.proofs.KnownBytes.{Appends-trans, Keeps-trans}
 use Rattle.gpkt.proofs.Pieces.{split_more}
-use Rattle.gpkt.proofs.put.put_all.Goals as goal
+use Rattle.gpkt.proofs.put.write_all.Goals as goal
 
 pub loop-rest-preserved : goal.loop-rest-preserved
 loop-rest-preserved g c =
@@ -10,6 +10,7 @@ loop-rest-preserved g c =
     let count = c.in-Ok.count in
     record {
       written = (done ++ take count rest, split_more _ done rest count split, Appends-trans _ _ _ _ _ appended c.in-Ok.ensures.bytes);
+      passed_on = Keeps-trans _ _ _ c.loop-rest.invariant.passed_on c.in-Ok.ensures.passed_on;
       asked = λ h. c.in-Ok.ensures.down;
       up = λ h. c.in-Ok.ensures.down;
       same_seat = search rules;

@@ -2,17 +2,18 @@
 
 ghost use Rattle.std.specs.Prelude.{◌≡◌, ◌<◌, ◌≤◌, false, length, take, is_err, IfErr, IfOk, IfSome, OnErr};
 ghost use Rattle.std.specs.Io.KnownBytes.{Consumes, IsAtEnd};
-ghost use Rattle.gpkt.specs.Packets.{number_of, packet_of};
-ghost use Rattle.gpkt.specs.Reading.{Reads};
-ghost use Rattle.gpkt.specs.Frames.{Classifies, ConsumesBelow, IsFrameFault, ReadsHead, ReadsPayload, is_io, packet_in, payload_len, read_in};
+ghost use Rattle.gpkt.specs.Change.{change_of};
+ghost use Rattle.gpkt.specs.Packets.{digit_count, max_payload, number_of, packet_of};
+ghost use Rattle.gpkt.specs.LineReading.{Reads};
+ghost use Rattle.gpkt.specs.Heads.{Classifies, ConsumesBelow, IsNewFault, ReadsHead, ReadsPayload, is_io, packet_in, payload_len, read_in};
 
 use crate::device::{Down, Source};
 use crate::fault::LineFault;
-use crate::line::Line;
+use crate::line::{DIGITS, Line, MAX_PACKET};
 
 /// What the four digits of a line announce.
 #[derive(Clone, Copy)]
-pub(crate) enum Frame {
+pub(crate) enum Head {
     /// A payload of so many bytes.
     Data(usize),
     Flush,
@@ -28,7 +29,7 @@ fn fill<S: Source>(source: &mut S, buf: &mut [u8]) -> Result<usize, Down>
         (λ n. Consumes (S.remaining source.old) (S.remaining source.new) (take n buf.new)) }
     ensures end { IfOk result (λ n. n < length buf.new → IsAtEnd (S.remaining source.new)) }
     ensures err { OnErr result
-        (ConsumesBelow (S.remaining source.old) (S.remaining source.new) (length buf.new)) }
+        (ConsumesBelow (change_of S.remaining source.old source.new) (length buf.new)) }
     ensures down { S.is_down source.new ≡ is_err result }
     ensures seat { S.seat source.new ≡ S.seat source.old }
 {
@@ -45,7 +46,7 @@ fn fill<S: Source>(source: &mut S, buf: &mut [u8]) -> Result<usize, Down>
 
 // The number that four digits stand for.
 fn number(digits: &[u8]) -> Option<u16>
-    requires { length digits.now ≡ 4 }
+    requires { length digits.now ≡ digit_count }
     ensures { result ≡ number_of digits.now }
 {
     let mut bytes = [0u8; 2];
@@ -56,38 +57,38 @@ fn number(digits: &[u8]) -> Option<u16>
 }
 
 // What four digits announce.
-fn classify(digits: &[u8]) -> Result<Frame, LineFault>
-    requires { length digits.now ≡ 4 }
+fn classify(digits: &[u8]) -> Result<Head, LineFault>
+    requires { length digits.now ≡ digit_count }
     ensures { Classifies digits.now result }
 {
     match number(digits) {
         None => Err(LineFault::BadDigits),
-        Some(0) => Ok(Frame::Flush),
-        Some(1) => Ok(Frame::Delim),
-        Some(2) => Ok(Frame::ResponseEnd),
+        Some(0) => Ok(Head::Flush),
+        Some(1) => Ok(Head::Delim),
+        Some(2) => Ok(Head::ResponseEnd),
         Some(3) => Err(LineFault::Reserved),
         Some(announced) => {
-            if announced > 65_520 {
+            if announced > MAX_PACKET {
                 Err(LineFault::TooLong)
             } else {
-                Ok(Frame::Data(usize::from(announced) - 4))
+                Ok(Head::Data(usize::from(announced) - DIGITS))
             }
         }
     }
 }
 
 // Reads the four digits, or nothing where the input is at its end.
-fn read_head<S: Source>(source: &mut S) -> Result<Option<Frame>, LineFault>
-    ensures bytes { ReadsHead (S.remaining source.old) (S.remaining source.new) result }
+fn read_head<S: Source>(source: &mut S) -> Result<Option<Head>, LineFault>
+    ensures bytes { ReadsHead (change_of S.remaining source.old source.new) result }
     ensures down { S.is_down source.new ≡ is_io result }
     ensures seat { S.seat source.new ≡ S.seat source.old }
 {
-    let mut digits = [0u8; 4];
+    let mut digits = [0u8; DIGITS];
     match fill(source, &mut digits) {
         Ok(0) => Ok(None),
-        Ok(count) if count < 4 => Err(LineFault::Truncated),
+        Ok(count) if count < DIGITS => Err(LineFault::Truncated),
         Ok(_) => match classify(&digits) {
-            Ok(frame) => Ok(Some(frame)),
+            Ok(head) => Ok(Some(head)),
             Err(fault) => Err(fault),
         },
         Err(_) => Err(LineFault::Io),
@@ -97,7 +98,7 @@ fn read_head<S: Source>(source: &mut S) -> Result<Option<Frame>, LineFault>
 // Fills the payload.
 fn read_payload<S: Source>(source: &mut S, payload: &mut [u8]) -> Result<(), LineFault>
     requires { S.is_down source.old ≡ false }
-    ensures bytes { ReadsPayload (S.remaining source.old) (S.remaining source.new)
+    ensures bytes { ReadsPayload (change_of S.remaining source.old source.new)
         result payload.new }
     ensures down { S.is_down source.new ≡ is_io result }
     ensures seat { S.seat source.new ≡ S.seat source.old }
@@ -112,35 +113,35 @@ fn read_payload<S: Source>(source: &mut S, payload: &mut [u8]) -> Result<(), Lin
     }
 }
 
-/// Reads one line, its payload into the front of `buffer`, and nothing behind it.
-pub(crate) fn read_frame<S: Source>(
+/// Reads one line, its payload into the front of `buffer`, and nothing after it.
+pub(crate) fn read_into<S: Source>(
     source: &mut S,
     buffer: &mut [u8],
-) -> Result<Option<Frame>, LineFault>
-    requires { length buffer.old ≡ 65516 }
-    ensures bytes { Reads (S.remaining source.old) (S.remaining source.new)
+) -> Result<Option<Head>, LineFault>
+    requires { length buffer.old ≡ max_payload }
+    ensures bytes { Reads (change_of S.remaining source.old source.new)
         (read_in buffer.new result) }
-    ensures room { IfOk result (λ found. IfSome found (λ frame. payload_len frame ≤ 65516)) }
-    ensures faults { IfErr result IsFrameFault }
+    ensures room { IfOk result (λ found. IfSome found (λ head. payload_len head ≤ max_payload)) }
+    ensures faults { IfErr result IsNewFault }
     ensures down { S.is_down source.new ≡ is_io result }
     ensures seat { S.seat source.new ≡ S.seat source.old }
 {
     let found = read_head(source)?;
-    if let Some(Frame::Data(len)) = found {
+    if let Some(Head::Data(len)) = found {
         read_payload(source, &mut buffer[..len])?;
     }
     Ok(found)
 }
 
 /// The line whose payload stands at the front of `buffer`.
-pub(crate) fn line_in(frame: Frame, buffer: &[u8]) -> Line<'_>
-    requires { payload_len frame ≤ length buffer.now }
-    ensures { packet_of result ≡ packet_in buffer.now frame }
+pub(crate) fn line_in(head: Head, buffer: &[u8]) -> Line<'_>
+    requires { payload_len head ≤ length buffer.now }
+    ensures { packet_of result ≡ packet_in buffer.now head }
 {
-    match frame {
-        Frame::Data(len) => Line::Data(&buffer[..len]),
-        Frame::Flush => Line::Flush,
-        Frame::Delim => Line::Delim,
-        Frame::ResponseEnd => Line::ResponseEnd,
+    match head {
+        Head::Data(len) => Line::Data(&buffer[..len]),
+        Head::Flush => Line::Flush,
+        Head::Delim => Line::Delim,
+        Head::ResponseEnd => Line::ResponseEnd,
     }
 }

@@ -1,6 +1,6 @@
 use Rattle.std.proofs.Common.{◌≡◌, ◌≤◌, ◌<◌, ◌-◌, false, length, take}
 use Rattle.std.specs.Io.KnownBytes.{Consumes}
-use Rattle.gpkt.proofs.frame.fill.Given as goal
+use Rattle.gpkt.proofs.head.fill.Given as goal
 
 abbrev pub invariant-loop-at : goal.invariant-loop-at
 invariant-loop-at g l = record {

@@ -1,0 +1,86 @@
+-- What a line reader's call gives, and what it takes from its source.
+use Rattle.std.specs.Prelude.{◌≡◌, ℕ, ◌<◌, ◌≤◌, ◌⊎◌, Bool, true, false, List, [], ◌++◌, length, take, drop, Option, Some, None, option_map, Result, Ok, Err, refl}
+use Rattle.std.specs.Coded.{Coded, code_by, coded×, coded_bool}
+use Rattle.gpkt.specs.declared.line.Line.{Line}
+use Rattle.gpkt.specs.declared.fault.LineFault.{LineFault}
+use Rattle.gpkt.specs.declared.fault.LineFault.TheVariants.{BadDigits, Reserved, TooLong, Truncated, Io, Failed, Memory}
+use Rattle.gpkt.specs.Change.{Change, WhereKnown, change_of}
+use Rattle.gpkt.specs.Packets.{Packet, Spells, digit_count, max_packet, number_of, packet_of}
+
+-- a reader: its source, and whether a call of it has failed
+pub record Reader (S : Type 0) : Type 0 where
+  pub source : S
+  pub failed : Bool
+
+abbrev pub reader_code : {S : Type 0} → Coded S → Coded (Reader S)
+reader_code {S} code =
+    code_by (S × Bool) (coded× code coded_bool) (λ r. (r.source, r.failed))
+    (λ p. record { source = p.0; failed = p.1 }) (λ _. refl)
+
+-- the four digits at the front announce this number
+abbrev pub AnnouncesAtFront : List ℕ → ℕ → Type 0
+AnnouncesAtFront bytes announced = (digit_count ≤ length bytes) × (number_of (take digit_count bytes) ≡ Some announced)
+
+-- a beginning of a line that is no whole one: not all the digits, or fewer bytes than they announce
+abbrev pub IsPartialLine : List ℕ → Type 0
+IsPartialLine bytes =
+    (length bytes < digit_count)
+    ⊎ ((announced : ℕ) × AnnouncesAtFront bytes announced × (announced ≤ max_packet) × (length bytes < announced))
+
+-- no line is spelt at the front of the bytes, which are all that is left, for this reason
+abbrev pub NoLine : LineFault → List ℕ → Type 0
+NoLine BadDigits bytes = (digit_count ≤ length bytes) × (number_of (take digit_count bytes) ≡ None)
+NoLine Reserved bytes = AnnouncesAtFront bytes 3
+NoLine TooLong bytes = (announced : ℕ) × AnnouncesAtFront bytes announced × (max_packet < announced)
+NoLine Truncated bytes = (0 < length bytes) × IsPartialLine bytes
+NoLine Io bytes = ⊥
+NoLine Failed bytes = ⊥
+NoLine Memory bytes = ⊥
+
+-- what is read where the bytes still to come are known
+abbrev pub Gives : List ℕ → List ℕ → Result (Option Packet) LineFault → Type 0
+Gives old new (Ok (Some line)) = (front : List ℕ) × (old ≡ front ++ new) × Spells line front
+Gives old new (Ok None) = (old ≡ []) × (new ≡ [])
+Gives old new (Err BadDigits) = NoLine BadDigits old × (new ≡ drop digit_count old)
+Gives old new (Err Reserved) = NoLine Reserved old × (new ≡ drop digit_count old)
+Gives old new (Err TooLong) = NoLine TooLong old × (new ≡ drop digit_count old)
+Gives old new (Err Truncated) = NoLine Truncated old × (new ≡ [])
+Gives old new (Err Io) = (front : List ℕ) × (old ≡ front ++ new) × IsPartialLine front
+Gives old new (Err Failed) = new ≡ old
+Gives old new (Err Memory) = ⊥
+
+-- what is read, and what it takes from the bytes
+abbrev pub Reads : Change → Result (Option Packet) LineFault → Type 0
+Reads bytes result = WhereKnown bytes (λ old new. Gives old new result)
+
+-- a result without where the payload lies in memory
+abbrev pub read_of : Result (Option Line) LineFault → Result (Option Packet) LineFault
+read_of (Ok line) = Ok (option_map packet_of line)
+read_of (Err fault) = Err fault
+
+-- the faults that a read can give, which takes no memory
+abbrev pub IsReadFault : LineFault → Type 0
+IsReadFault Memory = ⊥
+IsReadFault _ = Unit {0}
+
+module _ {S : Type 0} (remaining_of : S → Option (List ℕ)) (is_down : S → Bool) (seat_of : S → List ℕ) where
+  -- the reader had not failed; whether it has failed now, and whether its source is down
+  abbrev pub SetsReader : Reader S → Reader S → Bool → Bool → Type 0
+  SetsReader old new failed down = (old.failed ≡ false) × (new.failed ≡ failed) × (is_down new.source ≡ down)
+
+  -- what the call leaves, at any source
+  abbrev pub IsReaderAfter : Reader S → Reader S → Result (Option Packet) LineFault → Type 0
+  IsReaderAfter old new (Ok line) = SetsReader old new false false
+  IsReaderAfter old new (Err BadDigits) = SetsReader old new true false
+  IsReaderAfter old new (Err Reserved) = SetsReader old new true false
+  IsReaderAfter old new (Err TooLong) = SetsReader old new true false
+  IsReaderAfter old new (Err Truncated) = SetsReader old new true false
+  IsReaderAfter old new (Err Io) = SetsReader old new true true
+  IsReaderAfter old new (Err Failed) = (old.failed ≡ true) × (new ≡ old)
+  IsReaderAfter old new (Err Memory) = ⊥
+
+  -- one call of a reader
+  pub record HasRead (old new : Reader S) (result : Result (Option Packet) LineFault) : Type 0 where
+    pub bytes : Reads (change_of remaining_of old.source new.source) result
+    pub after : IsReaderAfter old new result
+    pub seat : seat_of new.source ≡ seat_of old.source
