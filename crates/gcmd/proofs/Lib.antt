@@ -13,4 +13,3 @@ pub mod AnswerLemmas
 pub mod ExchangeLemmas
 pub mod RepositoryLemmas
 pub mod CheckLemmas
-pub mod PrintLemmas

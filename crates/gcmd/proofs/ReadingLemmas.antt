@@ -1,14 +1,14 @@
 -- Lines read one after the other.
 use Rattle.std.proofs.Common.{◌≡◌, ℕ, List, [], ◌∷◌, ◌++◌, length, Option, Some, None, Ok, Err, Result, Bool, true, ◌+◌, refl, sym, ap, ◌∙◌, append_assoc, append-nil}
 use Rattle.gpkt.specs.Packets.{Packet, Spells, SpellsAll}
-use Rattle.gpkt.specs.Reading.{Reads}
+use Rattle.gpkt.specs.LineReading.{Reads}
 use Rattle.gcmd.specs.Grammar.{Verdict, IsOpen}
 use Rattle.gpkt.specs.Packets.{packet_of}
-use Rattle.gpkt.specs.Reading.{Reader, HasRead, read_of}
+use Rattle.gpkt.specs.LineReading.{Reader, HasRead, read_of}
 use Rattle.gpkt.specs.declared.line.Line.{Line}
 use Rattle.gpkt.specs.declared.fault.LineFault.{LineFault}
 use Rattle.gpkt.specs.declared.fault.LineFault.TheVariants.{BadDigits, Reserved, TooLong, Truncated, Io, Failed, Memory}
-use Rattle.gcmd.specs.MessageReading.{ReadsLines, ReadsRefused, HasTaken, Takes, IsReadFailure}
+use Rattle.gcmd.specs.MessageReading.{ReadsLines, ReadsRefused, HasTaken, TakesPacket, IsReadFailure}
 use Rattle.gcmd.specs.declared.fault.Why.TheVariants as why
 use Rattle.gcmd.specs.declared.message.Step.TheVariants as step
 use Rattle.std.proofs.lemmas.List.{length_push}
@@ -20,11 +20,12 @@ SpellsAll-push [] packet bytes more e s = (more, [], ap (λ xs. xs ++ more) e �
 SpellsAll-push (line ∷ lines) packet bytes more h s =
     (h.0, h.1 ++ more, ap (λ xs. xs ++ more) h.2 ∙ append_assoc h.0 h.1 more, h.3, SpellsAll-push lines packet h.1 more h.4 s)
 
-pub ReadsLines-nil : (a : Option (List ℕ)) → ReadsLines a a []
+pub ReadsLines-nil : (a : Option (List ℕ)) → ReadsLines (record { old = a; new = a }) []
 ReadsLines-nil None = tt
 ReadsLines-nil (Some old) = ([], refl, refl)
 
-pub ReadsLines-push : (a b c : Option (List ℕ)) (lines : List Packet) (packet : Packet) → ReadsLines a b lines → Reads b c (Ok (Some packet)) → ReadsLines a c (lines ++ packet ∷ [])
+pub ReadsLines-push : (a b c : Option (List ℕ)) (lines : List Packet) (packet : Packet) → ReadsLines (record { old = a; new = b }) lines
+    → Reads (record { old = b; new = c }) (Ok (Some packet)) → ReadsLines (record { old = a; new = c }) (lines ++ packet ∷ [])
 ReadsLines-push None b c lines packet p q = tt
 ReadsLines-push (Some x) None c lines packet p q = absurd p
 ReadsLines-push (Some x) (Some y) None lines packet p q = absurd q
@@ -37,7 +38,7 @@ pub record IsGoing {M : Type 0} (judge : List Packet → Packet → Verdict) (ho
   pub goes : IsOpen judge lines
   pub held : holds message lines
   pub count : frame ≡ length lines
-  pub bytes : ReadsLines old new lines
+  pub bytes : ReadsLines (record { old = old; new = new }) lines
 
 -- what the next line is
 pub read_some : (result : Result (Option Line) LineFault) (field : Option Line) (line : Line) → result ≡ Ok field → field ≡ Some line → read_of result ≡ Ok (Some (packet_of line))
@@ -48,20 +49,20 @@ read_none result field e f = ap read_of (e ∙ ap (λ x. Ok x) f)
 
 module _ {M : Type 0} (judge : List Packet → Packet → Verdict) (holds : M → List Packet → Type 0) where
   -- the input ends
-  pub refused_at_end : (old new last : Option (List ℕ)) (message : M) (frame : ℕ) → IsGoing judge holds old new message frame → Reads new last (Ok None)
-      → ReadsRefused judge old last (record { frame = frame; why = why.Ended })
+  pub refused_at_end : (old new last : Option (List ℕ)) (message : M) (frame : ℕ) → IsGoing judge holds old new message frame → Reads (record { old = new; new = last }) (Ok None)
+      → ReadsRefused judge (record { old = old; new = last }) (record { frame = frame; why = why.Ended })
   refused_at_end old new last message frame going read = record {
     front = going.lines;
     between = new;
     goes = going.goes;
     frame = going.count;
-    bytes = going.bytes;
-    cause = read;
+    before = going.bytes;
+    reason = read;
   }
 
   -- the message goes on
-  pub goes_on : (old new last : Option (List ℕ)) (message after : M) (frame : ℕ) (packet : Packet) → (going : IsGoing judge holds old new message frame) → Reads new last (Ok (Some packet))
-      → Takes judge holds going.lines packet after (Ok step.Goes) → IsGoing judge holds old last after (frame + 1)
+  pub goes_on : (old new last : Option (List ℕ)) (message after : M) (frame : ℕ) (packet : Packet) → (going : IsGoing judge holds old new message frame) → Reads (record { old = new; new = last }) (Ok (Some packet))
+      → TakesPacket judge holds going.lines packet after (Ok step.Goes) → IsGoing judge holds old last after (frame + 1)
   goes_on old new last message after frame packet going read taken = record {
     lines = going.lines ++ packet ∷ [];
     goes = IsOpen-push going.goes taken.0;
@@ -71,8 +72,8 @@ module _ {M : Type 0} (judge : List Packet → Packet → Verdict) (holds : M �
   }
 
   -- the message ends
-  pub ends_there : (old new last : Option (List ℕ)) (message after : M) (frame : ℕ) (packet : Packet) → (going : IsGoing judge holds old new message frame) → Reads new last (Ok (Some packet))
-      → Takes judge holds going.lines packet after (Ok step.Ends) → HasTaken judge holds old last after
+  pub ends_there : (old new last : Option (List ℕ)) (message after : M) (frame : ℕ) (packet : Packet) → (going : IsGoing judge holds old new message frame) → Reads (record { old = new; new = last }) (Ok (Some packet))
+      → TakesPacket judge holds going.lines packet after (Ok step.Ends) → HasTaken judge holds (record { old = old; new = last }) after
   ends_there old new last message after frame packet going read taken = record {
     lines = going.lines ++ packet ∷ [];
     read = record {
@@ -85,15 +86,15 @@ module _ {M : Type 0} (judge : List Packet → Packet → Verdict) (holds : M �
 -- a read that failed
 pub read_failure : {S : Type 0} (remaining : S → Option (List ℕ)) (is_down : S → Bool) (seat : S → List ℕ) (failed : Bool) (old new : Reader S) (fault : LineFault)
     → (old.failed ≡ true → failed ≡ true) → HasRead remaining is_down seat old new (Err fault) → IsReadFailure failed (is_down new.source) (why.Line fault)
-read_failure remaining is_down seat failed old new BadDigits first h = h.ends.2
-read_failure remaining is_down seat failed old new Reserved first h = h.ends.2
-read_failure remaining is_down seat failed old new TooLong first h = h.ends.2
-read_failure remaining is_down seat failed old new Truncated first h = h.ends.2
-read_failure remaining is_down seat failed old new Io first h = h.ends.2
-read_failure remaining is_down seat failed old new Failed first h = first h.ends.0
-read_failure remaining is_down seat failed old new Memory first h = absurd h.ends
+read_failure remaining is_down seat failed old new BadDigits first h = h.after.2
+read_failure remaining is_down seat failed old new Reserved first h = h.after.2
+read_failure remaining is_down seat failed old new TooLong first h = h.after.2
+read_failure remaining is_down seat failed old new Truncated first h = h.after.2
+read_failure remaining is_down seat failed old new Io first h = h.after.2
+read_failure remaining is_down seat failed old new Failed first h = first h.after.0
+read_failure remaining is_down seat failed old new Memory first h = absurd h.after
 
 -- a reader that gave a line has not failed
 pub not_failed : {S : Type 0} (remaining : S → Option (List ℕ)) (is_down : S → Bool) (seat : S → List ℕ) (old new : Reader S) (packet : Packet) {P : Type 0}
     → HasRead remaining is_down seat old new (Ok (Some packet)) → new.failed ≡ true → P
-not_failed remaining is_down seat old new packet h failed = let well = h.ends.1 in absurd (false≢true (sym well ∙ failed))
+not_failed remaining is_down seat old new packet h failed = let well = h.after.1 in absurd (false≢true (sym well ∙ failed))

@@ -14,7 +14,7 @@ use Rattle.ggraph.specs.declared.text.Repository.{Repository}
 use Rattle.ggraph.specs.Loading as load
 use Rattle.gcmd.specs.declared.repository.RepoFault.{RepoFault}
 use Rattle.gcmd.specs.declared.repository.RepoFault.TheVariants.{Text, ParentLater, RefMissing, Memory}
-use Rattle.gcmd.specs.Repository.{Accepts, HoldsHead, IsTextFault, RefusesRefs, HoldsRefs, IsFirstMissing}
+use Rattle.gcmd.specs.Repository.{AcceptsServable, HoldsHead, IsTextFault, RefusesRefs, HoldsRefs, IsFirstMissing}
 
 module _ {A : Type 0} (graph : List (Entry A)) (refs : RefList) where
   abbrev Stands : List ℕ × List ℕ → Type 0
@@ -47,11 +47,11 @@ all_there P (y ∷ xs) (suc place) x all at = all_there P xs place x (All-tail P
 none_missing : {A : Type 0} (graph : List (Entry A)) (refs : RefList) (name : List ℕ) → HoldsRefs graph refs → IsFirstMissing graph refs name → ⊥
 none_missing graph refs name all first = first.missing (all_there (λ (ref : List ℕ × List ℕ). Holds graph ref.1) refs first.place (name, first.id) all first.there)
 
-pub accepts_unloaded : {A : Type 0} (text : List ℕ) (fault : GraphFault) (told : RepoFault A) → load.Accepts A ParentsFirst text (Err fault) → IsTextFault fault told → Accepts A text (Err told)
+pub accepts_unloaded : {A : Type 0} (text : List ℕ) (fault : GraphFault) (told : RepoFault A) → load.Accepts A ParentsFirst text (Err fault) → IsTextFault fault told → AcceptsServable A text (Err told)
 accepts_unloaded text fault told accepts is repo names refs head =
     subst (λ (f : GraphFault). IsTextFault f told) (accepts repo.graph repo.refs repo.head names.1 names.0) is
 
-pub accepts_refused : {A : Type 0} (text : List ℕ) (it : Repository A) (told : RepoFault A) → load.Accepts A ParentsFirst text (Ok it) → RefusesRefs it told → Accepts A text (Err told)
+pub accepts_refused : {A : Type 0} (text : List ℕ) (it : Repository A) (told : RepoFault A) → load.Accepts A ParentsFirst text (Ok it) → RefusesRefs it told → AcceptsServable A text (Err told)
 accepts_refused text it Memory accepts refuses repo names refs head = refl
 accepts_refused {A} text it (RefMissing name) accepts refuses repo names refs head =
     let same = accepts repo.graph repo.refs repo.head names.1 names.0 in
@@ -66,5 +66,5 @@ accepts_refused {A} text it (RefMissing name) accepts refuses repo names refs he
 accepts_refused text it (Text line) accepts refuses repo names refs head = absurd refuses
 accepts_refused text it (ParentLater line) accepts refuses repo names refs head = absurd refuses
 
-pub accepts_served : {A : Type 0} (text : List ℕ) (it : Repository A) → load.Accepts A ParentsFirst text (Ok it) → Accepts A text (Ok (record { graph = it.graph; refs = it.refs; head = it.head }))
+pub accepts_served : {A : Type 0} (text : List ℕ) (it : Repository A) → load.Accepts A ParentsFirst text (Ok it) → AcceptsServable A text (Ok (record { graph = it.graph; refs = it.refs; head = it.head }))
 accepts_served text it accepts repo names refs head = accepts repo.graph repo.refs repo.head names.1 names.0

@@ -6,7 +6,7 @@ use Rattle.std.proofs.KnownBytes.{Appends-trans}
 use Rattle.std.proofs.lemmas.List.{take_more}
 use Rattle.std.specs.Io.KnownBytes.{Appends}
 use mathlib.Core.List.{map-append}
-use Rattle.gpkt.specs.Writing.{Writer, HasWritten}
+use Rattle.gpkt.specs.LineWriting.{Writer, HasWritten}
 use Rattle.gpkt.specs.declared.fault.WriteFault.{WriteFault}
 use Rattle.gpkt.specs.declared.fault.WriteFault.TheVariants.{Failed, Payload, Io}
 
@@ -25,12 +25,13 @@ pub no_payload_if : (result : Result (Unit {0}) WriteFault) → IfErr result (λ
 no_payload_if (Ok done) other = tt
 no_payload_if (Err fault) other = no_payload fault other
 
-module _ {W : Type 0} (contents : W → Option (List ℕ)) (is_down : W → Bool) (seat : W → List ℕ) where
+module _ {W : Type 0} (contents passed_on : W → Option (List ℕ)) (is_down : W → Bool) (seat : W → List ℕ) where
   -- what is written behind what was written
-  pub written_then : (a b c : Writer W) (xs ys : List ℕ) (result : Result (Unit {0}) WriteFault) → HasWritten contents is_down seat a b (Ok tt) xs → HasWritten contents is_down seat b c result ys
-      → IsNoPayload result → HasWritten contents is_down seat a c result (xs ++ ys)
+  pub written_then : (a b c : Writer W) (xs ys : List ℕ) (result : Result (Unit {0}) WriteFault) → HasWritten contents passed_on is_down seat a b (Ok tt) xs → HasWritten contents passed_on is_down seat b c result ys
+      → IsNoPayload result → HasWritten contents passed_on is_down seat a c result (xs ++ ys)
   written_then a b c xs ys (Ok done) first second _ = record {
     outcome = ((first.outcome.0.0, second.outcome.0.1, second.outcome.0.2), Appends-trans _ _ _ xs ys first.outcome.1 second.outcome.1);
+    passed_on = Keeps-trans _ _ _ first.passed_on second.passed_on;
     seat = second.seat ∙ first.seat;
   }
   written_then a b c xs ys (Err Io) first second _ = record {
@@ -44,13 +45,14 @@ module _ {W : Type 0} (contents : W → Option (List ℕ)) (is_down : W → Bool
         Appends-trans _ _ _ xs second.outcome.1.0 first.outcome.1 second.outcome.1.4,
       ),
     );
+    passed_on = Keeps-trans _ _ _ first.passed_on second.passed_on;
     seat = second.seat ∙ first.seat;
   }
   written_then a b c xs ys (Err Payload) first second fits = absurd fits
   written_then a b c xs ys (Err Failed) first second _ = absurd (false≢true (sym first.outcome.0.1 ∙ second.outcome.0))
 
   -- a write that failed was one of more bytes, too
-  pub failed_of_more : (a b : Writer W) (xs more : List ℕ) (fault : WriteFault) → HasWritten contents is_down seat a b (Err fault) xs → IsNoPayload (Err fault) → HasWritten contents is_down seat a b (Err fault) (xs ++ more)
+  pub failed_of_more : (a b : Writer W) (xs more : List ℕ) (fault : WriteFault) → HasWritten contents passed_on is_down seat a b (Err fault) xs → IsNoPayload (Err fault) → HasWritten contents passed_on is_down seat a b (Err fault) (xs ++ more)
   failed_of_more a b xs more Io h _ = record {
     outcome = (
       h.outcome.0,
@@ -62,26 +64,21 @@ module _ {W : Type 0} (contents : W → Option (List ℕ)) (is_down : W → Bool
         h.outcome.1.4,
       ),
     );
+    passed_on = h.passed_on;
     seat = h.seat;
   }
   failed_of_more a b xs more Payload h fits = absurd fits
-  failed_of_more a b xs more Failed h _ = record { outcome = h.outcome; seat = h.seat }
+  failed_of_more a b xs more Failed h _ = record { outcome = h.outcome; passed_on = h.passed_on; seat = h.seat }
 
   -- a writer from which any write is one of all of it, behind these bytes
   pub record IsBehind (start now : Writer W) (bytes : List ℕ) : Type 0 where
-    pub joins : (new : Writer W) (result : Result (Unit {0}) WriteFault) (more : List ℕ) → HasWritten contents is_down seat now new result more → IsNoPayload result → HasWritten contents is_down seat start new result (bytes ++ more)
+    pub joins : (new : Writer W) (result : Result (Unit {0}) WriteFault) (more : List ℕ) → HasWritten contents passed_on is_down seat now new result more → IsNoPayload result → HasWritten contents passed_on is_down seat start new result (bytes ++ more)
 
   pub IsBehind-nil : (start : Writer W) → IsBehind start start []
   IsBehind-nil start = record { joins = λ new result more h fits. h }
 
-  pub IsBehind-push : (start now next : Writer W) (bytes more : List ℕ) → IsBehind start now bytes → HasWritten contents is_down seat now next (Ok tt) more → IsBehind start next (bytes ++ more)
+  pub IsBehind-push : (start now next : Writer W) (bytes more : List ℕ) → IsBehind start now bytes → HasWritten contents passed_on is_down seat now next (Ok tt) more → IsBehind start next (bytes ++ more)
   IsBehind-push start now next bytes more behind wrote = record {
     joins = λ new result ys h fits.
         rw append_assoc (behind.joins new result (more ++ ys) (written_then now next new more ys result wrote h fits) fits);
   }
-
--- one byte more, each written as f has it
-pub appends_more : (f : ℕ → ℕ) (xs : List ℕ) (i x : ℕ) (a b c : Option (List ℕ)) → i < length xs → x ≡ get_or xs i x → Appends a b (map f (take i xs)) → Appends b c (f x ∷ []) → Appends a c (map f (take (i + 1) xs))
-appends_more f xs i x a b c inside is before last =
-    let more : take (i + 1) xs ≡ take i xs ++ x ∷ [] = take_more xs i x inside ∙ ap (λ (y : ℕ). take i xs ++ y ∷ []) (sym is) in
-    subst (λ (ys : List ℕ). Appends a c ys) (sym (ap (map f) more ∙ map-append f (take i xs) (x ∷ []))) (Appends-trans a b c (map f (take i xs)) (f x ∷ []) before last)

@@ -63,7 +63,7 @@ err_bytes fault = canonical (Data (codes "ERR " ++ err_text fault ++ 10 ∷ []))
 
 -- the lines that are read say this
 abbrev pub ReadsRequest : Change → Request → Type 0
-ReadsRequest read request = (lines : List Packet) × ReadsLines read.old read.new lines × Says lines request
+ReadsRequest read request = (lines : List Packet) × ReadsLines read lines × Says lines request
 
 -- Why there is no answer: no memory for the buffer, before anything is read; a message that is refused, where the
 -- fault is the source's exactly where it is down, and an end of the input comes after the first packet; no memory
@@ -71,20 +71,20 @@ ReadsRequest read request = (lines : List Packet) × ReadsLines read.old read.ne
 abbrev pub IsRefusal : Input → LsFault → Type 0
 IsRefusal input Buffer = IsUnread input
 IsRefusal input (Message fault) =
-    ReadsRefused judge input.read.old input.read.new fault × IsReadFailure false input.is_down fault.why
+    ReadsRefused judge input.read fault × IsReadFailure false input.is_down fault.why
     × (fault.why ≡ why.Ended → fault.frame ≢ 0)
 IsRefusal input Memory = (asked : LsRefs) × ReadsRequest input.read (Ls asked)
 
 module _ {A : Type 0} (graph : List (Entry A)) (refs : RefList) (at : Head A) where
   -- the lines that are read are a request for ls-refs, and these are the bytes of its answer
-  pub record IsAnswered (read : Change) (due : List ℕ) : Type 0 where
+  pub record IsAnswered (bytes : Change) (due : List ℕ) : Type 0 where
     pub lines : List Packet
     pub asked : LsRefs
-    pub read : ReadsLines read.old read.new lines
+    pub read : ReadsLines bytes lines
     pub says : Says lines (Ls asked)
     pub reply : List (RefLine A)
     pub answer : IsAnswer graph refs at asked reply
-    pub bytes : due ≡ reply_bytes reply
+    pub due_is : due ≡ reply_bytes reply
 
   -- what was to be written: the answer, or the line that reports the refusal
   abbrev pub IsDue : Input → List ℕ → Type 0
@@ -94,7 +94,7 @@ module _ {A : Type 0} (graph : List (Entry A)) (refs : RefList) (at : Head A) wh
   abbrev pub Exchanges : Input → Output → LsEnd → Type 0
   Exchanges input output end.Answered = (due : List ℕ) × IsAnswered input.read due × Sends output due
   Exchanges input output end.Closed = ReadsRequest input.read Empty × IsUnwritten output
-  Exchanges input output end.Ended = Reads input.read.old input.read.new (Ok None) × IsUnwritten output
+  Exchanges input output end.Ended = Reads input.read (Ok None) × IsUnwritten output
   Exchanges input output (end.Refused fault) = IsRefusal input fault × Sends output (err_bytes fault)
   Exchanges input output end.WriteFailed = (due : List ℕ) × IsDue input due × SendsSome output due
 
@@ -103,7 +103,7 @@ module _ {A : Type 0} (graph : List (Entry A)) (refs : RefList) (at : Head A) wh
 -- the request is read
 abbrev pub TakesRequest : {A : Type 0} → Input → Result (Option (read.Request A)) LsFault → Type 0
 TakesRequest input (Ok (Some request)) = ReadsRequest input.read (request_view request)
-TakesRequest input (Ok None) = Reads input.read.old input.read.new (Ok None)
+TakesRequest input (Ok None) = Reads input.read (Ok None)
 TakesRequest input (Err Memory) = ⊥
 TakesRequest input (Err fault) = IsRefusal input fault
 

@@ -14,7 +14,7 @@ pub record IsOpen (judge : List Packet → Packet → Verdict) (lines : List Pac
   pub each : (front : List Packet) (packet : Packet) (back : List Packet) → lines ≡ front ++ packet ∷ back → judge front packet ≡ Goes
 
 -- open, and one packet more that ends the message
-pub record IsWhole (judge : List Packet → Packet → Verdict) (lines : List Packet) : Type 0 where
+pub record IsWholeMessage (judge : List Packet → Packet → Verdict) (lines : List Packet) : Type 0 where
   pub front : List Packet
   pub last : Packet
   pub parts : lines ≡ front ++ last ∷ []
@@ -22,21 +22,21 @@ pub record IsWhole (judge : List Packet → Packet → Verdict) (lines : List Pa
   pub ends : judge front last ≡ Ends
 
 -- some lines can follow that make a whole message
-abbrev pub Begins : (List Packet → Packet → Verdict) → List Packet → Type 0
-Begins judge lines = (more : List Packet) × IsWhole judge (lines ++ more)
+abbrev pub BeginsMessage : (List Packet → Packet → Verdict) → List Packet → Type 0
+BeginsMessage judge lines = (more : List Packet) × IsWholeMessage judge (lines ++ more)
 
 -- ---- laws, for every judge
 
 -- With this packet the lines are no beginning of a message any more, and it is the first such packet:
 -- the lines before it begin one, and none of their beginnings is whole.
 pub record IsFirstMisfit (judge : List Packet → Packet → Verdict) (front : List Packet) (packet : Packet) : Type 0 where
-  pub begins : Begins judge front
-  pub unfinished : (whole back : List Packet) → front ≡ whole ++ back → IsWhole judge whole → ⊥
-  pub misfit : Begins judge (front ++ packet ∷ []) → ⊥
+  pub begins : BeginsMessage judge front
+  pub unfinished : (whole back : List Packet) → front ≡ whole ++ back → IsWholeMessage judge whole → ⊥
+  pub misfit : BeginsMessage judge (front ++ packet ∷ []) → ⊥
 
 -- each open beginning has an ending
 abbrev pub HasEndings : (List Packet → Packet → Verdict) → Type 0
-HasEndings judge = (front : List Packet) → IsOpen judge front → Begins judge front
+HasEndings judge = (front : List Packet) → IsOpen judge front → BeginsMessage judge front
 
 -- a refused packet is the first that does not fit
 abbrev pub RefusesFirstMisfits : (List Packet → Packet → Verdict) → Type 0
@@ -44,4 +44,4 @@ RefusesFirstMisfits judge = (front : List Packet) (packet : Packet) (why : Why) 
 
 -- no message begins another
 abbrev pub IsPrefixFree : (List Packet → Packet → Verdict) → Type 0
-IsPrefixFree judge = (lines back : List Packet) → IsWhole judge lines → IsWhole judge (lines ++ back) → back ≡ []
+IsPrefixFree judge = (lines back : List Packet) → IsWholeMessage judge lines → IsWholeMessage judge (lines ++ back) → back ≡ []

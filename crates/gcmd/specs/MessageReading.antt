@@ -1,8 +1,9 @@
 -- What reading a message takes from its source, and what it answers.
 use Rattle.std.specs.Prelude.{◌≡◌, ℕ, Bool, true, false, List, [], ◌∷◌, ◌++◌, length, Option, Some, None, Result, Ok, Err}
 use Rattle.gpkt.specs.Packets.{Packet, SpellsAll}
-use Rattle.gpkt.specs.Reading.{Reads}
-use Rattle.gcmd.specs.Grammar.{Verdict, Goes, Ends, Refuses, IsOpen, IsWhole}
+use Rattle.gpkt.specs.Change.{Change, WhereKnown}
+use Rattle.gpkt.specs.LineReading.{Reads}
+use Rattle.gcmd.specs.Grammar.{Verdict, Goes, Ends, Refuses, IsOpen, IsWholeMessage}
 use Rattle.gcmd.specs.declared.fault.Why.{Why}
 use Rattle.gcmd.specs.declared.fault.Why.TheVariants.{Line, UnexpectedFrame, BadText, UnknownCommand, UnknownCapability, UnknownArgument, BadName, Limit, RemoteErr, Format, Memory, Ended}
 use Rattle.gcmd.specs.declared.fault.MessageFault.{MessageFault}
@@ -10,47 +11,45 @@ use Rattle.gcmd.specs.declared.message.Step.{Step}
 use Rattle.gcmd.specs.declared.message.Step.TheVariants as step
 use Rattle.gpkt.specs.declared.fault.LineFault.TheVariants.{Io, Failed}
 
--- the bytes between the two states spell the lines, where the bytes still to come are known
-abbrev pub ReadsLines : Option (List ℕ) → Option (List ℕ) → List Packet → Type 0
-ReadsLines None new lines = Unit {0}
-ReadsLines (Some old) None lines = ⊥
-ReadsLines (Some old) (Some new) lines = (bytes : List ℕ) × (old ≡ bytes ++ new) × SpellsAll lines bytes
+-- the bytes that are read spell the lines, where the bytes still to come are known
+abbrev pub ReadsLines : Change → List Packet → Type 0
+ReadsLines bytes lines = WhereKnown bytes (λ old new. (front : List ℕ) × (old ≡ front ++ new) × SpellsAll lines front)
 
 -- these lines are read, a whole message
-pub record ReadsWhole (judge : List Packet → Packet → Verdict) (old new : Option (List ℕ)) (lines : List Packet) : Type 0 where
-  pub whole : IsWhole judge lines
-  pub bytes : ReadsLines old new lines
+pub record ReadsWhole (judge : List Packet → Packet → Verdict) (read : Change) (lines : List Packet) : Type 0 where
+  pub whole : IsWholeMessage judge lines
+  pub bytes : ReadsLines read lines
 
 -- the next packet is read, and the judge says this of it
-abbrev pub ReadsJudged : (List Packet → Packet → Verdict) → List Packet → Option (List ℕ) → Option (List ℕ) → Verdict → Type 0
-ReadsJudged judge front old new verdict = (packet : Packet) × Reads old new (Ok (Some packet)) × (judge front packet ≡ verdict)
+abbrev pub ReadsJudged : (List Packet → Packet → Verdict) → List Packet → Change → Verdict → Type 0
+ReadsJudged judge front bytes verdict = (packet : Packet) × Reads bytes (Ok (Some packet)) × (judge front packet ≡ verdict)
 
 -- Why the message is refused behind these lines: no line is spelt there; the input ends; a packet that
 -- goes on needed memory that was refused; or the judge refuses the packet.
-abbrev pub IsCause : (List Packet → Packet → Verdict) → List Packet → Option (List ℕ) → Option (List ℕ) → Why → Type 0
-IsCause judge front old new (Line fault) = Reads old new (Err fault)
-IsCause judge front old new Ended = Reads old new (Ok None)
-IsCause judge front old new Memory = ReadsJudged judge front old new Goes
-IsCause judge front old new UnexpectedFrame = ReadsJudged judge front old new (Refuses UnexpectedFrame)
-IsCause judge front old new BadText = ReadsJudged judge front old new (Refuses BadText)
-IsCause judge front old new UnknownCommand = ReadsJudged judge front old new (Refuses UnknownCommand)
-IsCause judge front old new UnknownCapability = ReadsJudged judge front old new (Refuses UnknownCapability)
-IsCause judge front old new UnknownArgument = ReadsJudged judge front old new (Refuses UnknownArgument)
-IsCause judge front old new BadName = ReadsJudged judge front old new (Refuses BadName)
-IsCause judge front old new Limit = ReadsJudged judge front old new (Refuses Limit)
-IsCause judge front old new (RemoteErr said) = ReadsJudged judge front old new (Refuses (RemoteErr said))
-IsCause judge front old new Format = ReadsJudged judge front old new (Refuses Format)
+abbrev pub IsReasonFor : (List Packet → Packet → Verdict) → List Packet → Change → Why → Type 0
+IsReasonFor judge front bytes (Line fault) = Reads bytes (Err fault)
+IsReasonFor judge front bytes Ended = Reads bytes (Ok None)
+IsReasonFor judge front bytes Memory = ReadsJudged judge front bytes Goes
+IsReasonFor judge front bytes UnexpectedFrame = ReadsJudged judge front bytes (Refuses UnexpectedFrame)
+IsReasonFor judge front bytes BadText = ReadsJudged judge front bytes (Refuses BadText)
+IsReasonFor judge front bytes UnknownCommand = ReadsJudged judge front bytes (Refuses UnknownCommand)
+IsReasonFor judge front bytes UnknownCapability = ReadsJudged judge front bytes (Refuses UnknownCapability)
+IsReasonFor judge front bytes UnknownArgument = ReadsJudged judge front bytes (Refuses UnknownArgument)
+IsReasonFor judge front bytes BadName = ReadsJudged judge front bytes (Refuses BadName)
+IsReasonFor judge front bytes Limit = ReadsJudged judge front bytes (Refuses Limit)
+IsReasonFor judge front bytes (RemoteErr said) = ReadsJudged judge front bytes (Refuses (RemoteErr said))
+IsReasonFor judge front bytes Format = ReadsJudged judge front bytes (Refuses Format)
 
 -- the message is refused at this frame: the lines before it are open
-pub record ReadsRefused (judge : List Packet → Packet → Verdict) (old new : Option (List ℕ)) (fault : MessageFault) : Type 0 where
+pub record ReadsRefused (judge : List Packet → Packet → Verdict) (bytes : Change) (fault : MessageFault) : Type 0 where
   pub front : List Packet
   pub between : Option (List ℕ)
   pub goes : IsOpen judge front
   pub frame : fault.frame ≡ length front
-  pub bytes : ReadsLines old between front
-  pub cause : IsCause judge front between new fault.why
+  pub before : ReadsLines (record { old = bytes.old; new = between }) front
+  pub reason : IsReasonFor judge front (record { old = between; new = bytes.new }) fault.why
 
--- A packet was taken with this verdict, and P holds where the message goes on or ends with it. Want of
+-- A packet was taken with this verdict, and P holds where the message goes on or ends with it. Out of
 -- memory comes only at a packet that goes on.
 abbrev pub TakesAs : Verdict → Type 0 → Result Step Why → Type 0
 TakesAs verdict P (Ok step.Goes) = (verdict ≡ Goes) × P
@@ -70,13 +69,13 @@ TakesAs verdict P (Err Format) = verdict ≡ Refuses Format
 
 module _ {M : Type 0} (judge : List Packet → Packet → Verdict) (holds : M → List Packet → Type 0) where
   -- taking a packet behind these answers what the judge says of it
-  abbrev pub Takes : List Packet → Packet → M → Result Step Why → Type 0
-  Takes front packet new result = TakesAs (judge front packet) (holds new (front ++ packet ∷ [])) result
+  abbrev pub TakesPacket : List Packet → Packet → M → Result Step Why → Type 0
+  TakesPacket front packet new result = TakesAs (judge front packet) (holds new (front ++ packet ∷ [])) result
 
   -- a whole message was read, and it holds its packets
-  pub record HasTaken (old new : Option (List ℕ)) (message : M) : Type 0 where
+  pub record HasTaken (bytes : Change) (message : M) : Type 0 where
     pub lines : List Packet
-    pub read : ReadsWhole judge old new lines
+    pub read : ReadsWhole judge bytes lines
     pub held : holds message lines
 
 -- The fault is the device's exactly where the device is down now, and that of a failed reader only
@@ -88,7 +87,8 @@ IsReadFailure failed down _ = down ≡ false
 
 -- reading a message that may be missing: a whole one, none where the input ends before its first packet, or
 -- what it is refused for
-abbrev pub ReadsMaybe : {T : Type 0} → (List Packet → Packet → Verdict) → (List Packet → T → Type 0) → Option (List ℕ) → Option (List ℕ) → Result (Option T) MessageFault → Type 0
-ReadsMaybe judge says old new (Ok (Some value)) = (lines : List Packet) × ReadsLines old new lines × says lines value
-ReadsMaybe judge says old new (Ok None) = Reads old new (Ok None)
-ReadsMaybe judge says old new (Err fault) = ReadsRefused judge old new fault
+abbrev pub ReadsMaybe : {T : Type 0} → (List Packet → Packet → Verdict) → (List Packet → T → Type 0) → Change
+    → Result (Option T) MessageFault → Type 0
+ReadsMaybe judge says bytes (Ok (Some value)) = (lines : List Packet) × ReadsLines bytes lines × says lines value
+ReadsMaybe judge says bytes (Ok None) = Reads bytes (Ok None)
+ReadsMaybe judge says bytes (Err fault) = ReadsRefused judge bytes fault

@@ -2,6 +2,7 @@
 -- frame, the line, the place, and the id, the name or the text.
 use Rattle.std.specs.Prelude.{ℕ, ◌≤◌, ◌++◌, ◌&&◌, nat_le, if◌then◌else◌, List, [], length, map, codes, Option, None, Some, ⊤}
 use Rattle.std.specs.Fmt.{decimal}
+use Rattle.std.specs.Option.{option_copied}
 use Rattle.gpkt.specs.declared.fault.WriteFault.{WriteFault}
 use Rattle.gname.specs.Faults.{FaultRow, id_fault_row, name_fault_row}
 use Rattle.gname.specs.Ids.{id_text}
@@ -15,8 +16,6 @@ use Rattle.ggraph.specs.declared.pack.IndexFault.{IndexFault}
 use Rattle.ggraph.specs.declared.pack.IndexFault.TheVariants as index
 use Rattle.gcmd.specs.Faults.{why_row, ls_fault_row, repo_fault_row, graph_fault_row, write_fault_row}
 use Rattle.gcmd.specs.declared.print.FaultLine.{FaultLine}
-use Rattle.gcmd.specs.declared.print.Subject.{Subject}
-use Rattle.gcmd.specs.declared.print.Subject.TheVariants as subject
 use Rattle.gcmd.specs.declared.exchange.LsFault.{LsFault}
 use Rattle.gcmd.specs.declared.exchange.LsFault.TheVariants as ls
 use Rattle.gcmd.specs.declared.fault.MessageFault.{MessageFault}
@@ -42,35 +41,49 @@ text_part text = codes " " ++ map shown text
 abbrev pub id_part : List ℕ → List ℕ
 id_part id = codes " " ++ id_text id
 
--- the line of a fault with this number and name, perhaps with a frame, a line, a place, and what it is about
-abbrev pub fault_line : FaultRow → Option ℕ → Option ℕ → Option ℕ → List ℕ → List ℕ
-fault_line row frame line at about =
-    codes "gitv2: fault " ++ decimal row.0 ++ codes " " ++ row.1 ++ number_part (codes " frame ") frame
-    ++ number_part (codes " line ") line ++ number_part (codes " at ") at ++ about ++ codes "\n"
+-- what the fault is about: an id, or a name or a text
+abbrev pub subject_part : Option (List ℕ) → Option (List ℕ) → List ℕ
+subject_part (Some id) text = id_part id
+subject_part None (Some text) = text_part text
+subject_part None None = []
 
--- the line of a fault that has no more than a number and a name
-abbrev pub plain_line : FaultRow → List ℕ
-plain_line row = fault_line row None None None []
+-- what follows the name of a fault, where the fault has it
+pub record Details : Type 0 where
+  pub frame : Option ℕ
+  pub line : Option ℕ
+  pub at : Option ℕ
+  pub id : Option (List ℕ)
+  pub text : Option (List ℕ)
+
+abbrev pub no_details : Details
+no_details = record { frame = None; line = None; at = None; id = None; text = None }
+
+-- the line of a fault with this number and name
+abbrev pub fault_line : FaultRow → Details → List ℕ
+fault_line row details =
+    codes "gitv2: fault " ++ decimal row.0 ++ codes " " ++ row.1 ++ number_part (codes " frame ") details.frame
+    ++ number_part (codes " line ") details.line ++ number_part (codes " at ") details.at
+    ++ subject_part details.id details.text ++ codes "\n"
 
 -- ---- what the code prints
 
-abbrev pub subject_part : Option Subject → List ℕ
-subject_part None = []
-subject_part (Some (subject.Id id)) = id_part id
-subject_part (Some (subject.Text text)) = text_part text.now
-
 abbrev pub printed : FaultLine → List ℕ
-printed fault = fault_line (fault.number, fault.name.now) fault.frame fault.line fault.at (subject_part fault.subject)
+printed fault = fault_line (fault.number, fault.name.now) (record {
+  frame = fault.frame;
+  line = fault.line;
+  at = fault.at;
+  id = fault.id;
+  text = option_copied fault.text;
+})
+
+abbrev pub IsShortText : Option (List ℕ) → Type 0
+IsShortText None = ⊤
+IsShortText (Some text) = length text ≤ 1000
 
 -- a name of at most 32 bytes, and a text of at most 1,000
-abbrev pub IsShortSubject : Option Subject → Type 0
-IsShortSubject None = ⊤
-IsShortSubject (Some (subject.Id id)) = ⊤
-IsShortSubject (Some (subject.Text text)) = length text.now ≤ 1000
-
 pub record IsShort (fault : FaultLine) : Type 0 where
   pub name : length fault.name.now ≤ 32
-  pub subject : IsShortSubject fault.subject
+  pub text : IsShortText (option_copied fault.text)
 
 -- ---- each fault's line
 
@@ -79,7 +92,7 @@ place_in_id id.Length = None
 place_in_id (id.Digit at) = Some at
 
 abbrev pub id_fault_line : OidFault → List ℕ
-id_fault_line fault = fault_line (id_fault_row fault) None None (place_in_id fault) []
+id_fault_line fault = fault_line (id_fault_row fault) (record no_details { at = place_in_id fault })
 
 abbrev pub place_in_name : NameFault → Option ℕ
 place_in_name (name.BadByte at) = Some at
@@ -89,10 +102,10 @@ place_in_name (name.AtBrace at) = Some at
 place_in_name _ = None
 
 abbrev pub name_fault_line : NameFault → List ℕ
-name_fault_line fault = fault_line (name_fault_row fault) None None (place_in_name fault) []
+name_fault_line fault = fault_line (name_fault_row fault) (record no_details { at = place_in_name fault })
 
 abbrev pub write_fault_line : WriteFault → List ℕ
-write_fault_line fault = plain_line (write_fault_row fault)
+write_fault_line fault = fault_line (write_fault_row fault) no_details
 
 abbrev pub line_in_pack : IndexFault → Option ℕ
 line_in_pack (index.Bad at) = Some at
@@ -104,28 +117,37 @@ line_in_text (graph.ParentLater at) = Some at
 line_in_text (graph.Index cause) = line_in_pack cause
 line_in_text _ = None
 
-abbrev pub id_in_conflict : GraphFault → List ℕ
-id_in_conflict (graph.Conflict id) = id_part id
-id_in_conflict _ = []
+abbrev pub id_in_conflict : GraphFault → Option (List ℕ)
+id_in_conflict (graph.Conflict id) = Some id
+id_in_conflict _ = None
 
 abbrev pub graph_fault_line : GraphFault → List ℕ
-graph_fault_line fault = fault_line (graph_fault_row fault) None (line_in_text fault) None (id_in_conflict fault)
+graph_fault_line fault = 
+    fault_line (graph_fault_row fault) (record no_details { line = line_in_text fault; id = id_in_conflict fault })
 
 -- the text of a peer's error
-abbrev pub peer_text : Why → List ℕ
-peer_text (why.RemoteErr said) = text_part said
-peer_text _ = []
+abbrev pub peer_text : Why → Option (List ℕ)
+peer_text (why.RemoteErr said) = Some said
+peer_text _ = None
 
 abbrev pub message_fault_line : MessageFault → List ℕ
-message_fault_line fault = fault_line (why_row fault.why) (Some fault.frame) None None (peer_text fault.why)
+message_fault_line fault = 
+    fault_line (why_row fault.why) (record no_details { frame = Some fault.frame; text = peer_text fault.why })
 
 abbrev pub ls_fault_line : LsFault → List ℕ
-ls_fault_line ls.Buffer = plain_line (ls_fault_row ls.Buffer)
+ls_fault_line ls.Buffer = fault_line (ls_fault_row ls.Buffer) no_details
 ls_fault_line (ls.Message fault) = message_fault_line fault
-ls_fault_line ls.Memory = plain_line (ls_fault_row ls.Memory)
+ls_fault_line ls.Memory = fault_line (ls_fault_row ls.Memory) no_details
+
+abbrev pub line_in_file : {A : Type 0} → RepoFault A → Option ℕ
+line_in_file (repo.Text at) = Some at
+line_in_file (repo.ParentLater at) = Some at
+line_in_file _ = None
+
+abbrev pub missing_ref : {A : Type 0} → RepoFault A → Option (List ℕ)
+missing_ref (repo.RefMissing name) = Some name
+missing_ref _ = None
 
 abbrev pub repo_fault_line : {A : Type 0} → RepoFault A → List ℕ
-repo_fault_line {A} (repo.Text at) = fault_line (repo_fault_row {A = A} (repo.Text at)) None (Some at) None []
-repo_fault_line {A} (repo.ParentLater at) = fault_line (repo_fault_row {A = A} (repo.ParentLater at)) None (Some at) None []
-repo_fault_line (repo.RefMissing name) = fault_line (repo_fault_row (repo.RefMissing name)) None None None (text_part name)
-repo_fault_line {A} repo.Memory = plain_line (repo_fault_row {A = A} repo.Memory)
+repo_fault_line fault =
+    fault_line (repo_fault_row fault) (record no_details { line = line_in_file fault; text = missing_ref fault })

@@ -78,7 +78,7 @@ missing_fault (Ok name) = RefMissing name
 missing_fault (Err e) = Memory
 
 -- the text of a repository that can be served is read as that one, where there is memory
-abbrev pub Accepts : (A : Type 0) → List ℕ → Result (RepoFile A) (RepoFault A) → Type 0
-Accepts A text result =
+abbrev pub AcceptsServable : (A : Type 0) → List ℕ → Result (RepoFile A) (RepoFault A) → Type 0
+AcceptsServable A text result =
     (repo : Repository A) → Names text repo → HoldsRefs repo.graph repo.refs → HoldsHead repo.graph repo.head
     → MatchResult result (λ it. (it.graph ≡ repo.graph) × (it.refs ≡ repo.refs) × (it.head ≡ repo.head)) (λ fault. fault ≡ Memory)

@@ -6,7 +6,7 @@ use Rattle.gpkt.specs.Packets.{Packet, Data, Flush, Delim, ResponseEnd, text}
 use Rattle.gname.specs.Names.{prefix_fault}
 use Rattle.gcmd.specs.Forms.{is_word, begins, command_form, capability_form, argument_form}
 use Rattle.gcmd.specs.Faults.{kept_text}
-use Rattle.gcmd.specs.Grammar.{Verdict, Goes, Ends, Refuses, IsWhole}
+use Rattle.gcmd.specs.Grammar.{Verdict, Goes, Ends, Refuses, IsWholeMessage}
 use Rattle.gcmd.specs.declared.fault.Why.TheVariants.{UnexpectedFrame, BadText, UnknownCommand, UnknownCapability, UnknownArgument, BadName, Limit, RemoteErr, Format}
 use Rattle.gcmd.specs.declared.forms.CommandForm.{CommandForm}
 use Rattle.gcmd.specs.declared.forms.CommandForm.TheVariants as command
@@ -178,5 +178,5 @@ request_of lines = request_at (place_after lines) (ls_refs_of lines)
 
 -- the lines are a request, and ask this
 pub record Says (lines : List Packet) (request : Request) : Type 0 where
-  pub whole : IsWhole judge lines
+  pub whole : IsWholeMessage judge lines
   pub asks : request ≡ request_of lines

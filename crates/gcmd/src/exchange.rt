@@ -1,9 +1,10 @@
 //! One request for ls-refs, read and answered.
 
-ghost use Rattle.std.specs.Prelude.{◌≡◌, IfErr};
-ghost use Rattle.gcmd.specs.Sending.{HasSent};
+ghost use Rattle.std.specs.Prelude.{◌≡◌};
+ghost use Rattle.gcmd.specs.Faults.{ls_fault_row};
+ghost use Rattle.gcmd.specs.Sending.{input_of, output_of, HasSent};
 ghost use Rattle.gcmd.specs.Reply.{reply_bytes};
-ghost use Rattle.gcmd.specs.Exchange.{ls_fault_code, err_text, why_text, line_text, err_bytes, IsAnswered, IsRefusal, IsDue, Exchanges, TellsSource, TellsSink, IsLate, TakesRequest, Replies, Refuses};
+ghost use Rattle.gcmd.specs.Exchange.{err_text, why_text, line_text, err_bytes, Exchanges, TakesRequest, Replies, ReportsRefusal};
 
 use crate::answer::ls_refs;
 use crate::fault::{MessageFault, Why};
@@ -121,10 +122,8 @@ pub fn ls_once<S: Source, W: Sink, A: Allocator + Copy>(
     sink: &mut W,
 ) -> LsEnd
     ensures exchange { Exchanges repo.now.graph repo.now.refs repo.now.head
-        (S.remaining source.old) (S.remaining source.new) (W.contents sink.old) (W.contents sink.new) result }
-    ensures source { TellsSource (S.is_down source.new) result }
-    ensures sink { TellsSink (W.is_down sink.new) result }
-    ensures late { IsLate result }
+        (input_of S.remaining S.is_down source.old source.new)
+        (output_of W.contents W.passed_on W.is_down sink.old sink.new) result }
     ensures source_seat { S.seat source.new ≡ S.seat source.old }
     ensures sink_seat { W.seat sink.new ≡ W.seat sink.old }
 {
@@ -141,9 +140,7 @@ fn take_request<S: Source, A: Allocator + Copy>(
     alloc: A,
     source: &mut S,
 ) -> Result<Option<Request<A>>, LsFault>
-    ensures read { TakesRequest (S.remaining source.old) (S.remaining source.new) result }
-    ensures device { IfErr result (λ fault. TellsSource (S.is_down source.new) (LsEnd.Refused fault)) }
-    ensures late { IfErr result (λ fault. IsLate (LsEnd.Refused fault)) }
+    ensures read { TakesRequest (input_of S.remaining S.is_down source.old source.new) result }
     ensures seat { S.seat source.new ≡ S.seat source.old }
 {
     let buffer = match LineBuffer::new(alloc) {
@@ -166,7 +163,8 @@ fn answer<W: Sink, A: Allocator + Copy>(
     asked: &LsRefs<A>,
     sink: &mut W,
 ) -> LsEnd
-    ensures replies { Replies repo.now.graph repo.now.refs repo.now.head asked.now (W.contents sink.old) (W.contents sink.new) (W.is_down sink.new) result }
+    ensures replies { Replies repo.now.graph repo.now.refs repo.now.head asked.now
+        (output_of W.contents W.passed_on W.is_down sink.old sink.new) result }
     ensures seat { W.seat sink.new ≡ W.seat sink.old }
 {
     let lines = match ls_refs(alloc, &repo.graph, &repo.refs, &repo.head, asked) {
@@ -183,8 +181,7 @@ fn send_reply<W: Sink, A: Allocator + Copy>(
     lines: &[RefLine<A>],
     sink: &mut W,
 ) -> Result<(), WriteFault>
-    ensures sent { HasSent (W.contents sink.old) (W.contents sink.new) (W.is_down sink.new) result (reply_bytes lines.now) }
-    ensures fault { IfErr result (λ fault. fault ≡ WriteFault.Io) }
+    ensures sent { HasSent (output_of W.contents W.passed_on W.is_down sink.old sink.new) result (reply_bytes lines.now) }
     ensures seat { W.seat sink.new ≡ W.seat sink.old }
 {
     let mut writer = LineWriter::new(sink);
@@ -198,7 +195,7 @@ fn send_reply<W: Sink, A: Allocator + Copy>(
 
 // Tells the peer of the refusal.
 fn refuse<W: Sink>(fault: LsFault, sink: &mut W) -> LsEnd
-    ensures refused { Refuses fault (W.contents sink.old) (W.contents sink.new) (W.is_down sink.new) result }
+    ensures refused { ReportsRefusal fault (output_of W.contents W.passed_on W.is_down sink.old sink.new) result }
     ensures seat { W.seat sink.new ≡ W.seat sink.old }
 {
     match send_err(&fault, sink) {
@@ -209,8 +206,7 @@ fn refuse<W: Sink>(fault: LsFault, sink: &mut W) -> LsEnd
 
 #[tactic(auto, unfolding(crate::specs::Exchange::err_bytes))]
 fn send_err<W: Sink>(fault: &LsFault, sink: &mut W) -> Result<(), WriteFault>
-    ensures sent { HasSent (W.contents sink.old) (W.contents sink.new) (W.is_down sink.new) result (err_bytes fault.now) }
-    ensures fault { IfErr result (λ fault. fault ≡ WriteFault.Io) }
+    ensures sent { HasSent (output_of W.contents W.passed_on W.is_down sink.old sink.new) result (err_bytes fault.now) }
     ensures seat { W.seat sink.new ≡ W.seat sink.old }
 {
     let mut writer = LineWriter::new(sink);

@@ -32,25 +32,28 @@
 #![tactic(auto)]
 
 mod answer;
-mod command;
+mod check;
+mod compose;
 mod exchange;
 mod fault;
 mod forms;
 pub mod laws;
-mod lent;
+mod ls;
 mod message;
 mod print;
+mod program;
 mod reply;
 mod repository;
 mod request;
+mod send;
 
 pub use crate::answer::ls_refs;
-pub use crate::command::{cmd_check, cmd_ls, file_failed, memory_failed};
+pub use crate::check::cmd_check;
 pub use crate::exchange::{LsEnd, LsFault, ls_once};
 pub use crate::fault::{MessageFault, PeerText, Why};
+pub use crate::ls::cmd_ls;
+pub use crate::program::{ProgramFault, cmd_failed};
 pub use crate::reply::{RefLine, write_ls_reply};
 pub use crate::repository::{RepoFault, RepoFile};
 pub use crate::request::{LsRefs, Request, read_request};
 
-#[cfg(test)]
-mod tests;

@@ -2,8 +2,9 @@
 
 ghost use Rattle.std.specs.Prelude.{◌≡◌, ◌<◌, ◌^◌, List, [], length, MatchResult, IfErr, OnOk, false};
 ghost use Rattle.gpkt.specs.Packets.{Packet, packet_of};
+ghost use Rattle.gpkt.specs.Change.{change_of};
 ghost use Rattle.gcmd.specs.Grammar.{Verdict, IsOpen};
-ghost use Rattle.gcmd.specs.MessageReading.{Takes, HasTaken, ReadsWhole, ReadsRefused, IsReadFailure};
+ghost use Rattle.gcmd.specs.MessageReading.{TakesPacket, HasTaken, ReadsRefused, IsReadFailure};
 
 use crate::fault::{MessageFault, Why};
 use gpkt::{Line, LineReader, Source};
@@ -30,7 +31,7 @@ pub(crate) trait Message {
     /// A message that goes on has had no more packets than can be counted.
     fn take(&mut self, line: Line<'_>) -> Result<Step, Why>
         ensures takes { (front : List Packet) → IsOpen judge front → holds self.old front
-            → Takes judge holds front (packet_of line.entry) self.new result }
+            → TakesPacket judge holds front (packet_of line.entry) self.new result }
         ensures bounded { (front : List Packet) → IsOpen judge front → length front < 2 ^ 60 };
 }
 
@@ -44,8 +45,8 @@ pub(crate) fn read_message<S: Source, A: Allocator + Copy, M: Message>(
 ) -> Result<(), MessageFault>
     requires { M.holds message.old [] }
     ensures read { MatchResult result
-        (λ _. HasTaken M.judge M.holds (S.remaining reader.old.source) (S.remaining reader.new.source) message.new)
-        (λ fault. ReadsRefused M.judge (S.remaining reader.old.source) (S.remaining reader.new.source) fault) }
+        (λ _. HasTaken M.judge M.holds (change_of S.remaining reader.old.source reader.new.source) message.new)
+        (λ fault. ReadsRefused M.judge (change_of S.remaining reader.old.source reader.new.source) fault) }
     ensures seat { S.seat reader.new.source ≡ S.seat reader.old.source }
     ensures device { IfErr result (λ fault. IsReadFailure reader.old.failed (S.is_down reader.new.source) fault.why) }
     ensures goes_on { OnOk result (reader.new.failed ≡ false) }

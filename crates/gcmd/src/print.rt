@@ -2,11 +2,10 @@
 //! order, ` frame K`, ` line K`, ` at K`, and a space and the id, the name or the text, each byte outside
 //! 32 to 126 as `?`.
 
-ghost use Rattle.std.specs.Prelude.{◌≡◌, ◌+◌, ◌≤◌, ◌++◌, length, codes, map, None};
-ghost use Rattle.gpkt.specs.WriteFault.{write_fault_row};
-ghost use Rattle.gname.specs.Faults.{id_fault_row, name_fault_row};
-ghost use Rattle.gcmd.specs.Faults.{graph_fault_row, why_row};
-ghost use Rattle.gcmd.specs.Printing.{fault_line, graph_fault_line, id_fault_line, id_in_conflict, line_in_pack, line_in_text, ls_fault_line, message_fault_line, name_fault_line, number_part, peer_text, place_in_id, place_in_name, printed, repo_fault_line, shown, subject_part, text_part, write_fault_line, IsShort, IsShortSubject};
+ghost use Rattle.std.specs.Prelude.{◌≡◌, ◌+◌, ◌≤◌, ◌++◌, length, map, None, []};
+ghost use Rattle.gcmd.specs.Faults.{graph_fault_row, write_fault_row};
+ghost use Rattle.gcmd.specs.Printing.{graph_fault_line, id_fault_line, id_in_conflict, line_in_pack, line_in_text, ls_fault_line, message_fault_line, name_fault_line, number_part, peer_text, place_in_id, place_in_name, printed, repo_fault_line, shown, subject_part, text_part, write_fault_line, IsShort, IsShortText};
+ghost use Rattle.std.specs.Option.{option_copied};
 ghost use Rattle.gcmd.specs.Sending.{output_of, HasSent};
 
 use crate::compose::{add, add_id, add_number};
@@ -23,14 +22,6 @@ use std::alloc::Allocator;
 /// The most bytes of a fault's line: its words, a name of 32, four numbers of 20, and a text of 1,000.
 const MAX_FAULT_LINE: usize = 1_145;
 
-/// What a fault is about.
-#[derive(Clone, Copy)]
-pub(crate) enum Subject<'a> {
-    Id(Oid),
-    /// A name, or a text.
-    Text(&'a [u8]),
-}
-
 /// What is printed of a fault.
 #[derive(Clone, Copy)]
 pub(crate) struct FaultLine<'a> {
@@ -39,15 +30,19 @@ pub(crate) struct FaultLine<'a> {
     frame: Option<u64>,
     line: Option<usize>,
     at: Option<usize>,
-    subject: Option<Subject<'a>>,
+    id: Option<Oid>,
+    // A name, or a text.
+    text: Option<&'a [u8]>,
 }
 
 impl<'a> FaultLine<'a> {
     /// A fault of which only the number and the name are printed.
     pub(crate) fn plain(number: u32, name: &'static str) -> FaultLine<'a>
         requires { length name.now ≤ 32 }
-        ensures line { printed result ≡ fault_line (number, name.now) None None None [] }
-        ensures short { IsShort result }
+        ensures number { result.number ≡ number }
+        ensures name { result.name.now ≡ name.now }
+        ensures places { (result.frame ≡ None) × (result.line ≡ None) × (result.at ≡ None) }
+        ensures subject { (result.id ≡ None) × (option_copied result.text ≡ None) }
     {
         FaultLine {
             number,
@@ -55,7 +50,8 @@ impl<'a> FaultLine<'a> {
             frame: None,
             line: None,
             at: None,
-            subject: None,
+            id: None,
+            text: None,
         }
     }
 
@@ -86,7 +82,7 @@ impl<'a> FaultLine<'a> {
         ensures line { printed result ≡ write_fault_line fault.now }
         ensures short { IsShort result }
     {
-        FaultLine::plain(fault.code(), fault.name())
+        FaultLine::plain(fault.code(), write_fault_name(fault))
     }
 
     /// A refusal of a graph or of a repository text, with the line of a text or of a pack, or the id that
@@ -97,7 +93,7 @@ impl<'a> FaultLine<'a> {
     {
         FaultLine {
             line: line_in_text(fault),
-            subject: id_in_conflict(fault),
+            id: id_in_conflict(fault),
             ..FaultLine::plain(fault.code(), graph_fault_name(fault))
         }
     }
@@ -114,7 +110,7 @@ impl<'a> FaultLine<'a> {
                 ..plain
             },
             RepoFault::RefMissing { name } => FaultLine {
-                subject: Some(Subject::Text(name.as_bytes())),
+                text: Some(name.as_bytes()),
                 ..plain
             },
             RepoFault::Memory => plain,
@@ -139,7 +135,7 @@ impl<'a> FaultLine<'a> {
     {
         FaultLine {
             frame: Some(fault.frame),
-            subject: peer_text(&fault.why),
+            text: peer_text(&fault.why),
             ..FaultLine::plain(fault.code(), fault.name())
         }
     }
@@ -169,7 +165,7 @@ impl<'a> FaultLine<'a> {
         add_place(b" frame ", self.frame, text);
         add_place(b" line ", as_number(self.line), text);
         add_place(b" at ", as_number(self.at), text);
-        add_subject(self.subject, text);
+        add_subject(self.id, self.text, text);
         add(b"\n", text);
     }
 }
@@ -192,22 +188,27 @@ fn add_place(word: &[u8], place: Option<u64>, text: &mut ArrayVec<u8, MAX_FAULT_
     }
 }
 
-fn add_subject(subject: Option<Subject<'_>>, text: &mut ArrayVec<u8, MAX_FAULT_LINE>)
+// Adds the id, the name or the text that the fault is about.
+fn add_subject(
+    id: Option<Oid>,
+    shown: Option<&[u8]>,
+    text: &mut ArrayVec<u8, MAX_FAULT_LINE>,
+)
     requires room { length text.old.items + 1001 ≤ 1145 }
-    requires short { IsShortSubject subject }
-    ensures text { text.new.items ≡ text.old.items ++ subject_part subject }
+    requires short { IsShortText (option_copied shown) }
+    ensures text { text.new.items ≡ text.old.items ++ subject_part id (option_copied shown.entry) }
     ensures long { length text.new.items ≤ length text.old.items + 1001 }
 {
-    match subject {
-        None => {}
-        Some(Subject::Id(id)) => {
+    match (id, shown) {
+        (Some(id), _) => {
             add(b" ", text);
             add_id(&id, text);
         }
-        Some(Subject::Text(shown)) => {
+        (None, Some(shown)) => {
             add(b" ", text);
             add_shown(shown, text);
         }
+        (None, None) => {}
     }
 }
 
@@ -264,22 +265,21 @@ fn line_in_text(fault: &GraphFault) -> Option<usize>
     }
 }
 
-fn id_in_conflict<'a>(fault: &GraphFault) -> Option<Subject<'a>>
-    ensures part { subject_part result ≡ id_in_conflict fault.now }
-    ensures short { IsShortSubject result }
+fn id_in_conflict(fault: &GraphFault) -> Option<Oid>
+    ensures { result ≡ id_in_conflict fault.now }
 {
     match fault {
-        GraphFault::Conflict { id } => Some(Subject::Id(*id)),
+        GraphFault::Conflict { id } => Some(*id),
         _ => None,
     }
 }
 
-fn peer_text(why: &Why) -> Option<Subject<'_>>
-    ensures part { subject_part result ≡ peer_text why.now }
-    ensures short { IsShortSubject result }
+fn peer_text(why: &Why) -> Option<&[u8]>
+    ensures text { option_copied result ≡ peer_text why.now }
+    ensures short { IsShortText (option_copied result) }
 {
     match why {
-        Why::RemoteErr(text) => Some(Subject::Text(text.as_bytes())),
+        Why::RemoteErr(text) => Some(text.as_bytes()),
         _ => None,
     }
 }
@@ -298,5 +298,15 @@ fn graph_fault_name(fault: &GraphFault) -> &'static str
         GraphFault::Text { .. } => "Text",
         GraphFault::ParentLater { .. } => "ParentLater",
         GraphFault::Refs => "Refs",
+    }
+}
+
+fn write_fault_name(fault: &WriteFault) -> &'static str
+    ensures name { result.now ≡ (write_fault_row fault.now).1 }
+{
+    match fault {
+        WriteFault::Failed => "Failed",
+        WriteFault::Payload => "Payload",
+        WriteFault::Io => "Io",
     }
 }

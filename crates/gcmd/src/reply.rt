@@ -3,10 +3,11 @@
 ghost use Rattle.std.specs.Prelude.{◌≡◌, ◌≢◌, ◌+◌, ◌≤◌, ◌++◌, length, IfErr};
 ghost use Rattle.std.specs.Option.{option_copied};
 ghost use Rattle.gname.specs.Ids.{id_text};
-ghost use Rattle.gpkt.specs.Writing.{HasWritten};
+ghost use Rattle.gpkt.specs.LineWriting.{HasWritten};
 ghost use Rattle.gpkt.specs.Packets.{canonical};
 ghost use Rattle.gcmd.specs.Reply.{line_packet, ref_line, symref_text, peeled_text, reply_bytes};
 
+use crate::compose::{add, add_id};
 use arrayvec::ArrayVec;
 use gname::{Oid, RefName};
 use gpkt::{LineWriter, Sink, WriteFault};
@@ -34,7 +35,7 @@ pub fn write_ls_reply<A: Allocator + Copy, W: Sink>(
     lines: &[RefLine<A>],
     writer: &mut LineWriter<W>,
 ) -> Result<(), WriteFault>
-    ensures written { HasWritten W.contents W.is_down W.seat writer.old writer.new result (reply_bytes lines.now) }
+    ensures written { HasWritten W.contents W.passed_on W.is_down W.seat writer.old writer.new result (reply_bytes lines.now) }
     ensures fits { IfErr result (λ fault. fault ≢ WriteFault.Payload) }
 {
     let mut text = ArrayVec::new();
@@ -50,7 +51,7 @@ fn write_line<A: Allocator + Copy, W: Sink>(
     text: &mut ArrayVec<u8, MAX_REF_LINE>,
     writer: &mut LineWriter<W>,
 ) -> Result<(), WriteFault>
-    ensures written { HasWritten W.contents W.is_down W.seat writer.old writer.new result (canonical (line_packet line.now)) }
+    ensures written { HasWritten W.contents W.passed_on W.is_down W.seat writer.old writer.new result (canonical (line_packet line.now)) }
     ensures fits { IfErr result (λ fault. fault ≢ WriteFault.Payload) }
 {
     compose(line, text);
@@ -102,22 +103,4 @@ fn add_name<A: Allocator + Copy>(name: &RefName<A>, text: &mut ArrayVec<u8, MAX_
     ensures long { length text.new.items ≤ length text.old.items + 1000 }
 {
     add(name.as_bytes(), text);
-}
-
-fn add_id(id: &Oid, text: &mut ArrayVec<u8, MAX_REF_LINE>)
-    requires { length text.old.items ≤ 2064 }
-    ensures text { text.new.items ≡ text.old.items ++ id_text id.now }
-    ensures long { length text.new.items ≡ length text.old.items + 40 }
-{
-    let mut digits = [0u8; 40];
-    id.to_hex(&mut digits);
-    add(&digits, text);
-}
-
-fn add(piece: &[u8], text: &mut ArrayVec<u8, MAX_REF_LINE>)
-    requires { length text.old.items + length piece.now ≤ 2104 }
-    ensures text { text.new.items ≡ text.old.items ++ piece.now }
-    ensures long { length text.new.items ≡ length text.old.items + length piece.now }
-{
-    text.try_extend_from_slice(piece).unwrap()
 }

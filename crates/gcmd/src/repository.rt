@@ -2,7 +2,7 @@
 
 ghost use Rattle.std.specs.Prelude.{◌≡◌, ◌↔◌, IfOk, IfErr, IsTrue, MatchOption, MatchResult};
 ghost use Rattle.gcmd.specs.Faults.{repo_fault_row};
-ghost use Rattle.gcmd.specs.Repository.{Accepts, Names, HoldsRefs, HoldsHead, IsFirstMissing, RefusesText, RefusesRefs, IsTextFault, missing_fault};
+ghost use Rattle.gcmd.specs.Repository.{AcceptsServable, Names, HoldsRefs, HoldsHead, IsFirstMissing, RefusesText, RefusesRefs, IsTextFault, missing_fault};
 
 use crate::answer::head_name;
 use ggraph::{Graph, GraphFault, Head, Order, Refs, Repository, load};
@@ -76,7 +76,7 @@ impl<A: Allocator + Copy> RepoFile<A> {
         ensures refs { IfOk result (λ repo. HoldsRefs repo.graph repo.refs) }
         ensures head { IfOk result (λ repo. HoldsHead repo.graph repo.head) }
         ensures refused { IfErr result (RefusesText text.now) }
-        ensures accepts { Accepts A text.now result }
+        ensures accepts { AcceptsServable A text.now result }
     {
         let repo = match load(alloc, text, Order::ParentsFirst) {
             Ok(repo) => repo,

@@ -2,6 +2,7 @@
 
 ghost use Rattle.std.specs.Prelude.{◌≡◌, ◌<◌, ◌≤◌, ◌↔◌, [], length, option_copied, IsTrue, IfOk, IfErr, IfSome, false};
 ghost use Rattle.gpkt.specs.Packets.{packet_of, text};
+ghost use Rattle.gpkt.specs.Change.{change_of};
 ghost use Rattle.gcmd.specs.MessageReading.{TakesAs, ReadsMaybe, IsReadFailure};
 ghost use Rattle.gcmd.specs.RequestState.{judge_at, with_packet, judge_capability_at, with_capability, judge_argument_at, with_argument, judge_data_at, with_text, with_delim, state_of};
 ghost use Rattle.gcmd.specs.Request.{Command, judge, judge_command, judge_delim, request_at, Says};
@@ -108,7 +109,7 @@ pub fn read_request<S: Source, A: Allocator + Copy>(
     reader: &mut LineReader<S, A>,
 ) -> Result<Option<Request<A>>, MessageFault>
     ensures read { ReadsMaybe judge (λ lines request. Says lines (request_view request))
-        (S.remaining reader.old.source) (S.remaining reader.new.source) result }
+        (change_of S.remaining reader.old.source reader.new.source) result }
     ensures seat { S.seat reader.new.source ≡ S.seat reader.old.source }
     ensures device { IfErr result (λ fault. IsReadFailure reader.old.failed (S.is_down reader.new.source) fault.why) }
     ensures not_ended { IfErr result (λ fault. fault.why ≡ Why.Ended → 0 < fault.frame) }

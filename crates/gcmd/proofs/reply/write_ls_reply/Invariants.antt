@@ -5,4 +5,4 @@ use Rattle.gcmd.proofs.reply.write_ls_reply.Given as goal
 
 abbrev pub invariant-loop-line : goal.invariant-loop-line
 invariant-loop-line g l =
-    IsBehind g.W.Sink.contents g.W.Sink.is_down g.W.Sink.seat l.initial.writer l.writer (line_bytes (take l.line-index l.lines))
+    IsBehind g.W.Sink.contents g.W.Sink.passed_on g.W.Sink.is_down g.W.Sink.seat l.initial.writer l.writer (line_bytes (take l.line-index l.lines))

@@ -1,7 +1,8 @@
-use Rattle.gcmd.proofs.PrintLemmas.{on_ok, line-written}
+use Rattle.std.proofs.Common.{List, ℕ, subst, ◌∙◌}
+use Rattle.gcmd.specs.Sending.{output_of, HasSent}
 use Rattle.gcmd.proofs.print.FaultLine.print.Goals as goal
 
-pub returns : goal.returns
-returns g c =
-    on_ok c.flush.result _
-    (line-written _ _ _ _ _ _ _ _ _ _ _ _ c.in_ok-write.ensures.bytes c.in_ok-print_frame.ensures c.in_ok-print_line.ensures c.in_ok-print_end.ensures c.in_ok-writeln.ensures.bytes c.flush.ensures.bytes)
+pub returns-clause-sent : goal.returns-clause-sent
+returns-clause-sent g c =
+    let errors = output_of g.E.Sink.contents g.E.Sink.passed_on g.E.Sink.is_down c.args.errors.now c.send.new.sink in
+    subst (λ (bytes : List ℕ). HasSent errors c.send.result bytes) (c.as_slice.ensures.value ∙ c.compose.ensures) c.send.ensures.sent

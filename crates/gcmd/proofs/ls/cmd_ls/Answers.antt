@@ -1,5 +1,5 @@
 use Rattle.std.proofs.Common.{inl}
-use Rattle.gcmd.proofs.command.cmd_ls.Goals as goal
+use Rattle.gcmd.proofs.ls.cmd_ls.Goals as goal
 
 pub returns-clause-serves : goal.returns-clause-serves
 returns-clause-serves g c =
@@ -8,7 +8,7 @@ returns-clause-serves g c =
       names = c.in-Ok.ensures.names;
       refs = c.in-Ok.ensures.refs;
       head = c.in-Ok.ensures.head;
-      ended = c.serve-end.result;
-      exchange = c.serve-end.ensures;
-      exits = c.tell_end.ensures.status;
+      ended = c.ls_once-ended.result;
+      exchange = c.ls_once-ended.ensures.exchange;
+      ends = c.status_of.ensures.ends;
     })

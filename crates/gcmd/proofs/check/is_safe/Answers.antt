@@ -2,7 +2,7 @@ use Rattle.std.proofs.Common.{◌∙◌, ap, map, List, ℕ, subst}
 use Rattle.ggraph.specs.Walks.{Misses}
 use Rattle.ggraph.specs.RefLists.{RefList}
 use Rattle.gcmd.proofs.CheckLemmas.{safe-missing}
-use Rattle.gcmd.proofs.command.is_safe.Goals as goal
+use Rattle.gcmd.proofs.check.is_safe.Goals as goal
 
 pub returns-clause-safe : goal.returns-clause-safe
 returns-clause-safe g c =

@@ -1,0 +1,6 @@
+use Rattle.std.proofs.Common.{◌≡◌, ◌++◌, map, take}
+use Rattle.gcmd.specs.Printing.{shown}
+use Rattle.gcmd.proofs.print.add_shown.Given as goal
+
+abbrev pub invariant-loop-byte : goal.invariant-loop-byte
+invariant-loop-byte l = l.text.items ≡ l.initial.text.items ++ map shown (take l.byte-index l.piece)
