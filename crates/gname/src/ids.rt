@@ -8,6 +8,7 @@ ghost use Rattle.std.specs.Cmp.Lexicographic.{pointwise, slice_cmp, nat_list_eq_
 ghost use Rattle.gname.specs.Ids.{IsId, IsIdText, ReadsId, id_text, id_fault_of};
 ghost use Rattle.gname.specs.Faults.{id_fault_row};
 
+use crate::digits::write_digits;
 use hex::{FromHex, FromHexError};
 use std::cmp::Ordering;
 use std::marker::Model;
@@ -54,7 +55,7 @@ impl Oid {
         ensures reads_back { IsIdText out.new self.now }
         ensures id { IsId self.now }
     {
-        hex::encode_to_slice(self.bytes, out).unwrap();
+        write_digits(&self.bytes, out);
     }
 
     /// The bytes of the id.
