@@ -3,3 +3,4 @@ pub mod Digits
 pub mod Steps
 pub mod Ending
 pub mod Readings
+pub mod Bands

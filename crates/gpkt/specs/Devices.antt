@@ -1,5 +1,5 @@
 -- Devices, and what their calls say beside the bytes that they read or wrote.
-use Rattle.std.specs.Prelude.{◌≡◌, ℕ, ◌<◌, Bool, List, length, Option, Result, IfOk, OnOk, IsErr, IsSome, IsTrue, refl}
+use Rattle.std.specs.Prelude.{◌≡◌, ℕ, ◌<◌, Bool, List, length, Option, Result, IfOk, IsErr, IsSome, IsTrue, refl}
 use Rattle.std.specs.Coded.{Coded, code_by, coded×, coded_bool, coded_list, coded_ℕ}
 use Rattle.gpkt.specs.Change.{Change}
 

@@ -1,8 +1,8 @@
 pub mod Packets
 pub mod Change
 pub mod Devices
-pub mod LineFault
-pub mod WriteFault
+pub mod Faults
+pub mod Bands
 pub mod LineReading
 pub mod Heads
 pub mod Lending

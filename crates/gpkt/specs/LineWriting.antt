@@ -20,7 +20,8 @@ writer_code {W} code =
 -- known bytes grow by a beginning of the bytes, and not by all of them
 abbrev pub AppendsFront : Change → List ℕ → Type 0
 AppendsFront written bytes =
-    (front : List ℕ) × (rest : List ℕ) × (bytes ≡ front ++ rest) × (0 < length rest) × Appends written.old written.new front
+    (front : List ℕ) × (rest : List ℕ) × (bytes ≡ front ++ rest) × (0 < length rest)
+    × Appends written.old written.new front
 
 module _ {W : Type 0} (contents_of passed_on_of : W → Option (List ℕ)) (is_down : W → Bool) (seat_of : W → List ℕ) where
   -- the writer had not failed; whether it has failed now, and its sink is then down

@@ -1,5 +1,6 @@
 //! Laws of packet lines. A call does nothing, and gives its caller's proof the law.
 
+ghost use Rattle.gpkt.specs.Bands.{BandIsPayload, BandIsRead};
 ghost use Rattle.gpkt.specs.Laws.{CanonicalJoins, CanonicalSpells, CanonicalSpellsAll, HasDigits, OneBegins, OneFault, OneReading, RefusedIsNoLine, SpellingsJoin, SpellingsSplit, TextOfLine, TextOrLine};
 
 /// At most one line is spelt at the front of some bytes, and in one way.
@@ -25,7 +26,7 @@ pub fn canonical_spells()
     ensures joins { CanonicalJoins }
 {}
 
-/// Two lists of lines are spelt one behind the other exactly where the one list of both is spelt.
+/// Two lists of lines are spelt one after the other exactly where the one list of both is spelt.
 pub fn spellings_join()
     ensures join { SpellingsJoin }
     ensures split { SpellingsSplit }
@@ -40,4 +41,10 @@ pub fn one_begins()
 pub fn text_reads_back()
     ensures line { TextOfLine }
     ensures nothing_else { TextOrLine }
+{}
+
+/// A payload is read as a band exactly where it is that band's byte and bytes.
+pub fn bands_are_read()
+    ensures payload { BandIsRead }
+    ensures nothing_else { BandIsPayload }
 {}

@@ -35,6 +35,7 @@
 //! `hex` for the digits, `thiserror` for the messages of the faults, std's `Read` and `Write`.
 #![tactic(auto)]
 
+mod band;
 mod buffer;
 mod device;
 mod fault;
@@ -48,9 +49,10 @@ mod standard;
 mod text;
 mod writing;
 
+pub use crate::band::{Band, band_of};
 pub use crate::buffer::LineBuffer;
 pub use crate::device::{Down, Sink, Source};
-pub use crate::fault::{LineFault, WriteFault};
+pub use crate::fault::{BandFault, LineFault, WriteFault};
 pub use crate::line::{Line, MAX_PAYLOAD};
 pub use crate::put::write_all;
 pub use crate::reading::LineReader;

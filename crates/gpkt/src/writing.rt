@@ -1,10 +1,12 @@
 //! Writing lines.
 
 ghost use Rattle.std.specs.Prelude.{◌≡◌, ◌≢◌, ◌<◌, ◌≤◌, ◌↔◌, ◌++◌, [], ◌∷◌, true, false, length, codes, IfErr, IsErrOf};
+ghost use Rattle.gpkt.specs.Bands.{band_packet, band_payload};
 ghost use Rattle.gpkt.specs.Packets.{canonical, line_feed, max_payload, Packet};
 ghost use Rattle.gpkt.specs.Packets as packets;
 ghost use Rattle.gpkt.specs.LineWriting.{HasWritten, HasPushed};
 
+use crate::band::Band;
 use crate::device::Sink;
 use crate::fault::WriteFault;
 use crate::line::DIGITS;
@@ -85,6 +87,17 @@ impl<W: Sink> LineWriter<W> {
         self.put_parts(first, second, b"\n")
     }
 
+    /// Writes one data line of the band's byte and its bytes, which are at most 65,515.
+    pub fn put_band(&mut self, band: &Band<'_>) -> Result<(), WriteFault>
+        ensures written { HasWritten W.contents W.passed_on W.is_down W.seat self.old self.new result
+            (canonical (packets.Data (band_payload (band_packet band.now)))) }
+        ensures too_long { IsErrOf result WriteFault.Payload
+            ↔ ((self.old.failed ≡ false) × (max_payload < length (band_payload (band_packet band.now)))) }
+    {
+        let (first, bytes) = band.parts();
+        self.put_parts(&[first], bytes, b"")
+    }
+
     /// Writes a flush, `0000`, which ends a message. It is never [`Payload`](WriteFault::Payload).
     pub fn flush_pkt(&mut self) -> Result<(), WriteFault>
         ensures written { HasWritten W.contents W.passed_on W.is_down W.seat self.old self.new result
@@ -152,7 +165,7 @@ impl<W: Sink> LineWriter<W> {
         }
     }
 
-    // Writes digits, which are there, and the pieces behind them.
+    // Writes digits, which are there, and the pieces after them.
     fn put_pieces(
         &mut self,
         digits: &[u8],

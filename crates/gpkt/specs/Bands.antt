@@ -1,0 +1,58 @@
+-- Side bands (gitprotocol-pack(5), "Packfile Data"; gitprotocol-v2(5), "fetch", "packfile"): the first byte
+-- of a payload says what the others are.
+use Rattle.std.specs.Prelude.{◌≡◌, ℕ, List, [], ◌∷◌, if◌then◌else◌, ◌==◌, Result, Ok, Err}
+use Rattle.gpkt.specs.declared.fault.BandFault.{BandFault}
+use Rattle.gpkt.specs.declared.fault.BandFault.TheVariants.{NoBand, BadBand}
+use Rattle.gpkt.specs.declared.band.Band.{Band}
+use Rattle.gpkt.specs.declared.band.Band.TheVariants as lent
+
+-- what a payload says: bytes of the pack, progress to be shown, or why the sender gives up
+pub data BandPacket : Type 0 where
+  Data : (bytes : List ℕ) → BandPacket
+  Progress : (bytes : List ℕ) → BandPacket
+  Fatal : (bytes : List ℕ) → BandPacket
+
+-- the byte of each band
+abbrev pub data_band : ℕ
+data_band = 1
+
+abbrev pub progress_band : ℕ
+progress_band = 2
+
+abbrev pub fatal_band : ℕ
+fatal_band = 3
+
+-- the payload of a packet on a band
+abbrev pub band_payload : BandPacket → List ℕ
+band_payload (Data bytes) = data_band ∷ bytes
+band_payload (Progress bytes) = progress_band ∷ bytes
+band_payload (Fatal bytes) = fatal_band ∷ bytes
+
+-- what a payload says by its first byte
+abbrev pub band_at : ℕ → List ℕ → Result BandPacket BandFault
+band_at first bytes =
+    if first == data_band then Ok (Data bytes)
+    else if first == progress_band then Ok (Progress bytes)
+    else if first == fatal_band then Ok (Fatal bytes)
+    else Err BadBand
+
+unfoldable pub band_form : List ℕ → Result BandPacket BandFault
+band_form [] = Err NoBand
+band_form (first ∷ bytes) = band_at first bytes
+
+-- a band without where its bytes lie in memory
+abbrev pub band_packet : Band → BandPacket
+band_packet (lent.Data bytes) = Data bytes.now
+band_packet (lent.Progress bytes) = Progress bytes.now
+band_packet (lent.Fatal bytes) = Fatal bytes.now
+
+abbrev pub band_read : Result Band BandFault → Result BandPacket BandFault
+band_read (Ok band) = Ok (band_packet band)
+band_read (Err fault) = Err fault
+
+-- a payload is read as a band exactly where it is the payload of a packet on it
+abbrev pub BandIsRead : Type 0
+BandIsRead = (band : BandPacket) → band_form (band_payload band) ≡ Ok band
+
+abbrev pub BandIsPayload : Type 0
+BandIsPayload = (payload : List ℕ) (band : BandPacket) → band_form payload ≡ Ok band → payload ≡ band_payload band
