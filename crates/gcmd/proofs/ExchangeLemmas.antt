@@ -13,10 +13,10 @@ use Rattle.gcmd.specs.declared.exchange.LsEnd.{LsEnd}
 use Rattle.gcmd.specs.declared.exchange.LsEnd.TheVariants as end
 
 -- the fault of reading a request is a refusal
-pub TakesRequest-refusal : {A : Type 0} (input : Input) (fault : LsFault) → TakesRequest {A = A} input (Err fault) → IsRefusal input fault
-TakesRequest-refusal input Buffer h = h
-TakesRequest-refusal input (Message fault) h = h
-TakesRequest-refusal input Memory h = absurd h
+pub TakesRequest-refusal : (A : Type 0) (input : Input) (fault : LsFault) → TakesRequest {A = A} input (Err fault) → IsRefusal input fault
+TakesRequest-refusal A input Buffer h = h
+TakesRequest-refusal A input (Message fault) h = h
+TakesRequest-refusal A input Memory h = absurd h
 
 module _ {A : Type 0} (graph : List (Entry A)) (refs : RefList) (at : Head A) (input : Input) (output : Output) where
   -- a request for ls-refs was read, and replied to

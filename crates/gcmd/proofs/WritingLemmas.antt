@@ -1,12 +1,14 @@
 -- Writes one after the other.
-use Rattle.std.proofs.Common.{◌≡◌, ◌≢◌, ℕ, ◌+◌, ◌<◌, Bool, List, [], ◌∷◌, ◌++◌, map, take, length, get_or, subst, Option, Result, Ok, Err, refl, sym, ap, ◌∙◌, append_assoc, arith, length-append}
+use Rattle.std.proofs.Common.{◌≡◌, ◌≢◌, ℕ, ◌+◌, ◌<◌, Bool, List, [], ◌∷◌, ◌++◌, length, Option, Some, None, true, false, Result, Ok, Err, refl, sym, ap, ◌∙◌, append_assoc, append-nil, arith, length-append}
 use Rattle.std.proofs.lemmas.Bool.{false≢true}
 use Rattle.std.specs.Result.{IfErr}
-use Rattle.std.proofs.KnownBytes.{Appends-trans}
+use Rattle.std.proofs.KnownBytes.{Appends-trans, Appends-kept, Keeps-trans}
 use Rattle.std.proofs.lemmas.List.{take_more}
-use Rattle.std.specs.Io.KnownBytes.{Appends}
+use Rattle.std.specs.Io.KnownBytes.{Appends, Keeps}
+use Rattle.std.specs.Option.{IsSome}
+use Rattle.gcmd.specs.Sending.{output_of, HasSent}
 use mathlib.Core.List.{map-append}
-use Rattle.gpkt.specs.LineWriting.{Writer, HasWritten}
+use Rattle.gpkt.specs.LineWriting.{Writer, HasWritten, HasPushed}
 use Rattle.gpkt.specs.declared.fault.WriteFault.{WriteFault}
 use Rattle.gpkt.specs.declared.fault.WriteFault.TheVariants.{Failed, Payload, Io}
 
@@ -24,6 +26,12 @@ no_payload Io other = tt
 pub no_payload_if : (result : Result (Unit {0}) WriteFault) → IfErr result (λ fault. fault ≢ Payload) → IsNoPayload result
 no_payload_if (Ok done) other = tt
 no_payload_if (Err fault) other = no_payload fault other
+
+-- bytes that were known and are kept are known
+IsSome-kept : (a b : Option (List ℕ)) → Keeps a b → IsSome a → IsSome b
+IsSome-kept None b kept known = absurd (false≢true known)
+IsSome-kept (Some x) None kept known = absurd kept
+IsSome-kept (Some x) (Some y) kept known = refl
 
 module _ {W : Type 0} (contents passed_on : W → Option (List ℕ)) (is_down : W → Bool) (seat : W → List ℕ) where
   -- what is written behind what was written
@@ -82,3 +90,35 @@ module _ {W : Type 0} (contents passed_on : W → Option (List ℕ)) (is_down : 
     joins = λ new result ys h fits.
         rw append_assoc (behind.joins new result (more ++ ys) (written_then now next new more ys result wrote h fits) fits);
   }
+
+  -- what was written by a writer that had not failed was passed on
+  pub HasSent-pushed : (a b c : Writer W) (bytes : List ℕ) (result : Result (Unit {0}) WriteFault) → HasWritten contents passed_on is_down seat a b (Ok tt) bytes
+      → HasPushed contents passed_on is_down seat b c result → HasSent (output_of contents passed_on is_down a.sink c.sink) result bytes
+  HasSent-pushed a b c bytes (Ok done) wrote pushed = record {
+    written = Appends-kept _ _ _ bytes wrote.outcome.1 pushed.written;
+    passed_on = λ known. pushed.outcome.1 (IsSome-kept _ _ wrote.passed_on known);
+    up = pushed.outcome.0.2;
+  }
+  HasSent-pushed a b c bytes (Err Io) wrote pushed = record {
+    front = bytes;
+    rest = [];
+    parts = sym (append-nil bytes);
+    written = Appends-kept _ _ _ bytes wrote.outcome.1 pushed.written;
+    down = pushed.outcome.2;
+  }
+  HasSent-pushed a b c bytes (Err Payload) wrote pushed = absurd pushed.outcome
+  HasSent-pushed a b c bytes (Err Failed) wrote pushed = absurd (false≢true (sym wrote.outcome.0.1 ∙ pushed.outcome.0))
+
+  -- a write that failed
+  pub HasSent-failed : (a b : Writer W) (bytes : List ℕ) (fault : WriteFault) → a.failed ≡ false → fault ≢ Payload
+      → HasWritten contents passed_on is_down seat a b (Err fault) bytes
+      → HasSent {E = WriteFault} (output_of contents passed_on is_down a.sink b.sink) (Err fault) bytes
+  HasSent-failed a b bytes Io ready fits wrote = record {
+    front = wrote.outcome.1.0;
+    rest = wrote.outcome.1.1;
+    parts = wrote.outcome.1.2;
+    written = wrote.outcome.1.4;
+    down = wrote.outcome.0.2;
+  }
+  HasSent-failed a b bytes Payload ready fits wrote = absurd (fits refl)
+  HasSent-failed a b bytes Failed ready fits wrote = absurd (false≢true (sym ready ∙ wrote.outcome.0))

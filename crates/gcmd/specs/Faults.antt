@@ -1,14 +1,8 @@
 -- The tables of faults: the number and the name of each, as they are printed; and what is kept of a peer's text.
 use Rattle.std.specs.Prelude.{ℕ, List, codes, take}
 use Rattle.gname.specs.Faults.{FaultRow}
+use Rattle.gpkt.specs.Faults.{line_fault_row}
 use Rattle.gpkt.specs.Packets.{text}
-use Rattle.gpkt.specs.LineFault.{line_fault_code}
-use Rattle.gpkt.specs.WriteFault.{write_fault_code}
-use Rattle.gpkt.specs.declared.fault.LineFault.{LineFault}
-use Rattle.gpkt.specs.declared.fault.LineFault.TheVariants as line
-use Rattle.gpkt.specs.declared.fault.WriteFault.{WriteFault}
-use Rattle.gpkt.specs.declared.fault.WriteFault.TheVariants as write
-use Rattle.ggraph.specs.Faults.{code_of}
 use Rattle.ggraph.specs.declared.fault.GraphFault.{GraphFault}
 use Rattle.ggraph.specs.declared.fault.GraphFault.TheVariants as graph
 use Rattle.gcmd.specs.declared.exchange.LsFault.{LsFault}
@@ -24,21 +18,7 @@ use Rattle.gcmd.specs.declared.repository.RepoFault.TheVariants as repo
 abbrev pub kept_text : List ℕ → List ℕ
 kept_text payload = take 256 (text payload)
 
--- ---- faults of the crates below
-
-abbrev pub line_fault_row : LineFault → FaultRow
-line_fault_row line.BadDigits = (20, codes "BadDigits")
-line_fault_row line.Reserved = (21, codes "Reserved")
-line_fault_row line.TooLong = (22, codes "TooLong")
-line_fault_row line.Truncated = (23, codes "Truncated")
-line_fault_row line.Io = (24, codes "Io")
-line_fault_row line.Failed = (25, codes "Failed")
-line_fault_row line.Memory = (28, codes "Memory")
-
-abbrev pub write_fault_row : WriteFault → FaultRow
-write_fault_row write.Failed = (25, codes "Failed")
-write_fault_row write.Payload = (26, codes "Payload")
-write_fault_row write.Io = (27, codes "Io")
+-- ---- faults of graphs
 
 abbrev pub graph_fault_row : GraphFault → FaultRow
 graph_fault_row (graph.Conflict id) = (60, codes "Conflict")

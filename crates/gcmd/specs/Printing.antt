@@ -14,7 +14,9 @@ use Rattle.ggraph.specs.declared.fault.GraphFault.{GraphFault}
 use Rattle.ggraph.specs.declared.fault.GraphFault.TheVariants as graph
 use Rattle.ggraph.specs.declared.pack.IndexFault.{IndexFault}
 use Rattle.ggraph.specs.declared.pack.IndexFault.TheVariants as index
-use Rattle.gcmd.specs.Faults.{why_row, ls_fault_row, repo_fault_row, graph_fault_row, write_fault_row}
+use Rattle.gpkt.specs.Faults.{write_fault_row}
+use Rattle.gcmd.specs.Faults.{why_row, ls_fault_row, repo_fault_row, graph_fault_row, program_fault_row}
+use Rattle.gcmd.specs.declared.program.ProgramFault.{ProgramFault}
 use Rattle.gcmd.specs.declared.print.FaultLine.{FaultLine}
 use Rattle.gcmd.specs.declared.exchange.LsFault.{LsFault}
 use Rattle.gcmd.specs.declared.exchange.LsFault.TheVariants as ls
@@ -103,6 +105,9 @@ place_in_name _ = None
 
 abbrev pub name_fault_line : NameFault → List ℕ
 name_fault_line fault = fault_line (name_fault_row fault) (record no_details { at = place_in_name fault })
+
+abbrev pub program_fault_line : ProgramFault → List ℕ
+program_fault_line fault = fault_line (program_fault_row fault) no_details
 
 abbrev pub write_fault_line : WriteFault → List ℕ
 write_fault_line fault = fault_line (write_fault_row fault) no_details

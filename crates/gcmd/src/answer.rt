@@ -3,7 +3,6 @@
 ghost use Rattle.std.specs.Prelude.{◌≡◌, nat_eq, IfOk, OnOk, ◌∷◌, [], Some};
 ghost use Rattle.std.specs.List.{list_any, starts_with};
 ghost use Rattle.std.specs.Option.{option_copied};
-ghost use Rattle.gname.specs.Names.{head_name};
 ghost use Rattle.gcmd.specs.Answer.{is_asked, IsAnswer, IsLineOf, AddsLines, IsPeeled, IsPeeledIf, symref_of, as_head, head_refs, target_of};
 
 use crate::reply::RefLine;
@@ -44,7 +43,7 @@ fn add_head<A: Allocator + Copy>(
     let Some(id) = head_id(refs, head) else {
         return Ok(());
     };
-    let name = head_name(alloc)?;
+    let name = RefName::head(alloc)?;
     add_line(graph, head, asked, &name, id, lines)
 }
 
@@ -57,13 +56,6 @@ fn head_id<A: Allocator + Copy>(refs: &Refs<A>, head: &Head<A>) -> Option<Oid>
         Head::Id(id) => Some(*id),
         Head::Symref(target) => refs.get(target.name()),
     }
-}
-
-/// The name HEAD.
-pub(crate) fn head_name<A: Allocator + Copy>(alloc: A) -> Result<RefName<A>, AllocError>
-    ensures { IfOk result (λ name. name ≡ head_name) }
-{
-    RefName::new(alloc, b"HEAD").map_err(|_fault| AllocError)
 }
 
 // Adds the lines of the refs that are asked for, in order.

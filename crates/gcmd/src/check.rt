@@ -167,9 +167,13 @@ fn holds_all<A: Allocator + Copy>(graph: &Graph<A>, ids: &[Oid]) -> bool
 fn is_safe<A: Allocator + Copy>(alloc: A, repo: &Repository<A>) -> Result<bool, AllocError>
     ensures safe { IfOk result (λ safe. IsTrue safe ↔ IsSafe repo.now.graph repo.now.refs) }
 {
-    let tips = tips_of(alloc, repo.refs.as_slice())?;
-    let missing = repo.graph.missing(tips.as_slice()).map_err(|_| AllocError)?;
-    Ok(missing.is_none())
+    let refs = repo.refs.as_slice();
+    let tips = tips_of(alloc, refs)?;
+    let ids = tips.as_slice();
+    match repo.graph.missing(ids) {
+        Ok(missing) => Ok(missing.is_none()),
+        Err(_) => Err(AllocError),
+    }
 }
 
 // The ids at which the refs stand.

@@ -1,6 +1,6 @@
 //! One request for ls-refs, read and answered.
 
-ghost use Rattle.std.specs.Prelude.{◌≡◌};
+ghost use Rattle.std.specs.Prelude.{◌≡◌, false};
 ghost use Rattle.gcmd.specs.Faults.{ls_fault_row};
 ghost use Rattle.gcmd.specs.Sending.{input_of, output_of, HasSent};
 ghost use Rattle.gcmd.specs.Reply.{reply_bytes};
@@ -107,7 +107,7 @@ pub enum LsEnd {
     Closed,
     /// There was no input; nothing is written.
     Ended,
-    /// The line that tells of the fault is written and flushed.
+    /// The line that reports the fault is written and flushed.
     Refused(LsFault),
     /// The sink failed; a beginning of what was to be written stands.
     WriteFailed,
@@ -185,15 +185,27 @@ fn send_reply<W: Sink, A: Allocator + Copy>(
     ensures seat { W.seat sink.new ≡ W.seat sink.old }
 {
     let mut writer = LineWriter::new(sink);
-    let sent = match write_ls_reply(lines, &mut writer) {
-        Ok(()) => writer.push(),
-        Err(fault) => Err(fault),
-    };
+    let sent = push_reply(lines, &mut writer);
     let _sink = writer.into_inner();
     sent
 }
 
-// Tells the peer of the refusal.
+// Writes the reply and passes it on.
+fn push_reply<W: Sink, A: Allocator + Copy>(
+    lines: &[RefLine<A>],
+    writer: &mut LineWriter<W>,
+) -> Result<(), WriteFault>
+    requires { writer.old.failed ≡ false }
+    ensures sent { HasSent (output_of W.contents W.passed_on W.is_down writer.old.sink writer.new.sink) result (reply_bytes lines.now) }
+    ensures seat { W.seat writer.new.sink ≡ W.seat writer.old.sink }
+{
+    match write_ls_reply(lines, writer) {
+        Ok(()) => writer.push(),
+        Err(fault) => Err(fault),
+    }
+}
+
+// Reports the refusal to the peer.
 fn refuse<W: Sink>(fault: LsFault, sink: &mut W) -> LsEnd
     ensures refused { ReportsRefusal fault (output_of W.contents W.passed_on W.is_down sink.old sink.new) result }
     ensures seat { W.seat sink.new ≡ W.seat sink.old }

@@ -1,7 +1,7 @@
 //! Why a message is refused, and at which of its packets.
 
 ghost use Rattle.std.specs.Prelude.{◌≡◌, ◌≤◌, length};
-ghost use Rattle.gcmd.specs.Faults.{why_row, line_fault_row, kept_text};
+ghost use Rattle.gcmd.specs.Faults.{why_row, kept_text};
 
 use arrayvec::ArrayVec;
 use gpkt::{LineFault, text_of};
@@ -117,7 +117,7 @@ impl Why {
         ensures { (result.0, result.1.now) ≡ why_row self.now }
     {
         match self {
-            Why::Line(fault) => line_fault_row(*fault),
+            Why::Line(fault) => (fault.code(), fault.name()),
             Why::UnexpectedFrame => (41, "UnexpectedFrame"),
             Why::BadText => (42, "BadText"),
             Why::UnknownCommand => (43, "UnknownCommand"),
@@ -130,21 +130,6 @@ impl Why {
             Why::Memory => (53, "Memory"),
             Why::Ended => (54, "Ended"),
         }
-    }
-}
-
-// The number and the name of a fault of a line.
-fn line_fault_row(fault: LineFault) -> (u32, &'static str)
-    ensures { (result.0, result.1.now) ≡ line_fault_row fault }
-{
-    match fault {
-        LineFault::BadDigits => (20, "BadDigits"),
-        LineFault::Reserved => (21, "Reserved"),
-        LineFault::TooLong => (22, "TooLong"),
-        LineFault::Truncated => (23, "Truncated"),
-        LineFault::Io => (24, "Io"),
-        LineFault::Failed => (25, "Failed"),
-        LineFault::Memory => (28, "Memory"),
     }
 }
 

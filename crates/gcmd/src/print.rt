@@ -3,14 +3,15 @@
 //! 32 to 126 as `?`.
 
 ghost use Rattle.std.specs.Prelude.{◌≡◌, ◌+◌, ◌≤◌, ◌++◌, length, map, None, []};
-ghost use Rattle.gcmd.specs.Faults.{graph_fault_row, write_fault_row};
-ghost use Rattle.gcmd.specs.Printing.{graph_fault_line, id_fault_line, id_in_conflict, line_in_pack, line_in_text, ls_fault_line, message_fault_line, name_fault_line, number_part, peer_text, place_in_id, place_in_name, printed, repo_fault_line, shown, subject_part, text_part, write_fault_line, IsShort, IsShortText};
+ghost use Rattle.gcmd.specs.Faults.{graph_fault_row};
+ghost use Rattle.gcmd.specs.Printing.{graph_fault_line, id_fault_line, id_in_conflict, line_in_pack, line_in_text, ls_fault_line, message_fault_line, name_fault_line, number_part, peer_text, place_in_id, place_in_name, printed, program_fault_line, repo_fault_line, shown, subject_part, text_part, write_fault_line, IsShort, IsShortText};
 ghost use Rattle.std.specs.Option.{option_copied};
 ghost use Rattle.gcmd.specs.Sending.{output_of, HasSent};
 
 use crate::compose::{add, add_id, add_number};
 use crate::exchange::LsFault;
 use crate::fault::{MessageFault, Why};
+use crate::program::ProgramFault;
 use crate::repository::RepoFault;
 use crate::send::send;
 use arrayvec::ArrayVec;
@@ -77,12 +78,20 @@ impl<'a> FaultLine<'a> {
         }
     }
 
+    /// A fault of a program's own.
+    pub(crate) fn of_program(fault: &ProgramFault) -> FaultLine<'a>
+        ensures line { printed result ≡ program_fault_line fault.now }
+        ensures short { IsShort result }
+    {
+        FaultLine::plain(fault.code(), fault.name())
+    }
+
     /// A line that was not written.
     pub(crate) fn of_write(fault: &WriteFault) -> FaultLine<'a>
         ensures line { printed result ≡ write_fault_line fault.now }
         ensures short { IsShort result }
     {
-        FaultLine::plain(fault.code(), write_fault_name(fault))
+        FaultLine::plain(fault.code(), fault.name())
     }
 
     /// A refusal of a graph or of a repository text, with the line of a text or of a pack, or the id that
@@ -298,15 +307,5 @@ fn graph_fault_name(fault: &GraphFault) -> &'static str
         GraphFault::Text { .. } => "Text",
         GraphFault::ParentLater { .. } => "ParentLater",
         GraphFault::Refs => "Refs",
-    }
-}
-
-fn write_fault_name(fault: &WriteFault) -> &'static str
-    ensures name { result.now ≡ (write_fault_row fault.now).1 }
-{
-    match fault {
-        WriteFault::Failed => "Failed",
-        WriteFault::Payload => "Payload",
-        WriteFault::Io => "Io",
     }
 }

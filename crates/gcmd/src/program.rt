@@ -3,7 +3,7 @@
 ghost use Rattle.std.specs.Prelude.{◌≡◌, Some};
 ghost use Rattle.gcmd.specs.Commands.{EndsWith};
 ghost use Rattle.gcmd.specs.Faults.{program_fault_row};
-ghost use Rattle.gcmd.specs.Printing.{fault_line, no_details, printed, IsShort};
+ghost use Rattle.gcmd.specs.Printing.{program_fault_line, printed, IsShort};
 ghost use Rattle.gcmd.specs.Sending.{output_of};
 
 use crate::print::FaultLine;
@@ -50,11 +50,11 @@ impl ProgramFault {
 /// Prints the fault as one line on `errors`, passes it on, and answers the exit status, which is 1. Where
 /// the line can't be printed, there is nowhere to report it.
 pub fn cmd_failed<E: Sink>(fault: ProgramFault, errors: &mut E) -> u8
-    ensures ends { EndsWith (Some (fault_line (program_fault_row fault) no_details))
+    ensures ends { EndsWith (Some (program_fault_line fault))
         (output_of E.contents E.passed_on E.is_down errors.old errors.new) result }
     ensures seat { E.seat errors.new ≡ E.seat errors.old }
 {
-    fail(&FaultLine::plain(fault.code(), fault.name()), errors)
+    fail(&FaultLine::of_program(&fault), errors)
 }
 
 /// The same of any fault.

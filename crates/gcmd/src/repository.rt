@@ -4,7 +4,6 @@ ghost use Rattle.std.specs.Prelude.{◌≡◌, ◌↔◌, IfOk, IfErr, IsTrue, M
 ghost use Rattle.gcmd.specs.Faults.{repo_fault_row};
 ghost use Rattle.gcmd.specs.Repository.{AcceptsServable, Names, HoldsRefs, HoldsHead, IsFirstMissing, RefusesText, RefusesRefs, IsTextFault, missing_fault};
 
-use crate::answer::head_name;
 use ggraph::{Graph, GraphFault, Head, Order, Refs, Repository, load};
 use gname::{Oid, RefName};
 use std::alloc::{AllocError, Allocator};
@@ -119,7 +118,7 @@ fn check_head<A: Allocator + Copy>(alloc: A, repo: &Repository<A>) -> Result<(),
     if holds_head(&repo.graph, &repo.head) {
         Ok(())
     } else {
-        Err(ref_missing(head_name(alloc)))
+        Err(ref_missing(RefName::head(alloc)))
     }
 }
 

@@ -1,22 +1,40 @@
-//! The program `gitv2`: reads its words and its files, joins the work of `gcmd` to the system's
-//! streams, and ends with the work's exit status.
+//! The program `gitv2`: reads its words and its files, makes devices of the system's streams, hands both to
+//! the work in `gcmd`, and ends with the work's exit status.
+//!
+//! # Proved
+//!
+//! That it is safe and ends, whatever the words, the files and the streams are.
+//!
+//! # Only tested
+//!
+//! What the words mean (`words.rt`), and one run (`args`, `stdin`, `stdout`, `data/`).
+//!
+//! # What a body can still get away with
+//!
+//! Anything else: no contract can say what a file or a stream of the system gives or takes.
+//!
+//! # Stands on
+//!
+//! `gcmd` for the work, `gpkt` for devices, `clap` for the words.
 #![tactic(auto)]
 
 mod words;
 
 use crate::words::Command;
-use gcmd::{cmd_check, cmd_ls, file_failed, memory_failed};
+use gcmd::{ProgramFault, cmd_check, cmd_failed, cmd_ls};
+use gpkt::{FromRead, Sink, ToWrite};
 use std::io::{BufReader, BufWriter, Write};
 use std::process::ExitCode;
 use std::rt::{Env, Files};
 use std::{env, fs, io};
 
 fn main(rt: HostRuntime) -> ExitCode {
-    let mut errors = rt.stderr();
+    let mut stderr = rt.stderr();
     let Some(command) = read_words(&rt) else {
-        let _ = writeln!(errors, "gitv2: usage");
+        let _ = writeln!(stderr, "gitv2: usage");
         return ExitCode::from(2);
     };
+    let mut errors = ToWrite::new(&mut stderr);
     ExitCode::from(run(&rt, command, &mut errors))
 }
 
@@ -29,7 +47,7 @@ fn read_words<R: Env + AllocGlobal>(rt: &R) -> Option<Command> {
 fn run<R, E>(rt: &R, command: Command, errors: &mut E) -> u8
 where
     R: Files + Input + Print + AllocGlobal,
-    E: Write,
+    E: Sink,
 {
     match command {
         Command::Check { file } => check(rt, file.as_str(), errors),
@@ -37,18 +55,19 @@ where
     }
 }
 
-// Tells of a repository on standard output.
+// Reports of a repository on standard output.
 fn check<R, E>(rt: &R, file: &str, errors: &mut E) -> u8
 where
     R: Files + Print + AllocGlobal,
-    E: Write,
+    E: Sink,
 {
     let Ok(text) = fs::read(rt, file) else {
-        return file_failed(errors);
+        return cmd_failed(ProgramFault::File, errors);
     };
-    let Ok(mut output) = BufWriter::new(rt.alloc(), io::writer(rt)) else {
-        return memory_failed(errors);
+    let Ok(mut stdout) = BufWriter::new(rt.alloc(), io::writer(rt)) else {
+        return cmd_failed(ProgramFault::Memory, errors);
     };
+    let mut output = ToWrite::new(&mut stdout);
     cmd_check(rt.alloc(), text.as_slice(), &mut output, errors)
 }
 
@@ -56,16 +75,18 @@ where
 fn serve_ls<R, E>(rt: &R, file: &str, errors: &mut E) -> u8
 where
     R: Files + Input + Print + AllocGlobal,
-    E: Write,
+    E: Sink,
 {
     let Ok(text) = fs::read(rt, file) else {
-        return file_failed(errors);
+        return cmd_failed(ProgramFault::File, errors);
     };
-    let Ok(mut input) = BufReader::new(rt.alloc(), rt.reader()) else {
-        return memory_failed(errors);
+    let Ok(mut stdin) = BufReader::new(rt.alloc(), rt.reader()) else {
+        return cmd_failed(ProgramFault::Memory, errors);
     };
-    let Ok(mut output) = BufWriter::new(rt.alloc(), io::writer(rt)) else {
-        return memory_failed(errors);
+    let Ok(mut stdout) = BufWriter::new(rt.alloc(), io::writer(rt)) else {
+        return cmd_failed(ProgramFault::Memory, errors);
     };
+    let mut input = FromRead::new(&mut stdin);
+    let mut output = ToWrite::new(&mut stdout);
     cmd_ls(rt.alloc(), text.as_slice(), &mut input, &mut output, errors)
 }

@@ -17,4 +17,4 @@ pub returns-in-Err-clause-exchange : goal.returns-in-Err-clause-exchange
 returns-in-Err-clause-exchange g c =
     let repo = c.args.repo.now in
     Exchanges-refused repo.graph repo.refs repo.head _ _ c.in-Err.fault c.refuse.result
-    (TakesRequest-refusal _ c.in-Err.fault c.in-Err.ensures.read) c.refuse.ensures.refused
+    (TakesRequest-refusal g.row.A.Denot _ c.in-Err.fault c.in-Err.ensures.read) c.refuse.ensures.refused

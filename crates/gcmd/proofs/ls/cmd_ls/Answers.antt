@@ -1,5 +1,16 @@
-use Rattle.std.proofs.Common.{inl}
+use Rattle.std.proofs.Common.{refl, inl, inr}
+use Rattle.gcmd.proofs.ProgramLemmas.{EndsWith-printed}
 use Rattle.gcmd.proofs.ls.cmd_ls.Goals as goal
+
+pub returns-in-Err-clause-serves : goal.returns-in-Err-clause-serves
+returns-in-Err-clause-serves g c =
+    inr (record {
+      fault = c.in-Err.fault;
+      refused = c.in-Err.ensures.refused;
+      unread = record { read = refl; down = refl };
+      unwritten = record { written = refl; passed_on = refl; down = refl };
+      ends = EndsWith-printed _ _ _ _ _ refl c.of_repository.ensures.line c.fail.ensures.ends;
+    })
 
 pub returns-clause-serves : goal.returns-clause-serves
 returns-clause-serves g c =
