@@ -60,7 +60,8 @@ IsPeeledIf false graph id peeled = peeled ≡ None
 IsPeeledIf true graph id peeled = IsPeeled graph id peeled
 
 -- the line of a ref
-pub record IsLineOf {A : Type 0} (graph : List (Entry A)) (at : Head A) (asked : LsRefs) (ref : List ℕ × List ℕ) (line : RefLine A) : Type 0 where
+pub record IsLineOf {A : Type 0} (graph : List (Entry A)) (at : Head A) (asked : LsRefs)
+    (ref : List ℕ × List ℕ) (line : RefLine A) : Type 0 where
   pub name : line.name ≡ ref.0
   pub id : line.id ≡ ref.1
   pub symref : line.symref ≡ symref_of at asked ref.0
@@ -71,14 +72,16 @@ abbrev pub AreLinesOf : {A : Type 0} → List (Entry A) → Head A → LsRefs �
 AreLinesOf graph at asked [] [] = ⊤
 AreLinesOf graph at asked [] (line ∷ lines) = ⊥
 AreLinesOf graph at asked (ref ∷ refs) [] = ⊥
-AreLinesOf graph at asked (ref ∷ refs) (line ∷ lines) = IsLineOf graph at asked ref line × AreLinesOf graph at asked refs lines
+AreLinesOf graph at asked (ref ∷ refs) (line ∷ lines) =
+    IsLineOf graph at asked ref line × AreLinesOf graph at asked refs lines
 
 -- the lines are the answer
 abbrev pub IsAnswer : {A : Type 0} → List (Entry A) → RefList → Head A → LsRefs → List (RefLine A) → Type 0
 IsAnswer graph refs at asked lines = AreLinesOf graph at asked (shown_refs at refs asked.prefixes) lines
 
 -- new is old with the lines of those of the refs that are asked for
-pub record AddsLines {A : Type 0} (graph : List (Entry A)) (at : Head A) (asked : LsRefs) (refs : RefList) (old new : List (RefLine A)) : Type 0 where
+pub record AddsLines {A : Type 0} (graph : List (Entry A)) (at : Head A) (asked : LsRefs) (refs : RefList)
+    (old new : List (RefLine A)) : Type 0 where
   pub more : List (RefLine A)
   pub grown : new ≡ old ++ more
   pub lines : AreLinesOf graph at asked (filter (λ ref. is_asked asked.prefixes ref.0) refs) more

@@ -12,7 +12,7 @@ use Rattle.ggraph.specs.declared.text.Order.TheVariants.{Any}
 use Rattle.ggraph.specs.declared.text.Repository.{Repository}
 use Rattle.gcmd.specs.Repository.{Names, HoldsRefs, HoldsHead, RefusesText}
 use Rattle.gcmd.specs.Exchange.{Exchanges}
-use Rattle.gcmd.specs.Printing.{graph_fault_line, ls_fault_line, repo_fault_line, write_fault_line}
+use Rattle.gcmd.specs.Printing.{check_fault_line, ls_fault_line, repo_fault_line, write_fault_line}
 use Rattle.gcmd.specs.Sending.{Input, Output, IsUnread, IsUnwritten, Sends, SendsSome}
 use Rattle.gcmd.specs.declared.check.CheckFault.{CheckFault}
 use Rattle.gcmd.specs.declared.check.CheckFault.TheVariants.{Graph, WriteFailed}
@@ -105,10 +105,10 @@ HasChecked A file output (Err (Graph fault)) = StopsAt A Any file fault × IsUnw
 -- the line that is printed at the end, if one is
 abbrev pub line_of_check : Result (Unit {0}) CheckFault → Option (List ℕ)
 line_of_check (Ok done) = None
-line_of_check (Err WriteFailed) = Some (write_fault_line Io)
-line_of_check (Err (Graph fault)) = Some (graph_fault_line fault)
+line_of_check (Err fault) = Some (check_fault_line fault)
 
 -- what `check` does
 abbrev pub Checks : (A : Type 0) → List ℕ → Output → Output → ℕ → Type 0
 Checks A file output errors status =
-    (result : Result (Unit {0}) CheckFault) × HasChecked A file output result × EndsWith (line_of_check result) errors status
+    (result : Result (Unit {0}) CheckFault) × HasChecked A file output result
+    × EndsWith (line_of_check result) errors status

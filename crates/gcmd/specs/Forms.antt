@@ -60,7 +60,8 @@ is_capability text = is_split_capability text (position is_equals_sign text)
 -- a form of `agent` or `object-format`, well formed or not
 unfoldable pub names_one_of_ours : List ℕ → Bool
 names_one_of_ours text =
-    is_word (codes "agent") text || is_word (codes "object-format") text || begins (codes "agent=") text || begins (codes "object-format=") text
+    is_word (codes "agent") text || is_word (codes "object-format") text
+    || begins (codes "agent=") text || begins (codes "object-format=") text
 
 -- `agent=` and its value
 unfoldable pub is_agent_capability : List ℕ → Bool

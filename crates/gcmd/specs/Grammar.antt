@@ -11,7 +11,8 @@ pub data Verdict : Type 0 where
 
 -- each packet goes on behind those before it
 pub record IsOpen (judge : List Packet → Packet → Verdict) (lines : List Packet) : Type 0 where
-  pub each : (front : List Packet) (packet : Packet) (back : List Packet) → lines ≡ front ++ packet ∷ back → judge front packet ≡ Goes
+  pub each : (front : List Packet) (packet : Packet) (back : List Packet) → lines ≡ front ++ packet ∷ back
+      → judge front packet ≡ Goes
 
 -- open, and one packet more that ends the message
 pub record IsWholeMessage (judge : List Packet → Packet → Verdict) (lines : List Packet) : Type 0 where
@@ -40,8 +41,11 @@ HasEndings judge = (front : List Packet) → IsOpen judge front → BeginsMessag
 
 -- a refused packet is the first that does not fit
 abbrev pub RefusesFirstMisfits : (List Packet → Packet → Verdict) → Type 0
-RefusesFirstMisfits judge = (front : List Packet) (packet : Packet) (why : Why) → IsOpen judge front → judge front packet ≡ Refuses why → IsFirstMisfit judge front packet
+RefusesFirstMisfits judge =
+    (front : List Packet) (packet : Packet) (why : Why) → IsOpen judge front → judge front packet ≡ Refuses why
+    → IsFirstMisfit judge front packet
 
 -- no message begins another
 abbrev pub IsPrefixFree : (List Packet → Packet → Verdict) → Type 0
-IsPrefixFree judge = (lines back : List Packet) → IsWholeMessage judge lines → IsWholeMessage judge (lines ++ back) → back ≡ []
+IsPrefixFree judge =
+    (lines back : List Packet) → IsWholeMessage judge lines → IsWholeMessage judge (lines ++ back) → back ≡ []

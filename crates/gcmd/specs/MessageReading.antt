@@ -22,7 +22,8 @@ pub record ReadsWhole (judge : List Packet → Packet → Verdict) (read : Chang
 
 -- the next packet is read, and the judge says this of it
 abbrev pub ReadsJudged : (List Packet → Packet → Verdict) → List Packet → Change → Verdict → Type 0
-ReadsJudged judge front bytes verdict = (packet : Packet) × Reads bytes (Ok (Some packet)) × (judge front packet ≡ verdict)
+ReadsJudged judge front bytes verdict =
+    (packet : Packet) × Reads bytes (Ok (Some packet)) × (judge front packet ≡ verdict)
 
 -- Why the message is refused behind these lines: no line is spelt there; the input ends; a packet that
 -- goes on needed memory that was refused; or the judge refuses the packet.

@@ -4,6 +4,7 @@ use Rattle.std.specs.Prelude.{ℕ, ◌≤◌, ◌++◌, ◌&&◌, nat_le, if◌t
 use Rattle.std.specs.Fmt.{decimal}
 use Rattle.std.specs.Option.{option_copied}
 use Rattle.gpkt.specs.declared.fault.WriteFault.{WriteFault}
+use Rattle.gpkt.specs.declared.fault.WriteFault.TheVariants as write
 use Rattle.gname.specs.Faults.{FaultRow, id_fault_row, name_fault_row}
 use Rattle.gname.specs.Ids.{id_text}
 use Rattle.gname.specs.declared.faults.NameFault.{NameFault}
@@ -17,6 +18,8 @@ use Rattle.ggraph.specs.declared.pack.IndexFault.TheVariants as index
 use Rattle.gpkt.specs.Faults.{write_fault_row}
 use Rattle.gcmd.specs.Faults.{why_row, ls_fault_row, repo_fault_row, graph_fault_row, program_fault_row}
 use Rattle.gcmd.specs.declared.program.ProgramFault.{ProgramFault}
+use Rattle.gcmd.specs.declared.check.CheckFault.{CheckFault}
+use Rattle.gcmd.specs.declared.check.CheckFault.TheVariants as check
 use Rattle.gcmd.specs.declared.print.FaultLine.{FaultLine}
 use Rattle.gcmd.specs.declared.exchange.LsFault.{LsFault}
 use Rattle.gcmd.specs.declared.exchange.LsFault.TheVariants as ls
@@ -129,6 +132,10 @@ id_in_conflict _ = None
 abbrev pub graph_fault_line : GraphFault → List ℕ
 graph_fault_line fault = 
     fault_line (graph_fault_row fault) (record no_details { line = line_in_text fault; id = id_in_conflict fault })
+
+abbrev pub check_fault_line : CheckFault → List ℕ
+check_fault_line (check.Graph fault) = graph_fault_line fault
+check_fault_line check.WriteFailed = write_fault_line write.Io
 
 -- the text of a peer's error
 abbrev pub peer_text : Why → Option (List ℕ)

@@ -81,4 +81,5 @@ missing_fault (Err e) = Memory
 abbrev pub AcceptsServable : (A : Type 0) → List ℕ → Result (RepoFile A) (RepoFault A) → Type 0
 AcceptsServable A text result =
     (repo : Repository A) → Names text repo → HoldsRefs repo.graph repo.refs → HoldsHead repo.graph repo.head
-    → MatchResult result (λ it. (it.graph ≡ repo.graph) × (it.refs ≡ repo.refs) × (it.head ≡ repo.head)) (λ fault. fault ≡ Memory)
+    → MatchResult result (λ it. (it.graph ≡ repo.graph) × (it.refs ≡ repo.refs) × (it.head ≡ repo.head))
+    (λ fault. fault ≡ Memory)

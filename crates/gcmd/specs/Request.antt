@@ -51,7 +51,8 @@ text_there wanted place packet = []
 
 abbrev pub texts_from : Place → Place → List Packet → List (List ℕ)
 texts_from wanted place [] = []
-texts_from wanted place (packet ∷ packets) = text_there wanted place packet ++ texts_from wanted (next_place place packet) packets
+texts_from wanted place (packet ∷ packets) =
+    text_there wanted place packet ++ texts_from wanted (next_place place packet) packets
 
 -- the texts of the capability list, and of the arguments
 unfoldable pub capability_texts : List Packet → List (List ℕ)
@@ -137,7 +138,8 @@ abbrev pub judge_argument : List Packet → List ℕ → ArgumentForm → Verdic
 judge_argument front line argument.Symrefs = if has_room front then Goes else Refuses Limit
 judge_argument front line argument.Peel = if has_room front then Goes else Refuses Limit
 judge_argument front line argument.RefPrefix =
-    if is_none (prefix_fault (prefix_value line)) then (if has_room front && has_prefix_room front then Goes else Refuses Limit)
+    if is_none (prefix_fault (prefix_value line))
+    then (if has_room front && has_prefix_room front then Goes else Refuses Limit)
     else Refuses BadName
 judge_argument front line argument.Unknown = Refuses UnknownArgument
 

@@ -45,7 +45,8 @@ abbrev pub judge_argument_at : State → List ℕ → ArgumentForm → Verdict
 judge_argument_at state line argument.Symrefs = if has_room_at state then Goes else Refuses Limit
 judge_argument_at state line argument.Peel = if has_room_at state then Goes else Refuses Limit
 judge_argument_at state line argument.RefPrefix =
-    if is_none (prefix_fault (prefix_value line)) then (if has_room_at state && nat_lt (length state.asked.prefixes) 64 then Goes else Refuses Limit)
+    if is_none (prefix_fault (prefix_value line))
+    then (if has_room_at state && nat_lt (length state.asked.prefixes) 64 then Goes else Refuses Limit)
     else Refuses BadName
 judge_argument_at state line argument.Unknown = Refuses UnknownArgument
 
@@ -69,7 +70,8 @@ judge_at state ResponseEnd = Refuses UnexpectedFrame
 
 -- a line of the capability list
 abbrev pub with_capability : State → List ℕ → CapabilityForm → State
-with_capability state line capability.Agent = record state { asked = record state.asked { agent = Some (agent_value line) } }
+with_capability state line capability.Agent =
+    record state { asked = record state.asked { agent = Some (agent_value line) } }
 with_capability state line capability.Sha1 = record state { has_format = true }
 with_capability state line capability.OtherFormat = state
 with_capability state line capability.Unknown = state
@@ -77,9 +79,14 @@ with_capability state line capability.Malformed = state
 
 -- a line of the arguments
 abbrev pub with_argument : State → List ℕ → ArgumentForm → State
-with_argument state line argument.Symrefs = record state { arguments = state.arguments + 1; asked = record state.asked { symrefs = true } }
-with_argument state line argument.Peel = record state { arguments = state.arguments + 1; asked = record state.asked { peel = true } }
-with_argument state line argument.RefPrefix = record state { arguments = state.arguments + 1; asked = record state.asked { prefixes = state.asked.prefixes ++ prefix_value line ∷ [] } }
+with_argument state line argument.Symrefs =
+    record state { arguments = state.arguments + 1; asked = record state.asked { symrefs = true } }
+with_argument state line argument.Peel =
+    record state { arguments = state.arguments + 1; asked = record state.asked { peel = true } }
+with_argument state line argument.RefPrefix = record state {
+  arguments = state.arguments + 1;
+  asked = record state.asked { prefixes = state.asked.prefixes ++ prefix_value line ∷ [] };
+}
 with_argument state line argument.Unknown = state
 
 abbrev pub with_text : Place → State → List ℕ → State

@@ -11,7 +11,8 @@ pub record Input : Type 0 where
   pub is_down : Bool
 
 abbrev pub input_of : {S : Type 0} → (S → Option (List ℕ)) → (S → Bool) → S → S → Input
-input_of remaining is_down old new = record { read = change_of remaining old new; was_down = is_down old; is_down = is_down new }
+input_of remaining is_down old new =
+    record { read = change_of remaining old new; was_down = is_down old; is_down = is_down new }
 
 -- a sink before a call and after it: the bytes that were written, and those that were passed on, where they are
 -- known, and whether it is down

@@ -3,7 +3,7 @@
 ghost use Rattle.std.specs.Prelude.{◌≡◌, ◌+◌, ◌≤◌, ◌++◌, ◌↔◌, [], length, All, IfErr, IfOk, IsTrue, map};
 ghost use Rattle.ggraph.specs.Graphs.{Holds};
 ghost use Rattle.ggraph.specs.Reach.{IsClosed, IsSafe};
-ghost use Rattle.gcmd.specs.Commands.{line_of_check, report_line, yes_or_no, Checks, EndsWith, HasChecked, HoldsParents, IsReport};
+ghost use Rattle.gcmd.specs.Commands.{report_line, yes_or_no, Checks, HasChecked, HoldsParents, IsReport};
 ghost use Rattle.gcmd.specs.Sending.{output_of, HasSent};
 
 use crate::compose::{add, add_number};
@@ -13,7 +13,7 @@ use crate::send::send;
 use arrayvec::ArrayVec;
 use ggraph::{Entry, Graph, GraphFault, Order, Repository, load};
 use gname::{Oid, RefName};
-use gpkt::{Down, Sink, WriteFault};
+use gpkt::{Down, Sink};
 use std::alloc::{AllocError, Allocator};
 
 /// The most bytes of a report: its words, and two numbers of 20.
@@ -35,30 +35,19 @@ pub fn cmd_check<A: Allocator + Copy, W: Sink, E: Sink>(
     ensures output_seat { W.seat output.new ≡ W.seat output.old }
     ensures errors_seat { E.seat errors.new ≡ E.seat errors.old }
 {
-    let checked = check(alloc, file, output);
-    status_of(&checked, errors)
+    match check(alloc, file, output) {
+        Ok(()) => 0,
+        Err(fault) => fail(&FaultLine::of_check(&fault), errors),
+    }
 }
 
 /// Why there is no report.
 #[derive(Drop)]
-enum CheckFault {
+pub(crate) enum CheckFault {
     /// The text is no repository, or there is no memory.
     Graph(GraphFault),
     /// The output failed.
     WriteFailed,
-}
-
-// The status, after a fault was printed.
-fn status_of<E: Sink>(checked: &Result<(), CheckFault>, errors: &mut E) -> u8
-    ensures ends { EndsWith (line_of_check checked.now)
-        (output_of E.contents E.passed_on E.is_down errors.old errors.new) result }
-    ensures seat { E.seat errors.new ≡ E.seat errors.old }
-{
-    match checked {
-        Ok(()) => 0,
-        Err(CheckFault::Graph(fault)) => fail(&FaultLine::of_graph(fault), errors),
-        Err(CheckFault::WriteFailed) => fail(&FaultLine::of_write(&WriteFault::Io), errors),
-    }
 }
 
 // Writes the report.
@@ -94,7 +83,7 @@ struct Report {
 }
 
 fn report_of<A: Allocator + Copy>(alloc: A, repo: &Repository<A>) -> Result<Report, AllocError>
-    ensures told { IfOk result (IsReport repo.now) }
+    ensures report { IfOk result (IsReport repo.now) }
 {
     let safe = is_safe(alloc, repo)?;
     Ok(Report {

@@ -4,10 +4,11 @@
 
 ghost use Rattle.std.specs.Prelude.{◌≡◌, ◌+◌, ◌≤◌, ◌++◌, length, map, None, []};
 ghost use Rattle.gcmd.specs.Faults.{graph_fault_row};
-ghost use Rattle.gcmd.specs.Printing.{graph_fault_line, id_fault_line, id_in_conflict, line_in_pack, line_in_text, ls_fault_line, message_fault_line, name_fault_line, number_part, peer_text, place_in_id, place_in_name, printed, program_fault_line, repo_fault_line, shown, subject_part, text_part, write_fault_line, IsShort, IsShortText};
+ghost use Rattle.gcmd.specs.Printing.{check_fault_line, graph_fault_line, id_fault_line, id_in_conflict, line_in_pack, line_in_text, ls_fault_line, message_fault_line, name_fault_line, number_part, peer_text, place_in_id, place_in_name, printed, program_fault_line, repo_fault_line, shown, subject_part, text_part, write_fault_line, IsShort, IsShortText};
 ghost use Rattle.std.specs.Option.{option_copied};
 ghost use Rattle.gcmd.specs.Sending.{output_of, HasSent};
 
+use crate::check::CheckFault;
 use crate::compose::{add, add_id, add_number};
 use crate::exchange::LsFault;
 use crate::fault::{MessageFault, Why};
@@ -104,6 +105,17 @@ impl<'a> FaultLine<'a> {
             line: line_in_text(fault),
             id: id_in_conflict(fault),
             ..FaultLine::plain(fault.code(), graph_fault_name(fault))
+        }
+    }
+
+    /// A repository that was not checked.
+    pub(crate) fn of_check(fault: &CheckFault) -> FaultLine<'a>
+        ensures line { printed result ≡ check_fault_line fault.now }
+        ensures short { IsShort result }
+    {
+        match fault {
+            CheckFault::Graph(fault) => FaultLine::of_graph(fault),
+            CheckFault::WriteFailed => FaultLine::of_write(&WriteFault::Io),
         }
     }
 

@@ -180,7 +180,7 @@ pub(super) const REFUSED: &[Case] = &[
     ),
     // What can't be printed is shown as `?`.
     (
-        b"000dERR a\x01b\xff",
+        b"000cERR a\x01b\xff",
         b"002cERR upload-pack: peer reported an error\n",
         b"gitv2: fault 49 RemoteErr frame 0 a?b?\n",
     ),
