@@ -1,7 +1,6 @@
--- Facts on open and whole lists of packet lines, for every judge; and on spellings of lines.
+-- Facts on open and whole lists of packet lines, for every judge.
 use Rattle.std.proofs.Common.{◌≡◌, ℕ, List, [], ◌∷◌, ◌++◌, ◌⊎◌, inl, inr, refl, sym, ap, subst, ◌∙◌, append_assoc}
-use Rattle.std.proofs.lemmas.List.{append-nil}
-use Rattle.gpkt.specs.Packets.{Packet, Spells, SpellsAll}
+use Rattle.gpkt.specs.Packets.{Packet}
 use Rattle.gcmd.specs.Grammar.{Verdict, Goes, Ends, Refuses, IsOpen, HasEndings, RefusesFirstMisfits, IsPrefixFree}
 use Rattle.gcmd.specs.declared.fault.Why.{Why}
 
@@ -83,11 +82,3 @@ RefusesFirstMisfits-from_endings judge endings front packet why opened refuses =
 -- a packet that always ends the message ends each open list
 pub HasEndings-by : (judge : List Packet → Packet → Verdict) (last : Packet) → ((front : List Packet) → judge front last ≡ Ends) → HasEndings judge
 HasEndings-by judge last ends front opened = (last ∷ [], record { front = front; last = last; parts = refl; goes = opened; ends = ends front })
-
--- ---- spellings
-
-pub spell_push : (lines : List Packet) (packet : Packet) (bytes more : List ℕ) → SpellsAll lines bytes → Spells packet more
-    → SpellsAll (lines ++ packet ∷ []) (bytes ++ more)
-spell_push [] packet bytes more e spells = (more, [], (ap (λ (zs : List ℕ). zs ++ more) e ∙ sym (append-nil more)), spells, refl)
-spell_push (line ∷ lines) packet bytes more h spells =
-    (h.0, h.1 ++ more, (ap (λ (zs : List ℕ). zs ++ more) h.2 ∙ append_assoc h.0 h.1 more), h.3, spell_push lines packet h.1 more h.4 spells)

@@ -8,7 +8,7 @@ use Rattle.gcmd.specs.Request.{Place, Capabilities, Arguments, place_from, place
 use Rattle.gcmd.proofs.GrammarLemmas.{IsOpen-nil, IsOpen-push, IsOpen-front, IsOpen-last}
 use Rattle.gcmd.proofs.RequestLemmas.{judge-flush, place_from-append, texts_from-append}
 use Rattle.gcmd.proofs.RequestSections.{by_pushes, AreCapabilities, AreCapabilities-nil, AreCapabilities-push, AreCapabilities-parts, few_capabilities, MayFollow, AreArguments, AreArguments-nil, AreArguments-push, AreArguments-parts, MayFollowArguments}
-use Rattle.gcmd.proofs.RequestVerdicts.{judge-delim, judge-response_end_goes, command-goes, goes-command, capability-goes, goes-capability, argument-goes, goes-argument}
+use Rattle.gcmd.proofs.RequestVerdicts.{judge-delim, judge-response_end_goes, judge-command_text, judge-from_command_text, judge-capability_text, judge-from_capability_text, judge-argument_text, judge-from_argument_text}
 
 -- a command and its capabilities
 abbrev pub listing : List ℕ → List (List ℕ) → List Packet
@@ -117,7 +117,7 @@ Shape front = (front ≡ []) ⊎ (IsListed front ⊎ IsArgued front)
 
 first_push : (packet : Packet) → judge [] packet ≡ Goes → Shape (packet ∷ [])
 first_push (Data payload) goes =
-    inr (inl (record { command = payload; capabilities = []; parts = refl; is_command = command-goes [] payload refl goes; are_capabilities = AreCapabilities-nil }))
+    inr (inl (record { command = payload; capabilities = []; parts = refl; is_command = judge-command_text [] payload refl goes; are_capabilities = AreCapabilities-nil }))
 first_push Flush goes = absurd (let ends = judge-flush [] in cc)
 first_push Delim goes = absurd (let refuses = judge-delim [] in cc)
 first_push ResponseEnd goes = absurd (judge-response_end_goes [] goes)
@@ -127,7 +127,7 @@ listed_push front (Data payload) h goes =
     let at : place_after front ≡ Capabilities = ap place_after h.parts ∙ place_after-listing h.command h.capabilities in
     let texts : capability_texts front ≡ map text h.capabilities = ap capability_texts h.parts ∙ capability_texts-listing h.command h.capabilities in
     let may : MayFollow (map text h.capabilities) (text payload) =
-    subst (λ (lines : List (List ℕ)). MayFollow lines (text payload)) texts (capability-goes front payload at goes) in
+    subst (λ (lines : List (List ℕ)). MayFollow lines (text payload)) texts (judge-capability_text front payload at goes) in
     inr (inl (record {
       command = h.command;
       capabilities = h.capabilities ++ payload ∷ [];
@@ -153,7 +153,7 @@ argued_push front (Data payload) h goes =
     let at : place_after front ≡ Arguments = ap place_after h.parts ∙ place_after-arguing h.command h.capabilities h.arguments in
     let texts : argument_texts front ≡ map text h.arguments = ap argument_texts h.parts ∙ argument_texts-arguing h.command h.capabilities h.arguments in
     let may : MayFollowArguments (map text h.arguments) (text payload) =
-    subst (λ (lines : List (List ℕ)). MayFollowArguments lines (text payload)) texts (argument-goes front payload at goes) in
+    subst (λ (lines : List (List ℕ)). MayFollowArguments lines (text payload)) texts (judge-argument_text front payload at goes) in
     inr (inr (record {
       command = h.command;
       capabilities = h.capabilities;
@@ -186,7 +186,7 @@ shape_of_open front =
 pub listing-is_open : (command : List ℕ) (capabilities : List (List ℕ)) → text command ≡ codes "command=ls-refs" → AreCapabilities (map text capabilities)
     → IsOpen judge (listing command capabilities)
 listing-is_open command capabilities is =
-    let first : IsOpen judge (listing command []) = IsOpen-push (IsOpen-nil judge) (goes-command [] command refl is) in
+    let first : IsOpen judge (listing command []) = IsOpen-push (IsOpen-nil judge) (judge-from_command_text [] command refl is) in
     by_pushes (λ (xs : List (List ℕ)). AreCapabilities (map text xs) → IsOpen judge (listing command xs)) (λ _. first) (step command) [] capabilities (λ _. first)
   where
     step : (command : List ℕ) (xs : List (List ℕ)) (x : List ℕ) → (AreCapabilities (map text xs) → IsOpen judge (listing command xs))
@@ -196,7 +196,7 @@ listing-is_open command capabilities is =
         let may : MayFollow (capability_texts (listing command xs)) (text x) =
         subst (λ (lines : List (List ℕ)). MayFollow lines (text x)) (sym (capability_texts-listing command xs)) parts.1 in
         subst (IsOpen judge) (listing-push command xs x)
-        (IsOpen-push (before parts.0) (goes-capability (listing command xs) x (place_after-listing command xs) may))
+        (IsOpen-push (before parts.0) (judge-from_capability_text (listing command xs) x (place_after-listing command xs) may))
 
 pub arguing-is_open : (command : List ℕ) (capabilities arguments : List (List ℕ)) → text command ≡ codes "command=ls-refs" → AreCapabilities (map text capabilities)
     → AreArguments (map text arguments) → IsOpen judge (arguing command capabilities arguments)
@@ -213,7 +213,7 @@ arguing-is_open command capabilities arguments is are =
         let may : MayFollowArguments (argument_texts (arguing command capabilities xs)) (text x) =
         subst (λ (lines : List (List ℕ)). MayFollowArguments lines (text x)) (sym (argument_texts-arguing command capabilities xs)) parts.1 in
         subst (IsOpen judge) (arguing-push command capabilities xs x)
-        (IsOpen-push (before parts.0) (goes-argument (arguing command capabilities xs) x (place_after-arguing command capabilities xs) may))
+        (IsOpen-push (before parts.0) (judge-from_argument_text (arguing command capabilities xs) x (place_after-arguing command capabilities xs) may))
 
 -- ---- how long it gets
 

@@ -43,9 +43,9 @@ pub judge-response_end_ends : (front : List Packet) → judge front ResponseEnd 
 unfolding judge
 judge-response_end_ends front e = cc
 
-goes_past : (b : Bool) (why : Why) (verdict : Verdict) → cond b (Refuses why) verdict ≡ Goes → verdict ≡ Goes
-goes_past true why verdict e = cc
-goes_past false why verdict e = e
+judge_text-goes : (b : Bool) (why : Why) (verdict : Verdict) → cond b (Refuses why) verdict ≡ Goes → verdict ≡ Goes
+judge_text-goes true why verdict e = cc
+judge_text-goes false why verdict e = e
 
 ends_past : (b : Bool) (why : Why) (verdict : Verdict) → cond b (Refuses why) verdict ≡ Ends → verdict ≡ Ends
 ends_past true why verdict e = cc
@@ -55,7 +55,7 @@ ends_past false why verdict e = e
 pub judge-data_goes : (front : List Packet) (payload : List ℕ) (place : Place) → place_after front ≡ place → judge front (Data payload) ≡ Goes
     → judge_text place front (text payload) ≡ Goes
 judge-data_goes front payload place at goes =
-    subst (λ (there : Place). judge_text there front (text payload) ≡ Goes) at (goes_past _ _ _ (sym (judge-data front payload) ∙ goes))
+    subst (λ (there : Place). judge_text there front (text payload) ≡ Goes) at (judge_text-goes _ _ _ (sym (judge-data front payload) ∙ goes))
 
 -- and a text of its place goes on, unless it reports an error
 pub judge-data_from : (front : List Packet) (payload : List ℕ) (place : Place) → place_after front ≡ place → begins (codes "ERR ") payload ≡ false
@@ -65,122 +65,122 @@ judge-data_from front payload place at none goes =
 
 -- ---- the command
 
-command_goes : (form : CommandForm) → judge_command form ≡ Goes → form ≡ command.LsRefs
-command_goes command.LsRefs e = refl
-command_goes command.Unknown e = cc
-command_goes command.Malformed e = cc
+judge_command-LsRefs : (form : CommandForm) → judge_command form ≡ Goes → form ≡ command.LsRefs
+judge_command-LsRefs command.LsRefs e = refl
+judge_command-LsRefs command.Unknown e = cc
+judge_command-LsRefs command.Malformed e = cc
 
-pub command-goes : (front : List Packet) (payload : List ℕ) → place_after front ≡ Command → judge front (Data payload) ≡ Goes → text payload ≡ codes "command=ls-refs"
-command-goes front payload at goes = command_line (text payload) (command_goes _ (judge-data_goes front payload Command at goes))
+pub judge-command_text : (front : List Packet) (payload : List ℕ) → place_after front ≡ Command → judge front (Data payload) ≡ Goes → text payload ≡ codes "command=ls-refs"
+judge-command_text front payload at goes = command_line (text payload) (judge_command-LsRefs _ (judge-data_goes front payload Command at goes))
 
-pub goes-command : (front : List Packet) (payload : List ℕ) → place_after front ≡ Command → text payload ≡ codes "command=ls-refs" → judge front (Data payload) ≡ Goes
-goes-command front payload at e =
+pub judge-from_command_text : (front : List Packet) (payload : List ℕ) → place_after front ≡ Command → text payload ≡ codes "command=ls-refs" → judge front (Data payload) ≡ Goes
+judge-from_command_text front payload at e =
     judge-data_from front payload Command at (reports_none payload _ _ e refl) (ap judge_command (command_form-line (text payload) e))
 
 -- ---- the capabilities
 
-none_yet : (xs : List (List ℕ)) (verdict : Verdict) → (verdict ≡ Goes → ⊥) → cond (is_none_yet xs) Goes verdict ≡ Goes → xs ≡ []
-none_yet [] verdict other e = refl
-none_yet (x ∷ xs) verdict other e = absurd (other e)
+is_none_yet-goes : (xs : List (List ℕ)) (verdict : Verdict) → (verdict ≡ Goes → ⊥) → cond (is_none_yet xs) Goes verdict ≡ Goes → xs ≡ []
+is_none_yet-goes [] verdict other e = refl
+is_none_yet-goes (x ∷ xs) verdict other e = absurd (other e)
 
-none_yet-goes : (xs : List (List ℕ)) (verdict : Verdict) → xs ≡ [] → cond (is_none_yet xs) Goes verdict ≡ Goes
-none_yet-goes [] verdict e = refl
-none_yet-goes (x ∷ xs) verdict e = cc
+is_none_yet-nil : (xs : List (List ℕ)) (verdict : Verdict) → xs ≡ [] → cond (is_none_yet xs) Goes verdict ≡ Goes
+is_none_yet-nil [] verdict e = refl
+is_none_yet-nil (x ∷ xs) verdict e = cc
 
 refuses_other : (why : Why) → Refuses why ≡ Goes → ⊥
 refuses_other why e = cc
 
-capability_goes : (front : List Packet) (line : List ℕ) (form : CapabilityForm) → capability_form line ≡ form → judge_capability front form ≡ Goes
+judge_capability-MayFollow : (front : List Packet) (line : List ℕ) (form : CapabilityForm) → capability_form line ≡ form → judge_capability front form ≡ Goes
     → MayFollow (capability_texts front) line
-capability_goes front line capability.Agent is e = inl (agent_line line is, none_yet (agents front) (Refuses BadText) (refuses_other BadText) e)
-capability_goes front line capability.Sha1 is e = inr (format_line line is, none_yet (formats front) (Refuses BadText) (refuses_other BadText) e)
-capability_goes front line capability.OtherFormat is e = absurd (format_never (is_none_yet (formats front)) e) where
+judge_capability-MayFollow front line capability.Agent is e = inl (agent_line line is, is_none_yet-goes (agents front) (Refuses BadText) (refuses_other BadText) e)
+judge_capability-MayFollow front line capability.Sha1 is e = inr (format_line line is, is_none_yet-goes (formats front) (Refuses BadText) (refuses_other BadText) e)
+judge_capability-MayFollow front line capability.OtherFormat is e = absurd (format_never (is_none_yet (formats front)) e) where
   format_never : (b : Bool) → cond b (Refuses Format) (Refuses BadText) ≡ Goes → ⊥
   format_never true h = cc
   format_never false h = cc
-capability_goes front line capability.Unknown is e = absurd cc
-capability_goes front line capability.Malformed is e = absurd cc
+judge_capability-MayFollow front line capability.Unknown is e = absurd cc
+judge_capability-MayFollow front line capability.Malformed is e = absurd cc
 
-pub capability-goes : (front : List Packet) (payload : List ℕ) → place_after front ≡ Capabilities → judge front (Data payload) ≡ Goes
+pub judge-capability_text : (front : List Packet) (payload : List ℕ) → place_after front ≡ Capabilities → judge front (Data payload) ≡ Goes
     → MayFollow (capability_texts front) (text payload)
-capability-goes front payload at goes = capability_goes front (text payload) (capability_form (text payload)) refl (judge-data_goes front payload Capabilities at goes)
+judge-capability_text front payload at goes = judge_capability-MayFollow front (text payload) (capability_form (text payload)) refl (judge-data_goes front payload Capabilities at goes)
 
-pub goes-capability : (front : List Packet) (payload : List ℕ) → place_after front ≡ Capabilities → MayFollow (capability_texts front) (text payload)
+pub judge-from_capability_text : (front : List Packet) (payload : List ℕ) → place_after front ≡ Capabilities → MayFollow (capability_texts front) (text payload)
     → judge front (Data payload) ≡ Goes
-goes-capability front payload at (inl may) =
+judge-from_capability_text front payload at (inl may) =
     judge-data_from front payload Capabilities at (reports_none payload _ _ may.0.1 refl)
-    (ap (judge_capability front) (capability_form-agent (text payload) may.0) ∙ none_yet-goes (agents front) (Refuses BadText) may.1)
-goes-capability front payload at (inr may) =
+    (ap (judge_capability front) (capability_form-agent (text payload) may.0) ∙ is_none_yet-nil (agents front) (Refuses BadText) may.1)
+judge-from_capability_text front payload at (inr may) =
     judge-data_from front payload Capabilities at (reports_none payload _ _ may.0 refl)
-    (ap (judge_capability front) (capability_form-format (text payload) may.0) ∙ none_yet-goes (formats front) (Refuses BadText) may.1)
+    (ap (judge_capability front) (capability_form-format (text payload) may.0) ∙ is_none_yet-nil (formats front) (Refuses BadText) may.1)
 
 -- ---- the arguments
 
-room_goes : (b : Bool) → cond b Goes (Refuses Limit) ≡ Goes → b ≡ true
-room_goes true e = refl
-room_goes false e = cc
+has_room-goes : (b : Bool) → cond b Goes (Refuses Limit) ≡ Goes → b ≡ true
+has_room-goes true e = refl
+has_room-goes false e = cc
 
-prefix_goes : (fault : Option NameFault) (room : Bool) → cond (is_none fault) (cond room Goes (Refuses Limit)) (Refuses BadName) ≡ Goes → (fault ≡ None) × (room ≡ true)
-prefix_goes None room e = (refl, room_goes room e)
-prefix_goes (Some fault) room e = absurd cc
+goes-prefix_fits : (fault : Option NameFault) (room : Bool) → cond (is_none fault) (cond room Goes (Refuses Limit)) (Refuses BadName) ≡ Goes → (fault ≡ None) × (room ≡ true)
+goes-prefix_fits None room e = (refl, has_room-goes room e)
+goes-prefix_fits (Some fault) room e = absurd cc
 
-goes-prefix : (fault : Option NameFault) (room : Bool) → fault ≡ None → room ≡ true → cond (is_none fault) (cond room Goes (Refuses Limit)) (Refuses BadName) ≡ Goes
-goes-prefix None room e h = cond-true room _ _ h
-goes-prefix (Some fault) room e h = cc
+prefix_fits-goes : (fault : Option NameFault) (room : Bool) → fault ≡ None → room ≡ true → cond (is_none fault) (cond room Goes (Refuses Limit)) (Refuses BadName) ≡ Goes
+prefix_fits-goes None room e h = cond-true room _ _ h
+prefix_fits-goes (Some fault) room e h = cc
 
 -- the prefixes so far
 length-ref_prefixes : (front : List Packet) → length (ref_prefixes front) ≡ length (filter is_ref_prefix (argument_texts front))
 length-ref_prefixes front = length-map (filter is_ref_prefix (argument_texts front)) prefix_value
 
-argument_goes : (front : List Packet) (line : List ℕ) (form : ArgumentForm) → argument_form line ≡ form → judge_argument front line form ≡ Goes
+judge_argument-MayFollow : (front : List Packet) (line : List ℕ) (form : ArgumentForm) → argument_form line ≡ form → judge_argument front line form ≡ Goes
     → MayFollowArguments (argument_texts front) line
-argument_goes front line argument.Symrefs is e =
+judge_argument-MayFollow front line argument.Symrefs is e =
     let word = symrefs_line line is in
     record {
       is = inl word;
-      room = ltb-true _ _ (room_goes _ e);
+      room = ltb-true _ _ (has_room-goes _ e);
       prefix_room = λ h. absurd (let no : false ≡ true = sym (ap is_ref_prefix word) ∙ h in cc);
     }
-argument_goes front line argument.Peel is e =
+judge_argument-MayFollow front line argument.Peel is e =
     let word = peel_line line is in
     record {
       is = inr (inl word);
-      room = ltb-true _ _ (room_goes _ e);
+      room = ltb-true _ _ (has_room-goes _ e);
       prefix_room = λ h. absurd (let no : false ≡ true = sym (ap is_ref_prefix word) ∙ h in cc);
     }
-argument_goes front line argument.RefPrefix is e =
-    let parts = prefix_goes (prefix_fault (prefix_value line)) (has_room front && has_prefix_room front) e in
+judge_argument-MayFollow front line argument.RefPrefix is e =
+    let parts = goes-prefix_fits (prefix_fault (prefix_value line)) (has_room front && has_prefix_room front) e in
     let rooms = and_parts (has_room front) (has_prefix_room front) parts.1 in
     record {
       is = inr (inr (prefix_line line is parts.0));
       room = ltb-true _ _ rooms.0;
       prefix_room = λ h. omega (arith, ltb-true (length (ref_prefixes front)) 64 rooms.1, length-ref_prefixes front);
     }
-argument_goes front line argument.Unknown is e = absurd cc
+judge_argument-MayFollow front line argument.Unknown is e = absurd cc
 
-pub argument-goes : (front : List Packet) (payload : List ℕ) → place_after front ≡ Arguments → judge front (Data payload) ≡ Goes
+pub judge-argument_text : (front : List Packet) (payload : List ℕ) → place_after front ≡ Arguments → judge front (Data payload) ≡ Goes
     → MayFollowArguments (argument_texts front) (text payload)
-argument-goes front payload at goes = argument_goes front (text payload) (argument_form (text payload)) refl (judge-data_goes front payload Arguments at goes)
+judge-argument_text front payload at goes = judge_argument-MayFollow front (text payload) (argument_form (text payload)) refl (judge-data_goes front payload Arguments at goes)
 
-goes_argument : (front : List Packet) (payload : List ℕ) → place_after front ≡ Arguments → IsArgumentLine (text payload)
+judge-from_argument_line : (front : List Packet) (payload : List ℕ) → place_after front ≡ Arguments → IsArgumentLine (text payload)
     → length (argument_texts front) < 4294967295 → (is_ref_prefix (text payload) ≡ true → length (filter is_ref_prefix (argument_texts front)) < 64)
     → judge front (Data payload) ≡ Goes
-goes_argument front payload at (inl word) room prefix_room =
+judge-from_argument_line front payload at (inl word) room prefix_room =
     judge-data_from front payload Arguments at (reports_none payload _ _ word refl)
     (ap (judge_argument front (text payload)) (argument_form-symrefs (text payload) word) ∙ cond-true (has_room front) _ _ (lt-ltb _ _ room))
-goes_argument front payload at (inr (inl word)) room prefix_room =
+judge-from_argument_line front payload at (inr (inl word)) room prefix_room =
     judge-data_from front payload Arguments at (reports_none payload _ _ word refl)
     (ap (judge_argument front (text payload)) (argument_form-peel (text payload) word) ∙ cond-true (has_room front) _ _ (lt-ltb _ _ room))
-goes_argument front payload at (inr (inr h)) room prefix_room =
+judge-from_argument_line front payload at (inr (inr h)) room prefix_room =
     let less : length (ref_prefixes front) < 64 = omega (arith, prefix_room (ap is_ref_prefix h.1), length-ref_prefixes front) in
     judge-data_from front payload Arguments at (reports_none payload _ _ h.1 refl)
     (ap (judge_argument front (text payload)) (argument_form-prefix (text payload) h)
-    ∙ goes-prefix (prefix_fault (prefix_value (text payload))) (has_room front && has_prefix_room front) (ap (λ (line : List ℕ). prefix_fault (prefix_value line)) h.1 ∙ h.2)
+    ∙ prefix_fits-goes (prefix_fault (prefix_value (text payload))) (has_room front && has_prefix_room front) (ap (λ (line : List ℕ). prefix_fault (prefix_value line)) h.1 ∙ h.2)
     (and_from (has_room front) (has_prefix_room front) (lt-ltb _ _ room) (lt-ltb _ _ less)))
 
-pub goes-argument : (front : List Packet) (payload : List ℕ) → place_after front ≡ Arguments → MayFollowArguments (argument_texts front) (text payload)
+pub judge-from_argument_text : (front : List Packet) (payload : List ℕ) → place_after front ≡ Arguments → MayFollowArguments (argument_texts front) (text payload)
     → judge front (Data payload) ≡ Goes
-goes-argument front payload at may = goes_argument front payload at may.is may.room may.prefix_room
+judge-from_argument_text front payload at may = judge-from_argument_line front payload at may.is may.room may.prefix_room
 
 -- ---- only a flush ends
 
@@ -188,8 +188,8 @@ ends_never : (b : Bool) (x y : Verdict) → (x ≡ Ends → ⊥) → (y ≡ Ends
 ends_never true x y h k e = h e
 ends_never false x y h k e = k e
 
-goes_other : Goes ≡ Ends → ⊥
-goes_other e = cc
+Goes-Ends : Goes ≡ Ends → ⊥
+Goes-Ends e = cc
 
 refuses_no_end : (why : Why) → Refuses why ≡ Ends → ⊥
 refuses_no_end why e = cc
@@ -200,14 +200,14 @@ command_ends command.Unknown e = cc
 command_ends command.Malformed e = cc
 
 capability_ends : (front : List Packet) (form : CapabilityForm) → judge_capability front form ≡ Ends → ⊥
-capability_ends front capability.Agent e = ends_never _ Goes (Refuses BadText) goes_other (refuses_no_end BadText) e
-capability_ends front capability.Sha1 e = ends_never _ Goes (Refuses BadText) goes_other (refuses_no_end BadText) e
+capability_ends front capability.Agent e = ends_never _ Goes (Refuses BadText) Goes-Ends (refuses_no_end BadText) e
+capability_ends front capability.Sha1 e = ends_never _ Goes (Refuses BadText) Goes-Ends (refuses_no_end BadText) e
 capability_ends front capability.OtherFormat e = ends_never _ (Refuses Format) (Refuses BadText) (refuses_no_end Format) (refuses_no_end BadText) e
 capability_ends front capability.Unknown e = cc
 capability_ends front capability.Malformed e = cc
 
 room_ends : (b : Bool) → cond b Goes (Refuses Limit) ≡ Ends → ⊥
-room_ends b e = ends_never b Goes (Refuses Limit) goes_other (refuses_no_end Limit) e
+room_ends b e = ends_never b Goes (Refuses Limit) Goes-Ends (refuses_no_end Limit) e
 
 argument_ends : (front : List Packet) (line : List ℕ) (form : ArgumentForm) → judge_argument front line form ≡ Ends → ⊥
 argument_ends front line argument.Symrefs e = room_ends _ e
