@@ -208,23 +208,23 @@ spellings_join_lem (line ∷ lines) more front rest (head, tail, split, first, o
 pub spellings_split_lem : SpellingsSplit
 spellings_split_lem [] more bytes s = ([], bytes, refl, refl, s)
 spellings_split_lem (line ∷ lines) more bytes (head, tail, split, first, others) =
-    let (front, rest, parted, before, behind) = spellings_split_lem lines more tail others in
-    (head ++ front, rest, split ∙ ap (λ l. head ++ l) parted ∙ sym (append_assoc head front rest), (head, front, refl, first, before), behind)
+    let (front, rest, parted, before, follow) = spellings_split_lem lines more tail others in
+    (head ++ front, rest, split ∙ ap (λ l. head ++ l) parted ∙ sym (append_assoc head front rest), (head, front, refl, first, before), follow)
 
 begins_more : (line other : Packet) (lines longer : List Packet) (rest after : List ℕ) → line ≡ other → BeginsWith lines longer rest after
     → BeginsWith (line ∷ lines) (other ∷ longer) rest after
-begins_more line other lines longer rest after same (more, bytes, joined, spelt, behind) = (more, bytes, cc, spelt, behind)
+begins_more line other lines longer rest after same (more, bytes, joined, spelt, follow) = (more, bytes, cc, spelt, follow)
 
 pub one_begins_lem : OneBegins
 one_begins_lem [] others front next rest after s t same =
     inl (others, next, refl, t, ap (λ l. l ++ rest) (sym s) ∙ same)
 one_begins_lem (line ∷ lines) [] front next rest after s t same =
     inr (line ∷ lines, front, refl, s, ap (λ l. l ++ after) (sym t) ∙ sym same)
-one_begins_lem (line ∷ lines) (other ∷ others) front next rest after (head, tail, split, first, behind) (head2, tail2, split2, first2, behind2) same =
+one_begins_lem (line ∷ lines) (other ∷ others) front next rest after (head, tail, split, first, follow) (head2, tail2, split2, first2, follow2) same =
     let whole : head ++ (tail ++ rest) ≡ head2 ++ (tail2 ++ after) =
     sym (ap (λ l. l ++ rest) split ∙ append_assoc head tail rest) ∙ same ∙ ap (λ l. l ++ after) split2 ∙ append_assoc head2 tail2 after in
     let read = one_reading_lem line other head head2 (tail ++ rest) (tail2 ++ after) first first2 whole in
-    elim (one_begins_lem lines others tail tail2 rest after behind behind2 read.2) [
+    elim (one_begins_lem lines others tail tail2 rest after follow follow2 read.2) [
       | inl b ↦ inl (begins_more line other lines others rest after read.0 b)
       | inr b ↦ inr (begins_more other line others lines after rest (sym read.0) b)
     ]

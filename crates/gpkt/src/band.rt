@@ -4,6 +4,7 @@ ghost use Rattle.std.specs.Prelude.{◌≡◌, ◌∷◌};
 ghost use Rattle.gpkt.specs.Bands.{band_at, band_form, band_packet, band_payload, band_read};
 
 use crate::fault::BandFault;
+use crate::line::MAX_PAYLOAD;
 
 // The byte of each band (gitprotocol-v2(5), "fetch", "packfile").
 const DATA: u8 = 1;
@@ -11,6 +12,9 @@ const DATA: u8 = 1;
 const PROGRESS: u8 = 2;
 
 const FATAL: u8 = 3;
+
+/// The most bytes that a packet carries on a side band.
+pub const MAX_BAND: usize = MAX_PAYLOAD - 1;
 
 /// The payload of a packet on a side band, lent without its first byte (gitprotocol-pack(5), "Packfile
 /// Data"; gitprotocol-v2(5), "fetch", "packfile").

@@ -68,10 +68,11 @@ fn classify(digits: &[u8]) -> Result<Head, LineFault>
         Some(2) => Ok(Head::ResponseEnd),
         Some(3) => Err(LineFault::Reserved),
         Some(announced) => {
+            let announced = usize::from(announced);
             if announced > MAX_PACKET {
                 Err(LineFault::TooLong)
             } else {
-                Ok(Head::Data(usize::from(announced) - DIGITS))
+                Ok(Head::Data(announced - DIGITS))
             }
         }
     }

@@ -1,38 +1,53 @@
 //! Packet lines of Git's protocol (gitprotocol-common(5), "pkt-line Format"), read from and written
-//! to devices.
+//! to devices, and the side bands that a payload may carry (gitprotocol-pack(5), "Packfile Data").
 //!
 //! A packet line is four hexadecimal digits and what they announce: a flush (`0000`), a delimiter
 //! (`0001`), a response-end (`0002`), or data of as many bytes as the digits say, themselves counted.
-//! [`LineReader`] reads them from a [`Source`], [`LineWriter`] writes them to a [`Sink`].
-//! [`FromRead`] and [`ToWrite`] make those of std's readers and writers, and [`memory`] has some that
-//! need no system.
+//! [`LineReader`] reads them from a [`Source`], [`LineWriter`] writes them to a [`Sink`], and
+//! [`write_all`] writes any bytes. [`FromRead`] and [`ToWrite`] make devices of std's readers and
+//! writers, which they borrow, and [`memory`] has some that need no system. [`band_of`] reads the band
+//! of a payload.
 //!
 //! # Proved
 //!
 //! - Where the bytes still to come are known, a line that is read is spelt by the bytes that are
-//!   consumed, and nothing behind them is read, in whatever pieces the source gives them; the end is
-//!   told only where no byte is left; and each fault is told only where it says, with what it
-//!   consumed (`HasRead` in `specs/Reading.antt`, over `Spells` and `NoLine`).
+//!   consumed, and nothing after them is read, in whatever pieces the source gives them; the end is
+//!   reported only where no byte is left; and each fault only where it says, with what it consumed
+//!   (`HasRead` in `specs/LineReading.antt`, over `Spells` and `NoLine`).
 //! - Whatever the source does: a reader that has failed answers `Failed` and touches nothing; it fails
-//!   at every fault; `Io` is told exactly where the source is down after a call that read; a payload
-//!   has at most 65,516 bytes; no call but the constructor takes memory.
-//! - A write that succeeds appends the canonical spelling and nothing else. `Payload` is told exactly
-//!   where a line cannot carry the payload, and leaves everything as it was; at `Io` a beginning of
-//!   the spelling stands written, and not all of it; a writer that has failed answers `Failed` and
-//!   touches nothing (`HasWritten` in `specs/Writing.antt`).
+//!   at every fault; `Io` is reported exactly where the source is down after a call that read; a
+//!   payload has at most 65,516 bytes; no call but the constructor takes memory.
+//! - A write that succeeds appends the canonical spelling and nothing else, where the bytes written
+//!   are known. `Payload` is reported exactly where a line cannot carry the payload, and leaves
+//!   everything as it was; at `Io` a beginning of the spelling stands written, and not all of it; a
+//!   writer that has failed answers `Failed` and touches nothing (`HasWritten` in
+//!   `specs/LineWriting.antt`).
+//! - Where it is known which bytes were passed on, writing passes on nothing, and a
+//!   [`push`](LineWriter::push) that succeeds all that was written (`HasPushed`).
+//! - [`write_all`] writes all of the bytes, or a beginning of them where the sink goes down.
 //! - Bytes spell at most one line at their front, in one way; where reading is refused they spell
 //!   none, and for one reason; what is written is a spelling; of two lists of lines at the front of
-//!   the same bytes one begins the other ([`laws`]).
+//!   the same bytes one begins the other; a payload is of a band exactly where it is that band's byte
+//!   and bytes ([`laws`]).
+//! - The number and the name of each fault (`specs/Faults.antt`).
 //!
 //! # Only tested
 //!
-//! That a device's call is made once and not tried again (no clause counts calls), how
-//! [`memory::Hindered`] hinders, that [`LineWriter::push`] flushes and does not write nothing in its
-//! place, the messages of the faults, and that memory is asked for at all.
+//! - A device over std's readers and writers, or over memory, goes down only where these failed, and
+//!   passes a flush on.
+//! - A device's call is made once and not tried again, of whatever kind its error is; how many calls
+//!   are made, and how many bytes each asks for.
+//! - How [`memory::Hindered`] hinders, and how often a [`memory::VecSink`] says that it was flushed.
+//! - The texts of the faults, and that memory is found where there is some.
+//!
+//! # What a body can still get away with
+//!
+//! A device that is always down; a source that gives a byte a call, and a sink that takes one; a
+//! buffer that is never made; another text for a fault.
 //!
 //! # Stands on
 //!
-//! `hex` for the digits, `thiserror` for the messages of the faults, std's `Read` and `Write`.
+//! `hex` for the digits, `thiserror` for the texts of the faults, std's `Read` and `Write`.
 #![tactic(auto)]
 
 mod band;
@@ -49,11 +64,11 @@ mod standard;
 mod text;
 mod writing;
 
-pub use crate::band::{Band, band_of};
+pub use crate::band::{Band, MAX_BAND, band_of};
 pub use crate::buffer::LineBuffer;
 pub use crate::device::{Down, Sink, Source};
 pub use crate::fault::{BandFault, LineFault, WriteFault};
-pub use crate::line::{Line, MAX_PAYLOAD};
+pub use crate::line::{Line, MAX_PACKET, MAX_PAYLOAD};
 pub use crate::put::write_all;
 pub use crate::reading::LineReader;
 pub use crate::standard::{FromRead, ToWrite};

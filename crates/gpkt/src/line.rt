@@ -4,10 +4,10 @@
 pub(crate) const DIGITS: usize = 4;
 
 /// The most bytes that a packet line has, its four digits counted.
-pub(crate) const MAX_PACKET: u16 = 65_520;
+pub const MAX_PACKET: usize = 65_520;
 
 /// The most bytes that a packet line carries after its four digits.
-pub const MAX_PAYLOAD: usize = 65_516;
+pub const MAX_PAYLOAD: usize = MAX_PACKET - DIGITS;
 
 /// A packet line, whose payload is lent (gitprotocol-common(5), "pkt-line Format").
 #[derive(Clone, Copy, Debug, PartialEq, Eq)]

@@ -3,11 +3,11 @@
 ghost use Rattle.std.specs.Prelude.{◌≡◌, ◌+◌, ◌<◌, ◌≤◌, ◌^◌, ◌++◌, false, true, length, is_err, MatchOption, OnErr, OnOk};
 ghost use Rattle.std.specs.Io.KnownBytes.{Appends, Keeps};
 ghost use Rattle.gpkt.specs.Change.{change_of};
-ghost use Rattle.gpkt.specs.Packets.{digits_of, max_payload};
+ghost use Rattle.gpkt.specs.Packets.{digit_count, digits_of, max_payload};
 ghost use Rattle.gpkt.specs.LineWriting.{AppendsFront};
 
 use crate::device::{Down, Sink};
-use crate::line::MAX_PAYLOAD;
+use crate::line::{DIGITS, MAX_PAYLOAD};
 
 /// Writes all of the bytes, in as many calls of the sink as it takes; none, where there are no bytes.
 ///
@@ -67,11 +67,11 @@ pub(crate) fn payload_len(first: &[u8], second: &[u8], end: &[u8]) -> Option<usi
 }
 
 /// Four digits, with lower-case letters.
-pub(crate) fn digits_of(announced: u16) -> [u8; 4]
+pub(crate) fn digits_of(announced: u16) -> [u8; DIGITS]
     ensures value { result ≡ digits_of announced }
-    ensures len { length result ≡ 4 }
+    ensures len { length result ≡ digit_count }
 {
-    let mut digits = [0u8; 4];
+    let mut digits = [0u8; DIGITS];
     hex::encode_to_slice(announced.to_be_bytes(), &mut digits).unwrap();
     digits
 }

@@ -64,7 +64,7 @@ impl<S: Source, A: Allocator + Copy> LineReader<S, A> {
         }
     }
 
-    /// Reads the next line: four digits, and then exactly the payload. `None` is told where the input
+    /// Reads the next line: four digits, and then exactly the payload. `None` comes where the input
     /// ends before the first digit.
     ///
     /// Its faults: [`BadDigits`](LineFault::BadDigits) (all four came and one is no hexadecimal digit,

@@ -1,4 +1,6 @@
-//! What no clause says: the manual's examples, and every device at its worst.
+//! What no clause says: the manual's examples, every length, every device at its worst, every text.
+mod calls;
 mod devices;
+mod faults;
 mod reading;
 mod writing;

@@ -87,7 +87,7 @@ impl<W: Sink> LineWriter<W> {
         self.put_parts(first, second, b"\n")
     }
 
-    /// Writes one data line of the band's byte and its bytes, which are at most 65,515.
+    /// Writes one data line of the band's byte and its bytes, which are at most [`MAX_BAND`](crate::MAX_BAND).
     pub fn put_band(&mut self, band: &Band<'_>) -> Result<(), WriteFault>
         ensures written { HasWritten W.contents W.passed_on W.is_down W.seat self.old self.new result
             (canonical (packets.Data (band_payload (band_packet band.now)))) }

@@ -1,90 +1,302 @@
-use crate::{FromRead, Line, LineFault, LineReader, LineWriter, ToWrite, WriteFault};
+use crate::{
+    FromRead, Line, LineFault, LineReader, LineWriter, MAX_PAYLOAD, Sink, Source, ToWrite,
+    WriteFault,
+};
+use std::alloc::Global;
 use std::io;
 use std::io::{ErrorKind, Read, Write};
+use std::process::Abort;
 use std::test::Fail;
 
-// A reader whose first call is interrupted.
+// Calls are counted from 1: this one never comes.
+const NO_CALL: usize = 0;
+
+// Errors of every kind count, also those that others try again.
+const KINDS: &[ErrorKind] = &[
+    ErrorKind::Interrupted,
+    ErrorKind::WouldBlock,
+    ErrorKind::UnexpectedEof,
+    ErrorKind::BrokenPipe,
+];
+
+// A reader that gives at most so many bytes a call, and fails at one call.
 #[derive(Drop)]
-struct Interrupted<'a> {
-    calls: usize,
+struct Counted<'a> {
     rest: &'a [u8],
+    most: usize,
+    fails_at: usize,
+    kind: ErrorKind,
+    calls: usize,
 }
 
-impl Read for Interrupted<'_> {
-    fn read(&mut self, buf: &mut [u8]) -> io::Result<usize> {
-        self.calls = self.calls.saturating_add(1);
-        if self.calls == 1 {
-            return Err(io::Error::from(ErrorKind::Interrupted));
+impl<'a> Counted<'a> {
+    fn new(rest: &'a [u8], most: usize) -> Counted<'a> {
+        Counted {
+            rest,
+            most,
+            fails_at: NO_CALL,
+            kind: ErrorKind::Other,
+            calls: 0,
         }
-        self.rest.read(buf)
+    }
+
+    fn failing_at(mut self, fails_at: usize, kind: ErrorKind) -> Counted<'a> {
+        self.fails_at = fails_at;
+        self.kind = kind;
+        self
     }
 }
 
-// A writer that takes nothing.
-#[derive(Drop)]
-struct Full {
-    calls: usize,
+impl Read for Counted<'_> {
+    fn read(&mut self, buf: &mut [u8]) -> io::Result<usize> {
+        self.calls = self.calls.saturating_add(1);
+        if self.calls == self.fails_at {
+            return Err(io::Error::from(self.kind));
+        }
+        let room = buf.len().min(self.most);
+        self.rest.read(&mut buf[..room])
+    }
 }
 
-impl Write for Full {
-    fn write(&mut self, _buf: &[u8]) -> io::Result<usize> {
+// A writer that takes at most so many bytes a call, and fails at one call, a write or a flush.
+#[derive(Drop)]
+struct Kept {
+    written: Vec<u8>,
+    most: usize,
+    fails_at: usize,
+    kind: ErrorKind,
+    calls: usize,
+    flushes: usize,
+}
+
+impl Kept {
+    fn new(alloc: Global, most: usize) -> Kept {
+        Kept {
+            written: Vec::new(alloc),
+            most,
+            fails_at: NO_CALL,
+            kind: ErrorKind::Other,
+            calls: 0,
+            flushes: 0,
+        }
+    }
+
+    fn failing_at(mut self, fails_at: usize, kind: ErrorKind) -> Kept {
+        self.fails_at = fails_at;
+        self.kind = kind;
+        self
+    }
+
+    fn counts(&mut self) -> io::Result<()> {
         self.calls = self.calls.saturating_add(1);
-        Ok(0)
+        if self.calls == self.fails_at {
+            return Err(io::Error::from(self.kind));
+        }
+        Ok(())
+    }
+}
+
+impl Write for Kept {
+    fn write(&mut self, buf: &[u8]) -> io::Result<usize> {
+        self.counts()?;
+        let part = buf.len().min(self.most);
+        match self.written.extend_from_slice(&buf[..part]) {
+            Ok(()) => Ok(part),
+            Err(_) => Err(io::Error::from(ErrorKind::OutOfMemory)),
+        }
     }
 
     fn flush(&mut self) -> io::Result<()> {
-        self.calls = self.calls.saturating_add(1);
-        Err(io::Error::from(ErrorKind::Interrupted))
+        self.counts()?;
+        self.flushes = self.flushes.saturating_add(1);
+        Ok(())
+    }
+}
+
+// Two lines, and the read that finds the end: how many bytes a call gives, and how many calls that takes.
+const INPUT: &[u8] = b"0007abc0000";
+
+const READS: &[(usize, usize)] = &[(1, 12), (2, 7), (3, 6), (100, 4)];
+
+// How many calls read the first line and both lines.
+const READS_OF_LINES: &[(usize, usize, usize)] = &[(1, 7, 11), (2, 4, 6), (3, 3, 5), (100, 2, 3)];
+
+#[test]
+fn reads_are_counted(rt: HostRuntime) -> Result<(), Fail> {
+    for (most, calls) in READS {
+        let mut device = Counted::new(INPUT, *most);
+        let mut reader = LineReader::new(rt.alloc(), FromRead::new(&mut device))?;
+        assert_eq!(rt; reader.next()?, Some(Line::Data(b"abc")));
+        assert_eq!(rt; reader.next()?, Some(Line::Flush));
+        assert_eq!(rt; reader.next()?, None);
+        drop(reader);
+        assert_eq!(rt; device.calls, *calls, "by {most}");
+    }
+    Ok(())
+}
+
+// The lines that come before the fault, and the fault.
+fn check_failing_read(
+    rt: &impl Abort,
+    alloc: Global,
+    device: &mut Counted<'_>,
+    lines: usize,
+) -> Result<(), Fail> {
+    let mut reader = LineReader::new(alloc, FromRead::new(device))?;
+    if lines > 0 {
+        assert_eq!(rt; reader.next()?, Some(Line::Data(b"abc")));
+    }
+    if lines > 1 {
+        assert_eq!(rt; reader.next()?, Some(Line::Flush));
+    }
+    assert_eq!(rt; reader.next(), Err(LineFault::Io));
+    assert_eq!(rt; reader.next(), Err(LineFault::Failed));
+    Ok(())
+}
+
+// How many lines come where this read fails.
+fn lines_before(fails_at: usize, first: usize, both: usize) -> usize {
+    if fails_at <= first {
+        0
+    } else if fails_at <= both {
+        1
+    } else {
+        2
     }
 }
 
 #[test]
-fn std_readers_are_read(rt: HostRuntime) -> Result<(), Fail> {
+fn each_read_fails_in_turn(rt: HostRuntime) -> Result<(), Fail> {
+    for kind in KINDS {
+        for (most, first, both) in READS_OF_LINES {
+            for fails_at in 1..=both.saturating_add(1) {
+                let mut device = Counted::new(INPUT, *most).failing_at(fails_at, *kind);
+                let lines = lines_before(fails_at, *first, *both);
+                check_failing_read(&rt, rt.alloc(), &mut device, lines)?;
+                assert_eq!(rt; device.calls, fails_at);
+            }
+        }
+    }
+    Ok(())
+}
+
+// The end of the input is asked for again at each call, once, and what came since is read.
+#[test]
+fn end_is_asked_for_again(rt: HostRuntime) -> Result<(), Fail> {
+    let mut device = Counted::new(b"", 100);
+    let mut source = FromRead::new(&mut device);
+    let mut buf = [0u8; 8];
+    assert_eq!(rt; source.read(&mut buf), Ok(0));
+    assert_eq!(rt; source.read(&mut buf), Ok(0));
+    let mut reader = LineReader::new(rt.alloc(), source)?;
+    assert_eq!(rt; reader.next()?, None);
+    assert_eq!(rt; reader.next()?, None);
+    let left = reader.into_inner().into_inner();
+    assert_eq!(rt; left.calls, 4);
+    left.rest = b"0001";
+    let mut reader = LineReader::new(rt.alloc(), FromRead::new(left))?;
+    assert_eq!(rt; reader.next()?, Some(Line::Delim));
+    assert_eq!(rt; reader.next()?, None);
+    Ok(())
+}
+
+// A line of the longest payload, in and out, in one call a part, and no flush until the push.
+#[test]
+fn long_lines_pass(rt: HostRuntime) -> Result<(), Fail> {
+    let payload = vec![in rt.alloc(); b'x'; MAX_PAYLOAD]?;
+    let mut device = Kept::new(rt.alloc(), usize::MAX);
+    let mut writer = LineWriter::new(ToWrite::new(&mut device));
+    writer.put(b"a")?;
+    writer.put(payload.as_slice())?;
+    drop(writer);
+    assert_eq!(rt; device.calls, 4);
+    assert_eq!(rt; device.flushes, 0);
+    let mut writer = LineWriter::new(ToWrite::new(&mut device));
+    writer.push()?;
+    drop(writer);
+    assert_eq!(rt; device.flushes, 1);
+    let mut device = Counted::new(device.written.as_slice(), usize::MAX);
+    let mut reader = LineReader::new(rt.alloc(), FromRead::new(&mut device))?;
+    assert_eq!(rt; reader.next()?, Some(Line::Data(b"a")));
+    assert_eq!(rt; reader.next()?, Some(Line::Data(payload.as_slice())));
+    assert_eq!(rt; reader.next()?, None);
+    drop(reader);
+    assert_eq!(rt; device.calls, 5);
+    Ok(())
+}
+
+// What is written by `write_two`: how many bytes a call takes, and how many calls that takes with the push.
+const OUTPUT: &[u8] = b"0007abc0000";
+
+const WRITES: &[(usize, usize)] = &[(1, 12), (2, 7), (3, 6), (100, 4)];
+
+fn write_two<W: Sink>(writer: &mut LineWriter<W>) -> Result<(), WriteFault> {
+    writer.put(b"abc")?;
+    writer.flush_pkt()?;
+    writer.push()
+}
+
+#[test]
+fn writes_are_counted(rt: HostRuntime) -> Result<(), Fail> {
+    for (most, calls) in WRITES {
+        let mut device = Kept::new(rt.alloc(), *most);
+        let mut writer = LineWriter::new(ToWrite::new(&mut device));
+        write_two(&mut writer)?;
+        drop(writer);
+        assert_eq!(rt; device.written.as_slice(), OUTPUT, "by {most}");
+        assert_eq!(rt; device.calls, *calls, "by {most}");
+        assert_eq!(rt; device.flushes, 1, "by {most}");
+    }
+    Ok(())
+}
+
+#[test]
+fn each_write_and_the_flush_fail_in_turn(rt: HostRuntime) -> Result<(), Fail> {
+    for kind in KINDS {
+        for (most, calls) in WRITES {
+            for fails_at in 1..=*calls {
+                let mut device = Kept::new(rt.alloc(), *most).failing_at(fails_at, *kind);
+                let mut writer = LineWriter::new(ToWrite::new(&mut device));
+                assert_eq!(rt;
+                    write_two(&mut writer),
+                    Err(WriteFault::Io),
+                    "call {fails_at}"
+                );
+                assert_eq!(rt; writer.put(b"a"), Err(WriteFault::Failed));
+                assert_eq!(rt; writer.push(), Err(WriteFault::Failed));
+                drop(writer);
+                assert_eq!(rt; device.calls, fails_at);
+                assert_eq!(rt; device.flushes, 0);
+                assert!(rt; OUTPUT.starts_with(device.written.as_slice()));
+            }
+        }
+    }
+    Ok(())
+}
+
+// A writer that takes none of some bytes has failed, and is not asked again.
+#[test]
+fn writer_that_takes_none_has_failed(rt: HostRuntime) {
+    let mut device = Kept::new(rt.alloc(), 0);
+    let mut writer = LineWriter::new(ToWrite::new(&mut device));
+    assert_eq!(rt; writer.delim(), Err(WriteFault::Io));
+    assert_eq!(rt; writer.delim(), Err(WriteFault::Failed));
+    drop(writer);
+    assert_eq!(rt; device.calls, 1);
+}
+
+// Some of std's own readers and writers.
+#[test]
+fn std_devices_are_used(rt: HostRuntime) -> Result<(), Fail> {
     let mut bytes: &[u8] = b"0005a0000";
     let mut reader = LineReader::new(rt.alloc(), FromRead::new(&mut bytes))?;
     assert_eq!(rt; reader.next()?, Some(Line::Data(b"a")));
-    assert_eq!(rt; reader.next()?, Some(Line::Flush));
-    assert_eq!(rt; reader.next()?, None);
-    assert_eq!(rt; *reader.into_inner().into_inner(), b"".as_slice());
-    Ok(())
-}
-
-#[test]
-fn nothing_is_read_again(rt: HostRuntime) -> Result<(), Fail> {
-    let rest: &[u8] = b"0005a0000";
-    let mut left = Interrupted { calls: 0, rest };
-    let mut reader = LineReader::new(rt.alloc(), FromRead::new(&mut left))?;
-    assert_eq!(rt; reader.next(), Err(LineFault::Io));
-    assert_eq!(rt; reader.next(), Err(LineFault::Failed));
-    drop(reader);
-    assert_eq!(rt; left.calls, 1);
-    assert_eq!(rt; left.rest.len(), 9);
-    Ok(())
-}
-
-#[test]
-fn std_writers_are_written(rt: HostRuntime) -> Result<(), Fail> {
+    assert_eq!(rt; *reader.into_inner().into_inner(), b"0000".as_slice());
     let mut written = Vec::new(rt.alloc());
     let mut writer = LineWriter::new(ToWrite::new(&mut written));
     writer.text(b"hello")?;
-    writer.flush_pkt()?;
     writer.push()?;
-    drop(writer);
+    writer.into_inner().into_inner().extend_from_slice(b"0000")?;
     assert_eq!(rt; written.as_slice(), b"000ahello\n0000".as_slice());
     Ok(())
-}
-
-#[test]
-fn nothing_is_written_again(rt: HostRuntime) {
-    let mut full = Full { calls: 0 };
-    let mut writer = LineWriter::new(ToWrite::new(&mut full));
-    assert_eq!(rt; writer.delim(), Err(WriteFault::Io));
-    assert_eq!(rt; writer.delim(), Err(WriteFault::Failed));
-    assert_eq!(rt; writer.push(), Err(WriteFault::Failed));
-    assert_eq!(rt; full.calls, 1);
-    let mut full = Full { calls: 0 };
-    let mut writer = LineWriter::new(ToWrite::new(&mut full));
-    assert_eq!(rt; writer.push(), Err(WriteFault::Io));
-    assert_eq!(rt; writer.push(), Err(WriteFault::Failed));
-    assert_eq!(rt; full.calls, 1);
 }

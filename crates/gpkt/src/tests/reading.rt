@@ -1,5 +1,5 @@
 use crate::memory::{Hindered, SliceSource};
-use crate::{Line, LineFault, LineReader, MAX_PAYLOAD, Source, laws, text_of};
+use crate::{Line, LineFault, LineReader, MAX_PAYLOAD, Source, text_of};
 use std::alloc::{AllocError, Global};
 use std::process::Abort;
 use std::test::Fail;
@@ -13,13 +13,7 @@ fn note(out: &mut Vec<u8>, read: Result<Option<Line<'_>>, LineFault>) -> Result<
         Ok(Some(Line::Delim)) => (b"delim", b""),
         Ok(Some(Line::ResponseEnd)) => (b"response-end", b""),
         Ok(None) => (b"end", b""),
-        Err(LineFault::BadDigits) => (b"BadDigits", b""),
-        Err(LineFault::Reserved) => (b"Reserved", b""),
-        Err(LineFault::TooLong) => (b"TooLong", b""),
-        Err(LineFault::Truncated) => (b"Truncated", b""),
-        Err(LineFault::Io) => (b"Io", b""),
-        Err(LineFault::Failed) => (b"Failed", b""),
-        Err(LineFault::Memory) => (b"Memory", b""),
+        Err(fault) => (fault.name().as_bytes(), b""),
     };
     out.extend_from_slice(name)?;
     out.extend_from_slice(payload)?;
@@ -27,7 +21,7 @@ fn note(out: &mut Vec<u8>, read: Result<Option<Line<'_>>, LineFault>) -> Result<
     Ok(goes_on)
 }
 
-// What a reader gives up to the end of the input or the first `Failed`, and the source behind it.
+// What a reader gives up to the end of the input or the first `Failed`, and the source.
 fn transcript<S: Source + Drop>(alloc: Global, source: S, out: &mut Vec<u8>) -> Result<S, Fail> {
     let mut reader = LineReader::new(alloc, source)?;
     for _ in 0..9 {
@@ -37,6 +31,9 @@ fn transcript<S: Source + Drop>(alloc: Global, source: S, out: &mut Vec<u8>) -> 
     }
     Ok(reader.into_inner())
 }
+
+// How many bytes a read gives at most.
+const MOST: &[usize] = &[1, 2, 3, 5, 100];
 
 // The bytes, what is read of them, and how many are left.
 type Case = (&'static [u8], &'static [u8], usize);
@@ -85,16 +82,16 @@ const REFUSED: &[Case] = &[
 
 #[test]
 fn lines_are_read(rt: HostRuntime) -> Result<(), Fail> {
-    for most in [1, 2, 3, 5, 100] {
-        check(&rt, rt.alloc(), LINES, most)?;
+    for most in MOST {
+        check(&rt, rt.alloc(), LINES, *most)?;
     }
     Ok(())
 }
 
 #[test]
 fn other_bytes_are_refused(rt: HostRuntime) -> Result<(), Fail> {
-    for most in [1, 2, 3, 5, 100] {
-        check(&rt, rt.alloc(), REFUSED, most)?;
+    for most in MOST {
+        check(&rt, rt.alloc(), REFUSED, *most)?;
     }
     Ok(())
 }
@@ -115,7 +112,7 @@ fn longest_line_is_read(rt: HostRuntime) -> Result<(), Fail> {
 
 // One byte a read: the call that fails, and what was read before.
 #[test]
-fn failing_reads_are_told(rt: HostRuntime) -> Result<(), Fail> {
+fn failing_reads_are_reported(rt: HostRuntime) -> Result<(), Fail> {
     let input = b"0006a\n0000";
     for calls in 0..11 {
         let mut out = Vec::new(rt.alloc());
@@ -133,45 +130,20 @@ fn failing_reads_are_told(rt: HostRuntime) -> Result<(), Fail> {
     Ok(())
 }
 
+// A payload, and its text.
+const TEXTS: &[(&[u8], &[u8])] = &[
+    (b"a\n", b"a"),
+    (b"a", b"a"),
+    (b"a\n\n", b"a\n"),
+    (b"\n", b""),
+    (b"", b""),
+    (b"a\nb", b"a\nb"),
+    (b"a\r\n", b"a\r"),
+];
+
 #[test]
 fn one_line_feed_is_taken_off(rt: HostRuntime) {
-    let cases: [(&[u8], &[u8]); 7] = [
-        (b"a\n", b"a"),
-        (b"a", b"a"),
-        (b"a\n\n", b"a\n"),
-        (b"\n", b""),
-        (b"", b""),
-        (b"a\nb", b"a\nb"),
-        (b"a\r\n", b"a\r"),
-    ];
-    for (payload, text) in cases {
-        assert_eq!(rt; text_of(payload), text);
+    for (payload, text) in TEXTS {
+        assert_eq!(rt; text_of(payload), *text);
     }
-}
-
-#[test]
-fn faults_have_numbers(rt: HostRuntime) {
-    let cases = [
-        (LineFault::BadDigits, 20),
-        (LineFault::Reserved, 21),
-        (LineFault::TooLong, 22),
-        (LineFault::Truncated, 23),
-        (LineFault::Io, 24),
-        (LineFault::Failed, 25),
-        (LineFault::Memory, 28),
-    ];
-    for (fault, number) in cases {
-        assert_eq!(rt; fault.code(), number);
-    }
-}
-
-#[test]
-fn laws_can_be_called() {
-    laws::one_reading();
-    laws::refused_front();
-    laws::has_digits();
-    laws::canonical_spells();
-    laws::spellings_join();
-    laws::one_begins();
-    laws::text_reads_back();
 }
