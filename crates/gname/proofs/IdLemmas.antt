@@ -59,7 +59,7 @@ wrong_length : (text : List ℕ) (e found : FromHexError) → length text ≢ id
     → ReadsId text (Err (id_fault_of e))
 wrong_length text e found other is same = rw (same, is) other
 
--- a text that does not is told its length, or its first bad digit
+-- of any other text the fault is its length, or its first bad digit
 pub ReadsId-err : (text : List ℕ) (e : FromHexError) → decode_sized text id_length ≡ Err e
     → ReadsId text (Err (id_fault_of e))
 ReadsId-err text e h =

@@ -1,4 +1,4 @@
-// Object ids.
+//! Object ids.
 #![tactic(auto)]
 
 ghost use Rattle.std.specs.Prelude.{◌≡◌, ℕ, List, Some, nat_eq, refl};
@@ -55,7 +55,7 @@ impl Oid {
         ensures reads_back { IsIdText out.new self.now }
         ensures id { IsId self.now }
     {
-        write_digits(&self.bytes, out);
+        write_digits(self.as_bytes(), out);
     }
 
     /// The bytes of the id.

@@ -1,4 +1,4 @@
-// Ref names.
+//! Ref names.
 #![tactic(auto)]
 
 ghost use Rattle.std.specs.Prelude.{◌≡◌, ◌≤◌, ◌↔◌, ℕ, List, IfOk, IsTrue, Some, length, nat_eq, refl};
