@@ -8,7 +8,8 @@ use Rattle.gpkt.specs.LineReading.{NoLine}
 -- at most one line is spelt at the front of the bytes, in one way
 abbrev pub OneReading : Type 0
 OneReading =
-    (line other : Packet) (front next rest after : List ℕ) → Spells line front → Spells other next → front ++ rest ≡ next ++ after
+    (line other : Packet) (front next rest after : List ℕ) → Spells line front → Spells other next
+    → front ++ rest ≡ next ++ after
     → (line ≡ other) × (front ≡ next) × (rest ≡ after)
 
 -- where reading is refused, no line is spelt at the front

@@ -2,6 +2,15 @@ use crate::memory::{Hindered, VecSink};
 use crate::{LineWriter, MAX_PAYLOAD, Sink, WriteFault};
 use std::test::Fail;
 
+// How many bytes a write takes at most.
+const MOST: &[usize] = &[1, 2, 3, 5, 100];
+
+// What `write_each` writes, and what is written with two lines more.
+const EACH: &[u8] = b"0006a\n0005a000bfoobar\n000400000001000200080123";
+
+const ALL: &[u8] =
+    b"0006a\n0005a000bfoobar\n000400000001000200080123000e01234567890010want master\n";
+
 // Each call once.
 fn write_each<W: Sink>(writer: &mut LineWriter<W>) -> Result<(), WriteFault> {
     writer.put(b"a\n")?;
@@ -17,17 +26,15 @@ fn write_each<W: Sink>(writer: &mut LineWriter<W>) -> Result<(), WriteFault> {
 
 #[test]
 fn lines_are_written(rt: HostRuntime) -> Result<(), Fail> {
-    for most in [1, 2, 3, 5, 100] {
-        let mut sink = Hindered::new(VecSink::new(rt.alloc())).with_most(most);
+    for most in MOST {
+        let mut sink = Hindered::new(VecSink::new(rt.alloc())).with_most(*most);
         let mut writer = LineWriter::new(&mut sink);
         write_each(&mut writer)?;
         writer.put2(b"", b"0123456789")?;
         writer.text2(b"want ", b"master")?;
         writer.push()?;
         let sink = sink.into_inner();
-        let expected =
-            b"0006a\n0005a000bfoobar\n000400000001000200080123000e01234567890010want master\n";
-        assert_eq!(rt; sink.written(), expected.as_slice(), "by {most}");
+        assert_eq!(rt; sink.written(), ALL, "by {most}");
         assert_eq!(rt; sink.flushes(), 1);
     }
     Ok(())
@@ -53,8 +60,7 @@ fn long_payloads_are_refused(rt: HostRuntime) -> Result<(), Fail> {
 // One byte a write: a beginning stands written, and nothing comes after it.
 #[test]
 fn failing_writes_are_reported(rt: HostRuntime) -> Result<(), Fail> {
-    let expected = b"0006a\n0005a000bfoobar\n000400000001000200080123";
-    for calls in 0..expected.len() {
+    for calls in 0..EACH.len() {
         let mut sink = Hindered::new(VecSink::new(rt.alloc()))
             .with_most(1)
             .failing_after(calls);
@@ -64,7 +70,7 @@ fn failing_writes_are_reported(rt: HostRuntime) -> Result<(), Fail> {
         assert_eq!(rt; writer.flush_pkt(), Err(WriteFault::Failed));
         assert_eq!(rt; writer.push(), Err(WriteFault::Failed));
         let sink = sink.into_inner();
-        assert_eq!(rt; sink.written(), &expected[..calls], "at {calls}");
+        assert_eq!(rt; sink.written(), &EACH[..calls], "at {calls}");
         assert_eq!(rt; sink.flushes(), 0);
     }
     Ok(())
