@@ -2,7 +2,7 @@
 use Rattle.std.proofs.Common.{◌≡◌, inl, inr, ℕ, List, [], ◌∷◌, Bool, true, false, Some, None, refl, sym, ap, ◌∙◌, subst, Option, IsTrue, ◌↔◌, not, All, map}
 use Rattle.std.specs.Option.{is_some}
 use Rattle.std.proofs.lemmas.Bool.{cases_Bool, false≢true}
-use Rattle.std.proofs.lemmas.Option.{none-some}
+use Rattle.std.proofs.lemmas.Option.{none-some, same_Some}
 use Rattle.std.proofs.lemmas.List.Elements.{All-nil, All-cons, All-head, All-tail, All-map, All-contains, All-contains_itself}
 use Rattle.std.proofs.lemmas.Slice.Eq.{bytes_eq-Decides}
 use Rattle.ggraph.specs.declared.node.Node.{Node}
@@ -24,16 +24,13 @@ module _ {A : Type 0} where
   later_node : (entry : Entry A) (g : List (Entry A)) (a : List ℕ) → has_id a entry ≡ false → node_at (entry ∷ g) a ≡ node_at g a
   later_node entry g a e = rw e refl
 
-  same_node : (x y : Node A) → Some x ≡ Some y → x ≡ y
-  same_node x y e = cc
-
   module _ (P : Node A → Type 0) where
     -- what holds of each entry's node holds of a node that is found
     of_found : (g : List (Entry A)) (a : List ℕ) (node : Node A) → All (λ entry. P entry.node) g → IsNode g a node → P node
     of_found [] a node each is = absurd (none-some node is)
     of_found (entry ∷ g) a node each is =
         elim (cases_Bool (has_id a entry)) [
-          | inl same ↦ subst P (same_node entry.node node (sym (first_node entry g a same) ∙ is)) (All-head (λ (e : Entry A). P e.node) entry g each)
+          | inl same ↦ subst P (same_Some entry.node node (sym (first_node entry g a same) ∙ is)) (All-head (λ (e : Entry A). P e.node) entry g each)
           | inr other ↦ of_found g a node (All-tail (λ (e : Entry A). P e.node) entry g each) (sym (later_node entry g a other) ∙ is)
         ]
 

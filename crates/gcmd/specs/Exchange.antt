@@ -49,13 +49,13 @@ why_text why.Format = codes "upload-pack: object format mismatch"
 why_text why.Memory = codes "upload-pack: out of memory"
 why_text why.Ended = codes "upload-pack: unexpected end"
 
--- what the peer is told of a refusal
+-- what a refusal says to the peer
 abbrev pub err_text : LsFault → List ℕ
 err_text Buffer = codes "upload-pack: out of memory"
 err_text (Message fault) = why_text fault.why
 err_text Memory = codes "upload-pack: out of memory"
 
--- the bytes of the line that tells it
+-- the bytes of the line that says it
 unfoldable pub err_bytes : LsFault → List ℕ
 err_bytes fault = canonical (Data (codes "ERR " ++ err_text fault ++ 10 ∷ []))
 

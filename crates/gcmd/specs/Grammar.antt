@@ -1,4 +1,4 @@
--- What a list of packet lines is to a message's grammar. A judge says of each packet, behind those
+-- What a list of packet lines is to a message's grammar. A judge says of each packet, after those
 -- before it, whether the message goes on, ends with it, or is refused there and why. (The section
 -- on each message in gitprotocol-v2(5) says what may be sent; the judge adds the reasons.)
 use Rattle.std.specs.Prelude.{◌≡◌, List, [], ◌∷◌, ◌++◌}
@@ -9,7 +9,7 @@ pub data Verdict : Type 0 where
   Goes Ends : Verdict
   Refuses : (why : Why) → Verdict
 
--- each packet goes on behind those before it
+-- the message goes on with each packet after those before it
 pub record IsOpen (judge : List Packet → Packet → Verdict) (lines : List Packet) : Type 0 where
   pub each : (front : List Packet) (packet : Packet) (back : List Packet) → lines ≡ front ++ packet ∷ back
       → judge front packet ≡ Goes

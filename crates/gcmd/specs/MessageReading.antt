@@ -25,7 +25,7 @@ abbrev pub ReadsJudged : (List Packet → Packet → Verdict) → List Packet �
 ReadsJudged judge front bytes verdict =
     (packet : Packet) × Reads bytes (Ok (Some packet)) × (judge front packet ≡ verdict)
 
--- Why the message is refused behind these lines: no line is spelt there; the input ends; a packet that
+-- Why the message is refused after these lines: no line is spelt there; the input ends; a packet that
 -- goes on needed memory that was refused; or the judge refuses the packet.
 abbrev pub IsReasonFor : (List Packet → Packet → Verdict) → List Packet → Change → Why → Type 0
 IsReasonFor judge front bytes (Line fault) = Reads bytes (Err fault)
@@ -69,7 +69,7 @@ TakesAs verdict P (Err (RemoteErr said)) = verdict ≡ Refuses (RemoteErr said)
 TakesAs verdict P (Err Format) = verdict ≡ Refuses Format
 
 module _ {M : Type 0} (judge : List Packet → Packet → Verdict) (holds : M → List Packet → Type 0) where
-  -- taking a packet behind these answers what the judge says of it
+  -- taking a packet after these answers what the judge says of it
   abbrev pub TakesPacket : List Packet → Packet → M → Result Step Why → Type 0
   TakesPacket front packet new result = TakesAs (judge front packet) (holds new (front ++ packet ∷ [])) result
 

@@ -60,7 +60,7 @@ RefusesRefs repo Memory = ⊤
 RefusesRefs repo (Text line) = ⊥
 RefusesRefs repo (ParentLater line) = ⊥
 
--- why a text is refused; want of memory may come at any text
+-- why a text is refused; out of memory may come at any text
 abbrev pub RefusesText : {A : Type 0} → List ℕ → RepoFault A → Type 0
 RefusesText {A} text (Text line) = StopsAt A ParentsFirst text (load.Text line)
 RefusesText {A} text (ParentLater line) = StopsAt A ParentsFirst text (load.ParentLater line)

@@ -23,7 +23,7 @@ pub data Place : Type 0 where
   Capabilities : Place
   Arguments : Place
 
--- the place behind a packet: the first text is the command, and a delimiter separates the
+-- the place after a packet: the first text is the command, and a delimiter separates the
 -- capabilities from the arguments
 abbrev pub next_place : Place → Packet → Place
 next_place Command (Data payload) = Capabilities
@@ -40,7 +40,7 @@ abbrev pub place_from : Place → List Packet → Place
 place_from place [] = place
 place_from place (packet ∷ packets) = place_from (next_place place packet) packets
 
--- the place behind the first packets of a request
+-- the place after the first packets of a request
 abbrev pub place_after : List Packet → Place
 place_after front = place_from Command front
 
@@ -72,7 +72,7 @@ is_format line = begins (codes "object-format=") line
 abbrev pub is_ref_prefix : List ℕ → Bool
 is_ref_prefix line = begins (codes "ref-prefix ") line
 
--- what stands behind `agent=` and behind `ref-prefix `
+-- what follows `agent=` and `ref-prefix `
 abbrev pub agent_value : List ℕ → List ℕ
 agent_value line = drop 6 line
 

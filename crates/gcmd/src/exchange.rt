@@ -55,7 +55,7 @@ impl LsFault {
         }
     }
 
-    /// What the peer is told.
+    /// What the peer reads of it.
     pub fn err_text(&self) -> &'static [u8]
         ensures { result.now ≡ err_text self.now }
     {
@@ -113,7 +113,7 @@ pub enum LsEnd {
     WriteFailed,
 }
 
-/// Reads one request and writes what answers it (gitprotocol-v2(5), "ls-refs"). Nothing behind the
+/// Reads one request and writes what answers it (gitprotocol-v2(5), "ls-refs"). Nothing after the
 /// request's last packet is read.
 pub fn ls_once<S: Source, W: Sink, A: Allocator + Copy>(
     alloc: A,

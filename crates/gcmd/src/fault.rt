@@ -28,7 +28,7 @@ impl Model for PeerText {
 
 impl PeerText {
     /// Keeps the text of an `ERR` line, given what follows the word: one line feed at its end is left
-    /// out, and then all behind the first 256 bytes. Takes no memory.
+    /// out, and then all after the first 256 bytes. Takes no memory.
     pub fn new(text: &[u8]) -> PeerText
         ensures { result ≡ kept_text text.now }
     {

@@ -1,34 +1,47 @@
-//! The programs of gitv2 as functions over bytes, readers and writers, and what they do of Git's protocol,
-//! version 2: one request for ls-refs is read, answered from a repository's file, and refused where it is
-//! wrong.
+//! The programs of gitv2 as functions over bytes and devices, and what they do of Git's protocol, version 2:
+//! one request for ls-refs is read, answered from a repository's file, and refused where it is wrong.
 //!
-//! # Proved, of every input
+//! Where a promise below speaks of the bytes of a device, it holds where the device knows them, as those in
+//! memory do.
 //!
+//! # Proved
+//!
+//! - [`cmd_ls`] and [`cmd_check`] end with status 0 and print nothing, or with 1, and then exactly the line
+//!   of the fault that was met is printed and passed on, or a beginning of it where the errors' sink fails.
+//!   [`cmd_failed`] prints the line of the fault that it is given.
+//! - [`cmd_check`] writes its one line, with the counts, and whether the graph is closed and the refs are
+//!   safe, and passes it on; where the sink fails, a beginning of it stands. Of a file that is no repository
+//!   nothing is written. [`cmd_ls`] is one exchange over the repository of its file, or nothing is read or
+//!   written.
 //! - [`ls_once`]: what is written is the answer to the request that the bytes read spell, or the line that
-//!   tells of the first refusal, at its packet and with its reason; the end of the exchange says which. Nothing
-//!   is written for a lone flush or no input. Where the sink fails, a beginning of what was due stands.
-//! - [`read_request`] reads a request exactly where the grammar has one, and nothing behind it; else it
+//!   reports the first refusal, at its packet and with its reason, and all of it is passed on; the end of
+//!   the exchange says which. Nothing is written for a lone flush or no input. Where the sink fails, a
+//!   beginning of what was due stands.
+//! - [`read_request`] reads a request exactly where the grammar has one, and nothing after it; else it
 //!   refuses the first packet that does not fit. [`laws`] say that the grammar is the manual's.
 //! - [`ls_refs`] answers exactly HEAD and the refs that are asked for, in order, with the attributes asked
 //!   for; [`write_ls_reply`] writes exactly their canonical bytes.
 //! - [`RepoFile::read`] accepts exactly the texts of repositories with parents first whose refs stand at
-//!   objects that are there, and tells the fault of others at its line or by its ref.
-//! - [`cmd_ls`] is one such exchange over a reader and a writer, with the status of its end; of a file that is no
-//!   repository, nothing is read or written, and the status is 1.
-//! - [`cmd_check`] ends with 0 only where its line is written: the counts, and whether the graph is closed and the
-//!   refs are safe.
-//! - The line that is printed of each fault, where it is printed whole.
-//!
-//! Want of memory is open: a call that takes memory may tell it at any time.
+//!   objects that are there, and reports the fault of others at its line or by its ref.
+//! - The number and the name of each fault, and its printed line.
 //!
 //! # Only tested
 //!
-//! That the line of a fault is printed, and that the sink is flushed.
+//! The short texts of faults (`Display`). That memory, where there is some, is found. How the devices that
+//! `gpkt` makes of std's readers and writers behave under a program: one byte a call, a failure at each call
+//! in turn, a flush that fails, a reply of more bytes than any buffer has.
+//!
+//! # What a body can still get away with
+//!
+//! A call that takes memory can answer that there is none, whatever there is. Where an output's bytes are
+//! not known, anything can be written to it that its contracts on failure and status allow. How often a
+//! device is called is not said, nor how long anything takes.
 //!
 //! # Stands on
 //!
-//! `gpkt` for packet lines, `gname` for names and ids, `ggraph` for graphs and their text, `arrayvec` for lines of
-//! bounded length, `thiserror`; in tests `bumpalo`, for memory that ends.
+//! `gpkt` for packet lines and devices, `gname` for names and ids, `ggraph` for graphs and their text,
+//! `arrayvec` for texts of bounded length, `itoa` for numbers, `thiserror` for the texts of faults; in tests
+//! `bumpalo`, for memory that ends.
 #![tactic(auto)]
 
 mod answer;

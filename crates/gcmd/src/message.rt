@@ -10,7 +10,7 @@ use crate::fault::{MessageFault, Why};
 use gpkt::{Line, LineReader, Source};
 use std::alloc::Allocator;
 
-/// Whether a message goes on behind a packet.
+/// Whether a message goes on after a packet.
 #[derive(Clone, Copy, Debug, PartialEq, Eq)]
 pub(crate) enum Step {
     Goes,
@@ -19,7 +19,7 @@ pub(crate) enum Step {
 
 /// A message that is being read: what its packets so far have said.
 pub(crate) trait Message {
-    // What the grammar says of a packet behind those before it.
+    // What the grammar says of a packet after those before it.
     ghost judge: { List Packet → Packet → Verdict };
 
     // These are the packets so far.
@@ -35,9 +35,9 @@ pub(crate) trait Message {
         ensures bounded { (front : List Packet) → IsOpen judge front → length front < 2 ^ 60 };
 }
 
-/// Reads a message to its end, and nothing behind it.
+/// Reads a message to its end, and nothing after it.
 ///
-/// The fault tells the packet's place, from 0. What the line reader refuses comes first, then the end of the
+/// The fault has the packet's place, from 0. What the line reader refuses comes first, then the end of the
 /// input, then what the grammar refuses.
 pub(crate) fn read_message<S: Source, A: Allocator + Copy, M: Message>(
     reader: &mut LineReader<S, A>,

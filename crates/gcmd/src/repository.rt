@@ -69,7 +69,7 @@ impl<A: Allocator + Copy> RepoFile<A> {
     ///
     /// It fails at the first line that is not as the format has it, or that names a later parent; of
     /// a text whose lines are right, with the first ref in name order, or else HEAD, that stands at
-    /// an object which is not there. Want of memory may come at any text.
+    /// an object which is not there. Out of memory may come at any text.
     pub fn read(alloc: A, text: &[u8]) -> Result<RepoFile<A>, RepoFault<A>>
         ensures names { IfOk result (λ repo. Names text.now (record { graph = repo.graph; refs = repo.refs; head = repo.head })) }
         ensures refs { IfOk result (λ repo. HoldsRefs repo.graph repo.refs) }
@@ -122,7 +122,7 @@ fn check_head<A: Allocator + Copy>(alloc: A, repo: &Repository<A>) -> Result<(),
     }
 }
 
-// The fault that tells the name, where there was memory to keep it.
+// The fault that names the ref, where there was memory to keep it.
 fn ref_missing<A: Allocator + Copy>(name: Result<RefName<A>, AllocError>) -> RepoFault<A>
     ensures { result ≡ missing_fault name }
 {

@@ -57,7 +57,7 @@ impl<A: Allocator + Copy> Model for LsRefs<A> {
 }
 
 impl<A: Allocator + Copy> LsRefs<A> {
-    /// The client's name for itself, 1 to 1,000 bytes, where it told one.
+    /// The client's name for itself, 1 to 1,000 bytes, where it gave one.
     pub fn agent(&self) -> Option<&[u8]>
         ensures { option_copied result ≡ self.now.agent }
     {
@@ -96,12 +96,12 @@ pub enum Request<A: Allocator + Copy> {
     Ls(LsRefs<A>),
 }
 
-/// Reads one request to its end, and nothing behind it (gitprotocol-v2(5), "Command Request"). It
+/// Reads one request to its end, and nothing after it (gitprotocol-v2(5), "Command Request"). It
 /// answers `None` where the input ends before the first packet. After a request the reader has not
 /// failed, and the next one can be read.
 ///
-/// The fault tells the first packet, counted from 0, that does not fit, and why. What the line reader
-/// refuses comes first ([`Why::Line`]), then the end of the input ([`Why::Ended`], behind the first
+/// The fault names the first packet, counted from 0, that does not fit, and why. What the line reader
+/// refuses comes first ([`Why::Line`]), then the end of the input ([`Why::Ended`], after the first
 /// packet alone), then what the grammar refuses. [`Why::Memory`] comes only at a packet with which
 /// the request would go on. What was read, a refused packet too, is taken from the source.
 pub fn read_request<S: Source, A: Allocator + Copy>(

@@ -1,4 +1,6 @@
 // The number, the name and the text of every fault, and the line that is printed of it.
+ghost use Rattle.gcmd.specs.Printing.{IsShort};
+
 use crate::print::FaultLine;
 use crate::{LsFault, MessageFault, PeerText, ProgramFault, RepoFault, Why};
 use ggraph::{GraphFault, IndexFault, PackFault};
@@ -26,7 +28,9 @@ const LINES: &[(LineFault, Row)] = &[
 ];
 
 // The line that is printed.
-fn line_of(alloc: Global, line: &FaultLine<'_>) -> Result<String, Fail> {
+fn line_of(alloc: Global, line: &FaultLine<'_>) -> Result<String, Fail>
+    requires { IsShort line.now }
+{
     let mut sink = VecSink::new(alloc);
     line.print(&mut sink)?;
     Ok(String::from_str(alloc, std::str::from_utf8(sink.passed_on())?)?)
@@ -142,7 +146,9 @@ fn faults_of_programs_have_their_rows(rt: HostRuntime) -> Result<(), Fail> {
     Ok(())
 }
 
-fn check_printed(rt: &impl Abort, alloc: Global, line: &FaultLine<'_>, rest: &str) -> Result<(), Fail> {
+fn check_printed(rt: &impl Abort, alloc: Global, line: &FaultLine<'_>, rest: &str) -> Result<(), Fail>
+    requires { IsShort line.now }
+{
     let printed = format!(in alloc; "gitv2: fault {rest}\n")?;
     assert_eq!(rt; line_of(alloc, line)?.as_str(), printed.as_str());
     Ok(())
