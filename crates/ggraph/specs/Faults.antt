@@ -1,16 +1,9 @@
 -- The faults' numbers.
 use Rattle.std.specs.Prelude.{ℕ}
-use Rattle.ggraph.specs.declared.fault.GraphFault.{GraphFault}
-use Rattle.ggraph.specs.declared.fault.GraphFault.TheVariants.{Conflict, TooMany, TooManyParents, TagShape, Memory, Text, ParentLater, Refs, Pack, Index}
+use Rattle.ggraph.specs.declared.fault.TextFault.{TextFault}
+use Rattle.ggraph.specs.declared.fault.TextFault.TheVariants.{Text, ParentLater, Memory}
 
-abbrev pub code_of : GraphFault → ℕ
-code_of (Conflict id) = 60
-code_of TooMany = 61
-code_of TooManyParents = 62
-code_of TagShape = 63
-code_of Memory = 64
-code_of (Text line) = 67
-code_of (ParentLater line) = 68
-code_of Refs = 69
-code_of (Pack cause) = 65
-code_of (Index cause) = 66
+abbrev pub text_fault_code : TextFault → ℕ
+text_fault_code (Text line) = 67
+text_fault_code (ParentLater line) = 68
+text_fault_code Memory = 64

@@ -1,0 +1,5 @@
+pub mod Objects
+pub mod Packs
+pub mod PlainPackText
+pub mod PlainPackWriting
+pub mod PlainPackReading

@@ -1,0 +1,12 @@
+//! The objects of a repository, commits and tags under their ids, and packs of them.
+#![tactic(auto)]
+
+mod entry_ids;
+mod node;
+mod pack;
+mod plain_pack;
+
+pub use crate::entry_ids::have_ids;
+pub use crate::node::{Entry, Kind, MAX_PARENTS, Node, Parents};
+pub use crate::pack::{Faithful, IndexFault, Indexer, PackFault, Packer};
+pub use crate::plain_pack::PlainPack;
