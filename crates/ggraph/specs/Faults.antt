@@ -1,9 +1,11 @@
--- The faults' numbers.
-use Rattle.std.specs.Prelude.{ℕ}
+-- The table of faults: the number and the name of each.
+use Rattle.std.specs.Prelude.{codes}
+use Rattle.gname.specs.Faults.{FaultRow}
 use Rattle.ggraph.specs.declared.fault.TextFault.{TextFault}
-use Rattle.ggraph.specs.declared.fault.TextFault.TheVariants.{Text, ParentLater, Memory}
+use Rattle.ggraph.specs.declared.fault.TextFault.TheVariants as text
 
-abbrev pub text_fault_code : TextFault → ℕ
-text_fault_code (Text line) = 67
-text_fault_code (ParentLater line) = 68
-text_fault_code Memory = 64
+-- why a repository text was not loaded, or not saved
+abbrev pub text_fault_row : TextFault → FaultRow
+text_fault_row (text.Text line) = (67, codes "Text")
+text_fault_row (text.ParentLater line) = (68, codes "ParentLater")
+text_fault_row text.Memory = (64, codes "Memory")

@@ -2,7 +2,7 @@
 #![tactic(auto)]
 
 ghost use Rattle.std.specs.Prelude.{◌≡◌};
-ghost use Rattle.ggraph.specs.Faults.{text_fault_code};
+ghost use Rattle.ggraph.specs.Faults.{text_fault_row};
 ghost use Rattle.ggraph.specs.declared.fault.TextFault.TheVariants.{Memory};
 
 use std::alloc::{AllocError, AllocFailed};
@@ -23,14 +23,28 @@ pub enum TextFault {
 }
 
 impl TextFault {
-    /// The fault's number.
+    /// The number of the fault.
     pub fn code(&self) -> u32
-        ensures { result ≡ text_fault_code self.now }
+        ensures { result ≡ (text_fault_row self.now).0 }
+    {
+        self.row().0
+    }
+
+    /// The name of the fault.
+    pub fn name(&self) -> &'static str
+        ensures { result.now ≡ (text_fault_row self.now).1 }
+    {
+        self.row().1
+    }
+
+    // The table: the number and the name of each fault.
+    fn row(&self) -> (u32, &'static str)
+        ensures { (result.0, result.1.now) ≡ text_fault_row self.now }
     {
         match self {
-            TextFault::Text { .. } => 67,
-            TextFault::ParentLater { .. } => 68,
-            TextFault::Memory => 64,
+            TextFault::Text { .. } => (67, "Text"),
+            TextFault::ParentLater { .. } => (68, "ParentLater"),
+            TextFault::Memory => (64, "Memory"),
         }
     }
 }

@@ -4,7 +4,7 @@ use Rattle.std.proofs.lemmas.List.{length-append, append-nil, take_more, take-ap
 use Rattle.std.proofs.Math.Seq.{take-append_seam, drop-cons}
 use Rattle.ghistory.specs.declared.fault.GraphFault.{GraphFault}
 use Rattle.std.proofs.lemmas.List.Elements.{All-push, All-cons, All-nil}
-use Rattle.std.proofs.lemmas.Option.{none-some}
+use Rattle.std.proofs.lemmas.Option.{none-some, same_Some}
 use Rattle.std.proofs.lemmas.Bool.{false≢true}
 use Rattle.gobject.specs.declared.node.Node.{Node}
 use Rattle.gobject.specs.declared.node.Entry.{Entry}
@@ -57,9 +57,6 @@ graph_push {A} g entry graph absent shaped room = record {
 
 -- ---- growing
 
-Some-same : {X : Type 0} (x y : X) → Some x ≡ Some y → x ≡ y
-Some-same x y e = cc
-
 some_is : {X : Type 0} (o : Option X) → IsSome o → (x : X) × (o ≡ Some x)
 some_is None is = absurd (false≢true is)
 some_is (Some x) is = (x, refl)
@@ -81,7 +78,7 @@ held_node g a held = some_is (node_at g a) held
 reached_before : {A : Type 0} (g h : List (Entry A)) → Keeps g h → (a : List ℕ) → IsFull g a → (b c : List ℕ) → Reaches g a b → HasParent h b c → Reaches g a c
 reached_before {A} g h keeps a full b c r p =
     let n = held_node g b (full b r) in
-    let same : n.0 ≡ p.0 = Some-same n.0 p.0 (sym (keeps b n.0 n.1) ∙ p.1) in
+    let same : n.0 ≡ p.0 = same_Some n.0 p.0 (sym (keeps b n.0 n.1) ∙ p.1) in
     let P : Node A → Type 0 = λ node. Contains node.parents c in
     reaches_parent g a b c r (n.0, n.1, subst P (sym same) p.2)
 

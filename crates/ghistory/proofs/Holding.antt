@@ -2,7 +2,7 @@
 use Rattle.std.proofs.Common.{◌≡◌, ◌⊎◌, inl, inr, ℕ, zero, suc, ◌<◌, true, false, List, [], ◌∷◌, length, Some, None, refl, sym, ap, ◌∙◌, arith}
 use Rattle.std.specs.List.{position_or_len, slice_get}
 use Rattle.std.proofs.lemmas.Slice.Eq.{bytes_eq-Decides}
-use Rattle.std.proofs.lemmas.Option.{none-some}
+use Rattle.std.proofs.lemmas.Option.{none-some, same_Some}
 use Rattle.std.proofs.lemmas.Bool.{cases_Bool, false≢true}
 use Rattle.std.proofs.lemmas.Bool.Decides.{nat_tests}
 use Rattle.gobject.specs.declared.node.Entry.{Entry}
@@ -34,13 +34,10 @@ absent_head entry g a none =
 pub absent_tail : {A : Type 0} (entry : Entry A) (g : List (Entry A)) (a : List ℕ) → node_at (entry ∷ g) a ≡ None → node_at g a ≡ None
 absent_tail entry g a none = sym (node_there entry g a (absent_head entry g a none)) ∙ none
 
-Some-same : {X : Type 0} (x y : X) → Some x ≡ Some y → x ≡ y
-Some-same x y e = cc
-
 pub absent_at : {A : Type 0} (g : List (Entry A)) (a : List ℕ) (k : ℕ) (entry : Entry A) → node_at g a ≡ None → slice_get g k ≡ Some entry → entry.id ≡ a → ⊥
 absent_at [] a k entry none at same = none-some entry at
 absent_at (first ∷ g) a zero entry none at same =
-    let is : first ≡ entry = Some-same first entry at in
+    let is : first ≡ entry = same_Some first entry at in
     false≢true (sym (absent_head first g a none) ∙ is_has_id a first (ap (λ x. x.id) is ∙ same))
 absent_at (first ∷ g) a (suc k) entry none at same = absent_at g a k entry (absent_tail first g a none) at same
 
@@ -48,7 +45,7 @@ absent_at (first ∷ g) a (suc k) entry none at same = absent_at g a k entry (ab
 own_place_from : {A : Type 0} (g : List (Entry A)) (k : ℕ) (entry : Entry A) → IdsDiffer g → slice_get g k ≡ Some entry → (position_or_len (has_id entry.id) g ≡ k) × (k < length g)
 own_place_from [] k entry differ at = absurd (none-some entry at)
 own_place_from (first ∷ g) zero entry differ at =
-    let is : first ≡ entry = Some-same first entry at in
+    let is : first ≡ entry = same_Some first entry at in
     let same = is_has_id entry.id first (ap (λ x. x.id) is) in
     (rw same refl, omega arith)
 own_place_from (first ∷ g) (suc k) entry differ at =

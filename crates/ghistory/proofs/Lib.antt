@@ -1,5 +1,5 @@
+pub mod ClosedLemmas
 pub mod Counting
-pub mod GraphLemmas
 pub mod Growing
 pub mod Holding
 pub mod IdLists

@@ -2,7 +2,6 @@
 use Rattle.std.proofs.Common.{◌≡◌, ℕ, ◌<◌, ◌≤◌, true, List, [], ◌∷◌, length, get_or, Some, None, refl, sym, ap, ◌∙◌, arith}
 use Rattle.std.specs.List.{position_or_len, slice_get}
 use Rattle.std.specs.Option.{option_map}
-use Rattle.std.proofs.lemmas.Slice.Eq.{bytes_eq-Decides}
 use Rattle.std.proofs.lemmas.List.Quantifiers.{position-Some}
 use Rattle.std.proofs.lemmas.List.Folds.{find_at}
 use Rattle.std.proofs.lemmas.Option.{slice_get-get_or, slice_get_past, cond_some, none-some}
@@ -11,6 +10,7 @@ use Rattle.gobject.specs.declared.node.Entry.{Entry}
 use Rattle.gobject.specs.Objects.{has_id, node_at, place_of}
 use Rattle.ghistory.specs.Graphs.{Holds, HasParent}
 use Rattle.ghistory.specs.Reach.{Reaches, here, onward, SomeReaches, IsFull, IsClosed}
+use Rattle.ghistory.proofs.Holding.{has_id_is}
 
 -- ---- reaching
 
@@ -35,9 +35,6 @@ pub some_reaches : {A : Type 0} (g : List (Entry A)) (ids : List (List ℕ)) (a 
 some_reaches g ids a b s p = (s.0, s.1, reaches_parent g s.0 a b s.2 p)
 
 -- ---- places
-
-has_id_is : {A : Type 0} (a : List ℕ) (entry : Entry A) → has_id a entry ≡ true → entry.id ≡ a
-has_id_is a entry e = (bytes_eq-Decides entry.id a).0 e
 
 pub place_inside : {A : Type 0} (g : List (Entry A)) (a : List ℕ) (p : ℕ) → place_of g a ≡ Some p → p < length g
 place_inside [] a p e = absurd (none-some p e)

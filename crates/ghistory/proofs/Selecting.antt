@@ -3,7 +3,7 @@ use Rattle.std.proofs.Common.{◌≡◌, inl, inr, ◌↔◌, ℕ, zero, suc, �
 use Rattle.std.specs.List.{slice_get, Any}
 use Rattle.std.proofs.lemmas.List.Sums.{sum_by-cons}
 use Rattle.std.proofs.lemmas.List.Elements.{Contains-get_or}
-use Rattle.std.proofs.lemmas.Option.{slice_get-get_or}
+use Rattle.std.proofs.lemmas.Option.{same_Some, slice_get-get_or}
 use Rattle.std.proofs.lemmas.List.{take_more}
 use Rattle.std.proofs.lemmas.Bool.{false≢true}
 use Rattle.gobject.specs.declared.node.Entry.{Entry}
@@ -26,9 +26,6 @@ Selects-skip x (skip q s) p = skip q (Selects-skip x s p)
 
 -- ---- one entry, by its mark
 
-Some-same : {p q : ℕ} → Some p ≡ Some q → p ≡ q
-Some-same e = cc
-
 not_both : {X : Type 0} (o : Option X) → IsSome o → o ≡ None → ⊥
 not_both o held empty = let h = rw empty at held in search (rules, h)
 
@@ -39,7 +36,7 @@ module _ {A : Type 0} (g : List (Entry A)) (starts : List (List ℕ)) (marks : L
   met_marked : WasMet g marks lost entry.id → get_or marks k false ≡ true
   met_marked (inl m) =
       let own = own_place g k entry differ at in
-      let same : m.0 ≡ k = Some-same (sym m.1 ∙ own) in
+      let same : m.0 ≡ k = same_Some m.0 k (sym m.1 ∙ own) in
       ap (λ p. get_or marks p false) (sym same) ∙ m.2
   met_marked (inr c) = absurd (not_both (node_at g entry.id) (held_at_place g entry.id k (own_place g k entry differ at)) (walk.gone entry.id c))
 

@@ -5,7 +5,7 @@ use Rattle.std.specs.Str.{bytes_eq}
 use Rattle.std.specs.Option.{option_map}
 use Rattle.std.proofs.lemmas.List.{get_or_read, get_or-set_same, get_or-set_other, length-set, length-replicate}
 use Rattle.std.proofs.lemmas.Slice.Eq.{bytes_eq-Decides}
-use Rattle.std.proofs.lemmas.Option.{none-some, slice_get_cases}
+use Rattle.std.proofs.lemmas.Option.{none-some, same_Some, slice_get_cases}
 use Rattle.std.proofs.lemmas.Bool.{false≢true, cases_eq}
 use Rattle.std.proofs.lemmas.List.Elements.{contains_decides, Decides-contains, Contains-append_left, Contains-append_right, Contains-push, Contains-push_cases, Contains-append_cases}
 use Rattle.gobject.specs.declared.node.Node.{Node}
@@ -22,15 +22,12 @@ pub is_none : {X : Type 0} (o : Option X) → ((p : X) → o ≡ Some p → ⊥)
 is_none None never = refl
 is_none (Some p) never = absurd (never p refl)
 
-Some-same : {p q : ℕ} → Some p ≡ Some q → p ≡ q
-Some-same e = cc
-
 no_node : {A : Type 0} (g : List (Entry A)) (a : List ℕ) → Holds g a → node_at g a ≡ None → ⊥
 no_node g a held none = let h = rw none at held in search (rules, h)
 
 met_back : {A : Type 0} (g : List (Entry A)) (marks : List Bool) (lost : List (List ℕ)) (a : List ℕ) (p : ℕ) (b : Bool) → ((x : List ℕ) → Contains lost x → node_at g x ≡ None) → place_of g a ≡ Some p → b ≡ get_or marks p false → IsMarked g marks a ⊎ Contains lost a → IsTrue b
 met_back g marks lost a p b gone e is (inl m) =
-    let same : p ≡ m.0 = Some-same (sym e ∙ m.1) in
+    let same : p ≡ m.0 = same_Some p m.0 (sym e ∙ m.1) in
     is ∙ ap (λ q. get_or marks q false) same ∙ m.2
 met_back g marks lost a p b gone e is (inr k) = absurd (no_node g a (held_at_place g a p e) (gone a k))
 
@@ -173,9 +170,6 @@ marked_kept g marks p b inside m =
       | inr other ↦ (m.0, m.1, get_or-set_other marks p m.0 true false (λ h. other (sym h)) ∙ m.2)
     ]
 
-Some-same_of : {X : Type 0} (x y : X) → Some x ≡ Some y → x ≡ y
-Some-same_of x y e = cc
-
 -- the parents at the place of an id are those of its node
 parents_are : {A : Type 0} (g : List (Entry A)) (a : List ℕ) (p : ℕ) (parents : List (List ℕ)) → place_of g a ≡ Some p → option_map (λ entry. entry.node.parents) (slice_get g p) ≡ Some parents → (node : Node A) × IsNode g a node × (node.parents ≡ parents)
 parents_are {A} g a p parents e are =
@@ -184,7 +178,7 @@ parents_are {A} g a p parents e are =
           let node : Node A = (w.0).node in
           let is : node_at g a ≡ Some node = node_at_place g a p e ∙ ap (option_map (λ (entry : Entry A). entry.node)) w.2 in
           let same : Some node.parents ≡ Some parents = ap (option_map (λ (entry : Entry A). entry.node.parents)) (sym w.2) ∙ are in
-          (node, is, Some-same_of node.parents parents same)
+          (node, is, same_Some node.parents parents same)
       | inr w ↦ absurd (none-some p (let h = place_inside g a p e in absurd (omega (arith, w.0))))
     ]
 
@@ -195,7 +189,7 @@ module _ {A : Type 0} (g : List (Entry A)) (starts : List (List ℕ)) (marks : L
   parent_then : (b : List ℕ) → HasParent g a b → Contains parents b
   parent_then b h =
       let n = parents_are g a p parents e are in
-      let same : n.0 ≡ h.0 = Some-same_of n.0 h.0 (sym n.1 ∙ h.1) in
+      let same : n.0 ≡ h.0 = same_Some n.0 h.0 (sym n.1 ∙ h.1) in
       let P : List (List ℕ) → Type 0 = λ xs. Contains xs b in
       subst P (ap (λ (node : Node A). node.parents) (sym same) ∙ n.2) h.2
 

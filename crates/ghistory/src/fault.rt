@@ -2,7 +2,7 @@
 #![tactic(auto)]
 
 ghost use Rattle.std.specs.Prelude.{◌≡◌};
-ghost use Rattle.ghistory.specs.Faults.{graph_fault_code};
+ghost use Rattle.ghistory.specs.Faults.{graph_fault_row};
 ghost use Rattle.ghistory.specs.declared.fault.GraphFault.TheVariants.{Memory};
 
 use gname::Oid;
@@ -30,16 +30,30 @@ pub enum GraphFault {
 }
 
 impl GraphFault {
-    /// The fault's number.
+    /// The number of the fault.
     pub fn code(&self) -> u32
-        ensures { result ≡ graph_fault_code self.now }
+        ensures { result ≡ (graph_fault_row self.now).0 }
+    {
+        self.row().0
+    }
+
+    /// The name of the fault.
+    pub fn name(&self) -> &'static str
+        ensures { result.now ≡ (graph_fault_row self.now).1 }
+    {
+        self.row().1
+    }
+
+    // The table: the number and the name of each fault.
+    fn row(&self) -> (u32, &'static str)
+        ensures { (result.0, result.1.now) ≡ graph_fault_row self.now }
     {
         match self {
-            GraphFault::Conflict { .. } => 60,
-            GraphFault::TooMany => 61,
-            GraphFault::TooManyParents => 62,
-            GraphFault::TagShape => 63,
-            GraphFault::Memory => 64,
+            GraphFault::Conflict { .. } => (60, "Conflict"),
+            GraphFault::TooMany => (61, "TooMany"),
+            GraphFault::TooManyParents => (62, "TooManyParents"),
+            GraphFault::TagShape => (63, "TagShape"),
+            GraphFault::Memory => (64, "Memory"),
         }
     }
 }

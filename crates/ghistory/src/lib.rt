@@ -1,6 +1,7 @@
 //! The graph of a repository's commits and tags, and the walks over it.
 #![tactic(auto)]
 
+mod closed;
 mod fault;
 mod graph;
 mod haves;

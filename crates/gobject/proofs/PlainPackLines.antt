@@ -6,7 +6,7 @@ use Rattle.std.proofs.lemmas.List.{append-nil}
 use Rattle.gname.specs.Ids.{IsIdText, ReadsId}
 use Rattle.gname.specs.declared.ids.OidFault.{OidFault}
 use Rattle.gname.specs.declared.ids.OidFault.TheVariants.{Length, Digit}
-use Rattle.gname.proofs.IdLemmas.{AllPass-of_id_text, IsIdText-one}
+use Rattle.gname.specs.Laws.{IdTextsAreDigits, TextsSpellOneId}
 use Rattle.gobject.specs.PlainPackText.{letter, IsIdsText}
 use Rattle.gobject.specs.PlainPackReading.{SplitsId, NoIdText, NoIdsText, NoNodeText}
 
@@ -24,29 +24,29 @@ pub not_empty : (text : List ℕ) → eqb (length text) 0 ≡ false → text ≢
 not_empty text h = λ is. false≢true (sym h ∙ ap (λ (t : List ℕ). eqb (length t) 0) is)
 
 -- what is refused as an id is the text of none
-not_id_text : (text id : List ℕ) (fault : OidFault) → ReadsId text (Err fault) → IsIdText text id → ⊥
-not_id_text text id Length h spelt = h spelt.long
-not_id_text text id (Digit at) h spelt =
-    false≢true (sym h.1.bad ∙ AllPass-of_id_text text id spelt at 0 h.1.inside)
+not_id_text : IdTextsAreDigits → (text id : List ℕ) (fault : OidFault) → ReadsId text (Err fault) → IsIdText text id → ⊥
+not_id_text law text id Length h spelt = h spelt.long
+not_id_text law text id (Digit at) h spelt =
+    false≢true (sym h.1.bad ∙ (law text id spelt).digits at 0 h.1.inside)
 
 -- where forty bytes behind a space are refused as an id, there is none
-pub NoIdText-err : (text rest : List ℕ) (fault : OidFault) → text ≡ 32 ∷ rest → ReadsId (take 40 rest) (Err fault) → NoIdText text
-NoIdText-err text rest fault begins refused = λ id behind h.
+pub NoIdText-err : IdTextsAreDigits → (text rest : List ℕ) (fault : OidFault) → text ≡ 32 ∷ rest → ReadsId (take 40 rest) (Err fault) → NoIdText text
+NoIdText-err law text rest fault begins refused = λ id behind h.
     let whole : 32 ∷ rest ≡ 32 ∷ h.digits ++ behind = sym begins ∙ h.whole in
     let same : rest ≡ h.digits ++ behind = cc in
     let front : take 40 rest ≡ h.digits =
     ap (λ (text : List ℕ). take 40 text) same ∙ ap (λ n. take n (h.digits ++ behind)) (sym h.spells.long) ∙ take-append_seam h.digits behind in
     let P : List ℕ → Type 0 = λ text. ReadsId text (Err fault) in
-    not_id_text h.digits id fault (subst P front refused) h.spells
+    not_id_text law h.digits id fault (subst P front refused) h.spells
 
 -- two ids at the front of a text are one, and what follows them is the same
-pub SplitsId-one : (text a b x y : List ℕ) → SplitsId text a x → SplitsId text b y → (a ≡ b) × (x ≡ y)
-SplitsId-one text a b x y h k =
+pub SplitsId-one : TextsSpellOneId → (text a b x y : List ℕ) → SplitsId text a x → SplitsId text b y → (a ≡ b) × (x ≡ y)
+SplitsId-one law text a b x y h k =
     let whole : 32 ∷ h.digits ++ x ≡ 32 ∷ k.digits ++ y = sym h.whole ∙ k.whole in
     let rests : h.digits ++ x ≡ k.digits ++ y = cc in
     let parts = same_parts h.digits k.digits x y (h.spells.long ∙ sym k.spells.long) rests in
     let spelt : IsIdText h.digits b = rw parts.0 k.spells in
-    (IsIdText-one h.digits a b h.spells spelt, parts.1)
+    (law h.digits a b h.spells spelt, parts.1)
 
 -- the first of the ids of a text stands at its front
 pub SplitsId-first : (text id : List ℕ) (ids : List (List ℕ)) → IsIdsText text (id ∷ ids)
@@ -89,15 +89,15 @@ NoIdsText-behind text front rest ids whole h more none = λ all k.
     no_others (id ∷ others) k = none id k.1 (record { digits = k.0; whole = k.2; spells = k.3 })
 
 -- a text is that of one list of ids
-pub IsIdsText-one : (text : List ℕ) (a b : List (List ℕ)) → IsIdsText text a → IsIdsText text b → a ≡ b
-IsIdsText-one text [] [] h k = refl
-IsIdsText-one text [] (y ∷ b) h k = let whole : [] ≡ 32 ∷ k.0 ++ k.1 = sym h ∙ k.2 in cc
-IsIdsText-one text (x ∷ a) [] h k = let whole : [] ≡ 32 ∷ h.0 ++ h.1 = sym k ∙ h.2 in cc
-IsIdsText-one text (x ∷ a) (y ∷ b) h k =
+pub IsIdsText-one : TextsSpellOneId → (text : List ℕ) (a b : List (List ℕ)) → IsIdsText text a → IsIdsText text b → a ≡ b
+IsIdsText-one law text [] [] h k = refl
+IsIdsText-one law text [] (y ∷ b) h k = let whole : [] ≡ 32 ∷ k.0 ++ k.1 = sym h ∙ k.2 in cc
+IsIdsText-one law text (x ∷ a) [] h k = let whole : [] ≡ 32 ∷ h.0 ++ h.1 = sym k ∙ h.2 in cc
+IsIdsText-one law text (x ∷ a) (y ∷ b) h k =
     let first : SplitsId text x h.1 = record { digits = h.0; whole = h.2; spells = h.3 } in
     let second : SplitsId text y k.1 = record { digits = k.0; whole = k.2; spells = k.3 } in
-    let parts = SplitsId-one text x y h.1 k.1 first second in
-    let others : a ≡ b = IsIdsText-one h.1 a b h.4 (rw parts.1 k.4) in
+    let parts = SplitsId-one law text x y h.1 k.1 first second in
+    let others : a ≡ b = IsIdsText-one law h.1 a b h.4 (rw parts.1 k.4) in
     ap (λ id. id ∷ a) parts.0 ∙ ap (λ ids. y ∷ ids) others
 
 -- what a turn of the loop over ids keeps
@@ -119,12 +119,12 @@ NoNodeText-id text first ids begins none = λ entry h.
     none entry.id found.0 (rw same found.1)
 
 -- nor is one with something else behind the id
-pub NoNodeText-parents : {A : Type 0} (text : List ℕ) (first : ℕ) (ids id rest : List ℕ) → text ≡ first ∷ ids → SplitsId ids id rest
+pub NoNodeText-parents : {A : Type 0} → TextsSpellOneId → (text : List ℕ) (first : ℕ) (ids id rest : List ℕ) → text ≡ first ∷ ids → SplitsId ids id rest
     → NoIdsText rest → NoNodeText A text
-NoNodeText-parents text first ids id rest begins next none = λ entry h.
+NoNodeText-parents law text first ids id rest begins next none = λ entry h.
     let whole : first ∷ ids ≡ letter entry.node.kind ∷ h.0 = sym begins ∙ h.1 in
     let same : ids ≡ h.0 = cc in
     let found = SplitsId-first h.0 entry.id entry.node.parents h.2 in
     let first : SplitsId ids entry.id found.0 = rw same found.1 in
-    let parts = SplitsId-one ids id entry.id rest found.0 next first in
+    let parts = SplitsId-one law ids id entry.id rest found.0 next first in
     none entry.node.parents (rw parts.1 found.2)

@@ -3,8 +3,8 @@ use Rattle.std.proofs.Common.{◌≡◌, ℕ, ◌+◌, ◌<◌, List, [], ◌∷
 use Rattle.std.specs.List.{flat_map}
 use Rattle.std.proofs.lemmas.List.{flat_map_more, take_more, take-append-drop}
 use Rattle.std.proofs.lemmas.List.Concat.{flat_map-append}
-use Rattle.gobject.specs.declared.pack.PackFault.{PackFault}
-use Rattle.gobject.specs.declared.pack.PackFault.TheVariants.{Memory, TooLarge, Other}
+use Rattle.gobject.specs.declared.fault.PackFault.{PackFault}
+use Rattle.gobject.specs.declared.fault.PackFault.TheVariants.{Memory, TooLarge, Other}
 use Rattle.gobject.specs.PlainPackText.{PackRefuses}
 
 -- what is refused is refused with more behind it

@@ -1,3 +1,4 @@
+pub mod Faults
 pub mod Objects
 pub mod Packs
 pub mod PlainPackText

@@ -1,11 +1,11 @@
 -- Packs: what a packer may write of a list of entries, what an indexer may read, and when nothing is lost between the two.
 use Rattle.std.specs.Prelude.{◌≡◌, ℕ, ◌<◌, ◌≤◌, List, length, All}
 use Rattle.gobject.specs.declared.node.Entry.{Entry}
-use Rattle.gobject.specs.declared.pack.PackFault.{PackFault}
-use Rattle.gobject.specs.declared.pack.PackFault.TheVariants.{TooLarge}
-use Rattle.gobject.specs.declared.pack.PackFault.TheVariants as pack_faults
-use Rattle.gobject.specs.declared.pack.IndexFault.{IndexFault}
-use Rattle.gobject.specs.declared.pack.IndexFault.TheVariants as index_faults
+use Rattle.gobject.specs.declared.fault.PackFault.{PackFault}
+use Rattle.gobject.specs.declared.fault.PackFault.TheVariants.{TooLarge}
+use Rattle.gobject.specs.declared.fault.PackFault.TheVariants as pack_faults
+use Rattle.gobject.specs.declared.fault.IndexFault.{IndexFault}
+use Rattle.gobject.specs.declared.fault.IndexFault.TheVariants as index_faults
 use Rattle.gobject.specs.Objects.{HasIds, IdsDiffer}
 
 -- the most bytes of a pack

@@ -7,10 +7,10 @@ use Rattle.gname.specs.Ids.{IsIdText, id_text}
 use Rattle.gobject.specs.declared.node.Kind.{Kind}
 use Rattle.gobject.specs.declared.node.Kind.TheVariants.{Commit, Tag}
 use Rattle.gobject.specs.declared.node.Entry.{Entry}
-use Rattle.gobject.specs.declared.pack.PackFault.{PackFault}
-use Rattle.gobject.specs.declared.pack.PackFault.TheVariants as pack_faults
-use Rattle.gobject.specs.declared.pack.IndexFault.{IndexFault}
-use Rattle.gobject.specs.declared.pack.IndexFault.TheVariants as index_faults
+use Rattle.gobject.specs.declared.fault.PackFault.{PackFault}
+use Rattle.gobject.specs.declared.fault.PackFault.TheVariants as pack_faults
+use Rattle.gobject.specs.declared.fault.IndexFault.{IndexFault}
+use Rattle.gobject.specs.declared.fault.IndexFault.TheVariants as index_faults
 use Rattle.gobject.specs.Packs.{max_pack}
 
 -- ---- what is written

@@ -1,6 +1,6 @@
 -- What a call that writes a piece of a plain pack does.
 use Rattle.std.specs.Prelude.{◌≡◌, ℕ, List, ◌++◌, Result, MatchResult}
-use Rattle.gobject.specs.declared.pack.PackFault.{PackFault}
+use Rattle.gobject.specs.declared.fault.PackFault.{PackFault}
 use Rattle.gobject.specs.PlainPackText.{PackRefuses}
 
 -- the piece comes behind what was written, or the two together are refused

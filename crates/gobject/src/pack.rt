@@ -4,42 +4,12 @@
 ghost use Rattle.std.specs.Prelude.{◌≡◌, ◌≤◌, ℕ, List, IfOk, MatchResult, vec_len};
 ghost use Rattle.gobject.specs.Packs.{LosesNothing, max_pack};
 ghost use Rattle.gobject.specs.declared.node.Entry.{Entry};
-ghost use Rattle.gobject.specs.declared.pack.PackFault.{PackFault};
-ghost use Rattle.gobject.specs.declared.pack.PackFault.TheVariants as pack_faults;
-ghost use Rattle.gobject.specs.declared.pack.IndexFault.{IndexFault};
-ghost use Rattle.gobject.specs.declared.pack.IndexFault.TheVariants as index_faults;
+ghost use Rattle.gobject.specs.declared.fault.PackFault.{PackFault};
+ghost use Rattle.gobject.specs.declared.fault.IndexFault.{IndexFault};
 
+use crate::fault::{IndexFault, PackFault};
 use crate::node::Entry;
-use std::alloc::{AllocError, AllocFailed, Allocator};
-use thiserror::Error;
-
-/// Why a list of entries was not packed.
-#[derive(Clone, Copy, Debug, PartialEq, Eq, Drop, Error)]
-pub enum PackFault {
-    /// There is no memory.
-    #[error("out of memory")]
-    Memory,
-    /// The pack would have more than `gname::MAX_PACK` bytes.
-    #[error("the pack is too large")]
-    TooLarge,
-    /// Another cause, of the packer's own.
-    #[error("the packer failed")]
-    Other,
-}
-
-/// Why bytes were not read as a pack.
-#[derive(Clone, Copy, Debug, PartialEq, Eq, Drop, Error)]
-pub enum IndexFault {
-    /// There is no memory.
-    #[error("out of memory")]
-    Memory,
-    /// The first line, counted from 1, that is not as the format says.
-    #[error("line {line} of the pack is wrong")]
-    Bad { line: usize },
-    /// Another cause, of the indexer's own.
-    #[error("the indexer failed")]
-    Other,
-}
+use std::alloc::Allocator;
 
 /// What writes entries as a pack.
 ///
@@ -82,28 +52,4 @@ pub trait Faithful<A: Allocator + Copy>: Packer<A> + Indexer<A> {
     fn loses_nothing(&self)
         ensures { LosesNothing (Self.packs self.now) (Self.pack_fails self.now)
             (Self.indexes self.now) (Self.index_fails self.now) (image self.now) };
-}
-
-impl From<AllocError> for PackFault {
-    ghost from_gives = { λ _ fault. fault ≡ pack_faults.Memory };
-
-    fn from(_refused: AllocError) -> PackFault {
-        PackFault::Memory
-    }
-}
-
-impl From<AllocError> for IndexFault {
-    ghost from_gives = { λ _ fault. fault ≡ index_faults.Memory };
-
-    fn from(_refused: AllocError) -> IndexFault {
-        IndexFault::Memory
-    }
-}
-
-impl<T: Drop> From<AllocFailed<T>> for IndexFault {
-    ghost from_gives = { λ _ fault. fault ≡ index_faults.Memory };
-
-    fn from(_refused: AllocFailed<T>) -> IndexFault {
-        IndexFault::Memory
-    }
 }

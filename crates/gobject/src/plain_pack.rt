@@ -2,16 +2,16 @@
 #![tactic(auto)]
 
 mod read;
-#[cfg(test)]
-mod tests;
 mod write;
 
 ghost use Rattle.std.specs.Prelude.{◌≡◌, ◌≤◌, length};
 ghost use Rattle.gobject.specs.Packs.{max_pack};
 ghost use Rattle.gobject.specs.PlainPackText.{pack_text, PackRefuses, IsPack, IndexRefuses};
 
+use crate::fault::{IndexFault, PackFault};
 use crate::node::Entry;
-use crate::pack::{Faithful, IndexFault, Indexer, PackFault, Packer};
+use crate::pack::{Faithful, Indexer, Packer};
+use gname::laws::{id_texts_are_digits, ids_have_texts, texts_spell_one_id};
 use std::alloc::Allocator;
 
 /// Packs as plain text.
@@ -56,5 +56,9 @@ impl<A: Allocator + Copy> Indexer<A> for PlainPack {
 impl<A: Allocator + Copy> Faithful<A> for PlainPack {
     ghost image = { λ _ list. pack_text list };
 
-    fn loses_nothing(&self) {}
+    fn loses_nothing(&self) {
+        ids_have_texts();
+        id_texts_are_digits();
+        texts_spell_one_id();
+    }
 }

@@ -13,6 +13,7 @@ use Rattle.std.proofs.lemmas.Cmp.{nat_list_cmp_total, alike_right}
 use Rattle.std.proofs.lemmas.Map.Text.{is_eq-slice_cmp}
 use Rattle.std.proofs.lemmas.Map.Lookups.{exact_bytes}
 use Rattle.std.proofs.lemmas.Map.Keys.{sorted_head, sorted_tail}
+use Rattle.std.proofs.lemmas.Option.{same_Some}
 use Rattle.std.proofs.lemmas.Slice.Eq.{bytes_eq-Decides}
 use Rattle.std.proofs.lemmas.List.Elements.{All-append, All-take, All-drop, All-cons, All-set, All-nil, All-push}
 use Rattle.std.proofs.lemmas.List.Edits.{length-insert}
@@ -37,8 +38,8 @@ lower_differs x y h = sym (is_eq-slice_cmp x y) ∙ ap is_eq h
 higher_differs : (x y : List ℕ) → order x y ≡ Less → bytes_eq y x ≡ false
 higher_differs x y h = sym (is_eq-slice_cmp y x) ∙ ap is_eq (flipped x y h)
 
-itself : (x : List ℕ) → bytes_eq x x ≡ true
-itself x = (bytes_eq-Decides x x).1 refl
+bytes_eq-itself : (x : List ℕ) → bytes_eq x x ≡ true
+bytes_eq-itself x = (bytes_eq-Decides x x).1 refl
 
 other_false : (x y : List ℕ) (b : Bool) → bytes_eq x y ≡ b → y ≢ x → b ≡ false
 other_false x y true h differs = absurd (differs (sym ((bytes_eq-Decides x y).0 h)))
@@ -46,21 +47,18 @@ other_false x y false h differs = refl
 
 -- ---- look-ups
 
-choose : {X Y : Type 0} → (f : X → Y) (b : Bool) (x : X) (o : Option X) → option_map f (cond b (Some x) o) ≡ cond b (Some (f x)) (option_map f o)
-choose f true x o = refl
-choose f false x o = refl
+option_map-cond : {X Y : Type 0} → (f : X → Y) (b : Bool) (x : X) (o : Option X) → option_map f (cond b (Some x) o) ≡ cond b (Some (f x)) (option_map f o)
+option_map-cond f true x o = refl
+option_map-cond f false x o = refl
 
 pub ref_at-cons : (ref : List ℕ × List ℕ) (refs : RefList) (name : List ℕ) → ref_at (ref ∷ refs) name ≡ cond (bytes_eq ref.0 name) (Some ref.1) (ref_at refs name)
-ref_at-cons ref refs name = choose (λ (r : List ℕ × List ℕ). r.1) (bytes_eq ref.0 name) ref (find (has_name name) refs)
-
-pick : {X : Type 0} → (b c : Bool) (x y : X) → b ≡ c → cond b x y ≡ cond c x y
-pick b c x y h = ap (λ t. cond t x y) h
+ref_at-cons ref refs name = option_map-cond (λ (r : List ℕ × List ℕ). r.1) (bytes_eq ref.0 name) ref (find (has_name name) refs)
 
 pub ref_at-skip : (ref : List ℕ × List ℕ) (refs : RefList) (name : List ℕ) → bytes_eq ref.0 name ≡ false → ref_at (ref ∷ refs) name ≡ ref_at refs name
-ref_at-skip ref refs name h = ref_at-cons ref refs name ∙ pick (bytes_eq ref.0 name) false (Some ref.1) (ref_at refs name) h
+ref_at-skip ref refs name h = rw h refl
 
 pub ref_at-hit : (ref : List ℕ × List ℕ) (refs : RefList) (name : List ℕ) → bytes_eq ref.0 name ≡ true → ref_at (ref ∷ refs) name ≡ Some ref.1
-ref_at-hit ref refs name h = ref_at-cons ref refs name ∙ pick (bytes_eq ref.0 name) true (Some ref.1) (ref_at refs name) h
+ref_at-hit ref refs name h = rw h refl
 
 -- ---- order
 
@@ -162,8 +160,8 @@ reads_set (ref ∷ refs) name id (suc place) found other =
 
 sets_from_reads : (old new : RefList) (name id : List ℕ) → Reads old new name id → SetsRef old new name id
 sets_from_reads old new name id reads = record {
-  this_name = reads name ∙ pick (bytes_eq name name) true (Some id) (ref_at old name) (itself name);
-  others = λ other differs. reads other ∙ pick (bytes_eq name other) false (Some id) (ref_at old other) (other_false name other (bytes_eq name other) refl differs);
+  this_name = reads name ∙ ap (λ b. cond b (Some id) (ref_at old name)) (bytes_eq-itself name);
+  others = λ other differs. reads other ∙ ap (λ b. cond b (Some id) (ref_at old other)) (other_false name other (bytes_eq name other) refl differs);
 }
 
 pub sets_insert : (refs : RefList) (name id : List ℕ) (place : ℕ) → IsGap refs name place → SetsRef refs (insert refs place (name, id)) name id
@@ -277,10 +275,7 @@ tail_last ref second refs last here =
 -- all are below a name where the last one is
 last_below : (refs : RefList) (last : List ℕ × List ℕ) (name : List ℕ) → slice_get refs (length refs - 1) ≡ Some last → IsStrictlySortedBy order (keys_of refs) → order last.0 name ≡ Less → AreBelow refs name
 last_below [] last name here sorted below = tt
-last_below (ref ∷ []) last name here sorted below = (subst (λ (r : List ℕ × List ℕ). order r.0 name ≡ Less) (sym (some_same ref last here)) below, tt)
-  where
-    some_same : {X : Type 0} → (x y : X) → Some x ≡ Some y → x ≡ y
-    some_same x y h = cc
+last_below (ref ∷ []) last name here sorted below = (subst (λ (r : List ℕ × List ℕ). order r.0 name ≡ Less) (sym (same_Some ref last here)) below, tt)
 last_below (ref ∷ (second ∷ refs)) last name here sorted below =
     let rest = last_below (second ∷ refs) last name (tail_last ref second refs last here) (sorted_tail order ref.0 (keys_of (second ∷ refs)) sorted) below in
     let next = (sorted_head order ref.0 (keys_of (second ∷ refs)) sorted).0 in
@@ -288,7 +283,7 @@ last_below (ref ∷ (second ∷ refs)) last name here sorted below =
 
 below_last : (refs : RefList) (last : List ℕ × List ℕ) (name : List ℕ) → slice_get refs (length refs - 1) ≡ Some last → AreBelow refs name → order last.0 name ≡ Less
 below_last [] last name here below = cc
-below_last (ref ∷ []) last name here below = let same : ref ≡ last = (let h = here in cc) in subst (λ (r : List ℕ × List ℕ). order r.0 name ≡ Less) same below.0
+below_last (ref ∷ []) last name here below = subst (λ (r : List ℕ × List ℕ). order r.0 name ≡ Less) (same_Some ref last here) below.0
 below_last (ref ∷ (second ∷ refs)) last name here below = below_last (second ∷ refs) last name (tail_last ref second refs last here) below.1
 
 pub all_below : (refs : RefList) (last : List ℕ × List ℕ) (name : List ℕ) → slice_get refs (length refs - 1) ≡ Some last → IsRefs refs → (order last.0 name ≡ Less → AreBelow refs name) × (AreBelow refs name → order last.0 name ≡ Less)

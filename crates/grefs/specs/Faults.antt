@@ -1,8 +1,10 @@
--- The faults' numbers.
-use Rattle.std.specs.Prelude.{ℕ}
+-- The table of faults: the number and the name of each.
+use Rattle.std.specs.Prelude.{codes}
+use Rattle.gname.specs.Faults.{FaultRow}
 use Rattle.grefs.specs.declared.fault.RefsFault.{RefsFault}
-use Rattle.grefs.specs.declared.fault.RefsFault.TheVariants.{Refs, Memory}
+use Rattle.grefs.specs.declared.fault.RefsFault.TheVariants as refs
 
-abbrev pub refs_fault_code : RefsFault → ℕ
-refs_fault_code Refs = 69
-refs_fault_code Memory = 64
+-- why a ref was not set
+abbrev pub refs_fault_row : RefsFault → FaultRow
+refs_fault_row refs.Refs = (69, codes "Refs")
+refs_fault_row refs.Memory = (64, codes "Memory")

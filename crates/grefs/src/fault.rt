@@ -2,7 +2,7 @@
 #![tactic(auto)]
 
 ghost use Rattle.std.specs.Prelude.{◌≡◌};
-ghost use Rattle.grefs.specs.Faults.{refs_fault_code};
+ghost use Rattle.grefs.specs.Faults.{refs_fault_row};
 ghost use Rattle.grefs.specs.declared.fault.RefsFault.TheVariants.{Memory};
 
 use std::alloc::{AllocError, AllocFailed};
@@ -20,13 +20,27 @@ pub enum RefsFault {
 }
 
 impl RefsFault {
-    /// The fault's number.
+    /// The number of the fault.
     pub fn code(&self) -> u32
-        ensures { result ≡ refs_fault_code self.now }
+        ensures { result ≡ (refs_fault_row self.now).0 }
+    {
+        self.row().0
+    }
+
+    /// The name of the fault.
+    pub fn name(&self) -> &'static str
+        ensures { result.now ≡ (refs_fault_row self.now).1 }
+    {
+        self.row().1
+    }
+
+    // The table: the number and the name of each fault.
+    fn row(&self) -> (u32, &'static str)
+        ensures { (result.0, result.1.now) ≡ refs_fault_row self.now }
     {
         match self {
-            RefsFault::Refs => 69,
-            RefsFault::Memory => 64,
+            RefsFault::Refs => (69, "Refs"),
+            RefsFault::Memory => (64, "Memory"),
         }
     }
 }

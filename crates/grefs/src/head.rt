@@ -5,6 +5,7 @@ ghost use Rattle.std.specs.Prelude.{◌≡◌, ◌≢◌, MatchOption};
 ghost use Rattle.gname.specs.Names.{head_name};
 ghost use Rattle.grefs.specs.RefLists.{IsBelowRefs};
 
+use gname::laws::names_are_clean;
 use gname::{Oid, RefName};
 use std::alloc::{Allocator, Global};
 use std::marker::Model;
@@ -31,6 +32,7 @@ impl<A: Allocator + Copy> Target<A> {
     pub fn new(name: RefName<A>) -> Option<Target<A>>
         ensures { MatchOption result (name ≡ head_name) (λ target. (target ≡ name) × (name ≢ head_name)) }
     {
+        names_are_clean();
         if name.is_head() {
             return None;
         }

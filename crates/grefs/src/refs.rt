@@ -6,6 +6,7 @@ ghost use Rattle.grefs.specs.RefLists.{AreBelow, CannotSet, IsBelowRefs, IsRefs,
 ghost use Rattle.grefs.specs.RefPlaces.{IsFound, IsGap};
 
 use crate::fault::RefsFault;
+use gname::laws::names_are_clean;
 use gname::{Oid, RefName};
 use std::alloc::{AllocError, Allocator, Global};
 use std::marker::Model;
@@ -112,6 +113,7 @@ impl<A: Allocator + Copy> Refs<A> {
         ensures faults { IfErr result (λ fault. (fault ≡ RefsFault.Refs) ⊎ (fault ≡ RefsFault.Memory)) }
         ensures err { OnErr result (self.new ≡ self.old) }
     {
+        names_are_clean();
         if name.is_head() {
             return Err(RefsFault::Refs);
         }

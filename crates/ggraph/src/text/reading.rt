@@ -166,18 +166,11 @@ pub(crate) fn add_node<A: Allocator + Copy>(
     if graph.len() >= MAX_NODES || !entry.node.is_shaped() || graph.contains(&entry.id) {
         return Err(TextFault::Text { line: number });
     }
-    if order == Order::ParentsFirst && !holds_all(graph, entry.node.parents.as_slice()) {
+    if order == Order::ParentsFirst && !graph.contains_all(entry.node.parents.as_slice()) {
         return Err(TextFault::ParentLater { line: number });
     }
     graph.push(entry)?;
     Ok(())
-}
-
-// Whether the graph holds each of the ids.
-fn holds_all<A: Allocator + Copy>(graph: &Graph<A>, ids: &[Oid]) -> bool
-    ensures { IsTrue result ↔ All (Holds graph.now) ids.now }
-{
-    ids.iter().all(|id| graph.contains(id))
 }
 
 /// Adds the ref of a line to the refs.

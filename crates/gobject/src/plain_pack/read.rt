@@ -6,8 +6,9 @@ ghost use Rattle.gname.specs.Ids.{IsIdText};
 ghost use Rattle.gobject.specs.PlainPackText.{line, header, letter, end_text, IsInLine, IsIdsText, IsNodeText, IsPack, IndexRefuses};
 ghost use Rattle.gobject.specs.PlainPackReading.{SplitsLine, SplitsId, NoIdText, NoIdsText, NoNodeText, NoHeader};
 
+use crate::fault::IndexFault;
 use crate::node::{Entry, Kind, Node, Parents};
-use crate::pack::IndexFault;
+use gname::laws::{id_texts_are_digits, texts_spell_one_id};
 use gname::{ID_TEXT_LENGTH, Oid};
 use itoa::Buffer;
 use memchr::memchr;
@@ -38,6 +39,7 @@ fn split_id(text: &[u8]) -> Option<(Oid, &[u8])>
     ensures { MatchOption result (NoIdText text.now)
         (λ parts. SplitsId text.now parts.0 parts.1.now) }
 {
+    id_texts_are_digits();
     let (space, text) = text.split_first()?;
     if *space != b' ' || text.len() < ID_TEXT_LENGTH {
         return None;
@@ -69,6 +71,7 @@ fn parents_of<A: Allocator + Copy>(alloc: A, text: &[u8]) -> Result<Option<Paren
 fn node_of<A: Allocator + Copy>(alloc: A, text: &[u8]) -> Result<Option<Entry<A>>, AllocError>
     ensures { IfOk result (λ found. MatchOption found (NoNodeText A text.now) (IsNodeText text.now)) }
 {
+    texts_spell_one_id();
     let Some((first, ids)) = text.split_first() else {
         return Ok(None);
     };

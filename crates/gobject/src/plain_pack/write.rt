@@ -6,8 +6,8 @@ ghost use Rattle.gobject.specs.Packs.{max_pack};
 ghost use Rattle.gobject.specs.PlainPackText.{letter, line, ids_text, node_text, nodes_text, end_text, pack_text, PackRefuses};
 ghost use Rattle.gobject.specs.PlainPackWriting.{Writes};
 
+use crate::fault::PackFault;
 use crate::node::{Entry, Kind};
-use crate::pack::PackFault;
 use gname::{ID_TEXT_LENGTH, MAX_PACK, Oid};
 use itoa::Buffer;
 use std::alloc::Allocator;

@@ -1,8 +1,9 @@
-// Plain packs as bytes.
-use crate::node::{Entry, Kind, Node, Parents};
-use crate::pack::{IndexFault, Indexer, Packer};
-use crate::plain_pack::PlainPack;
-use gname::Oid;
+//! Plain packs as bytes.
+use super::makers::{entry, id};
+use crate::{
+    Entry, Faithful, IndexFault, Indexer, Kind, Node, PackFault, Packer, Parents, PlainPack,
+};
+use std::alloc::Global;
 use std::process::Abort;
 
 // Three commits, each the parent of the next.
@@ -22,21 +23,6 @@ const NONE: &[u8; 11] = b"GPK1\nend 0\n";
 // The three again, with some digits in upper case.
 const UPPER: &[u8; 222] =
     b"GPK1\nc AAAAAAAAAAAAAAAAAAAAAAAAAAAAAAAAAAAAAAAA\nc bbbbbbbbbbbbbbbbbbbbbbbbbbbbbbbbbbbbbbbb aaaaaaaaaaaaaaaaaaaaaaaaaaaaaaaaaaaaaaaA\nc CCCCCCCCCCCCCCCCCCCCcccccccccccccccccccc BbbbbbbbbbbbbbbbbbbbbbbbbbbbbbbbbbbbbbbB\nend 3\n";
-
-fn entry(rt: &(impl Abort + AllocGlobal), kind: Kind, id: u8, parents: &[u8]) -> Entry {
-    let mut ids = Parents::new(rt.alloc());
-    for parent in parents {
-        ids.push(id_of(rt, *parent)).expect(rt, "memory");
-    }
-    Entry {
-        id: id_of(rt, id),
-        node: Node { kind, parents: ids },
-    }
-}
-
-fn id_of(rt: &impl Abort, digit: u8) -> Oid {
-    Oid::from_hex(&[digit; 40]).expect(rt, "an id")
-}
 
 fn is_same_list(left: &[Entry], right: &[Entry]) -> bool {
     left.len() == right.len()
@@ -156,7 +142,7 @@ const BAD: &[(&[u8], usize)] = &[
 ];
 
 #[test]
-fn tells_the_first_bad_line(rt: HostRuntime) {
+fn reports_the_first_bad_line(rt: HostRuntime) {
     for (bytes, line) in BAD {
         check_bad(&rt, bytes, *line);
     }
@@ -168,7 +154,7 @@ fn line_at_end(bytes: &[u8]) -> usize {
 }
 
 #[test]
-fn tells_where_a_pack_is_cut(rt: HostRuntime) {
+fn reports_where_a_pack_is_cut(rt: HostRuntime) {
     for end in 0..THREE.len() {
         let front = &THREE[..end];
         check_bad(&rt, front, line_at_end(front));
@@ -230,4 +216,48 @@ fn reads_each_change_of_a_byte_as_it_stands(rt: HostRuntime) {
             check_change(&rt, at, byte);
         }
     }
+}
+
+// So many entries, the last of them with so many parents.
+fn entries_of(rt: &(impl Abort + AllocGlobal), count: usize, parents: usize) -> Vec<Entry> {
+    let mut list = Vec::new(rt.alloc());
+    for _ in 1..count {
+        list.push(entry(rt, Kind::Commit, b'1', b""))
+            .expect(rt, "memory");
+    }
+    let mut last = Parents::new(rt.alloc());
+    for _ in 0..parents {
+        last.push(id(rt, b'2')).expect(rt, "memory");
+    }
+    let node = Node {
+        kind: Kind::Tag,
+        parents: last,
+    };
+    let id = id(rt, b'3');
+    list.push(Entry { id, node }).expect(rt, "memory");
+    list
+}
+
+// Numbers of entries and parents, and how long the pack is: the longest, one byte more, a parent more.
+const LIMITS: [(usize, usize, Option<usize>); 3] = [
+    (6, 1_636_795, Some(67_108_864)),
+    (47, 1_636_752, None),
+    (6, 1_636_796, None),
+];
+
+#[test]
+fn packs_67108864_bytes_and_no_more(rt: HostRuntime) {
+    for (count, parents, length) in LIMITS {
+        let list = entries_of(&rt, count, parents);
+        match (PlainPack.pack(rt.alloc(), list.as_slice()), length) {
+            (Ok(pack), Some(length)) => assert_eq!(rt; pack.len(), length),
+            (Err(fault), None) => assert_eq!(rt; fault, PackFault::TooLarge),
+            _ => assert!(rt; false, "a pack of {count} entries"),
+        }
+    }
+}
+
+#[test]
+fn the_law_can_be_called() {
+    Faithful::<Global>::loses_nothing(&PlainPack);
 }

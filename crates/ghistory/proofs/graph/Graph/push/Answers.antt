@@ -1,4 +1,4 @@
-use Rattle.ghistory.proofs.GraphLemmas.{graph_push}
+use Rattle.ghistory.proofs.Growing.{graph_push}
 use Rattle.ghistory.proofs.graph.Graph.push.Goals as goal
 
 pub invariant_of-self-2 : goal.invariant_of-self-2

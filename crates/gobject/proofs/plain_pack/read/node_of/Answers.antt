@@ -12,4 +12,4 @@ pub returns-in-None : goal.returns-in-None
 returns-in-None g c =
     let begins : c.args.text.now ≡ c.in-Some.first.now ∷ c.in-Some.ids.now = search rules in
     let none : NoIdsText c.in-Some-split_id.rest.now = search rules in
-    NoNodeText-parents c.args.text.now c.in-Some.first.now c.in-Some.ids.now c.in-Some-split_id.id c.in-Some-split_id.rest.now begins c.in-Some-split_id.ensures none
+    NoNodeText-parents c.texts_spell_one_id.ensures c.args.text.now c.in-Some.first.now c.in-Some.ids.now c.in-Some-split_id.id c.in-Some-split_id.rest.now begins c.in-Some-split_id.ensures none

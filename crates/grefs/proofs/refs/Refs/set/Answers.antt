@@ -2,7 +2,6 @@ use Rattle.std.proofs.Common.{◌≡◌, ◌≢◌, arith, subst, refl, inl, inr
 use Rattle.gname.specs.Names.{IsRefName, head_name}
 use Rattle.grefs.specs.RefLists.{CannotSet, RefList, ref_at}
 use Rattle.grefs.proofs.RefLemmas.{ref_at-found, ref_at-gap, found_inside, gap_inside, refs_insert, refs_set, sets_insert, sets_set}
-use Rattle.grefs.proofs.NameLemmas.{below_from_other}
 use Rattle.grefs.proofs.refs.Refs.set.Goals as goal
 
 -- a name that stands somewhere and is not HEAD can be set
@@ -17,7 +16,7 @@ pub invariant_of-self : goal.invariant_of-self
 invariant_of-self g c =
     let differs : c.args.name ≢ head_name = λ same. (let yes_head = c.is_head.ensures.1 same in cc) in
     let valid : IsRefName c.args.name = subst IsRefName c.name.view_is c.name.invariant in
-    refs_set _ c.args.name c.args.id c.in-Ok.place c.self.invariant (below_from_other c.args.name valid differs) (rw (← c.as_slice.ensures.value) c.in-Ok.ensures)
+    refs_set _ c.args.name c.args.id c.in-Ok.place c.self.invariant (record { well_formed = valid; below = (c.names_are_clean.ensures c.args.name valid).below differs }) (rw (← c.as_slice.ensures.value) c.in-Ok.ensures)
 
 pub returns-then-len-eq-MAX_REFS-clause-refused : goal.returns-then-len-eq-MAX_REFS-clause-refused
 returns-then-len-eq-MAX_REFS-clause-refused g c =
@@ -35,7 +34,7 @@ invariant_of-self-in-Err g c =
     let valid : IsRefName c.args.name = subst IsRefName c.name.view_is c.name.invariant in
     let few = c.self.invariant.few in
     rw c.in_ok-insert-in-Err.ensures.items
-    (refs_insert _ c.args.name c.args.id c.in-Err.place c.self.invariant (below_from_other c.args.name valid differs) (omega arith) (rw (← c.as_slice.ensures.value) c.in-Err.ensures))
+    (refs_insert _ c.args.name c.args.id c.in-Err.place c.self.invariant (record { well_formed = valid; below = (c.names_are_clean.ensures c.args.name valid).below differs }) (omega arith) (rw (← c.as_slice.ensures.value) c.in-Err.ensures))
 
 pub returns-in-Ok-clause-ok : goal.returns-in-Ok-clause-ok
 returns-in-Ok-clause-ok g c =
