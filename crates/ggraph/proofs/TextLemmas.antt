@@ -23,7 +23,7 @@ id_drop id rest valid = subst (λ n. drop n (id_text id ++ rest) ≡ rest) (leng
 pub one_id : (a b : List ℕ) → IsId a → IsId b → id_text a ≡ id_text b → a ≡ b
 one_id a b va vb same = IsIdText-one (id_text a) a b (IsIdText-id_text a va) (subst (λ (t : List ℕ). IsIdText t b) (sym same) (IsIdText-id_text b vb))
 
--- an id at the front, and what is behind it, are one
+-- an id at the front, and what follows it, are one
 pub one_front : (a b r s : List ℕ) → IsId a → IsId b → id_text a ++ r ≡ id_text b ++ s → (a ≡ b) × (r ≡ s)
 one_front a b r s va vb same = (
   one_id a b va vb (sym (id_take a r va) ∙ ap (take 40) same ∙ id_take b s vb),

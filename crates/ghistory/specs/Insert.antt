@@ -10,7 +10,8 @@ use Rattle.ghistory.specs.Graphs.{IsNode, max_nodes}
 -- one entry comes in: its node has its shape, and it was there with that node or comes at the end
 pub record ComesIn {A : Type 0} (old : List (Entry A)) (entry : Entry A) (new : List (Entry A)) : Type 0 where
   pub shaped : IsShaped entry.node
-  pub comes : (IsNode old entry.id entry.node × (new ≡ old)) ⊎ ((node_at old entry.id ≡ None) × (new ≡ old ++ entry ∷ []))
+  pub comes :
+      (IsNode old entry.id entry.node × (new ≡ old)) ⊎ ((node_at old entry.id ≡ None) × (new ≡ old ++ entry ∷ []))
 
 -- the entries come in, one after the other
 abbrev pub Inserts : {A : Type 0} → List (Entry A) → List (Entry A) → List (Entry A) → Type 0
@@ -28,7 +29,8 @@ IsMisshapen node _ = ⊥
 abbrev pub IsCause : {A : Type 0} → List (Entry A) → Entry A → GraphFault → Type 0
 IsCause g entry TooManyParents = IsMisshapen entry.node TooManyParents
 IsCause g entry TagShape = IsMisshapen entry.node TagShape
-IsCause {A} g entry (Conflict id) = IsShaped entry.node × (id ≡ entry.id) × ((other : Node A) × IsNode g id other × (other ≢ entry.node))
+IsCause {A} g entry (Conflict id) =
+    IsShaped entry.node × (id ≡ entry.id) × ((other : Node A) × IsNode g id other × (other ≢ entry.node))
 IsCause g entry TooMany = IsShaped entry.node × (node_at g entry.id ≡ None) × (length g ≡ max_nodes)
 IsCause g entry Memory = IsShaped entry.node × (node_at g entry.id ≡ None) × (length g < max_nodes)
 

@@ -42,7 +42,7 @@ impl<A: Allocator + Copy> Graph<A> {
         }
     }
 
-    /// Adds an entry behind the others. Where there is no memory the graph stays as it was.
+    /// Adds an entry after the others. Where there is no memory the graph stays as it was.
     pub fn push(&mut self, entry: Entry<A>) -> Result<(), AllocError>
         requires new { node_at self.old entry.id ≡ None }
         requires shaped { IsShaped entry.node }

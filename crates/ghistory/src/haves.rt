@@ -81,6 +81,3 @@ impl<A: Allocator + Copy> Graph<A> {
         Ok(ids)
     }
 }
-
-#[cfg(test)]
-mod tests;

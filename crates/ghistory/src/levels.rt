@@ -31,7 +31,7 @@ fn parents_of<'a, A: Allocator + Copy>(entries: &'a [Entry<A>], id: &Oid) -> &'a
     }
 }
 
-/// The ids of all levels about the tips, one level behind the other: the tips, then their parents, then
+/// The ids of all levels about the tips, one level after the other: the tips, then their parents, then
 /// the parents of these, and so on, each id once. An id that is not held has no parents. It fails where
 /// there is no memory.
 pub fn all_levels<A: Allocator + Copy>(

@@ -29,7 +29,7 @@ not_id_text law text id Length h spelt = h spelt.long
 not_id_text law text id (Digit at) h spelt =
     false≢true (sym h.1.bad ∙ (law text id spelt).digits at 0 h.1.inside)
 
--- where forty bytes behind a space are refused as an id, there is none
+-- where forty bytes after a space are refused as an id, there is none
 pub NoIdText-err : IdTextsAreDigits → (text rest : List ℕ) (fault : OidFault) → text ≡ 32 ∷ rest → ReadsId (take 40 rest) (Err fault) → NoIdText text
 NoIdText-err law text rest fault begins refused = λ id behind h.
     let whole : 32 ∷ rest ≡ 32 ∷ h.digits ++ behind = sym begins ∙ h.whole in
@@ -57,7 +57,7 @@ SplitsId-first text id ids h = (h.1, record { digits = h.0; whole = h.2; spells 
 pub IsIdsText-cons : (text id rest : List ℕ) (ids : List (List ℕ)) → SplitsId text id rest → IsIdsText rest ids → IsIdsText text (id ∷ ids)
 IsIdsText-cons text id rest ids h others = (h.digits, rest, h.whole, h.spells, others)
 
--- an id behind the text of others
+-- an id after the text of others
 pub IsIdsText-push : (front digits id : List ℕ) (ids : List (List ℕ)) → IsIdsText front ids → IsIdText digits id
     → IsIdsText (front ++ 32 ∷ digits) (ids ++ id ∷ [])
 IsIdsText-push front digits id [] h spelt =
@@ -65,7 +65,7 @@ IsIdsText-push front digits id [] h spelt =
 IsIdsText-push front digits id (first ∷ ids) h spelt =
     (h.0, h.1 ++ 32 ∷ digits, ap (λ (text : List ℕ). text ++ 32 ∷ digits) h.2 ∙ ap (λ (text : List ℕ). 32 ∷ text) (append_assoc h.0 h.1 (32 ∷ digits)), h.3, IsIdsText-push h.1 digits id ids h.4 spelt)
 
--- behind the text of some ids stand the others
+-- after the text of some ids stand the others
 pub IsIdsText-rest : (front rest : List ℕ) (ids all : List (List ℕ)) → IsIdsText front ids → IsIdsText (front ++ rest) all
     → (others : List (List ℕ)) × IsIdsText rest others
 IsIdsText-rest front rest [] all h k = (all, let same : front ++ rest ≡ rest = ap (λ (text : List ℕ). text ++ rest) h in rw (← same) k)
@@ -110,7 +110,7 @@ IsIdsText-turn text front rest behind ids new id whole h next is =
     whole ∙ ap (λ (more : List ℕ). front ++ more) next.whole ∙ sym (append_assoc front (32 ∷ next.digits) behind) in
     (read, parts, rw is (IsIdsText-push front next.digits id ids h next.spells))
 
--- a line without an id behind its letter is that of no entry
+-- a line without an id after its letter is that of no entry
 pub NoNodeText-id : {A : Type 0} (text : List ℕ) (first : ℕ) (ids : List ℕ) → text ≡ first ∷ ids → NoIdText ids → NoNodeText A text
 NoNodeText-id text first ids begins none = λ entry h.
     let whole : first ∷ ids ≡ letter entry.node.kind ∷ h.0 = sym begins ∙ h.1 in
@@ -118,7 +118,7 @@ NoNodeText-id text first ids begins none = λ entry h.
     let found = SplitsId-first h.0 entry.id entry.node.parents h.2 in
     none entry.id found.0 (rw same found.1)
 
--- nor is one with something else behind the id
+-- nor is one with something else after the id
 pub NoNodeText-parents : {A : Type 0} → TextsSpellOneId → (text : List ℕ) (first : ℕ) (ids id rest : List ℕ) → text ≡ first ∷ ids → SplitsId ids id rest
     → NoIdsText rest → NoNodeText A text
 NoNodeText-parents law text first ids id rest begins next none = λ entry h.

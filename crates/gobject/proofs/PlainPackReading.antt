@@ -79,12 +79,12 @@ IsBadLine-wrong {A} bytes rest text behind list n is kept next none other =
     let wrong : MayStand A (suc (length list)) text → ⊥ = ⊎_elim (λ found. none found.0 found.1) (rw (← is) other) in
     inl (record { front = line header ++ kept.nodes; text = text; rest = behind; lines = suc (length list); parts = parts; before = HasRead-front bytes rest list kept; in_line = next.in_line; wrong = wrong; place = omega arith })
 
--- the end behind what is read
+-- the end after what is read
 IsPack-end : {A : Type 0} (bytes rest : List ℕ) (list : List (Entry A)) → (kept : HasRead bytes rest list)
     → IsPack ((line header ++ kept.nodes) ++ line (end_text (length list))) list
 IsPack-end bytes rest list kept = record { nodes = kept.nodes; whole = refl; each = kept.each }
 
--- bytes behind the end
+-- bytes after the end
 pub IsBadLine-followed : {A : Type 0} (bytes rest text behind : List ℕ) (list : List (Entry A)) (n at : ℕ) → n ≡ length list → at ≡ n + 3
     → HasRead bytes rest list → SplitsLine rest text behind → text ≡ end_text n → behind ≢ [] → IsBadLine A bytes at
 IsBadLine-followed bytes rest text behind list n at same place kept next end more =

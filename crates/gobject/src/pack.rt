@@ -48,7 +48,7 @@ pub trait Indexer<A: Allocator + Copy> {
 pub trait Faithful<A: Allocator + Copy>: Packer<A> + Indexer<A> {
     ghost image: { Self → List (Entry A) → List ℕ };
 
-    /// The law of the image. The call does nothing: its contract tells the law to generic callers.
+    /// The law of the image. The call does nothing: its contract gives the law to generic callers.
     fn loses_nothing(&self)
         ensures { LosesNothing (Self.packs self.now) (Self.pack_fails self.now)
             (Self.indexes self.now) (Self.index_fails self.now) (image self.now) };

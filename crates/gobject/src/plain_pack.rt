@@ -26,7 +26,7 @@ use std::alloc::Allocator;
 /// `index` reads exactly such texts, with ids in either case, and answers the entries in order. How
 /// many parents an entry has, and whether an id comes again, it does not judge. It fails with `Bad`
 /// at the first line that has not this form: a line that is none of an entry and not the right end,
-/// the line behind the end where bytes follow, and where the input ends early the line that it ends
+/// the line after the end where bytes follow, and where the input ends early the line that it ends
 /// in, whose number is one more than that of the line feeds.
 ///
 /// Both fail with `Memory` where there is no memory.

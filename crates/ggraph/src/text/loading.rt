@@ -47,7 +47,7 @@ pub fn load<A: Allocator + Copy>(
     })
 }
 
-// The first line, without its LF, and what is behind the LF.
+// The first line, without its LF, and what follows the LF.
 fn split_line(text: &[u8]) -> Option<(&[u8], &[u8])>
     ensures { MatchOption result (HasNoLf text.now) (λ pair.
         (text.now ≡ pair.0.now ++ (codes "\n" ++ pair.1.now)) × HasNoLf pair.0.now) }

@@ -12,7 +12,7 @@ use gobject::Parents;
 use grefs::is_below_refs;
 use std::alloc::{AllocError, Allocator};
 
-/// The id whose forty digits are at the front, and what is behind them.
+/// The id whose forty digits are at the front, and what follows them.
 pub(crate) fn take_id(text: &[u8]) -> Option<(Oid, &[u8])>
     ensures { MatchOption result (BeginsWithNoId text.now) (λ pair. (text.now ≡ id_text pair.0 ++ pair.1.now) × IsId pair.0) }
 {
@@ -61,7 +61,7 @@ pub(crate) fn ids_of<A: Allocator + Copy>(
     Ok(Some(ids))
 }
 
-/// The id at the front behind a space, and what is behind it.
+/// The id at the front after a space, and what follows it.
 pub(crate) fn take_spaced(text: &[u8]) -> Option<(Oid, &[u8])>
     ensures { MatchOption result (BeginsWithNoSpacedId text.now) (λ pair.
         (text.now ≡ codes " " ++ (id_text pair.0 ++ pair.1.now)) × IsId pair.0) }

@@ -51,7 +51,7 @@ fn split_id(text: &[u8]) -> Option<(Oid, &[u8])>
     }
 }
 
-/// The ids of a text, each behind a space, if it is nothing else.
+/// The ids of a text, each after a space, if it is nothing else.
 fn parents_of<A: Allocator + Copy>(alloc: A, text: &[u8]) -> Result<Option<Parents<A>>, AllocError>
     ensures { IfOk result (λ found. MatchOption found (NoIdsText text.now) (IsIdsText text.now)) }
 {

@@ -51,7 +51,7 @@ impl<A: Allocator + Copy> Writer<A> {
         Ok(())
     }
 
-    /// Writes an id behind a space.
+    /// Writes an id after a space.
     fn put_id(&mut self, id: &Oid) -> Result<(), PackFault>
         ensures { Writes self.old self.new result (ids_text (id.now ∷ [])) }
     {
@@ -61,7 +61,7 @@ impl<A: Allocator + Copy> Writer<A> {
         self.put(&text)
     }
 
-    /// Writes ids, each behind a space.
+    /// Writes ids, each after a space.
     fn put_ids(&mut self, ids: &[Oid]) -> Result<(), PackFault>
         ensures { Writes self.old self.new result (ids_text ids.now) }
     {

@@ -1,28 +1,26 @@
-// What is offered of small graphs. An id is forty times one digit.
-use crate::graph::Graph;
+//! What is offered of small graphs. An id is the number of one digit.
+use super::makers;
+use crate::Graph;
 use gname::Oid;
-use gobject::{Entry, Kind, Node, Parents};
+use gobject::{Entry, Kind};
 use std::process::Abort;
 
 fn ids_of(rt: &(impl Abort + AllocGlobal), digits: &[u8]) -> Vec<Oid> {
     let mut ids = Vec::new(rt.alloc());
     for digit in digits {
-        let id = Oid::from_hex(&[*digit; 40]).expect(rt, "an id");
-        ids.push(id).expect(rt, "memory");
+        ids.push(makers::id(rt, usize::from(*digit)))
+            .expect(rt, "memory");
     }
     ids
 }
 
 // A commit by the digits of its id and of its parents.
-fn commit(rt: &(impl Abort + AllocGlobal), id: u8, parents: &[u8]) -> Entry {
-    let id = Oid::from_hex(&[id; 40]).expect(rt, "an id");
-    let ids = ids_of(rt, parents);
-    let parents = Parents::from_slice(rt.alloc(), ids.as_slice()).expect(rt, "memory");
-    let kind = Kind::Commit;
-    Entry {
-        id,
-        node: Node { kind, parents },
+fn commit(rt: &(impl Abort + AllocGlobal), digit: u8, parents: &[u8]) -> Entry {
+    let mut numbers = Vec::new(rt.alloc());
+    for parent in parents {
+        numbers.push(usize::from(*parent)).expect(rt, "memory");
     }
+    makers::entry(rt, Kind::Commit, usize::from(digit), numbers.as_slice())
 }
 
 // A graph with a commit for each row, which is the digit of its id and those of its parents.
