@@ -1,8 +1,8 @@
 -- From the steps of an exchange to the whole.
 use Rattle.std.proofs.Common.{◌≡◌, ℕ, List, Err, refl, sym, subst, inl, inr}
-use Rattle.ggraph.specs.RefLists.{RefList}
-use Rattle.ggraph.specs.declared.node.Entry.{Entry}
-use Rattle.ggraph.specs.declared.head.Head.{Head}
+use Rattle.grefs.specs.RefLists.{RefList}
+use Rattle.gobject.specs.declared.node.Entry.{Entry}
+use Rattle.grefs.specs.declared.head.Head.{Head}
 use Rattle.gcmd.specs.Request.{LsRefs, Ls}
 use Rattle.gcmd.specs.Reply.{reply_bytes}
 use Rattle.gcmd.specs.Sending.{Input, Output, Sends}

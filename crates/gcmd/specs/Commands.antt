@@ -1,13 +1,11 @@
 -- The programs: what each reads, writes and prints, and its exit status.
-use Rattle.std.specs.Prelude.{◌≡◌, ◌↔◌, ℕ, ◌⊎◌, ◌++◌, Bool, IsTrue, if◌then◌else◌, List, length, codes, All, Option, None, Some, Result, Ok, Err}
+use Rattle.std.specs.Prelude.{◌≡◌, ◌↔◌, ℕ, ◌⊎◌, ◌++◌, Bool, IsTrue, if◌then◌else◌, List, length, codes, Option, None, Some, Result, Ok, Err}
 use Rattle.std.specs.Fmt.{decimal}
 use Rattle.gpkt.specs.declared.fault.WriteFault.TheVariants.{Io}
-use Rattle.ggraph.specs.Graphs.{Holds}
-use Rattle.ggraph.specs.Reach.{IsClosed, IsSafe}
+use Rattle.ghistory.specs.Reach.{IsClosed}
+use Rattle.ggraph.specs.SafeRefs.{IsSafe}
 use Rattle.ggraph.specs.Loading.{StopsAt}
 use Rattle.ggraph.specs.RepositoryText.{repository_text, IsLoadable}
-use Rattle.ggraph.specs.declared.node.Entry.{Entry}
-use Rattle.ggraph.specs.declared.fault.GraphFault.{GraphFault}
 use Rattle.ggraph.specs.declared.text.Order.TheVariants.{Any}
 use Rattle.ggraph.specs.declared.text.Repository.{Repository}
 use Rattle.gcmd.specs.Repository.{Names, HoldsRefs, HoldsHead, RefusesText}
@@ -15,7 +13,7 @@ use Rattle.gcmd.specs.Exchange.{Exchanges}
 use Rattle.gcmd.specs.Printing.{check_fault_line, ls_fault_line, repo_fault_line, write_fault_line}
 use Rattle.gcmd.specs.Sending.{Input, Output, IsUnread, IsUnwritten, Sends, SendsSome}
 use Rattle.gcmd.specs.declared.check.CheckFault.{CheckFault}
-use Rattle.gcmd.specs.declared.check.CheckFault.TheVariants.{Graph, WriteFailed}
+use Rattle.gcmd.specs.declared.check.CheckFault.TheVariants.{Text, WriteFailed}
 use Rattle.gcmd.specs.declared.check.Report.{Report}
 use Rattle.gcmd.specs.declared.repository.RepoFault.{RepoFault}
 use Rattle.gcmd.specs.declared.exchange.LsEnd.{LsEnd}
@@ -67,10 +65,6 @@ module _ (A : Type 0) (file : List ℕ) (input : Input) (output errors : Output)
 
 -- ---- `check`
 
--- each parent of the entry's node is held
-unfoldable pub HoldsParents : {A : Type 0} → List (Entry A) → Entry A → Type 0
-HoldsParents g entry = All (Holds g) entry.node.parents
-
 -- what there is to report of a repository
 pub record IsReport {A : Type 0} (repo : Repository A) (report : Report) : Type 0 where
   pub nodes : report.nodes ≡ length repo.graph
@@ -100,7 +94,7 @@ abbrev pub HasChecked : (A : Type 0) → List ℕ → Output → Result (Unit {0
 HasChecked A file output (Ok done) = (report : Report) × IsReported A file report × Sends output (report_line report)
 HasChecked A file output (Err WriteFailed) =
     (report : Report) × IsReported A file report × SendsSome output (report_line report)
-HasChecked A file output (Err (Graph fault)) = StopsAt A Any file fault × IsUnwritten output
+HasChecked A file output (Err (Text fault)) = StopsAt A Any file fault × IsUnwritten output
 
 -- the line that is printed at the end, if one is
 abbrev pub line_of_check : Result (Unit {0}) CheckFault → Option (List ℕ)

@@ -3,8 +3,6 @@ use Rattle.std.specs.Prelude.{ℕ, List, codes, take}
 use Rattle.gname.specs.Faults.{FaultRow}
 use Rattle.gpkt.specs.Faults.{line_fault_row}
 use Rattle.gpkt.specs.Packets.{text}
-use Rattle.ggraph.specs.declared.fault.GraphFault.{GraphFault}
-use Rattle.ggraph.specs.declared.fault.GraphFault.TheVariants as graph
 use Rattle.gcmd.specs.declared.exchange.LsFault.{LsFault}
 use Rattle.gcmd.specs.declared.exchange.LsFault.TheVariants as ls
 use Rattle.gcmd.specs.declared.fault.Why.{Why}
@@ -17,20 +15,6 @@ use Rattle.gcmd.specs.declared.repository.RepoFault.TheVariants as repo
 -- the first 256 bytes of the text, which is the payload without one line feed at its end
 abbrev pub kept_text : List ℕ → List ℕ
 kept_text payload = take 256 (text payload)
-
--- ---- faults of graphs
-
-abbrev pub graph_fault_row : GraphFault → FaultRow
-graph_fault_row (graph.Conflict id) = (60, codes "Conflict")
-graph_fault_row graph.TooMany = (61, codes "TooMany")
-graph_fault_row graph.TooManyParents = (62, codes "TooManyParents")
-graph_fault_row graph.TagShape = (63, codes "TagShape")
-graph_fault_row graph.Memory = (64, codes "Memory")
-graph_fault_row (graph.Pack cause) = (65, codes "Pack")
-graph_fault_row (graph.Index cause) = (66, codes "Index")
-graph_fault_row (graph.Text at) = (67, codes "Text")
-graph_fault_row (graph.ParentLater at) = (68, codes "ParentLater")
-graph_fault_row graph.Refs = (69, codes "Refs")
 
 -- ---- faults of messages
 

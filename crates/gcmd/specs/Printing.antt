@@ -11,12 +11,17 @@ use Rattle.gname.specs.declared.faults.NameFault.{NameFault}
 use Rattle.gname.specs.declared.faults.NameFault.TheVariants as name
 use Rattle.gname.specs.declared.ids.OidFault.{OidFault}
 use Rattle.gname.specs.declared.ids.OidFault.TheVariants as id
-use Rattle.ggraph.specs.declared.fault.GraphFault.{GraphFault}
-use Rattle.ggraph.specs.declared.fault.GraphFault.TheVariants as graph
-use Rattle.ggraph.specs.declared.pack.IndexFault.{IndexFault}
-use Rattle.ggraph.specs.declared.pack.IndexFault.TheVariants as index
+use Rattle.ghistory.specs.Faults.{graph_fault_row}
+use Rattle.ghistory.specs.declared.fault.GraphFault.{GraphFault}
+use Rattle.ghistory.specs.declared.fault.GraphFault.TheVariants as graph
+use Rattle.ggraph.specs.Faults.{text_fault_row}
+use Rattle.ggraph.specs.declared.fault.TextFault.{TextFault}
+use Rattle.ggraph.specs.declared.fault.TextFault.TheVariants as load
+use Rattle.gobject.specs.Faults.{index_fault_row}
+use Rattle.gobject.specs.declared.fault.IndexFault.{IndexFault}
+use Rattle.gobject.specs.declared.fault.IndexFault.TheVariants as index
 use Rattle.gpkt.specs.Faults.{write_fault_row}
-use Rattle.gcmd.specs.Faults.{why_row, ls_fault_row, repo_fault_row, graph_fault_row, program_fault_row}
+use Rattle.gcmd.specs.Faults.{why_row, ls_fault_row, repo_fault_row, program_fault_row}
 use Rattle.gcmd.specs.declared.program.ProgramFault.{ProgramFault}
 use Rattle.gcmd.specs.declared.check.CheckFault.{CheckFault}
 use Rattle.gcmd.specs.declared.check.CheckFault.TheVariants as check
@@ -119,22 +124,26 @@ abbrev pub line_in_pack : IndexFault → Option ℕ
 line_in_pack (index.Bad at) = Some at
 line_in_pack _ = None
 
-abbrev pub line_in_text : GraphFault → Option ℕ
-line_in_text (graph.Text at) = Some at
-line_in_text (graph.ParentLater at) = Some at
-line_in_text (graph.Index cause) = line_in_pack cause
-line_in_text _ = None
+abbrev pub index_fault_line : IndexFault → List ℕ
+index_fault_line fault = fault_line (index_fault_row fault) (record no_details { line = line_in_pack fault })
 
 abbrev pub id_in_conflict : GraphFault → Option (List ℕ)
 id_in_conflict (graph.Conflict id) = Some id
 id_in_conflict _ = None
 
 abbrev pub graph_fault_line : GraphFault → List ℕ
-graph_fault_line fault = 
-    fault_line (graph_fault_row fault) (record no_details { line = line_in_text fault; id = id_in_conflict fault })
+graph_fault_line fault = fault_line (graph_fault_row fault) (record no_details { id = id_in_conflict fault })
+
+abbrev pub line_in_text : TextFault → Option ℕ
+line_in_text (load.Text at) = Some at
+line_in_text (load.ParentLater at) = Some at
+line_in_text load.Memory = None
+
+abbrev pub text_fault_line : TextFault → List ℕ
+text_fault_line fault = fault_line (text_fault_row fault) (record no_details { line = line_in_text fault })
 
 abbrev pub check_fault_line : CheckFault → List ℕ
-check_fault_line (check.Graph fault) = graph_fault_line fault
+check_fault_line (check.Text fault) = text_fault_line fault
 check_fault_line check.WriteFailed = write_fault_line write.Io
 
 -- the text of a peer's error

@@ -1,9 +1,8 @@
 //! `gitv2 check`, as a function over bytes and devices.
 
-ghost use Rattle.std.specs.Prelude.{◌≡◌, ◌+◌, ◌≤◌, ◌++◌, ◌↔◌, [], length, All, IfErr, IfOk, IsTrue, map};
-ghost use Rattle.ggraph.specs.Graphs.{Holds};
-ghost use Rattle.ggraph.specs.Reach.{IsClosed, IsSafe};
-ghost use Rattle.gcmd.specs.Commands.{report_line, yes_or_no, Checks, HasChecked, HoldsParents, IsReport};
+ghost use Rattle.std.specs.Prelude.{◌≡◌, ◌+◌, ◌≤◌, ◌++◌, ◌↔◌, [], length, IfErr, IfOk, IsTrue, map};
+ghost use Rattle.ggraph.specs.SafeRefs.{IsSafe};
+ghost use Rattle.gcmd.specs.Commands.{report_line, yes_or_no, Checks, HasChecked, IsReport};
 ghost use Rattle.gcmd.specs.Sending.{output_of, HasSent};
 
 use crate::compose::{add, add_number};
@@ -11,7 +10,7 @@ use crate::print::FaultLine;
 use crate::program::fail;
 use crate::send::send;
 use arrayvec::ArrayVec;
-use ggraph::{Entry, Graph, GraphFault, Order, Repository, load};
+use ggraph::{Order, Repository, TextFault, load};
 use gname::{Oid, RefName};
 use gpkt::{Down, Sink};
 use std::alloc::{AllocError, Allocator};
@@ -45,7 +44,7 @@ pub fn cmd_check<A: Allocator + Copy, W: Sink, E: Sink>(
 #[derive(Drop)]
 pub(crate) enum CheckFault {
     /// The text is no repository, or there is no memory.
-    Graph(GraphFault),
+    Text(TextFault),
     /// The output failed.
     WriteFailed,
 }
@@ -61,11 +60,11 @@ fn check<A: Allocator + Copy, W: Sink>(
 {
     let repo = match load(alloc, file, Order::Any) {
         Ok(repo) => repo,
-        Err(fault) => return Err(CheckFault::Graph(fault)),
+        Err(fault) => return Err(CheckFault::Text(fault)),
     };
     let report = match report_of(alloc, &repo) {
         Ok(report) => report,
-        Err(_) => return Err(CheckFault::Graph(GraphFault::Memory)),
+        Err(_) => return Err(CheckFault::Text(TextFault::Memory)),
     };
     match send_report(&report, output) {
         Ok(()) => Ok(()),
@@ -89,7 +88,7 @@ fn report_of<A: Allocator + Copy>(alloc: A, repo: &Repository<A>) -> Result<Repo
     Ok(Report {
         nodes: repo.graph.len(),
         refs: repo.refs.len(),
-        closed: is_closed(&repo.graph),
+        closed: repo.graph.is_closed(),
         safe,
     })
 }
@@ -123,33 +122,6 @@ fn yes_or_no(holds: bool) -> &'static [u8]
     ensures short { length result.now ≤ 3 }
 {
     if holds { b"yes" } else { b"no" }
-}
-
-// Whether each parent of a node is one of the graph's.
-fn is_closed<A: Allocator + Copy>(graph: &Graph<A>) -> bool
-    ensures { IsTrue result ↔ IsClosed graph.now }
-{
-    all_hold_parents(graph, graph.entries())
-}
-
-// Whether the graph holds the parents of each of the entries.
-fn all_hold_parents<A: Allocator + Copy>(graph: &Graph<A>, entries: &[Entry<A>]) -> bool
-    ensures { IsTrue result ↔ All (HoldsParents graph.now) entries.now }
-{
-    entries.iter().all(|entry| holds_parents(graph, entry))
-}
-
-#[tactic(auto, unfolding(crate::specs::Commands::HoldsParents))]
-fn holds_parents<A: Allocator + Copy>(graph: &Graph<A>, entry: &Entry<A>) -> bool
-    ensures { IsTrue result ↔ HoldsParents graph.now entry.now }
-{
-    holds_all(graph, entry.node.parents.as_slice())
-}
-
-fn holds_all<A: Allocator + Copy>(graph: &Graph<A>, ids: &[Oid]) -> bool
-    ensures { IsTrue result ↔ All (Holds graph.now) ids.now }
-{
-    ids.iter().all(|id| graph.contains(id))
 }
 
 // Whether every object that a ref reaches is one of the graph's.

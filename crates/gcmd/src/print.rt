@@ -3,8 +3,7 @@
 //! 32 to 126 as `?`.
 
 ghost use Rattle.std.specs.Prelude.{◌≡◌, ◌+◌, ◌≤◌, ◌++◌, length, map, None, []};
-ghost use Rattle.gcmd.specs.Faults.{graph_fault_row};
-ghost use Rattle.gcmd.specs.Printing.{check_fault_line, graph_fault_line, id_fault_line, id_in_conflict, line_in_pack, line_in_text, ls_fault_line, message_fault_line, name_fault_line, number_part, peer_text, place_in_id, place_in_name, printed, program_fault_line, repo_fault_line, shown, subject_part, text_part, write_fault_line, IsShort, IsShortText};
+ghost use Rattle.gcmd.specs.Printing.{check_fault_line, graph_fault_line, id_fault_line, id_in_conflict, index_fault_line, line_in_pack, line_in_text, ls_fault_line, message_fault_line, name_fault_line, number_part, peer_text, place_in_id, place_in_name, printed, program_fault_line, repo_fault_line, shown, subject_part, text_fault_line, text_part, write_fault_line, IsShort, IsShortText};
 ghost use Rattle.std.specs.Option.{option_copied};
 ghost use Rattle.gcmd.specs.Sending.{output_of, HasSent};
 
@@ -16,7 +15,7 @@ use crate::program::ProgramFault;
 use crate::repository::RepoFault;
 use crate::send::send;
 use arrayvec::ArrayVec;
-use ggraph::{GraphFault, IndexFault};
+use ggraph::{GraphFault, IndexFault, TextFault};
 use gname::{NameFault, Oid, OidFault};
 use gpkt::{Down, Sink, WriteFault};
 use std::alloc::Allocator;
@@ -95,16 +94,36 @@ impl<'a> FaultLine<'a> {
         FaultLine::plain(fault.code(), fault.name())
     }
 
-    /// A refusal of a graph or of a repository text, with the line of a text or of a pack, or the id that
-    /// two objects have.
+    /// A refusal of a graph, with the id that two objects have.
     pub(crate) fn of_graph(fault: &GraphFault) -> FaultLine<'a>
         ensures line { printed result ≡ graph_fault_line fault.now }
         ensures short { IsShort result }
     {
         FaultLine {
-            line: line_in_text(fault),
             id: id_in_conflict(fault),
-            ..FaultLine::plain(fault.code(), graph_fault_name(fault))
+            ..FaultLine::plain(fault.code(), fault.name())
+        }
+    }
+
+    /// Bytes that are no pack, with the line.
+    pub(crate) fn of_index(fault: &IndexFault) -> FaultLine<'a>
+        ensures line { printed result ≡ index_fault_line fault.now }
+        ensures short { IsShort result }
+    {
+        FaultLine {
+            line: line_in_pack(fault),
+            ..FaultLine::plain(fault.code(), fault.name())
+        }
+    }
+
+    /// A text that is no repository's, with the line.
+    pub(crate) fn of_text(fault: &TextFault) -> FaultLine<'a>
+        ensures line { printed result ≡ text_fault_line fault.now }
+        ensures short { IsShort result }
+    {
+        FaultLine {
+            line: line_in_text(fault),
+            ..FaultLine::plain(fault.code(), fault.name())
         }
     }
 
@@ -114,7 +133,7 @@ impl<'a> FaultLine<'a> {
         ensures short { IsShort result }
     {
         match fault {
-            CheckFault::Graph(fault) => FaultLine::of_graph(fault),
+            CheckFault::Text(fault) => FaultLine::of_text(fault),
             CheckFault::WriteFailed => FaultLine::of_write(&WriteFault::Io),
         }
     }
@@ -276,12 +295,20 @@ fn place_in_name(fault: &NameFault) -> Option<usize>
     }
 }
 
-fn line_in_text(fault: &GraphFault) -> Option<usize>
+fn line_in_text(fault: &TextFault) -> Option<usize>
     ensures { result ≡ line_in_text fault.now }
 {
     match fault {
-        GraphFault::Text { line } | GraphFault::ParentLater { line } => Some(*line),
-        GraphFault::Index(IndexFault::Bad { line }) => Some(*line),
+        TextFault::Text { line } | TextFault::ParentLater { line } => Some(*line),
+        TextFault::Memory => None,
+    }
+}
+
+fn line_in_pack(fault: &IndexFault) -> Option<usize>
+    ensures { result ≡ line_in_pack fault.now }
+{
+    match fault {
+        IndexFault::Bad { line } => Some(*line),
         _ => None,
     }
 }
@@ -302,22 +329,5 @@ fn peer_text(why: &Why) -> Option<&[u8]>
     match why {
         Why::RemoteErr(text) => Some(text.as_bytes()),
         _ => None,
-    }
-}
-
-fn graph_fault_name(fault: &GraphFault) -> &'static str
-    ensures name { result.now ≡ (graph_fault_row fault.now).1 }
-{
-    match fault {
-        GraphFault::Conflict { .. } => "Conflict",
-        GraphFault::TooMany => "TooMany",
-        GraphFault::TooManyParents => "TooManyParents",
-        GraphFault::TagShape => "TagShape",
-        GraphFault::Memory => "Memory",
-        GraphFault::Pack(_) => "Pack",
-        GraphFault::Index(_) => "Index",
-        GraphFault::Text { .. } => "Text",
-        GraphFault::ParentLater { .. } => "ParentLater",
-        GraphFault::Refs => "Refs",
     }
 }

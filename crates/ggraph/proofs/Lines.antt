@@ -1,6 +1,6 @@
 -- Lines of a text: none has an LF, so that a text has one list of lines.
 use Rattle.std.specs.Prelude.{⊤}
-use Rattle.std.proofs.Common.{◌≡◌, ◌≢◌, ℕ, suc, ◌+◌, ◌<◌, List, [], ◌∷◌, ◌++◌, All, codes, refl, sym, ◌∙◌, ap, subst, arith}
+use Rattle.std.proofs.Common.{◌≡◌, ◌≢◌, ℕ, suc, ◌<◌, List, [], ◌∷◌, ◌++◌, codes, refl, sym, ◌∙◌, ap, subst, arith}
 use Rattle.std.proofs.lemmas.List.{append_assoc}
 use Rattle.std.proofs.lemmas.List.Elements.{All-head, All-tail}
 use Rattle.gname.specs.Laws.{IsClean}
@@ -48,7 +48,7 @@ abbrev tail_of : List ℕ → List ℕ
 tail_of [] = []
 tail_of (x ∷ xs) = xs
 
--- the first line of some bytes, and what is behind its LF, are one
+-- the first line of some bytes, and what follows its LF, are one
 pub one_line : (a b r s : List ℕ) → IsLine a → IsLine b → a ++ (codes "\n" ++ r) ≡ b ++ (codes "\n" ++ s) → (a ≡ b) × (r ≡ s)
 one_line [] [] r s la lb e = (refl, ap tail_of e)
 one_line [] (y ∷ b) r s la lb e = absurd (lb.0 (sym (ap head_of e)))

@@ -3,7 +3,7 @@ ghost use Rattle.gcmd.specs.Printing.{IsShort};
 
 use crate::print::FaultLine;
 use crate::{LsFault, MessageFault, PeerText, ProgramFault, RepoFault, Why};
-use ggraph::{GraphFault, IndexFault, PackFault};
+use ggraph::{GraphFault, IndexFault, TextFault};
 use gname::{NameFault, Oid, OidFault, RefName};
 use gpkt::memory::VecSink;
 use gpkt::{LineFault, WriteFault};
@@ -161,12 +161,6 @@ fn faults_of_graphs_are_printed(rt: HostRuntime) -> Result<(), Fail> {
         (GraphFault::TooManyParents, "62 TooManyParents"),
         (GraphFault::TagShape, "63 TagShape"),
         (GraphFault::Memory, "64 Memory"),
-        (GraphFault::Pack(PackFault::TooLarge), "65 Pack"),
-        (GraphFault::Index(IndexFault::Bad { line: 5 }), "66 Index line 5"),
-        (GraphFault::Index(IndexFault::Memory), "66 Index"),
-        (GraphFault::Text { line: 6 }, "67 Text line 6"),
-        (GraphFault::ParentLater { line: 7 }, "68 ParentLater line 7"),
-        (GraphFault::Refs, "69 Refs"),
     ];
     for (fault, rest) in rows {
         check_printed(&rt, rt.alloc(), &FaultLine::of_graph(&fault), rest)?;
@@ -175,6 +169,27 @@ fn faults_of_graphs_are_printed(rt: HostRuntime) -> Result<(), Fail> {
     let line = FaultLine::of_graph(&GraphFault::Conflict { id });
     let rest = "60 Conflict 00112233445566778899aabbccddeeff00112233";
     check_printed(&rt, rt.alloc(), &line, rest)
+}
+
+#[test]
+fn faults_of_texts_and_packs_are_printed(rt: HostRuntime) -> Result<(), Fail> {
+    let rows = [
+        (TextFault::Text { line: 6 }, "67 Text line 6"),
+        (TextFault::ParentLater { line: 7 }, "68 ParentLater line 7"),
+        (TextFault::Memory, "64 Memory"),
+    ];
+    for (fault, rest) in rows {
+        check_printed(&rt, rt.alloc(), &FaultLine::of_text(&fault), rest)?;
+    }
+    let rows = [
+        (IndexFault::Bad { line: 5 }, "66 Index line 5"),
+        (IndexFault::Memory, "66 Index"),
+        (IndexFault::Other, "66 Index"),
+    ];
+    for (fault, rest) in rows {
+        check_printed(&rt, rt.alloc(), &FaultLine::of_index(&fault), rest)?;
+    }
+    Ok(())
 }
 
 const NAMES: &[(NameFault, &str)] = &[

@@ -5,12 +5,12 @@ ghost use Rattle.std.specs.Prelude.{◌≡◌, ◌++◌, MatchOption, IfOk, IfEr
 ghost use Rattle.ggraph.specs.Loading.{Accepts, HasNoLf, StopsAt};
 ghost use Rattle.ggraph.specs.RepositoryText.{IsLoadable, repository_text};
 
-use crate::fault::GraphFault;
-use crate::graph::Graph;
-use crate::head::Head;
-use crate::refs::Refs;
+use crate::fault::TextFault;
+use crate::text::laws::text_laws;
 use crate::text::reading::{Reading, Stage};
 use crate::text::{Order, Repository};
+use ghistory::Graph;
+use grefs::{Head, Refs};
 use memchr::memchr;
 use std::alloc::Allocator;
 
@@ -24,12 +24,13 @@ pub fn load<A: Allocator + Copy>(
     alloc: A,
     text: &[u8],
     order: Order,
-) -> Result<Repository<A>, GraphFault>
+) -> Result<Repository<A>, TextFault>
     ensures ok { IfOk result (λ it.
         (text.now ≡ repository_text it.graph it.refs it.head) × IsLoadable order it.graph it.refs it.head) }
     ensures refused { IfErr result (StopsAt A order text.now) }
     ensures accepts { Accepts A order text.now result }
 {
+    text_laws();
     let mut reading = Reading::new(alloc);
     let mut rest = text;
     let mut number = 1;
@@ -39,7 +40,7 @@ pub fn load<A: Allocator + Copy>(
         number += 1;
     }
     if !rest.is_empty() || reading.stage != Stage::Done {
-        return Err(GraphFault::Text { line: number });
+        return Err(TextFault::Text { line: number });
     }
     Ok(Repository {
         graph: reading.graph,
@@ -48,7 +49,7 @@ pub fn load<A: Allocator + Copy>(
     })
 }
 
-// The first line, without its LF, and what is behind the LF.
+// The first line, without its LF, and what follows the LF.
 fn split_line(text: &[u8]) -> Option<(&[u8], &[u8])>
     ensures { MatchOption result (HasNoLf text.now) (λ pair.
         (text.now ≡ pair.0.now ++ (codes "\n" ++ pair.1.now)) × HasNoLf pair.0.now) }

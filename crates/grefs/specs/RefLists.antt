@@ -1,0 +1,58 @@
+-- Refs: names below refs/ with the ids that they stand at, in the byte order of the names
+-- (git-check-ref-format(1), git-show-ref(1)).
+use Rattle.std.specs.Prelude.{◌≡◌, ◌≢◌, ◌⊎◌, ℕ, ◌≤◌, true, Bool, List, length, find, All, codes, nat_eq, Option, Some}
+use Rattle.std.specs.Prelude.{None}
+use Rattle.std.specs.Str.{bytes_eq}
+use Rattle.std.specs.List.{AllByRecursion, starts_with}
+use Rattle.std.specs.declared.cmp.Ordering.TheVariants.{Less}
+use Rattle.std.specs.List.Sorted.{IsStrictlySortedBy}
+use Rattle.std.specs.Map.{keys_of}
+use Rattle.std.specs.Ordering.{nat_cmp}
+use Rattle.std.specs.Cmp.Lexicographic.{slice_cmp}
+use Rattle.std.specs.Option.{option_map}
+use Rattle.gname.specs.Ids.{IsId}
+use Rattle.gname.specs.Names.{IsRefName, head_name}
+
+-- each ref is a name and an id
+abbrev pub RefList : Type 0
+RefList = List (List ℕ × List ℕ)
+
+-- whether a ref has the name
+abbrev pub has_name : List ℕ → List ℕ × List ℕ → Bool
+has_name name ref = bytes_eq ref.0 name
+
+-- the id at which the name stands
+abbrev pub ref_at : RefList → List ℕ → Option (List ℕ)
+ref_at refs name = option_map (λ ref. ref.1) (find (has_name name) refs)
+
+-- a ref name below refs/, which is any but HEAD
+pub record IsBelowRefs (name : List ℕ) : Type 0 where
+  pub well_formed : IsRefName name
+  pub below : starts_with nat_eq name (codes "refs/") ≡ true
+
+-- the ref stands at an object id
+abbrev pub StandsAtId : List ℕ × List ℕ → Type 0
+StandsAtId ref = IsId ref.1
+
+-- every name of the refs is below the name
+abbrev pub AreBelow : RefList → List ℕ → Type 0
+AreBelow refs name = AllByRecursion (λ other. slice_cmp nat_cmp other name ≡ Less) (keys_of refs)
+
+-- the most refs beside HEAD
+abbrev pub max_refs : ℕ
+max_refs = 65536
+
+-- refs: each name is below refs/ and below the names after it, byte by byte, and there are not too many
+pub record IsRefs (refs : RefList) : Type 0 where
+  pub names : All (λ ref. IsBelowRefs ref.0) refs
+  pub ascending : IsStrictlySortedBy (slice_cmp nat_cmp) (keys_of refs)
+  pub few : length refs ≤ max_refs
+
+-- the name stands at the id, and every other name where it stood
+pub record SetsRef (old new : RefList) (name id : List ℕ) : Type 0 where
+  pub this_name : ref_at new name ≡ Some id
+  pub others : (other : List ℕ) → other ≢ name → ref_at new other ≡ ref_at old other
+
+-- a ref can't be set: the name is HEAD, or it is new where there are as many as can be
+abbrev pub CannotSet : RefList → List ℕ → Type 0
+CannotSet refs name = (name ≡ head_name) ⊎ ((ref_at refs name ≡ None) × (length refs ≡ max_refs))
