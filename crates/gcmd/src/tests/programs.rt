@@ -87,7 +87,7 @@ fn check_writes(rt: &impl Abort, alloc: Global, row: Row<'_>) {
     for call in 0..calls {
         let ran = run(alloc, program, file, input, [FREE, failing_at(call), FREE]);
         check_failed(rt, &ran.output, written, call);
-        assert_eq!(rt; ran.errors.written.as_slice(), WRITE_FAILED, "at {call}");
+        assert!(rt; ran.errors.written.as_slice() == WRITE_FAILED, "at {call}");
         assert_eq!(rt; ran.errors.passed_on, WRITE_FAILED.len(), "at {call}");
         assert_eq!(rt; ran.status, 1, "at {call}");
     }
