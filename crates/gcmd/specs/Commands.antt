@@ -1,5 +1,6 @@
 -- The programs: what each reads, writes and prints, and its exit status.
-use Rattle.std.specs.Prelude.{◌≡◌, ◌↔◌, ℕ, ◌⊎◌, ◌++◌, Bool, IsTrue, if◌then◌else◌, List, length, codes, Option, None, Some, Result, Ok, Err}
+use Rattle.std.specs.Prelude.{◌≡◌, ◌↔◌, ℕ, ◌⊎◌, ◌++◌, Bool, IsTrue, if◌then◌else◌, List, length, codes, Option}
+use Rattle.std.specs.Prelude.{None, Some, Result, Ok, Err}
 use Rattle.std.specs.Fmt.{decimal}
 use Rattle.gpkt.specs.declared.fault.WriteFault.TheVariants.{Io}
 use Rattle.ghistory.specs.Reach.{IsClosed}

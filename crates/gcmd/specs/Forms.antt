@@ -1,6 +1,7 @@
 -- What a text says at its place in a request (gitprotocol-v2(5), "Command Request", "ls-refs"):
 -- each text has one form there.
-use Rattle.std.specs.Prelude.{ℕ, ◌+◌, Bool, ◌&&◌, ◌||◌, not, List, length, drop, take, if◌then◌else◌, ◌==◌, nat_le, nat_eq, codes, Option, Some, None, position}
+use Rattle.std.specs.Prelude.{ℕ, ◌+◌, Bool, ◌&&◌, ◌||◌, not, List, length, drop, take, if◌then◌else◌, ◌==◌, nat_le}
+use Rattle.std.specs.Prelude.{nat_eq, codes, Option, Some, None, position}
 use Rattle.std.specs.List.{list_all, starts_with}
 use Rattle.std.specs.Str.{bytes_eq}
 use Rattle.std.specs.Char.{is_ascii_alphanumeric}

@@ -1,11 +1,14 @@
 -- What reading a message takes from its source, and what it answers.
-use Rattle.std.specs.Prelude.{◌≡◌, ℕ, Bool, true, false, List, [], ◌∷◌, ◌++◌, length, Option, Some, None, Result, Ok, Err}
+use Rattle.std.specs.Prelude.{◌≡◌, ℕ, Bool, true, false, List, [], ◌∷◌, ◌++◌, length, Option, Some, None, Result}
+use Rattle.std.specs.Prelude.{Ok, Err}
 use Rattle.gpkt.specs.Packets.{Packet, SpellsAll}
 use Rattle.gpkt.specs.Change.{Change, WhereKnown}
 use Rattle.gpkt.specs.LineReading.{Reads}
 use Rattle.gcmd.specs.Grammar.{Verdict, Goes, Ends, Refuses, IsOpen, IsWholeMessage}
 use Rattle.gcmd.specs.declared.fault.Why.{Why}
-use Rattle.gcmd.specs.declared.fault.Why.TheVariants.{Line, UnexpectedFrame, BadText, UnknownCommand, UnknownCapability, UnknownArgument, BadName, Limit, RemoteErr, Format, Memory, Ended}
+use Rattle.gcmd.specs.declared.fault.Why.TheVariants.{Line, UnexpectedFrame, BadText, UnknownCommand}
+use Rattle.gcmd.specs.declared.fault.Why.TheVariants.{UnknownCapability, UnknownArgument, BadName, Limit, RemoteErr}
+use Rattle.gcmd.specs.declared.fault.Why.TheVariants.{Format, Memory, Ended}
 use Rattle.gcmd.specs.declared.fault.MessageFault.{MessageFault}
 use Rattle.gcmd.specs.declared.message.Step.{Step}
 use Rattle.gcmd.specs.declared.message.Step.TheVariants as step

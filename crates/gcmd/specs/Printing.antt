@@ -1,6 +1,7 @@
 -- How faults are printed: `gitv2: fault NUMBER NAME`, and then, where the fault has them and in this order, the
 -- frame, the line, the place, and the id, the name or the text.
-use Rattle.std.specs.Prelude.{ℕ, ◌≤◌, ◌++◌, ◌&&◌, nat_le, if◌then◌else◌, List, [], length, map, codes, Option, None, Some, ⊤}
+use Rattle.std.specs.Prelude.{ℕ, ◌≤◌, ◌++◌, ◌&&◌, nat_le, if◌then◌else◌, List, [], length, map, codes, Option, None}
+use Rattle.std.specs.Prelude.{Some, ⊤}
 use Rattle.std.specs.Fmt.{decimal}
 use Rattle.std.specs.Option.{option_copied}
 use Rattle.gpkt.specs.declared.fault.WriteFault.{WriteFault}

@@ -1,13 +1,15 @@
 -- A request for ls-refs (gitprotocol-v2(5), "Command Request" and "ls-refs"), as a list of packet
 -- lines: where each packet stands, what is refused there and why, and what the lines ask for.
-use Rattle.std.specs.Prelude.{◌≡◌, ℕ, Bool, true, false, ◌&&◌, List, [], ◌∷◌, ◌++◌, length, drop, map, filter, if◌then◌else◌, nat_lt, codes, Option, Some, None, is_none}
+use Rattle.std.specs.Prelude.{◌≡◌, ℕ, Bool, true, false, ◌&&◌, List, [], ◌∷◌, ◌++◌, length, drop, map, filter}
+use Rattle.std.specs.Prelude.{if◌then◌else◌, nat_lt, codes, Option, Some, None, is_none}
 use Rattle.std.specs.List.{list_any}
 use Rattle.gpkt.specs.Packets.{Packet, Data, Flush, Delim, ResponseEnd, text}
 use Rattle.gname.specs.Names.{prefix_fault}
 use Rattle.gcmd.specs.Forms.{is_word, begins, command_form, capability_form, argument_form}
 use Rattle.gcmd.specs.Faults.{kept_text}
 use Rattle.gcmd.specs.Grammar.{Verdict, Goes, Ends, Refuses, IsWholeMessage}
-use Rattle.gcmd.specs.declared.fault.Why.TheVariants.{UnexpectedFrame, BadText, UnknownCommand, UnknownCapability, UnknownArgument, BadName, Limit, RemoteErr, Format}
+use Rattle.gcmd.specs.declared.fault.Why.TheVariants.{UnexpectedFrame, BadText, UnknownCommand, UnknownCapability}
+use Rattle.gcmd.specs.declared.fault.Why.TheVariants.{UnknownArgument, BadName, Limit, RemoteErr, Format}
 use Rattle.gcmd.specs.declared.forms.CommandForm.{CommandForm}
 use Rattle.gcmd.specs.declared.forms.CommandForm.TheVariants as command
 use Rattle.gcmd.specs.declared.forms.CapabilityForm.{CapabilityForm}

@@ -1,12 +1,16 @@
 -- What the reader of a request keeps of the lines so far, and what a packet adds to it.
-use Rattle.std.specs.Prelude.{ℕ, ◌+◌, Bool, true, ◌&&◌, not, List, [], ◌∷◌, ◌++◌, length, drop, if◌then◌else◌, nat_lt, codes, Some, is_none}
+use Rattle.std.specs.Prelude.{ℕ, ◌+◌, Bool, true, ◌&&◌, not, List, [], ◌∷◌, ◌++◌, length, drop, if◌then◌else◌}
+use Rattle.std.specs.Prelude.{nat_lt, codes, Some, is_none}
 use Rattle.gpkt.specs.Packets.{Packet, Data, Flush, Delim, ResponseEnd, text}
 use Rattle.gname.specs.Names.{prefix_fault}
 use Rattle.gcmd.specs.Forms.{begins, command_form, capability_form, argument_form}
 use Rattle.gcmd.specs.Faults.{kept_text}
 use Rattle.gcmd.specs.Grammar.{Verdict, Goes, Ends, Refuses}
-use Rattle.gcmd.specs.Request.{Place, Command, Capabilities, Arguments, place_after, argument_texts, formats, is_none_yet, ls_refs_of, LsRefs, agent_value, prefix_value, judge_command, judge_delim}
-use Rattle.gcmd.specs.declared.fault.Why.TheVariants.{UnexpectedFrame, BadText, UnknownCapability, UnknownArgument, BadName, Limit, RemoteErr, Format}
+use Rattle.gcmd.specs.Request.{Place, Command, Capabilities, Arguments, place_after, argument_texts, formats}
+use Rattle.gcmd.specs.Request.{is_none_yet, ls_refs_of, LsRefs, agent_value, prefix_value, judge_command}
+use Rattle.gcmd.specs.Request.{judge_delim}
+use Rattle.gcmd.specs.declared.fault.Why.TheVariants.{UnexpectedFrame, BadText, UnknownCapability, UnknownArgument}
+use Rattle.gcmd.specs.declared.fault.Why.TheVariants.{BadName, Limit, RemoteErr, Format}
 use Rattle.gcmd.specs.declared.forms.CapabilityForm.{CapabilityForm}
 use Rattle.gcmd.specs.declared.forms.CapabilityForm.TheVariants as capability
 use Rattle.gcmd.specs.declared.forms.ArgumentForm.{ArgumentForm}

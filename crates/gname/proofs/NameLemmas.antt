@@ -99,6 +99,7 @@ NameFacts-of_name text h =
       some = empty-None text keeps.some;
       within = too_long-None text keeps.within;
       clean = clean-of_bytes text keeps.bytes;
+      bytes = bad_byte-None text keeps.bytes;
       below = below-of_root text keeps.root;
       prefix = IsPrefix-of_name text h;
     }
@@ -108,7 +109,7 @@ unfolding prefix_fault
 PrefixFacts-of_prefix text h =
     let a = option_or-None (too_long text) _ h in
     let b = option_or-None (bad_byte text) _ a.1 in
-    record { within = too_long-None text a.0; clean = clean-of_bytes text b.0 }
+    record { within = too_long-None text a.0; clean = clean-of_bytes text b.0; bytes = bad_byte-None text b.0 }
 
 -- the bound and the bytes alone
 pub name_within : (text : List ℕ) → IsRefName text → length text ≤ max_name

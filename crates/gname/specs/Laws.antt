@@ -1,9 +1,10 @@
 -- What follows from the definitions of object ids, ref names and prefixes.
-use Rattle.std.specs.Prelude.{◌≡◌, ◌≢◌, ℕ, ◌<◌, ◌≤◌, Bool, true, false, List, length, codes, nat_eq, All, Some, MatchOption, Result, Ok}
+use Rattle.std.specs.Prelude.{◌≡◌, ◌≢◌, ℕ, ◌<◌, ◌≤◌, Bool, true, false, List, length, codes, nat_eq, All, Some}
+use Rattle.std.specs.Prelude.{MatchOption, Result, Ok}
 use Rattle.std.specs.List.{AllPass, starts_with}
 use Rattle.hex.specs.Hex.{is_hex_digit}
 use Rattle.gname.specs.Ids.{IsId, IsIdText, ReadsId, id_text, upper_id_text}
-use Rattle.gname.specs.Names.{IsPrefix, IsRefName, first_place, head_name, max_name, name_fault, prefix_fault}
+use Rattle.gname.specs.Names.{IsPrefix, IsRefName, first_place, head_name, is_bad_byte, max_name, name_fault, prefix_fault}
 use Rattle.gname.specs.declared.ids.OidFault.{OidFault}
 use Rattle.gname.specs.declared.faults.NameFault.TheVariants.{Memory}
 
@@ -34,18 +35,21 @@ TextsHaveOneReading =
     ((text id : List ℕ) → IsIdText text id → ReadsId text (Ok id))
     × ((text : List ℕ) (a b : Result (List ℕ) OidFault) → ReadsId text a → ReadsId text b → a ≡ b)
 
--- a ref name has a byte, is within the limit and is clean; it is HEAD or begins with refs/; it is a prefix, too
+-- a ref name has a byte, is within the limit and clean, and has no byte that no name has; it is HEAD or begins with
+-- refs/; it is a prefix, too
 pub record NameFacts (text : List ℕ) : Type 0 where
   pub some : 0 < length text
   pub within : length text ≤ max_name
   pub clean : IsClean text
+  pub bytes : All (λ b. is_bad_byte b ≡ false) text
   pub below : text ≢ head_name → starts_with nat_eq text (codes "refs/") ≡ true
   pub prefix : IsPrefix text
 
--- a prefix is within the limit and clean
+-- a prefix is within the limit and clean, and has no byte that no name has
 pub record PrefixFacts (text : List ℕ) : Type 0 where
   pub within : length text ≤ max_name
   pub clean : IsClean text
+  pub bytes : All (λ b. is_bad_byte b ≡ false) text
 
 abbrev pub NamesAreClean : Type 0
 NamesAreClean = (text : List ℕ) → IsRefName text → NameFacts text
@@ -53,9 +57,9 @@ NamesAreClean = (text : List ℕ) → IsRefName text → NameFacts text
 abbrev pub PrefixesAreClean : Type 0
 PrefixesAreClean = (text : List ℕ) → IsPrefix text → PrefixFacts text
 
--- no rule finds that memory is missing
-abbrev pub RulesTakeNoMemory : Type 0
-RulesTakeNoMemory = (text : List ℕ) → (name_fault text ≢ Some Memory) × (prefix_fault text ≢ Some Memory)
+-- no rule reports out of memory
+abbrev pub RulesNeverReportMemory : Type 0
+RulesNeverReportMemory = (text : List ℕ) → (name_fault text ≢ Some Memory) × (prefix_fault text ≢ Some Memory)
 
 -- the first place of a text that passes a test passes it, and no place before it does; where there is no first
 -- place, none does

@@ -1,11 +1,14 @@
 -- The names of refs and their prefixes (git-check-ref-format(1)): eight rules, each of which finds a fault
 -- at its first place, and the order in which they judge.
-use Rattle.std.specs.Prelude.{◌≡◌, ◌⊎◌, ℕ, zero, suc, ◌+◌, ◌-◌, ◌==◌, ◌&&◌, ◌||◌, Bool, List, [], ◌∷◌, length, drop, slice_index, codes, nat_eq, nat_lt, Option, Some, None, Result, MatchResult, if◌then◌else◌, position}
+use Rattle.std.specs.Prelude.{◌≡◌, ◌⊎◌, ℕ, zero, suc, ◌+◌, ◌-◌, ◌==◌, ◌&&◌, ◌||◌, Bool, List, [], ◌∷◌, length, drop}
+use Rattle.std.specs.Prelude.{slice_index, codes, nat_eq, nat_lt, Option, Some, None, Result, MatchResult}
+use Rattle.std.specs.Prelude.{if◌then◌else◌, position}
 use Rattle.std.specs.Cmp.Lexicographic.{pointwise}
 use Rattle.std.specs.List.{before_first, ends_with, list_any, starts_with}
 use Rattle.std.specs.Option.{option_map, option_or}
 use Rattle.gname.specs.declared.faults.NameFault.{NameFault}
-use Rattle.gname.specs.declared.faults.NameFault.TheVariants.{Empty, TooLong, NotRef, BadByte, Component, DoubleDot, AtBrace, End, Memory}
+use Rattle.gname.specs.declared.faults.NameFault.TheVariants.{Empty, TooLong, NotRef, BadByte, Component, DoubleDot}
+use Rattle.gname.specs.declared.faults.NameFault.TheVariants.{AtBrace, End, Memory}
 
 -- a rule judges a text: the fault that it finds there, if it finds one
 abbrev pub Rule : Type 0

@@ -22,7 +22,7 @@ pub enum NameFault {
     #[error("a ref name is HEAD or begins with refs/")]
     NotRef,
     /// This byte is a control character, DEL, a space or one of `~ ^ : ? * [ \`.
-    #[error("byte {at} may not stand in a ref name")]
+    #[error("byte {at} is not allowed in a ref name")]
     BadByte { at: usize },
     /// The component that begins here is empty, begins with `.` or ends with `.lock`.
     #[error("the component at byte {at} is empty, begins with a dot or ends with .lock")]

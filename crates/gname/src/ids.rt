@@ -108,7 +108,7 @@ impl Ord for Oid {
 /// Why a text is no object id.
 #[derive(Clone, Copy, Debug, PartialEq, Eq, Drop, Error)]
 pub enum OidFault {
-    /// The text has not forty bytes.
+    /// The text does not have forty bytes.
     #[error("an object id has 40 hexadecimal digits")]
     Length,
     /// The byte at this place is the first that is no hexadecimal digit.

@@ -2,7 +2,8 @@
 //! that calls it may rely on the law from there on.
 #![tactic(auto)]
 
-ghost use Rattle.gname.specs.Laws.{FirstPlacesAreFirst, IdsHaveTexts, IdTextsAreDigits, NamesAreClean, PrefixesAreClean, RulesTakeNoMemory, TextsHaveOneReading, TextsSpellOneId};
+ghost use Rattle.gname.specs.Names.{IsRefName, head_name};
+ghost use Rattle.gname.specs.Laws.{FirstPlacesAreFirst, IdsHaveTexts, IdTextsAreDigits, NamesAreClean, PrefixesAreClean, RulesNeverReportMemory, TextsHaveOneReading, TextsSpellOneId};
 
 /// Each id has a text in lower case and one in upper case, which read back as the id.
 pub fn ids_have_texts()
@@ -25,20 +26,25 @@ pub fn texts_have_one_reading()
     ensures { TextsHaveOneReading }
 {}
 
-/// A ref name has at least one byte and at most 1,000, and none that is a control character or a
-/// space. It is `HEAD` or begins with `refs/`. Each name is a prefix.
+/// A ref name has at least one byte and at most 1,000, and none of those that no name has: a control
+/// character, DEL, a space or one of `~ ^ : ? * [ \`. It is `HEAD` or begins with `refs/`. Each name is a prefix.
 pub fn names_are_clean()
     ensures { NamesAreClean }
 {}
 
-/// A prefix has at most 1,000 bytes, and none that is a control character or a space.
+/// `HEAD` is a ref name.
+pub fn head_is_a_name()
+    ensures { IsRefName head_name }
+{}
+
+/// A prefix has at most 1,000 bytes, and none of those that no name has.
 pub fn prefixes_are_clean()
     ensures { PrefixesAreClean }
 {}
 
-/// The rules find faults of the text, and never that memory is missing.
-pub fn rules_take_no_memory()
-    ensures { RulesTakeNoMemory }
+/// The rules find faults of the text, and never report out of memory.
+pub fn rules_never_report_memory()
+    ensures { RulesNeverReportMemory }
 {}
 
 /// A fault's place is the first that has the fault.

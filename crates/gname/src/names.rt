@@ -38,9 +38,10 @@ impl<A: Allocator + Copy> Model for RefName<A> {
 }
 
 impl<A: Allocator + Copy> RefName<A> {
-    /// Makes a ref name of a text, by the rules of git-check-ref-format(1): it is `HEAD` or begins
-    /// with `refs/`, and each of its parts between slashes is well-formed. Bytes from 128 on are
-    /// allowed.
+    /// Makes a ref name of a text, by the rules of git-check-ref-format(1): it has at most 1,000
+    /// bytes; it is `HEAD` or begins with `refs/`; it has no control character, DEL, space or one of
+    /// `~ ^ : ? * [ \`, no `..`, no `@{` and no dot at its end; and no part between slashes is empty,
+    /// begins with a dot or ends with `.lock`. Bytes from 128 on are allowed.
     ///
     /// It fails with the text's first fault in the order of `NameFault`, and with `Memory` only
     /// where a well-formed name could not be kept.
@@ -52,7 +53,7 @@ impl<A: Allocator + Copy> RefName<A> {
         Ok(RefName { text })
     }
 
-    /// The name `HEAD`. Only memory can be missing.
+    /// The name `HEAD`. It fails only when out of memory.
     pub fn head(alloc: A) -> Result<RefName<A>, AllocError>
         ensures { IfOk result (λ name. name ≡ head_name) }
     {
@@ -68,7 +69,7 @@ impl<A: Allocator + Copy> RefName<A> {
     }
 
     /// Whether the name begins with the bytes of the prefix. Each name begins with the empty one.
-    pub fn starts_with(&self, prefix: &Prefix<A>) -> bool
+    pub fn starts_with<B: Allocator + Copy>(&self, prefix: &Prefix<B>) -> bool
         ensures { result ≡ starts_with nat_eq self.now prefix.now }
     {
         self.as_bytes().starts_with(prefix.as_bytes())

@@ -46,7 +46,7 @@ const NAME_FAULTS: [(NameFault, u32, &str, &str, &str); 9] = [
         NameFault::BadByte { at: 5 },
         13,
         "BadByte",
-        "byte 5 may not stand in a ref name",
+        "byte 5 is not allowed in a ref name",
         "BadByte { at: 5 }",
     ),
     (

@@ -116,6 +116,7 @@ fn laws_can_be_called() {
     laws::texts_have_one_reading();
     laws::names_are_clean();
     laws::prefixes_are_clean();
-    laws::rules_take_no_memory();
+    laws::head_is_a_name();
+    laws::rules_never_report_memory();
     laws::first_places_are_first();
 }
