@@ -7,7 +7,6 @@ use Rattle.ggraph.specs.Reach.{IsClosed, IsSafe}
 use Rattle.ggraph.specs.Loading.{StopsAt}
 use Rattle.ggraph.specs.RepositoryText.{repository_text, IsLoadable}
 use Rattle.ggraph.specs.declared.node.Entry.{Entry}
-use Rattle.ggraph.specs.declared.fault.GraphFault.{GraphFault}
 use Rattle.ggraph.specs.declared.text.Order.TheVariants.{Any}
 use Rattle.ggraph.specs.declared.text.Repository.{Repository}
 use Rattle.gcmd.specs.Repository.{Names, HoldsRefs, HoldsHead, RefusesText}

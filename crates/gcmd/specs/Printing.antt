@@ -130,7 +130,7 @@ id_in_conflict (graph.Conflict id) = Some id
 id_in_conflict _ = None
 
 abbrev pub graph_fault_line : GraphFault → List ℕ
-graph_fault_line fault = 
+graph_fault_line fault =
     fault_line (graph_fault_row fault) (record no_details { line = line_in_text fault; id = id_in_conflict fault })
 
 abbrev pub check_fault_line : CheckFault → List ℕ
@@ -143,7 +143,7 @@ peer_text (why.RemoteErr said) = Some said
 peer_text _ = None
 
 abbrev pub message_fault_line : MessageFault → List ℕ
-message_fault_line fault = 
+message_fault_line fault =
     fault_line (why_row fault.why) (record no_details { frame = Some fault.frame; text = peer_text fault.why })
 
 abbrev pub ls_fault_line : LsFault → List ℕ

@@ -178,4 +178,3 @@ fn tips_of<A: Allocator + Copy>(
     }
     Ok(tips)
 }
-
