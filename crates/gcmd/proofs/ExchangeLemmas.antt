@@ -1,5 +1,5 @@
 -- From the steps of an exchange to the whole.
-use Rattle.std.proofs.Common.{◌≡◌, ℕ, List, Err, refl, sym, subst, inl, inr}
+use Rattle.std.proofs.Common.{List, Err, refl, sym, subst, inl, inr}
 use Rattle.grefs.specs.RefLists.{RefList}
 use Rattle.gobject.specs.declared.node.Entry.{Entry}
 use Rattle.grefs.specs.declared.head.Head.{Head}

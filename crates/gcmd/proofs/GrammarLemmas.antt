@@ -1,5 +1,5 @@
 -- Facts on open and whole lists of packet lines, for every judge.
-use Rattle.std.proofs.Common.{◌≡◌, ℕ, List, [], ◌∷◌, ◌++◌, ◌⊎◌, inl, inr, refl, sym, ap, subst, ◌∙◌, append_assoc}
+use Rattle.std.proofs.Common.{◌≡◌, List, [], ◌∷◌, ◌++◌, ◌⊎◌, inl, inr, refl, sym, ap, subst, ◌∙◌, append_assoc}
 use Rattle.gpkt.specs.Packets.{Packet}
 use Rattle.gcmd.specs.Grammar.{Verdict, Goes, Ends, Refuses, IsOpen, HasEndings, RefusesFirstMisfits, IsPrefixFree}
 use Rattle.gcmd.specs.declared.fault.Why.{Why}

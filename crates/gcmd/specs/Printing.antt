@@ -153,7 +153,7 @@ peer_text (why.RemoteErr said) = Some said
 peer_text _ = None
 
 abbrev pub message_fault_line : MessageFault → List ℕ
-message_fault_line fault = 
+message_fault_line fault =
     fault_line (why_row fault.why) (record no_details { frame = Some fault.frame; text = peer_text fault.why })
 
 abbrev pub ls_fault_line : LsFault → List ℕ

@@ -150,4 +150,3 @@ fn tips_of<A: Allocator + Copy>(
     }
     Ok(tips)
 }
-

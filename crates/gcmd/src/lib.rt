@@ -70,6 +70,5 @@ pub use crate::reply::{RefLine, write_ls_reply};
 pub use crate::repository::{RepoFault, RepoFile};
 pub use crate::request::{LsRefs, Request, read_request};
 
-
 #[cfg(test)]
 mod tests;

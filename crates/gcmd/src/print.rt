@@ -229,11 +229,7 @@ fn add_place(word: &[u8], place: Option<u64>, text: &mut ArrayVec<u8, MAX_FAULT_
 }
 
 // Adds the id, the name or the text that the fault is about.
-fn add_subject(
-    id: Option<Oid>,
-    shown: Option<&[u8]>,
-    text: &mut ArrayVec<u8, MAX_FAULT_LINE>,
-)
+fn add_subject(id: Option<Oid>, shown: Option<&[u8]>, text: &mut ArrayVec<u8, MAX_FAULT_LINE>)
     requires room { length text.old.items + 1001 ≤ 1145 }
     requires short { IsShortText (option_copied shown) }
     ensures text { text.new.items ≡ text.old.items ++ subject_part id (option_copied shown.entry) }

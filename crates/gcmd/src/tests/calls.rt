@@ -21,11 +21,7 @@ fn read_ls(
 }
 
 // The bytes of a request with these capabilities and arguments.
-fn request_of(
-    alloc: Global,
-    capabilities: &[&str],
-    arguments: &[&str],
-) -> Result<Vec<u8>, Fail> {
+fn request_of(alloc: Global, capabilities: &[&str], arguments: &[&str]) -> Result<Vec<u8>, Fail> {
     let mut writer = LineWriter::new(VecSink::new(alloc));
     writer.text(b"command=ls-refs")?;
     for capability in capabilities {
@@ -53,7 +49,10 @@ const CAPABILITIES: &[(&[&str], Option<&str>)] = &[
     (&[], None),
     (&["agent=a"], Some("a")),
     (&["object-format=sha1"], None),
-    (&["agent=git/2.43.0", "object-format=sha1"], Some("git/2.43.0")),
+    (
+        &["agent=git/2.43.0", "object-format=sha1"],
+        Some("git/2.43.0"),
+    ),
     (&["object-format=sha1", "agent=a=b"], Some("a=b")),
 ];
 
@@ -67,15 +66,32 @@ const ARGUMENTS: &[Arguments] = &[
     (&["peel", "symrefs", "peel"], true, true, &[]),
     (&["ref-prefix HEAD"], false, false, &["HEAD"]),
     (&["ref-prefix refs/", "peel"], false, true, &["refs/"]),
-    (&["symrefs", "ref-prefix H", "ref-prefix "], true, false, &["H", ""]),
     (
-        &["ref-prefix a", "peel", "ref-prefix b", "symrefs", "ref-prefix refs/tags/"],
+        &["symrefs", "ref-prefix H", "ref-prefix "],
+        true,
+        false,
+        &["H", ""],
+    ),
+    (
+        &[
+            "ref-prefix a",
+            "peel",
+            "ref-prefix b",
+            "symrefs",
+            "ref-prefix refs/tags/",
+        ],
         true,
         true,
         &["a", "b", "refs/tags/"],
     ),
     (
-        &["ref-prefix 1", "ref-prefix 2", "ref-prefix 3", "ref-prefix 4", "ref-prefix HEAD"],
+        &[
+            "ref-prefix 1",
+            "ref-prefix 2",
+            "ref-prefix 3",
+            "ref-prefix 4",
+            "ref-prefix HEAD",
+        ],
         false,
         false,
         &["1", "2", "3", "4", "HEAD"],
@@ -161,7 +177,11 @@ fn refs_are_listed_and_written(rt: HostRuntime) -> Result<(), Fail> {
         let mut writer = LineWriter::new(VecSink::new(rt.alloc()));
         write_ls_reply(lines.as_slice(), &mut writer)?;
         let reply = reply_to(rt.alloc(), arguments)?;
-        assert_eq!(rt; writer.into_inner().written(), reply.as_slice(), "{arguments:?}");
+        assert_eq!(rt;
+            writer.into_inner().written(),
+            reply.as_slice(),
+            "{arguments:?}"
+        );
     }
     Ok(())
 }
@@ -252,10 +272,16 @@ fn limits_are_met(rt: HostRuntime) -> Result<(), Fail> {
         let why = why_of(rt.alloc(), bytes.as_slice())?;
         assert!(rt; fits == why.is_none(), "at {length}");
         let prefix = format!(in rt.alloc(); "ref-prefix {long}")?;
-        assert!(rt; fits == read_many(rt.alloc(), prefix.as_str(), 1)?.is_none(), "at {length}");
+        assert!(rt;
+            fits == read_many(rt.alloc(), prefix.as_str(), 1)?.is_none(),
+            "at {length}"
+        );
         let command = format!(in rt.alloc(); "command={long}")?;
         let why = read_first(rt.alloc(), command.as_str())?;
-        assert!(rt; fits == matches!(why, Some(Why::UnknownCommand)), "at {length}");
+        assert!(rt;
+            fits == matches!(why, Some(Why::UnknownCommand)),
+            "at {length}"
+        );
         assert!(rt; fits != matches!(why, Some(Why::BadText)), "at {length}");
     }
     Ok(())
@@ -277,11 +303,25 @@ fn one_request_is_read_after_another(rt: HostRuntime) -> Result<(), Fail> {
 // A peer's text, and how many bytes are kept of it.
 #[test]
 fn errors_of_the_peer_are_kept(rt: HostRuntime) -> Result<(), Fail> {
-    for (length, kept) in [(0, 0), (1, 1), (255, 255), (256, 256), (257, 256), (300, 256)] {
+    for (length, kept) in [
+        (0, 0),
+        (1, 1),
+        (255, 255),
+        (256, 256),
+        (257, 256),
+        (300, 256),
+    ] {
         let mut text = vec![in rt.alloc(); b'x'; length]?;
-        assert_eq!(rt; PeerText::new(text.as_slice()).as_bytes(), &text.as_slice()[..length.min(kept)]);
+        assert_eq!(rt;
+            PeerText::new(text.as_slice()).as_bytes(),
+            &text.as_slice()[..length.min(kept)]
+        );
         text.push(b'\n')?;
-        assert_eq!(rt; PeerText::new(text.as_slice()).as_bytes().len(), kept, "at {length}");
+        assert_eq!(rt;
+            PeerText::new(text.as_slice()).as_bytes().len(),
+            kept,
+            "at {length}"
+        );
     }
     assert_eq!(rt; PeerText::new(b"a\n\n").as_bytes(), b"a\n".as_slice());
     let debug = format!(in rt.alloc(); "{:?}", PeerText::new(b"a"))?;

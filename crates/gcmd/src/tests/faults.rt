@@ -16,14 +16,20 @@ type Row = (u32, &'static str, &'static str);
 
 const LINES: &[(LineFault, Row)] = &[
     (LineFault::BadDigits, (20, "BadDigits", "bad packet length")),
-    (LineFault::Reserved, (21, "Reserved", "reserved packet length")),
+    (
+        LineFault::Reserved,
+        (21, "Reserved", "reserved packet length"),
+    ),
     (LineFault::TooLong, (22, "TooLong", "packet too long")),
     (
         LineFault::Truncated,
         (23, "Truncated", "unexpected end of input inside a packet"),
     ),
     (LineFault::Io, (24, "Io", "the source failed")),
-    (LineFault::Failed, (25, "Failed", "an earlier read had failed")),
+    (
+        LineFault::Failed,
+        (25, "Failed", "an earlier read had failed"),
+    ),
     (LineFault::Memory, (28, "Memory", "out of memory")),
 ];
 
@@ -67,14 +73,23 @@ fn faults_of_lines_have_their_rows(rt: HostRuntime) -> Result<(), Fail> {
 #[test]
 fn faults_of_messages_have_their_rows(rt: HostRuntime) -> Result<(), Fail> {
     let rows = [
-        (Why::UnexpectedFrame, (41, "UnexpectedFrame", "unexpected packet")),
+        (
+            Why::UnexpectedFrame,
+            (41, "UnexpectedFrame", "unexpected packet"),
+        ),
         (Why::BadText, (42, "BadText", "bad line")),
-        (Why::UnknownCommand, (43, "UnknownCommand", "unknown command")),
+        (
+            Why::UnknownCommand,
+            (43, "UnknownCommand", "unknown command"),
+        ),
         (
             Why::UnknownCapability,
             (44, "UnknownCapability", "unknown capability"),
         ),
-        (Why::UnknownArgument, (45, "UnknownArgument", "unknown argument")),
+        (
+            Why::UnknownArgument,
+            (45, "UnknownArgument", "unknown argument"),
+        ),
         (Why::BadName, (47, "BadName", "bad ref name")),
         (Why::Limit, (48, "Limit", "limit exceeded")),
         (Why::Format, (52, "Format", "object format mismatch")),
@@ -87,7 +102,13 @@ fn faults_of_messages_have_their_rows(rt: HostRuntime) -> Result<(), Fail> {
     let row = (49, "RemoteErr", "peer reported an error");
     let text = PeerText::new(b"no\tmore\n");
     check_why(&rt, rt.alloc(), Why::RemoteErr(text), row, " no?more")?;
-    check_why(&rt, rt.alloc(), Why::RemoteErr(PeerText::new(b"")), row, " ")
+    check_why(
+        &rt,
+        rt.alloc(),
+        Why::RemoteErr(PeerText::new(b"")),
+        row,
+        " ",
+    )
 }
 
 #[test]
@@ -98,7 +119,10 @@ fn faults_of_exchanges_have_their_rows(rt: HostRuntime) -> Result<(), Fail> {
     ];
     for (fault, number, printed) in rows {
         assert_eq!(rt; (fault.code(), fault.name()), (number, "Memory"));
-        assert_eq!(rt; format!(in rt.alloc(); "{fault}")?.as_str(), "out of memory");
+        assert_eq!(rt;
+            format!(in rt.alloc(); "{fault}")?.as_str(),
+            "out of memory"
+        );
         let line = line_of(rt.alloc(), &FaultLine::of_exchange(&fault))?;
         assert_eq!(rt; line.as_str(), printed);
     }
@@ -109,15 +133,27 @@ fn faults_of_exchanges_have_their_rows(rt: HostRuntime) -> Result<(), Fail> {
 fn faults_of_files_have_their_rows(rt: HostRuntime) -> Result<(), Fail> {
     let name = RefName::new(rt.alloc(), b"refs/heads/a\x80")?;
     let rows = [
-        (RepoFault::Text { line: 3 }, (67, "Text", "line 3 of the repository text is wrong"), " line 3"),
+        (
+            RepoFault::Text { line: 3 },
+            (67, "Text", "line 3 of the repository text is wrong"),
+            " line 3",
+        ),
         (
             RepoFault::ParentLater { line: 4 },
-            (68, "ParentLater", "line 4 of the repository text names a parent that comes later"),
+            (
+                68,
+                "ParentLater",
+                "line 4 of the repository text names a parent that comes later",
+            ),
             " line 4",
         ),
         (
             RepoFault::RefMissing { name },
-            (71, "RefMissing", "a ref stands at an object that is not there"),
+            (
+                71,
+                "RefMissing",
+                "a ref stands at an object that is not there",
+            ),
             " refs/heads/a?",
         ),
         (RepoFault::Memory, (64, "Memory", "out of memory"), ""),
@@ -146,7 +182,12 @@ fn faults_of_programs_have_their_rows(rt: HostRuntime) -> Result<(), Fail> {
     Ok(())
 }
 
-fn check_printed(rt: &impl Abort, alloc: Global, line: &FaultLine<'_>, rest: &str) -> Result<(), Fail>
+fn check_printed(
+    rt: &impl Abort,
+    alloc: Global,
+    line: &FaultLine<'_>,
+    rest: &str,
+) -> Result<(), Fail>
     requires { IsShort line.now }
 {
     let printed = format!(in alloc; "gitv2: fault {rest}\n")?;

@@ -75,7 +75,11 @@ fn check_whole(rt: &impl Abort, alloc: Global, row: Row<'_>, hindrances: Hindran
 
 // The writer failed at this call: a beginning stands, and nothing was tried again.
 fn check_failed(rt: &impl Abort, writer: &Writer, due: &[u8], call: usize) {
-    assert_eq!(rt; writer.written.as_slice(), &due[..call.min(due.len())], "at {call}");
+    assert_eq!(rt;
+        writer.written.as_slice(),
+        &due[..call.min(due.len())],
+        "at {call}"
+    );
     assert_eq!(rt; writer.passed_on, 0, "at {call}");
     assert_eq!(rt; writer.calls, call.saturating_add(1), "at {call}");
 }
@@ -83,7 +87,11 @@ fn check_failed(rt: &impl Abort, writer: &Writer, due: &[u8], call: usize) {
 // Each write of the output, and its flush, fails in turn; the failed write is printed once.
 fn check_writes(rt: &impl Abort, alloc: Global, row: Row<'_>) {
     let (program, file, (input, written, _)) = row;
-    let calls = if written.is_empty() { 0 } else { written.len().saturating_add(1) };
+    let calls = if written.is_empty() {
+        0
+    } else {
+        written.len().saturating_add(1)
+    };
     for call in 0..calls {
         let ran = run(alloc, program, file, input, [FREE, failing_at(call), FREE]);
         check_failed(rt, &ran.output, written, call);
@@ -96,7 +104,11 @@ fn check_writes(rt: &impl Abort, alloc: Global, row: Row<'_>) {
 // Each write of the errors, and its flush, fails in turn; the output and the status are as ever.
 fn check_prints(rt: &impl Abort, alloc: Global, row: Row<'_>) {
     let (program, file, (input, written, printed)) = row;
-    let calls = if printed.is_empty() { 0 } else { printed.len().saturating_add(1) };
+    let calls = if printed.is_empty() {
+        0
+    } else {
+        printed.len().saturating_add(1)
+    };
     for call in 0..calls {
         let ran = run(alloc, program, file, input, [FREE, FREE, failing_at(call)]);
         check_failed(rt, &ran.errors, printed, call);
@@ -152,7 +164,11 @@ fn files_are_checked(rt: HostRuntime) {
 #[test]
 fn own_faults_are_printed(rt: HostRuntime) {
     for (fault, printed) in OWN {
-        let row = (Program::Failed(*fault), b"".as_slice(), (b"".as_slice(), b"".as_slice(), *printed));
+        let row = (
+            Program::Failed(*fault),
+            b"".as_slice(),
+            (b"".as_slice(), b"".as_slice(), *printed),
+        );
         check_row(&rt, rt.alloc(), row);
     }
 }
@@ -164,7 +180,13 @@ fn requests_are_read_to_their_end(rt: HostRuntime) -> Result<(), Fail> {
         let mut bytes = Vec::from_slice(rt.alloc(), input)?;
         bytes.extend_from_slice(b"0014more")?;
         for most in [FREE, SLOW] {
-            let ran = run(rt.alloc(), Program::Ls, SAMPLE, bytes.as_slice(), [most, FREE, FREE]);
+            let ran = run(
+                rt.alloc(),
+                Program::Ls,
+                SAMPLE,
+                bytes.as_slice(),
+                [most, FREE, FREE],
+            );
             assert_eq!(rt; ran.left, 8);
             assert_eq!(rt; ran.status, 0);
         }
@@ -175,7 +197,10 @@ fn requests_are_read_to_their_end(rt: HostRuntime) -> Result<(), Fail> {
 // The packets before a read that fails, for each byte at which it fails.
 const FRAMES: &[(&[u8], &[usize])] = &[
     (b"0014command=ls-refs\n00010000", &[20, 24, 28]),
-    (b"0014command=ls-refs\n000cagent=a\n00010009peel\n", &[20, 32, 36, 45]),
+    (
+        b"0014command=ls-refs\n000cagent=a\n00010009peel\n",
+        &[20, 32, 36, 45],
+    ),
     (b"0000", &[4]),
     (b"", &[]),
 ];
@@ -185,13 +210,27 @@ const FRAMES: &[(&[u8], &[usize])] = &[
 fn failing_reads_are_reported(rt: HostRuntime) -> Result<(), Fail> {
     for (input, ends) in FRAMES {
         let whole = input.ends_with(b"0000");
-        let reads = if whole { input.len() } else { input.len().saturating_add(1) };
+        let reads = if whole {
+            input.len()
+        } else {
+            input.len().saturating_add(1)
+        };
         for call in 0..reads {
-            let ran = run(rt.alloc(), Program::Ls, SAMPLE, input, [failing_at(call), FREE, FREE]);
+            let ran = run(
+                rt.alloc(),
+                Program::Ls,
+                SAMPLE,
+                input,
+                [failing_at(call), FREE, FREE],
+            );
             let frame = ends.iter().filter(|end| **end <= call).count();
             let printed = format!(in rt.alloc(); "gitv2: fault 24 Io frame {frame}\n")?;
             assert_eq!(rt; ran.output.written.as_slice(), READ_FAILED, "at {call}");
-            assert_eq!(rt; ran.errors.written.as_slice(), printed.as_bytes(), "at {call}");
+            assert_eq!(rt;
+                ran.errors.written.as_slice(),
+                printed.as_bytes(),
+                "at {call}"
+            );
             assert_eq!(rt; ran.reads, call.saturating_add(1), "at {call}");
             assert_eq!(rt; ran.status, 1, "at {call}");
         }
@@ -262,7 +301,13 @@ fn long_replies_are_written(rt: HostRuntime) -> Result<(), Fail> {
     assert_eq!(rt; reply.len(), 183_004);
     let request = b"0014command=ls-refs\n0000";
     for most in [FREE, SLOW] {
-        let ran = run(rt.alloc(), Program::Ls, file.as_bytes(), request, [FREE, most, FREE]);
+        let ran = run(
+            rt.alloc(),
+            Program::Ls,
+            file.as_bytes(),
+            request,
+            [FREE, most, FREE],
+        );
         assert!(rt; ran.output.written.as_slice() == reply.as_bytes());
         assert_eq!(rt; ran.output.passed_on, reply.len());
         assert_eq!(rt; ran.status, 0);
