@@ -1,4 +1,4 @@
-pub mod PlainPackWriting
 pub mod PlainPackLines
 pub mod PlainPackReading
+pub mod PlainPackWriting
 pub mod PlainPackLaw

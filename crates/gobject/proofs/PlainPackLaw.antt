@@ -1,11 +1,11 @@
 -- A plain pack has one reading, and loses nothing.
-use Rattle.std.proofs.Common.{ap₂, ◌≡◌, ◌≢◌, ◌⊎◌, inl, inr, ℕ, zero, suc, ◌+◌, ◌/◌, ◌%◌, ◌≤◌, Bool, true, false, cond, eqb, ltb, List, [], ◌∷◌, ◌++◌, length, get_or, refl, ap, sym, subst, ◌∙◌, append_assoc, arith}
+use Rattle.std.proofs.Common.{ap₂, ◌≡◌, ◌≢◌, ◌⊎◌, inl, inr, ℕ, zero, suc, ◌+◌, ◌/◌, ◌%◌, ◌≤◌, Bool, true, false, cond, eqb, ltb, List, [], ◌∷◌, ◌++◌, length, map, get_or, refl, ap, sym, subst, ◌∙◌, append_assoc, arith}
 use Rattle.std.specs.List.{All}
 use Rattle.std.specs.Fmt.{digit_glyph, digits_onto, digits, decimal}
 use Rattle.std.proofs.Math.Seq.{get_or-append_seam}
 use Rattle.std.proofs.lemmas.Bool.{false≢true, cases_lt}
-use Rattle.std.proofs.lemmas.List.Elements.{All-head, All-tail}
-use Rattle.std.proofs.lemmas.List.{append-nil, append_cancel_left, get_or_past}
+use Rattle.std.proofs.lemmas.List.Elements.{All-append, All-cons, All-head, All-nil, All-tail}
+use Rattle.std.proofs.lemmas.List.{append-nil, get_or_past}
 use Rattle.hex.specs.Hex.{is_hex_digit}
 use Rattle.gname.specs.Ids.{IsId, IsIdText, id_text}
 use Rattle.gname.specs.Laws.{IdTextsAreDigits, IdsHaveTexts, TextsSpellOneId}
@@ -16,9 +16,9 @@ use Rattle.gobject.specs.declared.fault.IndexFault.{IndexFault}
 use Rattle.gobject.specs.declared.fault.IndexFault.TheVariants as index_faults
 use Rattle.gobject.specs.Objects.{HasIds, entry_of, node_of}
 use Rattle.gobject.specs.Packs.{max_pack, LosesNothing}
-use Rattle.gobject.specs.PlainPackText.{line, header, letter, ids_of, ids_text, node_text, nodes_text, end_text, pack_text, PackRefuses, IsInLine, IsIdsText, IsNodeText, IsNodesText, IsFront, MayStand, IsPack, IsFollowed, IsBadLine, IndexRefuses}
+use Rattle.gobject.specs.PlainPackText.{line, text_of, header, letter, ids_of, ids_text, node_text, end_text, pack_lines, pack_text, PackRefuses, IsInLine, IsIdsText, IsNodeText, AreNodeTexts, IsFront, MayCome, ArePackLines, IsPack, IsWrong, IsCut, IsFollowed, IsBadLine, IndexRefuses}
 use Rattle.gobject.proofs.PlainPackLines.{IsIdsText-one}
-use Rattle.gobject.proofs.PlainPackReading.{HasRead}
+use Rattle.gobject.proofs.PlainPackReading.{AreNodeTexts-length}
 
 module _ (texts_law : IdsHaveTexts) (digits_law : IdTextsAreDigits) (one_law : TextsSpellOneId) where
   -- ---- texts in one line
@@ -133,136 +133,162 @@ module _ (texts_law : IdsHaveTexts) (digits_law : IdTextsAreDigits) (one_law : T
   letter_no_end Commit = λ is. omega arith
   letter_no_end Tag = λ is. omega arith
 
+  -- ---- lines that are read
+
+  All-back : (front back : List (List ℕ)) → All IsInLine (front ++ back) → All IsInLine back
+  All-back [] back all = all
+  All-back (first ∷ front) back all = All-back front back (All-tail IsInLine first (front ++ back) all)
+
+  nodes_in_line : {A : Type 0} (nodes : List (List ℕ)) (list : List (Entry A)) → AreNodeTexts nodes list → All IsInLine nodes
+  nodes_in_line [] [] h = All-nil IsInLine
+  nodes_in_line (text ∷ nodes) (entry ∷ list) h = All-cons IsInLine text nodes (IsInLine-node text entry h.0) (nodes_in_line nodes list h.1)
+  nodes_in_line [] (entry ∷ list) h = absurd h
+  nodes_in_line (text ∷ nodes) [] h = absurd h
+
+  pack_in_line : {A : Type 0} (lines : List (List ℕ)) (list : List (Entry A)) → ArePackLines lines list → All IsInLine lines
+  pack_in_line lines list h =
+      subst (All IsInLine) (sym h.are)
+      (All-cons IsInLine header (h.nodes ++ end_text (length list) ∷ []) IsInLine-header
+      (All-append IsInLine h.nodes (end_text (length list) ∷ []) (nodes_in_line h.nodes list h.each)
+      (All-cons IsInLine (end_text (length list)) [] (IsInLine-end (length list)) (All-nil IsInLine))))
+
+  front_in_line : (A : Type 0) (lines : List (List ℕ)) → IsFront A lines → All IsInLine lines
+  front_in_line A [] h = All-nil IsInLine
+  front_in_line A (first ∷ nodes) h =
+      All-cons IsInLine first nodes (subst IsInLine (sym h.0) IsInLine-header) (nodes_in_line nodes h.1.0 h.1.1)
+
+  -- where some lines are at the front of a text, they are the first of its lines
+  more_lines : (lines whole : List (List ℕ)) (rest : List ℕ) → All IsInLine lines → All IsInLine whole → text_of whole ≡ text_of lines ++ rest
+      → (more : List (List ℕ)) × (whole ≡ lines ++ more) × (rest ≡ text_of more)
+  more_lines [] whole rest here there same = (whole, refl, sym same)
+  more_lines (first ∷ lines) [] rest here there same =
+      let whole : [] ≡ line first ++ (text_of lines ++ rest) = same ∙ append_assoc (line first) (text_of lines) rest in
+      absurd (not_in_line first (text_of lines ++ rest) (subst IsInLine whole IsInLine-nil))
+  more_lines (first ∷ lines) (other ∷ whole) rest here there same =
+      let parts = line_parts other first (text_of whole) (text_of lines ++ rest) (All-head IsInLine other whole there) (All-head IsInLine first lines here)
+      (same ∙ append_assoc (line first) (text_of lines) rest) in
+      let further = more_lines lines whole rest (All-tail IsInLine first lines here) (All-tail IsInLine other whole there) parts.1 in
+      (further.0, ap (λ (l : List ℕ). l ∷ whole) parts.0 ∙ ap (λ (ls : List (List ℕ)). first ∷ ls) further.1, further.2)
+
+  -- ---- what comes in a pack
+
   -- the end is the line of no entry
-  no_end : {A : Type 0} (n : ℕ) (text x y : List ℕ) (entry : Entry A) → IsNodeText text entry → line (end_text n) ++ x ≡ line text ++ y → ⊥
-  no_end n text x y entry h same =
-      let whole : line (end_text n) ++ x ≡ line (letter entry.node.kind ∷ h.0) ++ y = same ∙ ap (λ (t : List ℕ). line t ++ y) h.1 in
-      let first : letter entry.node.kind ≡ 101 = cc in
-      letter_no_end entry.node.kind first
+  end_no_node : {A : Type 0} (n : ℕ) (entry : Entry A) → IsNodeText (end_text n) entry → ⊥
+  end_no_node n entry h = let first : letter entry.node.kind ≡ 101 = (let is = h.1 in cc) in letter_no_end entry.node.kind first
 
-  -- ---- what follows in a pack
-
-  -- a line of an entry comes
-  record Comes (A : Type 0) (rest : List ℕ) : Type 0 where
-    entry : Entry A
-    text : List ℕ
-    more : List ℕ
-    parts : rest ≡ line text ++ more
-    says : IsNodeText text entry
-
-  -- all entries are read and the end comes, or the line of an entry
-  abbrev Next : {A : Type 0} → List ℕ → List (Entry A) → List (Entry A) → ℕ → Type 0
-  Next {A} rest read list n = ((read ≡ list) × (rest ≡ line (end_text n))) ⊎ Comes A rest
-
-  next_node : {A : Type 0} (front nodes rest : List ℕ) (read list : List (Entry A)) (n : ℕ) → IsNodesText front read → IsNodesText nodes list
-      → front ++ rest ≡ nodes ++ line (end_text n) → Next rest read list n
-  next_node front nodes rest [] [] n h k same =
-      inl (refl, sym (ap (λ (text : List ℕ). text ++ rest) h) ∙ same ∙ ap (λ (text : List ℕ). text ++ line (end_text n)) k)
-  next_node front nodes rest [] (entry ∷ list) n h k same =
-      inr (record {
-        entry = entry;
-        text = k.0;
-        more = k.1 ++ line (end_text n);
-        parts =
-            sym (ap (λ (text : List ℕ). text ++ rest) h) ∙ same ∙ ap (λ (text : List ℕ). text ++ line (end_text n)) k.2
-            ∙ append_assoc (line k.0) k.1 (line (end_text n));
-        says = k.3;
-      })
-  next_node front nodes rest (first ∷ read) [] n h k same =
-      let whole : line (end_text n) ++ [] ≡ line h.0 ++ (h.1 ++ rest) =
-      append-nil (line (end_text n)) ∙ sym (ap (λ (text : List ℕ). text ++ line (end_text n)) k) ∙ sym same
-      ∙ ap (λ (text : List ℕ). text ++ rest) h.2 ∙ append_assoc (line h.0) h.1 rest in
-      absurd (no_end n h.0 [] (h.1 ++ rest) first h.3 whole)
-  next_node front nodes rest (first ∷ read) (entry ∷ list) n h k same =
-      let whole : line h.0 ++ (h.1 ++ rest) ≡ line k.0 ++ (k.1 ++ line (end_text n)) =
-      sym (append_assoc (line h.0) h.1 rest) ∙ sym (ap (λ (text : List ℕ). text ++ rest) h.2) ∙ same
-      ∙ ap (λ (text : List ℕ). text ++ line (end_text n)) k.2 ∙ append_assoc (line k.0) k.1 (line (end_text n)) in
-      let parts = line_parts h.0 k.0 (h.1 ++ rest) (k.1 ++ line (end_text n)) (IsInLine-node h.0 first h.3) (IsInLine-node k.0 entry k.3) whole in
-      let one : first ≡ entry = IsNodeText-one h.0 first entry h.3 (rw parts.0 k.3) in
-      elim (next_node h.1 k.1 rest read list n h.4 k.4 parts.1) [
-        | inl ends ↦ inl (ap (λ e. e ∷ read) one ∙ ap (λ es. entry ∷ es) ends.0, ends.1)
-        | inr comes ↦ inr comes
+  -- after lines of entries comes one more, or the end
+  next_node : {A : Type 0} (nodes front : List (List ℕ)) (text : List ℕ) (more : List (List ℕ)) (list read : List (Entry A)) (n : ℕ)
+      → AreNodeTexts nodes list → AreNodeTexts front read → nodes ++ end_text n ∷ [] ≡ front ++ text ∷ more
+      → ((entry : Entry A) × IsNodeText text entry) ⊎ ((text ≡ end_text n) × (length front ≡ length nodes))
+  next_node [] [] text more list read n h k same = let is : end_text n ≡ text = cc in inr (sym is, refl)
+  next_node [] (first ∷ front) text more list [] n h k same = absurd k
+  next_node [] (first ∷ front) text more list (entry ∷ read) n h k same =
+      let is : end_text n ≡ first = cc in absurd (end_no_node n entry (subst (λ (t : List ℕ). IsNodeText t entry) (sym is) k.0))
+  next_node (node ∷ nodes) [] text more [] read n h k same = absurd h
+  next_node (node ∷ nodes) [] text more (entry ∷ list) read n h k same =
+      let is : node ≡ text = cc in inl (entry, subst (λ (t : List ℕ). IsNodeText t entry) is h.0)
+  next_node (node ∷ nodes) (first ∷ front) text more [] read n h k same = absurd h
+  next_node (node ∷ nodes) (first ∷ front) text more (entry ∷ list) [] n h k same = absurd k
+  next_node (node ∷ nodes) (first ∷ front) text more (entry ∷ list) (other ∷ read) n h k same =
+      let rest : nodes ++ end_text n ∷ [] ≡ front ++ text ∷ more = cc in
+      elim (next_node nodes front text more list read n h.1 k.1 rest) [
+        | inl comes ↦ inl comes
+        | inr ends ↦ inr (ends.0, ap suc ends.1)
       ]
 
-  -- what follows in a pack where some entries are read
-  next : {A : Type 0} (bytes rest : List ℕ) (read list : List (Entry A)) → HasRead bytes rest read → IsPack bytes list → Next rest read list (length list)
-  next bytes rest read list h k =
-      let whole : (line header ++ h.nodes) ++ rest ≡ (line header ++ k.nodes) ++ line (end_text (length list)) = sym h.parts ∙ k.whole in
-      let same : h.nodes ++ rest ≡ k.nodes ++ line (end_text (length list)) =
-      append_cancel_left (line header) (h.nodes ++ rest) (k.nodes ++ line (end_text (length list)))
-      (sym (append_assoc (line header) h.nodes rest) ∙ whole ∙ append_assoc (line header) k.nodes (line (end_text (length list)))) in
-      next_node h.nodes k.nodes rest read list (length list) h.each k.each same
+  -- the line after a front of a pack may come there
+  comes_next : {A : Type 0} (front : List (List ℕ)) (text : List ℕ) (more lines : List (List ℕ)) (list : List (Entry A))
+      → IsFront A front → ArePackLines lines list → lines ≡ front ++ text ∷ more → MayCome A front text
+  comes_next [] text more lines list before h same = let whole = sym same ∙ h.are in cc
+  comes_next (first ∷ front) text more lines list before h same =
+      let whole : header ∷ (h.nodes ++ end_text (length list) ∷ []) ≡ first ∷ (front ++ text ∷ more) = sym h.are ∙ same in
+      let rest : h.nodes ++ end_text (length list) ∷ [] ≡ front ++ text ∷ more = cc in
+      elim (next_node h.nodes front text more list before.1.0 (length list) h.each before.1.1 rest) [
+        | inl comes ↦ inl comes
+        | inr ends ↦ inr (ends.0 ∙ ap end_text (sym (ends.1 ∙ AreNodeTexts-length h.nodes list h.each)))
+      ]
+
+  -- a whole pack is no front of one
+  last_no_node : {A : Type 0} (nodes : List (List ℕ)) (n : ℕ) (list : List (Entry A)) → AreNodeTexts (nodes ++ end_text n ∷ []) list → ⊥
+  last_no_node [] n [] h = h
+  last_no_node [] n (entry ∷ list) h = end_no_node n entry h.0
+  last_no_node (node ∷ nodes) n [] h = h
+  last_no_node (node ∷ nodes) n (entry ∷ list) h = last_no_node nodes n list h.1
+
+  whole_no_front : {A : Type 0} (lines : List (List ℕ)) (list : List (Entry A)) → ArePackLines lines list → IsFront A lines → ⊥
+  whole_no_front {A} lines list h before =
+      let front : IsFront A (header ∷ (h.nodes ++ end_text (length list) ∷ [])) = subst (IsFront A) h.are before in
+      last_no_node h.nodes (length list) front.1.0 front.1.1
+
+  -- two packs of which one begins the other have the same entries, and nothing follows
+  same_nodes : {A : Type 0} (nodes front more : List (List ℕ)) (list read : List (Entry A)) (n m : ℕ) → AreNodeTexts nodes list → AreNodeTexts front read
+      → nodes ++ end_text n ∷ [] ≡ (front ++ end_text m ∷ []) ++ more → (list ≡ read) × (more ≡ [])
+  same_nodes [] [] more [] [] n m h k same = let nothing : [] ≡ more = cc in (refl, sym nothing)
+  same_nodes [] [] more (entry ∷ list) read n m h k same = absurd h
+  same_nodes [] [] more [] (entry ∷ read) n m h k same = absurd k
+  same_nodes [] (first ∷ front) more list [] n m h k same = absurd k
+  same_nodes [] (first ∷ front) more list (entry ∷ read) n m h k same =
+      let is : end_text n ≡ first = cc in absurd (end_no_node n entry (subst (λ (t : List ℕ). IsNodeText t entry) (sym is) k.0))
+  same_nodes (node ∷ nodes) [] more [] read n m h k same = absurd h
+  same_nodes (node ∷ nodes) [] more (entry ∷ list) read n m h k same =
+      let is : node ≡ end_text m = cc in absurd (end_no_node m entry (subst (λ (t : List ℕ). IsNodeText t entry) is h.0))
+  same_nodes (node ∷ nodes) (first ∷ front) more [] read n m h k same = absurd h
+  same_nodes (node ∷ nodes) (first ∷ front) more (entry ∷ list) [] n m h k same = absurd k
+  same_nodes (node ∷ nodes) (first ∷ front) more (entry ∷ list) (other ∷ read) n m h k same =
+      let is : node ≡ first = cc in
+      let rest : nodes ++ end_text n ∷ [] ≡ (front ++ end_text m ∷ []) ++ more = cc in
+      let one : entry ≡ other = IsNodeText-one first entry other (subst (λ (t : List ℕ). IsNodeText t entry) is h.0) k.0 in
+      let further = same_nodes nodes front more list read n m h.1 k.1 rest in
+      (ap (λ e. e ∷ list) one ∙ ap (λ es. other ∷ es) further.0, further.1)
+
+  same_packs : {A : Type 0} (lines front more : List (List ℕ)) (list read : List (Entry A)) → ArePackLines lines list → ArePackLines front read
+      → lines ≡ front ++ more → (list ≡ read) × (more ≡ [])
+  same_packs lines front more list read h k same =
+      let whole : header ∷ (h.nodes ++ end_text (length list) ∷ []) ≡ header ∷ ((k.nodes ++ end_text (length read) ∷ []) ++ more) =
+      sym h.are ∙ same ∙ ap (λ (ls : List (List ℕ)). ls ++ more) k.are in
+      let rest : h.nodes ++ end_text (length list) ∷ [] ≡ (k.nodes ++ end_text (length read) ∷ []) ++ more = cc in
+      same_nodes h.nodes k.nodes more list read (length list) (length read) h.each k.each rest
 
   -- ---- one reading
 
   -- bytes are a pack of one list
-  pub IsPack-one : {A : Type 0} (bytes : List ℕ) (a b : List (Entry A)) → IsPack bytes a → IsPack bytes b → a ≡ b
+  IsPack-one : {A : Type 0} (bytes : List ℕ) (a b : List (Entry A)) → IsPack bytes a → IsPack bytes b → a ≡ b
   IsPack-one bytes a b h k =
-      let read : HasRead bytes (line (end_text (length a))) a = record { nodes = h.nodes; parts = h.whole; each = h.each } in
-      elim (next bytes (line (end_text (length a))) a b read k) [
-        | inl ends ↦ ends.0
-        | inr comes ↦ absurd (no_end (length a) comes.text [] comes.more comes.entry comes.says (append-nil (line (end_text (length a))) ∙ comes.parts))
-      ]
+      let left = more_lines k.lines h.lines [] (pack_in_line k.lines b k.are) (pack_in_line h.lines a h.are) (sym h.whole ∙ k.whole ∙ sym (append-nil (text_of k.lines))) in
+      (same_packs h.lines k.lines left.0 a b h.are k.are left.1).0
 
-  -- the first line of a pack is the header
-  IsPack-first : {A : Type 0} (bytes : List ℕ) (list : List (Entry A)) → (h : IsPack bytes list) → bytes ≡ line header ++ (h.nodes ++ line (end_text (length list)))
-  IsPack-first bytes list h = h.whole ∙ append_assoc (line header) h.nodes (line (end_text (length list)))
+  no_wrong_line : {A : Type 0} (bytes : List ℕ) (at : ℕ) (list : List (Entry A)) → IsWrong A bytes at → IsPack bytes list → ⊥
+  no_wrong_line {A} bytes at list w h =
+      let left = more_lines w.front h.lines (line w.text ++ w.rest) (front_in_line A w.front w.before) (pack_in_line h.lines list h.are) (sym h.whole ∙ w.parts) in
+      stands left.0 left.1 left.2
+    where
+      stands : (more : List (List ℕ)) → h.lines ≡ w.front ++ more → line w.text ++ w.rest ≡ text_of more → ⊥
+      stands [] whole same = not_in_line w.text w.rest (subst IsInLine (sym same) IsInLine-nil)
+      stands (first ∷ more) whole same =
+          let each = subst (All IsInLine) whole (pack_in_line h.lines list h.are) in
+          let first_in_line = All-head IsInLine first more (All-back w.front (first ∷ more) each) in
+          let is : w.text ≡ first = (line_parts w.text first w.rest (text_of more) w.in_line first_in_line same).0 in
+          w.wrong (comes_next w.front w.text more h.lines list w.before h.are (whole ∙ ap (λ (t : List ℕ). w.front ++ t ∷ more) (sym is)))
 
-  no_wrong_line : {A : Type 0} (bytes front text rest : List ℕ) (lines : ℕ) (list : List (Entry A)) → bytes ≡ front ++ line text ++ rest
-      → IsFront A front lines → IsInLine text → (MayStand A lines text → ⊥) → IsPack bytes list → ⊥
-  no_wrong_line bytes front text rest zero list parts before in_line wrong h =
-      let same : line text ++ rest ≡ line header ++ (h.nodes ++ line (end_text (length list))) =
-      sym (parts ∙ ap (λ (f : List ℕ). f ++ line text ++ rest) before) ∙ IsPack-first bytes list h in
-      wrong (line_parts text header rest _ in_line IsInLine-header same).0
-  no_wrong_line {A} bytes front text rest (suc n) list parts before in_line wrong h =
-      let read : HasRead bytes (line text ++ rest) before.1 = record {
-        nodes = before.0;
-        parts = parts ∙ append_assoc front (line text) rest ∙ ap (λ (f : List ℕ). f ++ (line text ++ rest)) before.2;
-        each = before.3;
-      } in
-      elim (next bytes (line text ++ rest) before.1 list read h) [
-        | inl ends ↦
-            let count : length list ≡ n = sym (ap (λ (l : List (Entry A)). length l) ends.0) ∙ before.4 in
-            let is = (line_parts text (end_text (length list)) rest [] in_line (IsInLine-end (length list)) (ends.1 ∙ sym (append-nil (line (end_text (length list)))))).0 in
-            wrong (inr (is ∙ ap end_text count))
-        | inr comes ↦
-            let is = (line_parts text comes.text rest comes.more in_line (IsInLine-node comes.text comes.entry comes.says) comes.parts).0 in
-            wrong (inl (comes.entry, rw is comes.says))
-      ]
-
-  no_cut : {A : Type 0} (bytes front rest : List ℕ) (lines : ℕ) (list : List (Entry A)) → bytes ≡ front ++ rest → IsFront A front lines
-      → IsInLine rest → IsPack bytes list → ⊥
-  no_cut bytes front rest zero list parts before in_line h =
-      let same : rest ≡ line header ++ (h.nodes ++ line (end_text (length list))) =
-      sym (parts ∙ ap (λ (f : List ℕ). f ++ rest) before) ∙ IsPack-first bytes list h in
-      not_in_line header _ (subst IsInLine same in_line)
-  no_cut bytes front rest (suc n) list parts before in_line h =
-      let read : HasRead bytes rest before.1 = record { nodes = before.0; parts = parts ∙ ap (λ (f : List ℕ). f ++ rest) before.2; each = before.3 } in
-      elim (next bytes rest before.1 list read h) [
-        | inl ends ↦ not_in_line (end_text (length list)) [] (subst IsInLine (ends.1 ∙ sym (append-nil (line (end_text (length list))))) in_line)
-        | inr comes ↦ not_in_line comes.text comes.more (subst IsInLine comes.parts in_line)
-      ]
+  no_cut : {A : Type 0} (bytes : List ℕ) (at : ℕ) (list : List (Entry A)) → IsCut A bytes at → IsPack bytes list → ⊥
+  no_cut {A} bytes at list w h =
+      let left = more_lines w.front h.lines w.rest (front_in_line A w.front w.before) (pack_in_line h.lines list h.are) (sym h.whole ∙ w.parts) in
+      ends left.0 left.1 left.2
+    where
+      ends : (more : List (List ℕ)) → h.lines ≡ w.front ++ more → w.rest ≡ text_of more → ⊥
+      ends [] whole same = whole_no_front h.lines list h.are (subst (IsFront A) (sym (whole ∙ append-nil w.front)) w.before)
+      ends (first ∷ more) whole same = not_in_line first (text_of more) (subst IsInLine same w.in_line)
 
   no_followed : {A : Type 0} (bytes : List ℕ) (at : ℕ) (list : List (Entry A)) → IsFollowed A bytes at → IsPack bytes list → ⊥
-  no_followed {A} bytes at list k h =
-      let read : HasRead bytes (line (end_text (length k.list)) ++ k.rest) k.list = record {
-        nodes = k.before.nodes;
-        parts = k.parts ∙ ap (λ (f : List ℕ). f ++ k.rest) k.before.whole ∙ append_assoc (line header ++ k.before.nodes) (line (end_text (length k.list))) k.rest;
-        each = k.before.each;
-      } in
-      elim (next bytes (line (end_text (length k.list)) ++ k.rest) k.list list read h) [
-        | inl ends ↦
-            let count : length k.list ≡ length list = ap (λ (l : List (Entry A)). length l) ends.0 in
-            let same : line (end_text (length k.list)) ++ k.rest ≡ line (end_text (length k.list)) ++ [] =
-            ends.1 ∙ ap (λ n. line (end_text n)) (sym count) ∙ sym (append-nil (line (end_text (length k.list)))) in
-            k.more (append_cancel_left (line (end_text (length k.list))) k.rest [] same)
-        | inr comes ↦ no_end (length k.list) comes.text k.rest comes.more comes.entry comes.says comes.parts
-      ]
+  no_followed bytes at list k h =
+      let left = more_lines k.lines h.lines k.rest (pack_in_line k.lines k.list k.before) (pack_in_line h.lines list h.are) (sym h.whole ∙ k.parts) in
+      let nothing = (same_packs h.lines k.lines left.0 list k.list h.are k.before left.1).1 in
+      k.more (left.2 ∙ ap text_of nothing)
 
   -- no line of a pack is wrong
-  pub IsPack-no_bad_line : {A : Type 0} (bytes : List ℕ) (at : ℕ) (list : List (Entry A)) → IsPack bytes list → IsBadLine A bytes at → ⊥
-  IsPack-no_bad_line bytes at list h (inl w) = no_wrong_line bytes w.front w.text w.rest w.lines list w.parts w.before w.in_line w.wrong h
-  IsPack-no_bad_line bytes at list h (inr (inl w)) = no_cut bytes w.front w.rest w.lines list w.parts w.before w.in_line h
+  IsPack-no_bad_line : {A : Type 0} (bytes : List ℕ) (at : ℕ) (list : List (Entry A)) → IsPack bytes list → IsBadLine A bytes at → ⊥
+  IsPack-no_bad_line bytes at list h (inl w) = no_wrong_line bytes at list w h
+  IsPack-no_bad_line bytes at list h (inr (inl w)) = no_cut bytes at list w h
   IsPack-no_bad_line bytes at list h (inr (inr w)) = no_followed bytes at list w h
 
   -- ---- the image
@@ -277,15 +303,15 @@ module _ (texts_law : IdsHaveTexts) (digits_law : IdTextsAreDigits) (one_law : T
       let parents = IsIdsText-image entry.node.parents h.parents in
       (ids_text (ids_of entry), refl, (id_text entry.id, ids_text entry.node.parents, refl, (texts_law entry.id h.id).0, parents))
 
-  IsNodesText-image : {A : Type 0} (list : List (Entry A)) → All HasIds list → IsNodesText (nodes_text list) list
-  IsNodesText-image [] h = refl
-  IsNodesText-image (entry ∷ list) h =
-      (node_text entry, nodes_text list, refl, IsNodeText-image entry (All-head HasIds entry list h), IsNodesText-image list (All-tail HasIds entry list h))
+  AreNodeTexts-image : {A : Type 0} (list : List (Entry A)) → All HasIds list → AreNodeTexts (map node_text list) list
+  AreNodeTexts-image [] h = tt
+  AreNodeTexts-image (entry ∷ list) h = (IsNodeText-image entry (All-head HasIds entry list h), AreNodeTexts-image list (All-tail HasIds entry list h))
 
   -- the text of a list is a pack of it
-  pub IsPack-image : {A : Type 0} (list : List (Entry A)) → All HasIds list → IsPack (pack_text list) list
+  IsPack-image : {A : Type 0} (list : List (Entry A)) → All HasIds list → IsPack (pack_text list) list
   unfolding pack_text
-  IsPack-image list h = record { nodes = nodes_text list; whole = refl; each = IsNodesText-image list h }
+  IsPack-image list h =
+      record { lines = pack_lines list; whole = refl; are = record { nodes = map node_text list; are = refl; each = AreNodeTexts-image list h } }
 
   no_fault : {A : Type 0} (bytes : List ℕ) (list : List (Entry A)) (fault : IndexFault) → IsPack bytes list → IndexRefuses A bytes fault
       → fault ≡ index_faults.Memory

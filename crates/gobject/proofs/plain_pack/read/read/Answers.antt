@@ -2,8 +2,8 @@ use Rattle.std.proofs.Common.{◌≡◌, ◌≢◌, ◌+◌, [], length, ap, sym
 use Rattle.std.proofs.lemmas.Bool.{false≢true}
 use Rattle.gobject.specs.PlainPackText.{end_text}
 use Rattle.gobject.specs.PlainPackReading.{NoNodeText}
-use Rattle.gobject.proofs.PlainPackLines.{not_empty}
-use Rattle.gobject.proofs.PlainPackReading.{HasRead-header, HasRead-turn, IsBadLine-header, IsBadLine-cut, IsBadLine-wrong, IsBadLine-followed}
+use Rattle.gobject.proofs.PlainPackLines.{is_nil, not_empty}
+use Rattle.gobject.proofs.PlainPackReading.{HasRead-header, HasRead-turn, IsBadLine-header, IsBadLine-cut, IsBadLine-wrong, IsBadLine-followed, IsPack-whole}
 use Rattle.gobject.proofs.plain_pack.read.read.Goals as goal
 
 pub returns-in_default : goal.returns-in_default
@@ -37,3 +37,11 @@ returns-then-not-is_empty g c =
 pub loop-line-preserved : goal.loop-line-preserved
 loop-line-preserved g c =
     HasRead-turn c.args.bytes.now c.loop-line.rest.now c.in-Some-split_line.line.now _ c.loop-line.entries.items c.push.new.self.items c.in-Some-2.entry c.loop-line.invariant (search rules) (search rules) (search rules)
+
+pub returns-in_default-2 : goal.returns-in_default-2
+returns-in_default-2 g c =
+    let long : c.len-number.result ≡ length c.loop-line.entries.items = omega (arith, c.loop-line.entries.ok.0) in
+    let end : c.in-Some-split_line.line.now ≡ end_text c.len-number.result =
+    c.is_end.ensures.0 c.if-not-is_end.false ∙ ap end_text (c.len.ensures ∙ sym c.len-number.ensures) in
+    let nothing : c.in-Some-split_line.behind.now ≡ [] = is_nil c.in-Some-split_line.behind.now (search rules) in
+    IsPack-whole c.args.bytes.now c.loop-line.rest.now c.in-Some-split_line.line.now c.in-Some-split_line.behind.now c.loop-line.entries.items c.loop-line.invariant c.in-Some-split_line.ensures (end ∙ ap end_text long) nothing
