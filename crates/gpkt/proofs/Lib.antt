@@ -4,3 +4,5 @@ pub mod Steps
 pub mod Ending
 pub mod Readings
 pub mod Bands
+pub mod Joins
+pub mod Fronts

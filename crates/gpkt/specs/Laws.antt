@@ -1,9 +1,17 @@
 -- The laws of packet lines.
-use Rattle.std.specs.Prelude.{◌≡◌, ℕ, ◌≤◌, ◌⊎◌, All, List, [], ◌∷◌, ◌++◌, length}
+use Rattle.std.specs.Prelude.{◌≡◌, ◌≢◌, ℕ, ◌≤◌, ◌⊎◌, All, Bool, List, [], ◌∷◌, ◌++◌, length}
+use Rattle.std.specs.Prelude.{Option, Some, Result, Ok, Err, OnOk}
+use Rattle.std.specs.Io.KnownBytes.{Appends}
 use Rattle.gpkt.specs.declared.fault.LineFault.{LineFault}
+use Rattle.gpkt.specs.declared.fault.LineFault.TheVariants as line_fault
+use Rattle.gpkt.specs.declared.fault.WriteFault.{WriteFault}
+use Rattle.gpkt.specs.declared.fault.WriteFault.TheVariants as write_fault
+use Rattle.gpkt.specs.Change.{change_of}
+use Rattle.gpkt.specs.Devices.{PassesAll}
 use Rattle.gpkt.specs.Packets.{Packet, Spells, SpellsAll, canonical, canonical_all, payload_of, text}
 use Rattle.gpkt.specs.Packets.{digit_count, line_feed, max_payload}
-use Rattle.gpkt.specs.LineReading.{NoLine}
+use Rattle.gpkt.specs.LineReading.{NoLine, Gives, Reads, ReadsLines}
+use Rattle.gpkt.specs.LineWriting.{Writer, HasWritten, HasPushed}
 
 -- at most one line is spelt at the front of the bytes, in one way
 abbrev pub OneReading : Type 0
@@ -21,6 +29,26 @@ RefusedIsNoLine =
 -- and it is refused for one reason
 abbrev pub OneFault : Type 0
 OneFault = (fault other : LineFault) (bytes : List ℕ) → NoLine fault bytes → NoLine other bytes → fault ≡ other
+
+-- no fault, or one that comes of the bytes
+abbrev pub IsOfBytes : Result (Option Packet) LineFault → Type 0
+IsOfBytes result = (result ≢ Err line_fault.Io) × (result ≢ Err line_fault.Failed)
+
+-- the bytes say what is read of them, and what is left
+abbrev pub OneOutcome : Type 0
+OneOutcome =
+    (old new after : List ℕ) (result other : Result (Option Packet) LineFault) → Gives old new result
+    → Gives old after other → IsOfBytes result → IsOfBytes other
+    → (result ≡ other) × (new ≡ after)
+
+-- a line is spelt at the front of the bytes
+abbrev pub SpellsAtFront : List ℕ → Type 0
+SpellsAtFront bytes = (line : Packet) × (front : List ℕ) × (rest : List ℕ) × (bytes ≡ front ++ rest) × Spells line front
+
+-- bytes are empty, or spell a line at their front, or there is a reason why they do not
+abbrev pub EveryFront : Type 0
+EveryFront =
+    (bytes : List ℕ) → (bytes ≡ []) ⊎ (SpellsAtFront bytes ⊎ ((fault : LineFault) × NoLine fault bytes))
 
 -- a spelling has four bytes at least
 abbrev pub HasDigits : Type 0
@@ -70,3 +98,44 @@ TextOfLine = (words : List ℕ) → text (words ++ line_feed ∷ []) ≡ words
 -- and nothing else is
 abbrev pub TextOrLine : Type 0
 TextOrLine = (payload : List ℕ) → (payload ≡ text payload) ⊎ (payload ≡ text payload ++ line_feed ∷ [])
+
+-- before a line is read no line was read
+abbrev pub ReadsNone : Type 0
+ReadsNone = (bytes : Option (List ℕ)) → ReadsLines (record { old = bytes; new = bytes }) []
+
+-- a line that is read after some lines
+abbrev pub ReadsNext : Type 0
+ReadsNext =
+    (old mid new : Option (List ℕ)) (lines : List Packet) (line : Packet)
+    → ReadsLines (record { old = old; new = mid }) lines → Reads (record { old = mid; new = new }) (Ok (Some line))
+    → ReadsLines (record { old = old; new = new }) (lines ++ line ∷ [])
+
+-- lines that are read one after the other are a list of lines that is read
+abbrev pub ReadsJoin : Type 0
+ReadsJoin =
+    (old mid new : Option (List ℕ)) (lines more : List Packet) → ReadsLines (record { old = old; new = mid }) lines
+    → ReadsLines (record { old = mid; new = new }) more → ReadsLines (record { old = old; new = new }) (lines ++ more)
+
+module _ {W : Type 0} (contents_of passed_on_of : W → Option (List ℕ)) (is_down : W → Bool) (seat_of : W → List ℕ) where
+  abbrev pub Writes : Writer W → Writer W → Result Unit WriteFault → List ℕ → Type 0
+  Writes old new result bytes = HasWritten contents_of passed_on_of is_down seat_of old new result bytes
+
+  -- after a write that succeeded, a write is one of all the bytes
+  abbrev pub WritesJoin : Type 0
+  WritesJoin =
+      (old mid new : Writer W) (bytes more : List ℕ) (result : Result Unit WriteFault) → Writes old mid (Ok tt) bytes
+      → Writes mid new result more → result ≢ Err write_fault.Payload → Writes old new result (bytes ++ more)
+
+  -- a write that failed was one of more bytes, too
+  abbrev pub FailsOfMore : Type 0
+  FailsOfMore =
+      (old new : Writer W) (bytes more : List ℕ) (fault : WriteFault) → Writes old new (Err fault) bytes
+      → fault ≢ write_fault.Payload → Writes old new (Err fault) (bytes ++ more)
+
+  -- what is written stays written when it is pushed, and a push that succeeds passes all of it on
+  abbrev pub PushesWritten : Type 0
+  PushesWritten =
+      (old mid new : Writer W) (bytes : List ℕ) (result : Result Unit WriteFault) → Writes old mid (Ok tt) bytes
+      → HasPushed contents_of passed_on_of is_down seat_of mid new result
+      → Appends (contents_of old.sink) (contents_of new.sink) bytes
+      × OnOk result (PassesAll (contents_of new.sink) (change_of passed_on_of old.sink new.sink))

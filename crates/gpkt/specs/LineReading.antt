@@ -6,7 +6,7 @@ use Rattle.gpkt.specs.declared.line.Line.{Line}
 use Rattle.gpkt.specs.declared.fault.LineFault.{LineFault}
 use Rattle.gpkt.specs.declared.fault.LineFault.TheVariants.{BadDigits, Reserved, TooLong, Truncated, Io, Failed, Memory}
 use Rattle.gpkt.specs.Change.{Change, WhereKnown, change_of}
-use Rattle.gpkt.specs.Packets.{Packet, Spells, digit_count, max_packet, number_of, packet_of}
+use Rattle.gpkt.specs.Packets.{Packet, Spells, SpellsAll, digit_count, max_packet, number_of, packet_of}
 
 -- a reader: its source, and whether a call of it has failed
 pub record Reader (S : Type 0) : Type 0 where
@@ -53,6 +53,10 @@ Gives old new (Err Memory) = ⊥
 -- what is read, and what it takes from the bytes
 abbrev pub Reads : Change → Result (Option Packet) LineFault → Type 0
 Reads bytes result = WhereKnown bytes (λ old new. Gives old new result)
+
+-- the bytes that are read spell these lines, one after the other, where the bytes still to come are known
+abbrev pub ReadsLines : Change → List Packet → Type 0
+ReadsLines bytes lines = WhereKnown bytes (λ old new. (front : List ℕ) × (old ≡ front ++ new) × SpellsAll lines front)
 
 -- a result without where the payload lies in memory
 abbrev pub read_of : Result (Option Line) LineFault → Result (Option Packet) LineFault

@@ -1,7 +1,9 @@
 //! Laws of packet lines. A call does nothing, and gives its caller's proof the law.
 
 ghost use Rattle.gpkt.specs.Bands.{BandIsPayload, BandIsRead};
-ghost use Rattle.gpkt.specs.Laws.{CanonicalJoins, CanonicalSpells, CanonicalSpellsAll, HasDigits, OneBegins, OneFault, OneReading, RefusedIsNoLine, SpellingsJoin, SpellingsSplit, TextOfLine, TextOrLine};
+ghost use Rattle.gpkt.specs.Laws.{CanonicalJoins, CanonicalSpells, CanonicalSpellsAll, EveryFront, FailsOfMore, HasDigits, OneBegins, OneFault, OneOutcome, OneReading, PushesWritten, ReadsJoin, ReadsNext, ReadsNone, RefusedIsNoLine, SpellingsJoin, SpellingsSplit, TextOfLine, TextOrLine, WritesJoin};
+
+use crate::device::Sink;
 
 /// At most one line is spelt at the front of some bytes, and in one way.
 pub fn one_reading()
@@ -12,6 +14,17 @@ pub fn one_reading()
 pub fn refused_front()
     ensures no_line { RefusedIsNoLine }
     ensures one_fault { OneFault }
+{}
+
+/// Bytes that are read give one result and leave one rest, where neither the source fails nor the
+/// reader had failed.
+pub fn one_outcome()
+    ensures { OneOutcome }
+{}
+
+/// Bytes are empty, or spell a line at their front, or there is a reason why they do not.
+pub fn every_front()
+    ensures { EveryFront }
 {}
 
 /// A spelling has four bytes at least.
@@ -47,4 +60,18 @@ pub fn text_reads_back()
 pub fn bands_are_read()
     ensures payload { BandIsRead }
     ensures nothing_else { BandIsPayload }
+{}
+
+/// Lines that are read one after the other are a list of lines that is read.
+pub fn reads_join()
+    ensures none { ReadsNone }
+    ensures next { ReadsNext }
+    ensures join { ReadsJoin }
+{}
+
+/// Writes one after the other are one write of all the bytes, and a push passes all of them on.
+pub fn writes_join<W: Sink>()
+    ensures join { WritesJoin W.contents W.passed_on W.is_down W.seat }
+    ensures failed { FailsOfMore W.contents W.passed_on W.is_down W.seat }
+    ensures pushed { PushesWritten W.contents W.passed_on W.is_down W.seat }
 {}

@@ -173,4 +173,8 @@ fn laws_can_be_called() {
     laws::one_begins();
     laws::text_reads_back();
     laws::bands_are_read();
+    laws::one_outcome();
+    laws::every_front();
+    laws::reads_join();
+    laws::writes_join::<VecSink>();
 }
