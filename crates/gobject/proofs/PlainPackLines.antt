@@ -1,8 +1,7 @@
 -- Lines and ids at the front of a text.
-use Rattle.std.proofs.Common.{◌≡◌, ◌≢◌, ℕ, false, true, eqb, List, [], ◌∷◌, ◌++◌, length, take, drop, refl, ap, sym, subst, ◌∙◌, append_assoc, arith, Err}
+use Rattle.std.proofs.Common.{◌≡◌, ◌≢◌, ℕ, false, eqb, List, [], ◌∷◌, ◌++◌, length, take, drop, refl, ap, sym, subst, ◌∙◌, append_assoc, Err}
 use Rattle.std.proofs.Math.Seq.{take-append_seam, drop-append_seam}
 use Rattle.std.proofs.lemmas.Bool.{false≢true}
-use Rattle.std.proofs.lemmas.Bool.Decides.{nat_tests}
 use Rattle.std.proofs.lemmas.List.{append-nil}
 use Rattle.gname.specs.Ids.{IsIdText, ReadsId}
 use Rattle.gname.specs.declared.ids.OidFault.{OidFault}
@@ -23,11 +22,6 @@ same_parts a b x y long same =
 -- what is not found to be empty
 pub not_empty : (text : List ℕ) → eqb (length text) 0 ≡ false → text ≢ []
 not_empty text h = λ is. false≢true (sym h ∙ ap (λ (t : List ℕ). eqb (length t) 0) is)
-
--- what is found to be empty
-pub is_nil : (text : List ℕ) → eqb (length text) 0 ≡ true → text ≡ []
-is_nil [] h = refl
-is_nil (byte ∷ text) h = let none : length (byte ∷ text) ≡ 0 = grind (arith, nat_tests) in absurd (omega (arith, none))
 
 -- what is refused as an id is the text of none
 not_id_text : IdTextsAreDigits → (text id : List ℕ) (fault : OidFault) → ReadsId text (Err fault) → IsIdText text id → ⊥

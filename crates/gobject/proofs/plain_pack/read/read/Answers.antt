@@ -1,8 +1,9 @@
 use Rattle.std.proofs.Common.{◌≡◌, ◌≢◌, ◌+◌, [], length, ap, sym, ◌∙◌, rules, arith}
-use Rattle.std.proofs.lemmas.Bool.{false≢true}
+use Rattle.std.proofs.lemmas.Bool.{eqb-true, false≢true}
+use Rattle.std.proofs.lemmas.List.{nil_from_length}
 use Rattle.gobject.specs.PlainPackText.{end_text}
 use Rattle.gobject.specs.PlainPackReading.{NoNodeText}
-use Rattle.gobject.proofs.PlainPackLines.{is_nil, not_empty}
+use Rattle.gobject.proofs.PlainPackLines.{not_empty}
 use Rattle.gobject.proofs.PlainPackReading.{HasRead-header, HasRead-turn, IsBadLine-header, IsBadLine-cut, IsBadLine-wrong, IsBadLine-followed, IsPack-whole}
 use Rattle.gobject.proofs.plain_pack.read.read.Goals as goal
 
@@ -43,5 +44,5 @@ returns-in_default-2 g c =
     let long : c.len-number.result ≡ length c.loop-line.entries.items = omega (arith, c.loop-line.entries.ok.0) in
     let end : c.in-Some-split_line.line.now ≡ end_text c.len-number.result =
     c.is_end.ensures.0 c.if-not-is_end.false ∙ ap end_text (c.len.ensures ∙ sym c.len-number.ensures) in
-    let nothing : c.in-Some-split_line.behind.now ≡ [] = is_nil c.in-Some-split_line.behind.now (search rules) in
+    let nothing : c.in-Some-split_line.behind.now ≡ [] = nil_from_length c.in-Some-split_line.behind.now (eqb-true (length c.in-Some-split_line.behind.now) 0 (search rules)) in
     IsPack-whole c.args.bytes.now c.loop-line.rest.now c.in-Some-split_line.line.now c.in-Some-split_line.behind.now c.loop-line.entries.items c.loop-line.invariant c.in-Some-split_line.ensures (end ∙ ap end_text long) nothing

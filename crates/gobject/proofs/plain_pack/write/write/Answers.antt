@@ -1,6 +1,6 @@
 use Rattle.std.proofs.Common.{◌≡◌, ◌++◌, List, ℕ, length, ap, sym, subst, ◌∙◌, rules}
 use Rattle.std.proofs.lemmas.Result.{err_from_is_err_and}
-use Rattle.gobject.specs.PlainPackText.{header, line, end_text, pack_text, PackRefuses}
+use Rattle.gobject.specs.PlainPackText.{header, line, end_text, PackRefuses}
 use Rattle.gobject.specs.PlainPackWriting.{nodes_text}
 use Rattle.gobject.proofs.PlainPackWriting.{PackRefuses-front, pack_text-is}
 use Rattle.gobject.proofs.plain_pack.write.write.Goals as goal
