@@ -5,7 +5,7 @@ use Rattle.gpkt.specs.declared.fault.LineFault.TheVariants.{BadDigits, Reserved,
 use Rattle.gpkt.specs.Packets.{Packet, Data, Flush, Delim, ResponseEnd, number_of, max_packet}
 use Rattle.gpkt.specs.LineReading.{NoLine, Gives}
 use Rattle.gpkt.specs.Laws.{IsOfBytes, OneFault, OneOutcome, SpellsAtFront, EveryFront}
-use Rattle.gpkt.proofs.Readings.{one_reading_lem, refused_lem, has_digits_lem}
+use Rattle.gpkt.proofs.Readings.{one_reading_lem, refused_lem, has_four_bytes_lem}
 
 -- ---- one outcome
 
@@ -125,11 +125,11 @@ one_outcome_lem old new after (Ok (Some line)) (Ok (Some other)) (front, split, 
     let same = one_reading_lem line other front next new after spelt read (sym split ∙ parted) in
     (ap (λ l. Ok (Some l)) same.0, same.2)
 one_outcome_lem old new after (Ok (Some line)) (Ok None) (front, split, spelt) h fits also =
-    no_bytes old (line_has_bytes line old front new split (has_digits_lem line front spelt)) h.0
+    no_bytes old (line_has_bytes line old front new split (has_four_bytes_lem line front spelt)) h.0
 one_outcome_lem old new after (Ok (Some line)) (Err fault) (front, split, spelt) h fits also =
     absurd (refused_lem fault line old front new (fault_of_bytes fault old after h also).0 (sym split) spelt)
 one_outcome_lem old new after (Ok None) (Ok (Some line)) h (front, split, spelt) fits also =
-    no_bytes old (line_has_bytes line old front after split (has_digits_lem line front spelt)) h.0
+    no_bytes old (line_has_bytes line old front after split (has_four_bytes_lem line front spelt)) h.0
 one_outcome_lem old new after (Ok None) (Ok None) h k fits also = (refl, h.1 ∙ sym k.1)
 one_outcome_lem old new after (Ok None) (Err fault) h k fits also =
     no_bytes old (some_bytes fault old (fault_of_bytes fault old after k also).0) h.0

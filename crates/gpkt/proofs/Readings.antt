@@ -11,7 +11,7 @@ use Rattle.gpkt.specs.declared.fault.LineFault.{LineFault}
 use Rattle.gpkt.specs.declared.fault.LineFault.TheVariants.{BadDigits, Reserved, TooLong, Truncated, Io, Failed, Memory}
 use Rattle.gpkt.specs.Packets.{Packet, Data, Flush, Delim, ResponseEnd, Spells, SpellsAll, number_in, number_of, digits_of, canonical, canonical_all, payload_of, max_payload}
 use Rattle.gpkt.specs.LineReading.{NoLine}
-use Rattle.gpkt.specs.Laws.{OneReading, RefusedIsNoLine, HasDigits, Fits, CanonicalSpells, CanonicalSpellsAll, CanonicalJoins, SpellingsJoin, SpellingsSplit, BeginsWith, OneBegins}
+use Rattle.gpkt.specs.Laws.{OneReading, RefusedIsNoLine, HasFourBytes, Fits, CanonicalSpells, CanonicalSpellsAll, CanonicalJoins, SpellingsJoin, SpellingsSplit, BeginsWith, OneBegins}
 
 -- ---- lists
 
@@ -122,8 +122,8 @@ parts_same line other front next rest after p q same =
 pub one_reading_lem : OneReading
 one_reading_lem line other front next rest after s t same = parts_same line other front next rest after (parts_of line front s) (parts_of other next t) same
 
-pub has_digits_lem : HasDigits
-has_digits_lem line bytes s =
+pub has_four_bytes_lem : HasFourBytes
+has_four_bytes_lem line bytes s =
     let p = parts_of line bytes s in
     let len : length bytes ≡ length p.digits + length (payload_of line) = ap length p.split ∙ length-append p.digits (payload_of line) in
     let four = p.four in omega arith

@@ -1,8 +1,9 @@
 -- Side bands (gitprotocol-pack(5), "Packfile Data"; gitprotocol-v2(5), "fetch", "packfile"): the first byte
 -- of a payload says what the others are.
-use Rattle.std.specs.Prelude.{◌≡◌, ℕ, List, [], ◌∷◌, if◌then◌else◌, ◌==◌, Result, Ok, Err}
+use Rattle.std.specs.Prelude.{◌≡◌, ℕ, ◌-◌, ◌≤◌, ◌↔◌, List, [], ◌∷◌, length, if◌then◌else◌, ◌==◌, Result, Ok, Err}
 use Rattle.gpkt.specs.declared.fault.BandFault.{BandFault}
 use Rattle.gpkt.specs.declared.fault.BandFault.TheVariants.{NoBand, BadBand}
+use Rattle.gpkt.specs.Packets.{max_payload}
 use Rattle.gpkt.specs.declared.band.Band.{Band}
 use Rattle.gpkt.specs.declared.band.Band.TheVariants as lent
 
@@ -21,6 +22,16 @@ progress_band = 2
 
 abbrev pub fatal_band : ℕ
 fatal_band = 3
+
+-- the most bytes of a packet on a band, whose byte comes before them
+abbrev pub max_band : ℕ
+max_band = max_payload - 1
+
+-- the bytes of a packet on a band
+abbrev pub band_bytes : BandPacket → List ℕ
+band_bytes (Data bytes) = bytes
+band_bytes (Progress bytes) = bytes
+band_bytes (Fatal bytes) = bytes
 
 -- the payload of a packet on a band
 abbrev pub band_payload : BandPacket → List ℕ
@@ -56,3 +67,7 @@ BandIsRead = (band : BandPacket) → band_form (band_payload band) ≡ Ok band
 
 abbrev pub BandIsPayload : Type 0
 BandIsPayload = (payload : List ℕ) (band : BandPacket) → band_form payload ≡ Ok band → payload ≡ band_payload band
+
+-- a line can carry the payload exactly where its bytes are few enough for a band
+abbrev pub BandFits : Type 0
+BandFits = (band : BandPacket) → (length (band_bytes band) ≤ max_band) ↔ (length (band_payload band) ≤ max_payload)

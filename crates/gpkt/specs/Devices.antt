@@ -20,6 +20,7 @@ pub record Device (X : Type 0) : Type 0 where
   pub inner : X
   pub down : Bool
 
+-- a device is its two parts, which the checker of clauses asks for
 abbrev pub device_code : {X : Type 0} → Coded X → Coded (Device X)
 device_code {X} code =
     code_by (X × Bool) (coded× code coded_bool) (λ d. (d.inner, d.down))
@@ -32,9 +33,11 @@ pub record Written : Type 0 where
   pub flushes : ℕ
   pub down : Bool
 
+-- bytes are a list of numbers
 abbrev pub bytes_code : Coded (List ℕ)
 bytes_code = coded_list coded_ℕ
 
+-- a sink in memory is its four parts
 abbrev pub written_code : Coded Written
 written_code =
     code_by (List ℕ × (List ℕ × (ℕ × Bool))) (coded× bytes_code (coded× bytes_code (coded× coded_ℕ coded_bool)))

@@ -8,13 +8,14 @@ use Rattle.gpkt.specs.declared.fault.LineFault.{LineFault}
 use Rattle.gpkt.specs.declared.fault.LineFault.TheVariants.{BadDigits, Reserved, TooLong, Truncated, Io, Failed, Memory}
 use Rattle.gpkt.specs.Change.{Change}
 use Rattle.gpkt.specs.Packets.{Packet, Data, Flush, Delim, ResponseEnd, digit_count, max_packet, max_payload, number_of}
+use Rattle.gpkt.specs.Packets.{flush_len, delim_len, response_end_len, reserved_len}
 
 -- the number that announces the head
 abbrev pub announced_of : Head → ℕ
 announced_of (head.Data len) = len + digit_count
-announced_of head.Flush = 0
-announced_of head.Delim = 1
-announced_of head.ResponseEnd = 2
+announced_of head.Flush = flush_len
+announced_of head.Delim = delim_len
+announced_of head.ResponseEnd = response_end_len
 
 -- how many bytes follow the digits
 abbrev pub payload_len : Head → ℕ
@@ -28,6 +29,7 @@ packet_in buffer head.Flush = Flush
 packet_in buffer head.Delim = Delim
 packet_in buffer head.ResponseEnd = ResponseEnd
 
+-- the result of a read whose payload stands at the front of the buffer
 abbrev pub read_in : List ℕ → Result (Option Head) LineFault → Result (Option Packet) LineFault
 read_in buffer (Ok found) = Ok (option_map (packet_in buffer) found)
 read_in buffer (Err fault) = Err fault
@@ -40,7 +42,7 @@ Announces digits found = (number_of digits ≡ Some (announced_of found)) × (pa
 abbrev pub Classifies : List ℕ → Result Head LineFault → Type 0
 Classifies digits (Ok found) = Announces digits found
 Classifies digits (Err BadDigits) = number_of digits ≡ None
-Classifies digits (Err Reserved) = number_of digits ≡ Some 3
+Classifies digits (Err Reserved) = number_of digits ≡ Some reserved_len
 Classifies digits (Err TooLong) = (announced : ℕ) × (number_of digits ≡ Some announced) × (max_packet < announced)
 Classifies digits (Err _) = ⊥
 

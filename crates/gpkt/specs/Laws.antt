@@ -50,9 +50,9 @@ abbrev pub EveryFront : Type 0
 EveryFront =
     (bytes : List ℕ) → (bytes ≡ []) ⊎ (SpellsAtFront bytes ⊎ ((fault : LineFault) × NoLine fault bytes))
 
--- a spelling has four bytes at least
-abbrev pub HasDigits : Type 0
-HasDigits = (line : Packet) (bytes : List ℕ) → Spells line bytes → digit_count ≤ length bytes
+-- a spelling has at least four bytes
+abbrev pub HasFourBytes : Type 0
+HasFourBytes = (line : Packet) (bytes : List ℕ) → Spells line bytes → digit_count ≤ length bytes
 
 -- a line can carry it
 abbrev pub Fits : Packet → Type 0
@@ -117,6 +117,7 @@ ReadsJoin =
     → ReadsLines (record { old = mid; new = new }) more → ReadsLines (record { old = old; new = new }) (lines ++ more)
 
 module _ {W : Type 0} (contents_of passed_on_of : W → Option (List ℕ)) (is_down : W → Bool) (seat_of : W → List ℕ) where
+  -- one call of a writer that was to write the bytes
   abbrev pub Writes : Writer W → Writer W → Result Unit WriteFault → List ℕ → Type 0
   Writes old new result bytes = HasWritten contents_of passed_on_of is_down seat_of old new result bytes
 

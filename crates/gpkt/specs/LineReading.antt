@@ -6,13 +6,14 @@ use Rattle.gpkt.specs.declared.line.Line.{Line}
 use Rattle.gpkt.specs.declared.fault.LineFault.{LineFault}
 use Rattle.gpkt.specs.declared.fault.LineFault.TheVariants.{BadDigits, Reserved, TooLong, Truncated, Io, Failed, Memory}
 use Rattle.gpkt.specs.Change.{Change, WhereKnown, change_of}
-use Rattle.gpkt.specs.Packets.{Packet, Spells, SpellsAll, digit_count, max_packet, number_of, packet_of}
+use Rattle.gpkt.specs.Packets.{Packet, Spells, SpellsAll, digit_count, max_packet, number_of, packet_of, reserved_len}
 
 -- a reader: its source, and whether a call of it has failed
 pub record Reader (S : Type 0) : Type 0 where
   pub source : S
   pub failed : Bool
 
+-- a reader is its two parts, which the checker of clauses asks for
 abbrev pub reader_code : {S : Type 0} → Coded S → Coded (Reader S)
 reader_code {S} code =
     code_by (S × Bool) (coded× code coded_bool) (λ r. (r.source, r.failed))
@@ -31,7 +32,7 @@ IsPartialLine bytes =
 -- no line is spelt at the front of the bytes, which are all that is left, for this reason
 abbrev pub NoLine : LineFault → List ℕ → Type 0
 NoLine BadDigits bytes = (digit_count ≤ length bytes) × (number_of (take digit_count bytes) ≡ None)
-NoLine Reserved bytes = AnnouncesAtFront bytes 3
+NoLine Reserved bytes = AnnouncesAtFront bytes reserved_len
 NoLine TooLong bytes = (announced : ℕ) × AnnouncesAtFront bytes announced × (max_packet < announced)
 NoLine Truncated bytes = (0 < length bytes) × IsPartialLine bytes
 NoLine Io bytes = ⊥

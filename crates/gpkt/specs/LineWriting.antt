@@ -12,6 +12,7 @@ pub record Writer (W : Type 0) : Type 0 where
   pub sink : W
   pub failed : Bool
 
+-- a writer is its two parts, which the checker of clauses asks for
 abbrev pub writer_code : {W : Type 0} → Coded W → Coded (Writer W)
 writer_code {W} code =
     code_by (W × Bool) (coded× code coded_bool) (λ w. (w.sink, w.failed))
@@ -36,6 +37,7 @@ module _ {W : Type 0} (contents_of passed_on_of : W → Option (List ℕ)) (is_d
   abbrev pub passed_on_by : Writer W → Writer W → Change
   passed_on_by old new = change_of passed_on_of old.sink new.sink
 
+  -- what a call that was to write the bytes did, by its result
   abbrev pub Wrote : Writer W → Writer W → Result Unit WriteFault → List ℕ → Type 0
   Wrote old new (Ok done) bytes = SetsWriter old new false × Appends (contents_of old.sink) (contents_of new.sink) bytes
   Wrote old new (Err Io) bytes = SetsWriter old new true × AppendsFront (written_by old new) bytes
@@ -48,6 +50,7 @@ module _ {W : Type 0} (contents_of passed_on_of : W → Option (List ℕ)) (is_d
     pub passed_on : Keeps (passed_on_of old.sink) (passed_on_of new.sink)
     pub seat : seat_of new.sink ≡ seat_of old.sink
 
+  -- what a call that was to pass on all that was written did, by its result
   abbrev pub Pushed : Writer W → Writer W → Result Unit WriteFault → Type 0
   Pushed old new (Ok done) = SetsWriter old new false × PassesAll (contents_of new.sink) (passed_on_by old new)
   Pushed old new (Err Io) = SetsWriter old new true

@@ -1,5 +1,5 @@
 -- Packet lines, and how bytes spell them (gitprotocol-common(5), "pkt-line Format").
-use Rattle.std.specs.Prelude.{◌≡◌, ℕ, ◌+◌, ◌*◌, ◌≤◌, List, [], ◌∷◌, ◌++◌, length, codes}
+use Rattle.std.specs.Prelude.{◌≡◌, ℕ, ◌+◌, ◌-◌, ◌*◌, ◌≤◌, List, [], ◌∷◌, ◌++◌, length, codes}
 use Rattle.std.specs.Prelude.{Option, Some, None, Result, Ok, Err}
 use Rattle.std.specs.Int.{w16, to_be_bytes}
 use Rattle.std.specs.Io.BufRead.{strip_last}
@@ -25,7 +25,25 @@ max_packet = 65520
 
 -- the most bytes of a payload
 abbrev pub max_payload : ℕ
-max_payload = 65516
+max_payload = max_packet - digit_count
+
+-- what the digits announce where they are not the length of a data line
+abbrev pub flush_len : ℕ
+flush_len = 0
+
+abbrev pub delim_len : ℕ
+delim_len = 1
+
+abbrev pub response_end_len : ℕ
+response_end_len = 2
+
+-- which no line has
+abbrev pub reserved_len : ℕ
+reserved_len = 3
+
+-- how many values a byte has
+abbrev pub byte_values : ℕ
+byte_values = 256
 
 -- LF
 abbrev pub line_feed : ℕ
@@ -33,7 +51,7 @@ line_feed = 10
 
 -- the number of two bytes, the high one first
 abbrev pub number_in : Result (List ℕ) FromHexError → Option ℕ
-number_in (Ok (high ∷ low ∷ [])) = Some (high * 256 + low)
+number_in (Ok (high ∷ low ∷ [])) = Some (high * byte_values + low)
 number_in (Ok _) = None
 number_in (Err e) = None
 
@@ -46,9 +64,9 @@ abbrev pub Spells : Packet → List ℕ → Type 0
 Spells (Data payload) bytes =
     (digits : List ℕ) × (bytes ≡ digits ++ payload) × (number_of digits ≡ Some (length payload + digit_count))
     × (length payload ≤ max_payload)
-Spells Flush bytes = number_of bytes ≡ Some 0
-Spells Delim bytes = number_of bytes ≡ Some 1
-Spells ResponseEnd bytes = number_of bytes ≡ Some 2
+Spells Flush bytes = number_of bytes ≡ Some flush_len
+Spells Delim bytes = number_of bytes ≡ Some delim_len
+Spells ResponseEnd bytes = number_of bytes ≡ Some response_end_len
 
 -- the bytes are the spellings of the lines, one after the other
 abbrev pub SpellsAll : List Packet → List ℕ → Type 0
@@ -67,6 +85,7 @@ canonical Flush = codes "0000"
 canonical Delim = codes "0001"
 canonical ResponseEnd = codes "0002"
 
+-- the canonical spellings of the lines, one after the other
 abbrev pub canonical_all : List Packet → List ℕ
 canonical_all [] = []
 canonical_all (line ∷ lines) = canonical line ++ canonical_all lines

@@ -9,7 +9,7 @@ ghost use Rattle.gpkt.specs.Heads.{Classifies, ConsumesBelow, IsNewFault, ReadsH
 
 use crate::device::{Down, Source};
 use crate::fault::LineFault;
-use crate::line::{DIGITS, Line, MAX_PACKET};
+use crate::line::{DELIM, DIGITS, FLUSH, Line, MAX_PACKET, RESERVED, RESPONSE_END};
 
 /// What the four digits of a line announce.
 #[derive(Clone, Copy)]
@@ -63,10 +63,10 @@ fn classify(digits: &[u8]) -> Result<Head, LineFault>
 {
     match number(digits) {
         None => Err(LineFault::BadDigits),
-        Some(0) => Ok(Head::Flush),
-        Some(1) => Ok(Head::Delim),
-        Some(2) => Ok(Head::ResponseEnd),
-        Some(3) => Err(LineFault::Reserved),
+        Some(FLUSH) => Ok(Head::Flush),
+        Some(DELIM) => Ok(Head::Delim),
+        Some(RESPONSE_END) => Ok(Head::ResponseEnd),
+        Some(RESERVED) => Err(LineFault::Reserved),
         Some(announced) => {
             let announced = usize::from(announced);
             if announced > MAX_PACKET {

@@ -1,7 +1,7 @@
 //! Laws of packet lines. A call does nothing, and gives its caller's proof the law.
 
-ghost use Rattle.gpkt.specs.Bands.{BandIsPayload, BandIsRead};
-ghost use Rattle.gpkt.specs.Laws.{CanonicalJoins, CanonicalSpells, CanonicalSpellsAll, EveryFront, FailsOfMore, HasDigits, OneBegins, OneFault, OneOutcome, OneReading, PushesWritten, ReadsJoin, ReadsNext, ReadsNone, RefusedIsNoLine, SpellingsJoin, SpellingsSplit, TextOfLine, TextOrLine, WritesJoin};
+ghost use Rattle.gpkt.specs.Bands.{BandFits, BandIsPayload, BandIsRead};
+ghost use Rattle.gpkt.specs.Laws.{CanonicalJoins, CanonicalSpells, CanonicalSpellsAll, EveryFront, FailsOfMore, HasFourBytes, OneBegins, OneFault, OneOutcome, OneReading, PushesWritten, ReadsJoin, ReadsNext, ReadsNone, RefusedIsNoLine, SpellingsJoin, SpellingsSplit, TextOfLine, TextOrLine, WritesJoin};
 
 use crate::device::Sink;
 
@@ -27,9 +27,9 @@ pub fn every_front()
     ensures { EveryFront }
 {}
 
-/// A spelling has four bytes at least.
-pub fn has_digits()
-    ensures { HasDigits }
+/// A spelling has at least four bytes.
+pub fn has_four_bytes()
+    ensures { HasFourBytes }
 {}
 
 /// What is written is a spelling of the line, and of the lines.
@@ -56,10 +56,12 @@ pub fn text_reads_back()
     ensures nothing_else { TextOrLine }
 {}
 
-/// A payload is read as a band exactly where it is that band's byte and bytes.
+/// A payload is read as a band exactly where it is that band's byte and bytes, and a line can carry
+/// it exactly where the bytes are few enough.
 pub fn bands_are_read()
     ensures payload { BandIsRead }
     ensures nothing_else { BandIsPayload }
+    ensures fits { BandFits }
 {}
 
 /// Lines that are read one after the other are a list of lines that is read.

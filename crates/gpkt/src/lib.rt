@@ -27,8 +27,9 @@
 //! - [`write_all`] writes all of the bytes, or a beginning of them where the sink goes down.
 //! - Bytes spell at most one line at their front, in one way; where reading is refused they spell
 //!   none, and for one reason; what is written is a spelling; of two lists of lines at the front of
-//!   the same bytes one begins the other; a payload is of a band exactly where it is that band's byte
-//!   and bytes ([`laws`]).
+//!   the same bytes one begins the other; bytes are empty, or spell a line at their front, or have a
+//!   reason why not, and are read in one way; lines read, and bytes written, one after the other join;
+//!   a payload is of a band exactly where it is that band's byte and bytes ([`laws`]).
 //! - The number and the name of each fault (`specs/Faults.antt`).
 //!
 //! # Only tested
@@ -37,17 +38,20 @@
 //!   passes a flush on.
 //! - A device's call is made once and not tried again, of whatever kind its error is; how many calls
 //!   are made, and how many bytes each asks for.
-//! - How [`memory::Hindered`] hinders, and how often a [`memory::VecSink`] says that it was flushed.
+//! - How [`memory::Limited`] hinders, and how often a [`memory::VecSink`] says that it was flushed.
 //! - The texts of the faults, and that memory is found where there is some.
 //!
 //! # What a body can still get away with
 //!
 //! A device that is always down; a source that gives a byte a call, and a sink that takes one; a
-//! buffer that is never made; another text for a fault.
+//! buffer that is never made; another text for a fault. A sink that passes bytes on at once says that
+//! it is not known which were passed on, since a write keeps what is known. After a flush that failed
+//! nothing is said of what was passed on.
 //!
 //! # Stands on
 //!
-//! `hex` for the digits, `thiserror` for the texts of the faults, std's `Read` and `Write`.
+//! `hex` for the digits, `thiserror` for the texts of the faults, std's `Read` and `Write`; in the
+//! tests `bumpalo`, for memory that ends.
 #![tactic(auto)]
 
 mod band;

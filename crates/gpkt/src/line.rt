@@ -3,6 +3,16 @@
 /// How many bytes the digits of a packet line have.
 pub(crate) const DIGITS: usize = 4;
 
+/// What the digits announce where they are not the length of a data line.
+pub(crate) const FLUSH: u16 = 0;
+
+pub(crate) const DELIM: u16 = 1;
+
+pub(crate) const RESPONSE_END: u16 = 2;
+
+/// Which no line has.
+pub(crate) const RESERVED: u16 = 3;
+
 /// The most bytes that a packet line has, its four digits counted.
 pub const MAX_PACKET: usize = 65_520;
 

@@ -174,14 +174,14 @@ impl<A: Allocator + Copy> Sink for VecSink<A> {
 /// How many bytes, and which call, is only tested: a clause sees the device inside and whether this
 /// one has failed.
 #[derive(Drop)]
-pub struct Hindered<D> {
+pub struct Limited<D> {
     device: D,
     most: usize,
     calls_left: Option<usize>,
     down: Latch,
 }
 
-impl<D> Model for Hindered<D> {
+impl<D> Model for Limited<D> {
     ghost use Rattle.gpkt.specs.Devices.{Device, device_code};
 
     ghost Value = { Device D };
@@ -191,13 +191,13 @@ impl<D> Model for Hindered<D> {
     ghost view = { λ h. record { inner = h.device; down = h.down } };
 }
 
-impl<D> Hindered<D> {
+impl<D> Limited<D> {
     /// The device with no hindrance yet.
-    pub fn new(device: D) -> Hindered<D>
+    pub fn new(device: D) -> Limited<D>
         ensures inner { result.inner ≡ device }
         ensures down { result.down ≡ false }
     {
-        Hindered {
+        Limited {
             device,
             most: usize::MAX,
             calls_left: None,
@@ -206,7 +206,7 @@ impl<D> Hindered<D> {
     }
 
     /// Moves at most so many bytes a call, and one at least.
-    pub fn with_most(mut self, most: usize) -> Hindered<D>
+    pub fn with_most(mut self, most: usize) -> Limited<D>
         ensures { result ≡ self }
     {
         self.most = most.max(1);
@@ -214,7 +214,7 @@ impl<D> Hindered<D> {
     }
 
     /// Reads or writes so often, and fails at the next read or write.
-    pub fn failing_after(mut self, calls: usize) -> Hindered<D>
+    pub fn failing_after(mut self, calls: usize) -> Limited<D>
         ensures { result ≡ self }
     {
         self.calls_left = Some(calls);
@@ -225,7 +225,7 @@ impl<D> Hindered<D> {
     pub fn into_inner(self) -> D
         ensures { result ≡ self.inner }
     {
-        let Hindered {
+        let Limited {
             device,
             most: _,
             calls_left: _,
@@ -247,7 +247,7 @@ fn goes_on(calls_left: &mut Option<usize>) -> bool {
     }
 }
 
-impl<S: Source> Source for Hindered<S> {
+impl<S: Source> Source for Limited<S> {
     ghost remaining = { λ h. S.remaining h.inner };
 
     ghost is_down = { λ h. h.down };
@@ -266,7 +266,7 @@ impl<S: Source> Source for Hindered<S> {
     }
 }
 
-impl<W: Sink> Sink for Hindered<W> {
+impl<W: Sink> Sink for Limited<W> {
     ghost contents = { λ h. W.contents h.inner };
 
     ghost passed_on = { λ h. W.passed_on h.inner };

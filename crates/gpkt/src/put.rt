@@ -12,7 +12,7 @@ use crate::line::{DIGITS, MAX_PAYLOAD};
 /// Writes all of the bytes, in as many calls of the sink as it takes; none, where there are no bytes.
 ///
 /// At an error a beginning of the bytes stands written, and the sink is down. What was written may
-/// still be held back: [`Sink::flush`] passes it on.
+/// still be held back: [`Sink::flush`] passes it on. A sink that was down stays down.
 pub fn write_all<W: Sink>(sink: &mut W, bytes: &[u8]) -> Result<(), Down>
     ensures ok { OnOk result (Appends (W.contents sink.old) (W.contents sink.new) bytes.now) }
     ensures err { OnErr result
@@ -20,6 +20,7 @@ pub fn write_all<W: Sink>(sink: &mut W, bytes: &[u8]) -> Result<(), Down>
     ensures passed_on { Keeps (W.passed_on sink.old) (W.passed_on sink.new) }
     ensures asked { 0 < length bytes.now → W.is_down sink.new ≡ is_err result }
     ensures up { W.is_down sink.old ≡ false → W.is_down sink.new ≡ is_err result }
+    ensures stays_down { W.is_down sink.old ≡ true → W.is_down sink.new ≡ true }
     ensures seat { W.seat sink.new ≡ W.seat sink.old }
 {
     let mut rest = bytes;

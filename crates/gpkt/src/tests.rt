@@ -2,5 +2,6 @@
 mod calls;
 mod devices;
 mod faults;
+mod memory;
 mod reading;
 mod writing;

@@ -1,7 +1,7 @@
 //! Writing lines.
 
 ghost use Rattle.std.specs.Prelude.{◌≡◌, ◌≢◌, ◌<◌, ◌≤◌, ◌↔◌, ◌++◌, [], ◌∷◌, true, false, length, codes, IfErr, IsErrOf};
-ghost use Rattle.gpkt.specs.Bands.{band_packet, band_payload};
+ghost use Rattle.gpkt.specs.Bands.{band_bytes, band_packet, band_payload, max_band};
 ghost use Rattle.gpkt.specs.Packets.{canonical, line_feed, max_payload, Packet};
 ghost use Rattle.gpkt.specs.Packets as packets;
 ghost use Rattle.gpkt.specs.LineWriting.{HasWritten, HasPushed};
@@ -92,7 +92,7 @@ impl<W: Sink> LineWriter<W> {
         ensures written { HasWritten W.contents W.passed_on W.is_down W.seat self.old self.new result
             (canonical (packets.Data (band_payload (band_packet band.now)))) }
         ensures too_long { IsErrOf result WriteFault.Payload
-            ↔ ((self.old.failed ≡ false) × (max_payload < length (band_payload (band_packet band.now)))) }
+            ↔ ((self.old.failed ≡ false) × (max_band < length (band_bytes (band_packet band.now)))) }
     {
         let (first, bytes) = band.parts();
         self.put_parts(&[first], bytes, b"")
@@ -181,12 +181,11 @@ impl<W: Sink> LineWriter<W> {
         if self.failed {
             return Err(WriteFault::Failed);
         }
-        match put_line(&mut self.sink, digits, first, second, end) {
+        let written = put_line(&mut self.sink, digits, first, second, end);
+        self.failed = written.is_err();
+        match written {
             Ok(()) => Ok(()),
-            Err(_) => {
-                self.failed = true;
-                Err(WriteFault::Io)
-            }
+            Err(_) => Err(WriteFault::Io),
         }
     }
 }

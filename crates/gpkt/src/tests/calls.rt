@@ -1,7 +1,7 @@
-use crate::memory::{Hindered, SliceSource, VecSink};
+use crate::memory::{Limited, SliceSource, VecSink};
 use crate::{
-    Band, BandFault, Down, Line, LineBuffer, LineReader, LineWriter, MAX_PAYLOAD, Sink, WriteFault,
-    band_of, laws, text_of, write_all,
+    Band, BandFault, Down, Line, LineBuffer, LineReader, LineWriter, MAX_BAND, MAX_PACKET,
+    MAX_PAYLOAD, Sink, WriteFault, band_of, laws, text_of, write_all,
 };
 use std::alloc::Global;
 use std::process::Abort;
@@ -14,9 +14,19 @@ const SECOND_LENGTHS: &[usize] = &[
     0, 1, 2, 3, 4, 5, 65_510, 65_511, 65_513, 65_514, 65_515, 65_516, 65_517,
 ];
 
+// The most bytes of a payload.
+const MOST_PAYLOAD: usize = 65_516;
+
+#[test]
+fn limits_are_the_manuals(rt: HostRuntime) {
+    assert_eq!(rt; MAX_PACKET, 65_520);
+    assert_eq!(rt; MAX_PAYLOAD, 65_516);
+    assert_eq!(rt; MAX_BAND, 65_515);
+}
+
 // What a call answers whose payload has so many bytes.
 fn answer_for(len: usize) -> Result<(), WriteFault> {
-    if len > MAX_PAYLOAD {
+    if len > MOST_PAYLOAD {
         Err(WriteFault::Payload)
     } else {
         Ok(())
@@ -34,7 +44,7 @@ fn check_lines(
     let sink = writer.into_inner();
     assert_eq!(rt; sink.passed_on(), sink.written());
     let mut reader = LineReader::new(alloc, SliceSource::new(sink.written()))?;
-    if payload.len() <= MAX_PAYLOAD {
+    if payload.len() <= MOST_PAYLOAD {
         for _ in 0..lines {
             assert_eq!(rt; reader.next()?, Some(Line::Data(payload)));
         }
@@ -134,7 +144,7 @@ const MOST: &[usize] = &[1, 2, 3, 100];
 #[test]
 fn all_bytes_are_written(rt: HostRuntime) -> Result<(), Fail> {
     for most in MOST {
-        let mut sink = Hindered::new(VecSink::new(rt.alloc())).with_most(*most);
+        let mut sink = Limited::new(VecSink::new(rt.alloc())).with_most(*most);
         write_all(&mut sink, b"")?;
         write_all(&mut sink, b"report")?;
         sink.flush()?;
@@ -152,7 +162,7 @@ fn all_bytes_are_written(rt: HostRuntime) -> Result<(), Fail> {
 fn beginning_stands_written(rt: HostRuntime) {
     let bytes = b"report";
     for calls in 0..bytes.len() {
-        let sink = Hindered::new(VecSink::new(rt.alloc()));
+        let sink = Limited::new(VecSink::new(rt.alloc()));
         let mut sink = sink.with_most(1).failing_after(calls);
         assert_eq!(rt; write_all(&mut sink, bytes), Err(Down), "at {calls}");
         assert_eq!(rt; write_all(&mut sink, bytes), Err(Down), "at {calls}");
@@ -167,7 +177,7 @@ fn beginning_stands_written(rt: HostRuntime) {
 fn laws_can_be_called() {
     laws::one_reading();
     laws::refused_front();
-    laws::has_digits();
+    laws::has_four_bytes();
     laws::canonical_spells();
     laws::spellings_join();
     laws::one_begins();

@@ -1,4 +1,4 @@
-use crate::memory::{Hindered, SliceSource};
+use crate::memory::{Limited, SliceSource};
 use crate::{Line, LineFault, LineReader, MAX_PAYLOAD, Source, text_of};
 use std::alloc::{AllocError, Global};
 use std::process::Abort;
@@ -41,7 +41,7 @@ type Case = (&'static [u8], &'static [u8], usize);
 fn check(rt: &impl Abort, alloc: Global, cases: &[Case], most: usize) -> Result<(), Fail> {
     for (input, expected, left) in cases {
         let mut out = Vec::new(alloc);
-        let source = Hindered::new(SliceSource::new(input)).with_most(most);
+        let source = Limited::new(SliceSource::new(input)).with_most(most);
         let source = transcript(alloc, source, &mut out)?;
         assert_eq!(rt; out.as_slice(), *expected);
         assert_eq!(rt; source.into_inner().rest().len(), *left);
@@ -102,7 +102,7 @@ fn longest_line_is_read(rt: HostRuntime) -> Result<(), Fail> {
     input[3] = b'0';
     for most in [1, 1000, 100_000] {
         let mut out = Vec::new(rt.alloc());
-        let source = Hindered::new(SliceSource::new(input.as_slice())).with_most(most);
+        let source = Limited::new(SliceSource::new(input.as_slice())).with_most(most);
         transcript(rt.alloc(), source, &mut out)?;
         assert_eq!(rt; out.len(), 5 + MAX_PAYLOAD + 5);
         assert!(rt; out.as_slice().ends_with(b"ff;end;"));
@@ -116,7 +116,7 @@ fn failing_reads_are_reported(rt: HostRuntime) -> Result<(), Fail> {
     let input = b"0006a\n0000";
     for calls in 0..11 {
         let mut out = Vec::new(rt.alloc());
-        let source = Hindered::new(SliceSource::new(input));
+        let source = Limited::new(SliceSource::new(input));
         let source = source.with_most(1).failing_after(calls);
         let source = transcript(rt.alloc(), source, &mut out)?;
         let expected: &[u8] = match calls {

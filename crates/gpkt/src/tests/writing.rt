@@ -1,4 +1,4 @@
-use crate::memory::{Hindered, VecSink};
+use crate::memory::{Limited, VecSink};
 use crate::{LineWriter, MAX_PAYLOAD, Sink, WriteFault};
 use std::test::Fail;
 
@@ -27,7 +27,7 @@ fn write_each<W: Sink>(writer: &mut LineWriter<W>) -> Result<(), WriteFault> {
 #[test]
 fn lines_are_written(rt: HostRuntime) -> Result<(), Fail> {
     for most in MOST {
-        let mut sink = Hindered::new(VecSink::new(rt.alloc())).with_most(*most);
+        let mut sink = Limited::new(VecSink::new(rt.alloc())).with_most(*most);
         let mut writer = LineWriter::new(&mut sink);
         write_each(&mut writer)?;
         writer.put2(b"", b"0123456789")?;
@@ -61,7 +61,7 @@ fn long_payloads_are_refused(rt: HostRuntime) -> Result<(), Fail> {
 #[test]
 fn failing_writes_are_reported(rt: HostRuntime) -> Result<(), Fail> {
     for calls in 0..EACH.len() {
-        let mut sink = Hindered::new(VecSink::new(rt.alloc()))
+        let mut sink = Limited::new(VecSink::new(rt.alloc()))
             .with_most(1)
             .failing_after(calls);
         let mut writer = LineWriter::new(&mut sink);

@@ -1,4 +1,5 @@
 use Rattle.std.proofs.Common.{◌++◌, take, rules}
+use Rattle.std.proofs.lemmas.Bool.{false≢true}
 use Rattle.std.proofs.KnownBytes.{Appends-trans, Keeps-trans}
 use Rattle.gpkt.proofs.Pieces.{split_more}
 use Rattle.gpkt.proofs.put.write_all.Goals as goal
@@ -13,5 +14,6 @@ loop-rest-preserved g c =
       passed_on = Keeps-trans _ _ _ c.loop-rest.invariant.passed_on c.in-Ok.ensures.passed_on;
       asked = λ h. c.in-Ok.ensures.down;
       up = λ h. c.in-Ok.ensures.down;
+      stays = λ h. absurd (false≢true (c.in-Ok.ensures.stays_down (c.loop-rest.invariant.stays h)));
       same_seat = search rules;
     }

@@ -1,4 +1,4 @@
-use Rattle.std.proofs.Common.{◌≡◌, ◌<◌, ℕ, List, ◌++◌, false, length}
+use Rattle.std.proofs.Common.{◌≡◌, ◌<◌, ℕ, List, ◌++◌, false, true, length}
 use Rattle.std.specs.Io.KnownBytes.{Appends, Keeps}
 use Rattle.gpkt.proofs.put.write_all.Given as goal
 
@@ -8,6 +8,7 @@ invariant-loop-rest g l = record {
   passed_on : Keeps (g.W.Sink.passed_on l.initial.sink) (g.W.Sink.passed_on l.sink);
   asked : length l.rest < length l.initial.rest → g.W.Sink.is_down l.sink ≡ false;
   up : g.W.Sink.is_down l.initial.sink ≡ false → g.W.Sink.is_down l.sink ≡ false;
+  stays : g.W.Sink.is_down l.initial.sink ≡ true → g.W.Sink.is_down l.sink ≡ true;
   same_seat : g.W.Sink.seat l.sink ≡ g.W.Sink.seat l.initial.sink;
 }
 
