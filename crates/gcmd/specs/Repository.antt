@@ -18,12 +18,6 @@ use Rattle.gcmd.specs.declared.repository.RepoFile.{RepoFile}
 use Rattle.gcmd.specs.declared.repository.RepoFault.{RepoFault}
 use Rattle.gcmd.specs.declared.repository.RepoFault.TheVariants.{Text, ParentLater, RefMissing, Memory}
 
-abbrev pub repo_fault_code : {A : Type 0} → RepoFault A → ℕ
-repo_fault_code (Text line) = 67
-repo_fault_code (ParentLater line) = 68
-repo_fault_code (RefMissing name) = 71
-repo_fault_code Memory = 64
-
 -- the text is that of the repository, with parents before their children
 abbrev pub Names : {A : Type 0} → List ℕ → Repository A → Type 0
 Names text repo =

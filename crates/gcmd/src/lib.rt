@@ -33,8 +33,8 @@
 //!
 //! # What a body can still get away with
 //!
-//! A call that takes memory can answer that there is none, whatever there is. Where an output's bytes are
-//! not known, anything can be written to it that its contracts on failure and status allow. How often a
+//! A call that takes memory can answer that there is none, whatever there is. Of an output whose
+//! bytes are not known no clause says what is written to it; but one body serves every output. How often a
 //! device is called is not said, nor how long anything takes.
 //!
 //! # Stands on

@@ -7,7 +7,8 @@
 //!
 //! # Only tested
 //!
-//! What the words mean (`words.rt`), and one run (`args`, `stdin`, `stdout`, `data/`).
+//! What the words mean (`words.rt`), and one run of `ls` (`args`, `stdin`, `stdout`, `data/`). The other
+//! runs are tried by hand: no test sees which function `run` calls for `check`, or what a missing file gives.
 //!
 //! # What a body can still get away with
 //!

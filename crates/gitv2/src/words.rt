@@ -61,29 +61,34 @@ mod tests {
     use super::*;
     use std::test::Fail;
 
-    // The file that the words name, where they are a line of the usage.
-    fn file_in(alloc: Global, line: &str) -> Result<Option<String>, AllocError> {
+    // The command and the file that the words name, where they are a line of the usage.
+    fn command_in(alloc: Global, line: &str) -> Result<Option<(&'static str, String)>, AllocError> {
         let mut words = Vec::new(alloc);
         for word in line.split(' ') {
             words.push(String::from_str(alloc, word)?)?;
         }
         match read(alloc, words.as_slice()) {
-            Some(Command::LsStdioServer { file } | Command::Check { file }) => Ok(Some(file)),
+            Some(Command::LsStdioServer { file }) => Ok(Some(("ls --stdio-server", file))),
+            Some(Command::Check { file }) => Ok(Some(("check", file))),
             None => Ok(None),
         }
     }
 
     #[test]
-    fn takes_a_file(rt: HostRuntime) -> Result<(), Fail> {
+    fn reads_a_command_and_its_file(rt: HostRuntime) -> Result<(), Fail> {
+        let ls = "ls --stdio-server";
         let lines = [
-            ("gitv2 ls --stdio-server server.repo", "server.repo"),
-            ("gitv2 ls server.repo --stdio-server", "server.repo"),
-            ("other-name ls --stdio-server a/b", "a/b"),
-            ("gitv2 ls --stdio-server ls", "ls"),
-            ("gitv2 check server.repo", "server.repo"),
+            ("gitv2 ls --stdio-server server.repo", ls, "server.repo"),
+            ("gitv2 ls server.repo --stdio-server", ls, "server.repo"),
+            ("other-name ls --stdio-server a/b", ls, "a/b"),
+            ("gitv2 ls --stdio-server ls", ls, "ls"),
+            ("gitv2 ls --stdio-server check", ls, "check"),
+            ("gitv2 check server.repo", "check", "server.repo"),
+            ("gitv2 check ls", "check", "ls"),
         ];
-        for (line, want) in lines {
-            let file = file_in(rt.alloc(), line)?.ok_or("usage")?;
+        for (line, name, want) in lines {
+            let (command, file) = command_in(rt.alloc(), line)?.ok_or("usage")?;
+            assert_eq!(rt; command, name, "{line}");
             assert_eq!(rt; file.as_str(), want, "{line}");
         }
         Ok(())
@@ -117,7 +122,7 @@ mod tests {
             "gitv2 check --stdio-server a",
         ];
         for line in lines {
-            assert!(rt; file_in(rt.alloc(), line)?.is_none(), "{line}");
+            assert!(rt; command_in(rt.alloc(), line)?.is_none(), "{line}");
         }
         Ok(())
     }
