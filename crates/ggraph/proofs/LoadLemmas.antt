@@ -8,7 +8,7 @@ use Rattle.ggraph.specs.declared.text.reading.Stage.TheVariants.{Done}
 use Rattle.ggraph.specs.declared.text.reading.Stage.{Stage}
 use Rattle.ggraph.specs.declared.text.reading.Reading.{Reading}
 use Rattle.ggraph.specs.RepositoryText.{text_of}
-use Rattle.ggraph.specs.Reading.{Item, MayCome, Takes, after, line_of, nothing_read}
+use Rattle.ggraph.specs.Reading.{Item, MayCome, ComesNext, after, line_of, nothing_read}
 use Rattle.ggraph.proofs.Items.{HasRead, ReadsTo, items_text}
 
 pub reads_more : {A : Type 0} (order : Order) (old mid new : Reading A) (items : List (Item A)) (item : Item A) → ReadsTo order old items mid → MayCome order mid item → new ≡ after mid item → ReadsTo order old (items ++ item ∷ []) new
@@ -46,7 +46,7 @@ abbrev pub Progress : {A : Type 0} → Order → List ℕ → List ℕ → Readi
 Progress {A} order text rest reading number =
     (items : List (Item A)) × HasRead order text items rest reading × (number ≡ length items + 1) × (number + length rest ≤ length text + 1)
 
-pub progress_more : {A : Type 0} (order : Order) (text rest line behind : List ℕ) (old new : Reading A) (number : ℕ) → Progress order text rest old number → rest ≡ line ++ (codes "\n" ++ behind) → Takes order old line new → Progress order text behind new (number + 1)
+pub progress_more : {A : Type 0} (order : Order) (text rest line behind : List ℕ) (old new : Reading A) (number : ℕ) → Progress order text rest old number → rest ≡ line ++ (codes "\n" ++ behind) → ComesNext order old line new → Progress order text behind new (number + 1)
 progress_more order text rest line behind old new number (items, so_far, counted, small) next (item, is, may, e) = (
   items ++ item ∷ [],
   has_read_more order text items rest line behind old new so_far next item is may e,

@@ -16,7 +16,7 @@ use Rattle.ggraph.specs.declared.text.reading.Reading.{Reading}
 use Rattle.gobject.specs.Objects.{HasIds}
 use Rattle.grefs.specs.RefLists.{IsBelowRefs, RefList}
 use Rattle.ggraph.specs.RepositoryText.{EachBehind, IsHead, IsLoadable, MayFollow, RefMayFollow, first_line, head_line, kind_letter, last_line, lines_of, node_line, ref_line, repository_text, spaced_ids}
-use Rattle.ggraph.specs.Reading.{Item, MayCome, TakesRefs, after, begins, ends, heads, line_of, node, nothing_read, ref}
+use Rattle.ggraph.specs.Reading.{Item, MayCome, RefMayCome, after, begins, ends, heads, line_of, node, nothing_read, ref}
 use Rattle.ggraph.proofs.Items.{ReadsTo}
 use Rattle.ggraph.proofs.Lines.{AreLines, IsLine, clean_line, line-append, one_list}
 use Rattle.ggraph.proofs.ReadingLemmas.{one_item}
@@ -67,7 +67,7 @@ module _ (laws : TextLaws) where
   reads_nodes order front (x ∷ back) whole parts each =
       ((refl, each front x back parts), reads_nodes order (front ++ x ∷ []) back whole (parts ∙ sym (append_assoc front (x ∷ []) back)) each)
 
-  reads_refs : {A : Type 0} (order : Order) (stage : Stage) (g : List (Entry A)) (front back whole : RefList) → TakesRefs stage → whole ≡ front ++ back → EachBehind RefMayFollow whole → (last : Stage) × TakesRefs last × ReadsTo order (at_refs stage g front) (map ref back) (at_refs last g whole)
+  reads_refs : {A : Type 0} (order : Order) (stage : Stage) (g : List (Entry A)) (front back whole : RefList) → RefMayCome stage → whole ≡ front ++ back → EachBehind RefMayFollow whole → (last : Stage) × RefMayCome last × ReadsTo order (at_refs stage g front) (map ref back) (at_refs last g whole)
   reads_refs order stage g front [] whole due parts each = (stage, due, ap (at_refs stage g) (parts ∙ append-nil front))
   reads_refs order stage g front (x ∷ back) whole due parts each =
       let rest = reads_refs order Refs g (front ++ x ∷ []) back whole (inr refl) (parts ∙ sym (append_assoc front (x ∷ []) back)) each in

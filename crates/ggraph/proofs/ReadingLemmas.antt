@@ -17,8 +17,8 @@ use Rattle.ggraph.specs.declared.text.reading.Stage.TheVariants.{First, Nodes, R
 use Rattle.ggraph.specs.declared.text.reading.Reading.{Reading}
 use Rattle.gobject.specs.Objects.{HasIds, entry_of, node_of}
 use Rattle.ggraph.specs.RepositoryText.{IsHead, MayFollow, RefMayFollow, first_line, head_line, kind_letter, last_line, node_line, ref_line, spaced_ids}
-use Rattle.ggraph.specs.Reading.{Item, MayCome, begins, line_of, node, ref, heads, ends, Refuses, RefusesEntry, RefusesRef, Takes, TakesNot, TakesRefs}
-use Rattle.ggraph.specs.TextParts.{IsNoNode, IsNoRef, IsNoHead}
+use Rattle.ggraph.specs.Reading.{Item, MayCome, begins, line_of, node, ref, heads, ends, RefusesLine, RefusesEntry, RefusesRef, ComesNext, NeverComes, RefMayCome}
+use Rattle.ggraph.specs.NoSuchPart.{IsNoNode, IsNoRef, IsNoHead}
 use Rattle.ggraph.proofs.TextLemmas.{one_front, one_id}
 use Rattle.ggraph.specs.TextLaws.{TextLaws}
 
@@ -101,50 +101,50 @@ module _ (laws : TextLaws) where
 
   -- ---- lines that may not come
 
-  no_refs_at : (stage : Stage) (s : Stage) → stage ≡ s → (s ≡ Nodes → ⊥) → (s ≡ Refs → ⊥) → TakesRefs stage → ⊥
+  no_refs_at : (stage : Stage) (s : Stage) → stage ≡ s → (s ≡ Nodes → ⊥) → (s ≡ Refs → ⊥) → RefMayCome stage → ⊥
   no_refs_at stage s e notn notr (inl h) = notn (sym e ∙ h)
   no_refs_at stage s e notn notr (inr h) = notr (sym e ∙ h)
 
   module _ {A : Type 0} (order : Order) (old : Reading A) (line : List ℕ) where
-    pub not_first : old.stage ≡ First → (line ≡ first_line → ⊥) → TakesNot order old line
+    pub not_first : old.stage ≡ First → (line ≡ first_line → ⊥) → NeverComes order old line
     not_first here other begins e may = other e
     not_first here other (node entry) e may = let h = sym here ∙ may.0 in cc
     not_first here other (ref it) e may = no_refs_at old.stage First here (λ h. cc) (λ h. cc) may.0
     not_first here other (heads head) e may = no_refs_at old.stage First here (λ h. cc) (λ h. cc) may.0
     not_first here other ends e may = let h = sym here ∙ may in cc
 
-    pub not_last : old.stage ≡ Last → (line ≡ last_line → ⊥) → TakesNot order old line
+    pub not_last : old.stage ≡ Last → (line ≡ last_line → ⊥) → NeverComes order old line
     not_last here other begins e may = let h = sym here ∙ may in cc
     not_last here other (node entry) e may = let h = sym here ∙ may.0 in cc
     not_last here other (ref it) e may = no_refs_at old.stage Last here (λ h. cc) (λ h. cc) may.0
     not_last here other (heads head) e may = no_refs_at old.stage Last here (λ h. cc) (λ h. cc) may.0
     not_last here other ends e may = other e
 
-    pub not_done : old.stage ≡ Done → TakesNot order old line
+    pub not_done : old.stage ≡ Done → NeverComes order old line
     not_done here begins e may = let h = sym here ∙ may in cc
     not_done here (node entry) e may = let h = sym here ∙ may.0 in cc
     not_done here (ref it) e may = no_refs_at old.stage Done here (λ h. cc) (λ h. cc) may.0
     not_done here (heads head) e may = no_refs_at old.stage Done here (λ h. cc) (λ h. cc) may.0
     not_done here ends e may = let h = sym here ∙ may in cc
 
-    not_at : (s : Stage) → TakesRefs old.stage → (s ≡ Nodes → ⊥) → (s ≡ Refs → ⊥) → old.stage ≡ s → ⊥
+    not_at : (s : Stage) → RefMayCome old.stage → (s ≡ Nodes → ⊥) → (s ≡ Refs → ⊥) → old.stage ≡ s → ⊥
     not_at s due notn notr e = no_refs_at old.stage s e notn notr due
 
-    pub no_item : TakesRefs old.stage → (old.stage ≡ Nodes → IsNoNode A line) → IsNoRef line → IsNoHead A line → TakesNot order old line
+    pub no_item : RefMayCome old.stage → (old.stage ≡ Nodes → IsNoNode A line) → IsNoRef line → IsNoHead A line → NeverComes order old line
     no_item due nonode noref nohead begins e may = not_at First due (λ h. cc) (λ h. cc) may
     no_item due nonode noref nohead (node entry) e may = nonode may.0 entry may.1.ids e
     no_item due nonode noref nohead (ref it) e may = noref it may.1.id may.1.name e
     no_item due nonode noref nohead (heads head) e may = nohead head may.1 e
     no_item due nonode noref nohead ends e may = not_at Last due (λ h. cc) (λ h. cc) may
 
-    pub node_refused : (entry : Entry A) → old.stage ≡ Nodes → line ≡ node_line entry → HasIds entry → (MayFollow order old.graph entry → ⊥) → TakesNot order old line
+    pub node_refused : (entry : Entry A) → old.stage ≡ Nodes → line ≡ node_line entry → HasIds entry → (MayFollow order old.graph entry → ⊥) → NeverComes order old line
     node_refused entry here is valid never begins e may = let h = sym here ∙ may in cc
     node_refused entry here is valid never (node other) e may = never (subst (λ (x : Entry A). MayFollow order old.graph x) (one_entry other entry may.1.ids valid (sym e ∙ is)) may.1)
     node_refused entry here is valid never (ref it) e may = node_not_ref entry it (sym is ∙ e)
     node_refused entry here is valid never (heads head) e may = node_not_head entry head (sym is ∙ e)
     node_refused entry here is valid never ends e may = let h = sym here ∙ may in cc
 
-    pub ref_refused : (it : List ℕ × List ℕ) → TakesRefs old.stage → line ≡ ref_line it → IsId it.1 → (RefMayFollow old.refs it → ⊥) → TakesNot order old line
+    pub ref_refused : (it : List ℕ × List ℕ) → RefMayCome old.stage → line ≡ ref_line it → IsId it.1 → (RefMayFollow old.refs it → ⊥) → NeverComes order old line
     ref_refused it due is valid never begins e may = not_at First due (λ h. cc) (λ h. cc) may
     ref_refused it due is valid never (node entry) e may = node_not_ref entry it (sym e ∙ is)
     ref_refused it due is valid never (ref other) e may = never (subst (λ (x : List ℕ × List ℕ). RefMayFollow old.refs x) (one_ref other it may.1.id valid (sym e ∙ is)) may.1)
@@ -182,25 +182,25 @@ module _ (laws : TextLaws) where
 
   -- ---- what taking a node or a ref answers
 
-  pub node_taken : {A : Type 0} (order : Order) (old : Reading A) (line : List ℕ) (graph : List (Entry A)) (entry : Entry A) (r : Result (Unit {0}) TextFault) → old.stage ≡ Nodes → line ≡ node_line entry → OnOk r (MayFollow order old.graph entry × (graph ≡ old.graph ++ entry ∷ [])) → OnOk r (Takes order old line (record old { graph = graph }))
+  pub node_taken : {A : Type 0} (order : Order) (old : Reading A) (line : List ℕ) (graph : List (Entry A)) (entry : Entry A) (r : Result (Unit {0}) TextFault) → old.stage ≡ Nodes → line ≡ node_line entry → OnOk r (MayFollow order old.graph entry × (graph ≡ old.graph ++ entry ∷ [])) → OnOk r (ComesNext order old line (record old { graph = graph }))
   node_taken {A} order old line graph entry (Ok u) here is (may, grown) =
       let with_graph : List (Entry A) → Reading A = λ g. record old { graph = g } in
       (node entry, is, (here, may), ap with_graph grown)
   node_taken order old line graph entry (Err e) here is facts = tt
 
-  pub node_stopped : {A : Type 0} (order : Order) (old : Reading A) (line : List ℕ) (number : ℕ) (entry : Entry A) (r : Result (Unit {0}) TextFault) → old.stage ≡ Nodes → line ≡ node_line entry → HasIds entry → IfErr r (RefusesEntry order old.graph entry number) → IfErr r (Refuses order old line number)
+  pub node_stopped : {A : Type 0} (order : Order) (old : Reading A) (line : List ℕ) (number : ℕ) (entry : Entry A) (r : Result (Unit {0}) TextFault) → old.stage ≡ Nodes → line ≡ node_line entry → HasIds entry → IfErr r (RefusesEntry order old.graph entry number) → IfErr r (RefusesLine order old line number)
   node_stopped order old line number entry (Ok u) here is valid facts = tt
   node_stopped order old line number entry (Err faults.Memory) here is valid facts = tt
   node_stopped order old line number entry (Err (faults.Text at)) here is valid facts = (facts.0, node_refused Any old line entry here is valid facts.1)
   node_stopped order old line number entry (Err (faults.ParentLater at)) here is valid facts = (facts.0, facts.1, node_refused ParentsFirst old line entry here is valid facts.3, node entry, is, (here, facts.2))
 
-  pub ref_taken : {A : Type 0} (order : Order) (old : Reading A) (line : List ℕ) (refs : List (List ℕ × List ℕ)) (it : List ℕ × List ℕ) (r : Result (Unit {0}) TextFault) → TakesRefs old.stage → line ≡ ref_line it → OnOk r (RefMayFollow old.refs it × (refs ≡ old.refs ++ it ∷ [])) → OnOk r (Takes order old line (record old { stage = Refs; refs = refs }))
+  pub ref_taken : {A : Type 0} (order : Order) (old : Reading A) (line : List ℕ) (refs : List (List ℕ × List ℕ)) (it : List ℕ × List ℕ) (r : Result (Unit {0}) TextFault) → RefMayCome old.stage → line ≡ ref_line it → OnOk r (RefMayFollow old.refs it × (refs ≡ old.refs ++ it ∷ [])) → OnOk r (ComesNext order old line (record old { stage = Refs; refs = refs }))
   ref_taken {A} order old line refs it (Ok u) due is (may, grown) =
       let with_refs : List (List ℕ × List ℕ) → Reading A = λ rs. record old { stage = Refs; refs = rs } in
       (ref it, is, (due, may), ap with_refs grown)
   ref_taken order old line refs it (Err e) due is facts = tt
 
-  pub ref_stopped : {A : Type 0} (order : Order) (old : Reading A) (line : List ℕ) (number : ℕ) (it : List ℕ × List ℕ) (r : Result (Unit {0}) TextFault) → TakesRefs old.stage → line ≡ ref_line it → IsId it.1 → IfErr r (RefusesRef old.refs it number) → IfErr r (Refuses order old line number)
+  pub ref_stopped : {A : Type 0} (order : Order) (old : Reading A) (line : List ℕ) (number : ℕ) (it : List ℕ × List ℕ) (r : Result (Unit {0}) TextFault) → RefMayCome old.stage → line ≡ ref_line it → IsId it.1 → IfErr r (RefusesRef old.refs it number) → IfErr r (RefusesLine order old line number)
   ref_stopped order old line number it (Ok u) due is valid facts = tt
   ref_stopped order old line number it (Err faults.Memory) due is valid facts = tt
   ref_stopped order old line number it (Err (faults.Text at)) due is valid facts = (facts.0, ref_refused Any old line it due is valid facts.1)

@@ -12,7 +12,7 @@ use Rattle.ggraph.specs.declared.text.reading.Stage.TheVariants.{Done}
 use Rattle.ggraph.specs.declared.text.reading.Reading.{Reading}
 use Rattle.grefs.specs.RefLists.{RefList}
 use Rattle.ggraph.specs.RepositoryText.{IsLoadable, lines_of, repository_text}
-use Rattle.ggraph.specs.Reading.{Item, MayCome, Refuses, TakesNot, after, begins, ends, heads, line_of, node, nothing_read, ref}
+use Rattle.ggraph.specs.Reading.{Item, MayCome, RefusesLine, NeverComes, after, begins, ends, heads, line_of, node, nothing_read, ref}
 use Rattle.ggraph.specs.Loading.{Accepts, Begins, EndsEarly, GoesOn, HasNoLf, IsWhole, IsWrongLine, StopsAt}
 use Rattle.ggraph.proofs.Items.{HasRead, ReadsTo, items_text}
 use Rattle.ggraph.proofs.Lines.{AreLines, front_lines, line_from, next_line, no_line_left}
@@ -39,7 +39,7 @@ module _ (laws : TextLaws) where
 
   module _ {A : Type 0} (order : Order) (items : List (Item A)) (old : Reading A) (reads : ReadsTo order nothing_read items old) where
     -- a line that may not come is no next line
-    begins_not : (other : Order) (line : List ℕ) → TakesNot other old line → Begins A other (map line_of items ++ line ∷ []) → ⊥
+    begins_not : (other : Order) (line : List ℕ) → NeverComes other old line → Begins A other (map line_of items ++ line ∷ []) → ⊥
     begins_not other line never more =
         let parts : map line_of items ++ line ∷ more.more ≡ map line_of (whole_items laws more.graph more.refs more.head) =
         sym (append_assoc (map line_of items) (line ∷ []) more.more) ∙ sym more.parts ∙ sym (lines_whole laws more.graph more.refs more.head) in
@@ -67,7 +67,7 @@ module _ (laws : TextLaws) where
   counted_lines : {A : Type 0} (items : List (Item A)) (number : ℕ) → number ≡ length items + 1 → number ≡ length (map line_of items) + 1
   counted_lines items number e = e ∙ ap (λ (n : ℕ). n + 1) (sym (length-map items line_of))
 
-  pub stops_refused : {A : Type 0} (order : Order) (text rest line behind : List ℕ) (old : Reading A) (number : ℕ) (fault : TextFault) → Progress order text rest old number → rest ≡ line ++ (codes "\n" ++ behind) → HasNoLf line → Refuses order old line number fault → StopsAt A order text fault
+  pub stops_refused : {A : Type 0} (order : Order) (text rest line behind : List ℕ) (old : Reading A) (number : ℕ) (fault : TextFault) → Progress order text rest old number → rest ≡ line ++ (codes "\n" ++ behind) → HasNoLf line → RefusesLine order old line number fault → StopsAt A order text fault
   stops_refused order text rest line behind old number faults.Memory progress next clean refuses = tt
   stops_refused order text rest line behind old number (faults.Text at) (items, so_far, counted, small) next clean refuses = (
     map line_of items,

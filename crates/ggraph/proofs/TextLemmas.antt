@@ -8,7 +8,7 @@ use Rattle.gname.specs.declared.ids.OidFault.{OidFault}
 use Rattle.grefs.specs.RefLists.{IsBelowRefs}
 use Rattle.ggraph.specs.TextLaws.{TextLaws}
 use Rattle.ggraph.specs.RepositoryText.{spaced_ids, ref_line}
-use Rattle.ggraph.specs.TextParts.{BeginsWithNoId, BeginsWithNoSpacedId, IsNoIds, IsNoEntry, IsNoRef, IsNoIdText}
+use Rattle.ggraph.specs.NoSuchPart.{BeginsWithNoId, BeginsWithNoSpacedId, IsNoIds, IsNoEntry, IsNoRef, IsNoIdText}
 
 -- ---- lists of ids
 

@@ -10,7 +10,7 @@ use Rattle.ggraph.specs.declared.text.reading.Stage.TheVariants.{First, Nodes, R
 use Rattle.ggraph.specs.declared.text.reading.Reading.{Reading}
 use Rattle.grefs.specs.RefLists.{RefList}
 use Rattle.ggraph.specs.RepositoryText.{EachBehind, IsLoadable, MayFollow, RefMayFollow, first_line, head_line, last_line, lines_of, node_line, ref_line, repository_text, text_of}
-use Rattle.ggraph.specs.Reading.{Item, MayCome, TakesRefs, after, begins, ends, heads, line_of, node, nothing_read, ref}
+use Rattle.ggraph.specs.Reading.{Item, MayCome, RefMayCome, after, begins, ends, heads, line_of, node, nothing_read, ref}
 use Rattle.ggraph.specs.Loading.{Begins}
 use Rattle.ggraph.proofs.Items.{HasRead, ReadsTo, items_text}
 
@@ -50,14 +50,14 @@ map_push {X} {Y} f (y ∷ xs) x = ap (λ (ys : List Y). f y ∷ ys) (map_push f 
 
 module _ {A : Type 0} (order : Order) (r : Reading A) (lines : List (List ℕ)) where
   -- the lines of nodes and refs, at either place where a ref may come
-  so_far : TakesRefs r.stage → ShapeAt r.stage r lines → lines ≡ first_line ∷ (map node_line r.graph ++ map ref_line r.refs)
+  so_far : RefMayCome r.stage → ShapeAt r.stage r lines → lines ≡ first_line ∷ (map node_line r.graph ++ map ref_line r.refs)
   so_far (inl here) shape =
       let at_nodes = subst (λ (s : Stage). ShapeAt s r lines) here shape in
       at_nodes.0
       ∙ ap (λ (ls : List (List ℕ)). first_line ∷ ls) (sym (append-nil (map node_line r.graph)) ∙ ap (λ (rs : RefList). map node_line r.graph ++ map ref_line rs) (sym at_nodes.1))
   so_far (inr here) shape = subst (λ (s : Stage). ShapeAt s r lines) here shape
 
-  line_behind : (line : List ℕ) → TakesRefs r.stage → ShapeAt r.stage r lines → lines ++ line ∷ [] ≡ first_line ∷ (map node_line r.graph ++ (map ref_line r.refs ++ line ∷ []))
+  line_behind : (line : List ℕ) → RefMayCome r.stage → ShapeAt r.stage r lines → lines ++ line ∷ [] ≡ first_line ∷ (map node_line r.graph ++ (map ref_line r.refs ++ line ∷ []))
   line_behind line due shape =
       ap (λ (ls : List (List ℕ)). ls ++ line ∷ []) (so_far due shape)
       ∙ ap (λ (ls : List (List ℕ)). first_line ∷ ls) (append_assoc (map node_line r.graph) (map ref_line r.refs) (line ∷ []))

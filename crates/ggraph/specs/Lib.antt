@@ -4,7 +4,7 @@ pub mod Reading
 pub mod RepositoryText
 pub mod SafeRefs
 pub mod TextLaws
-pub mod TextParts
+pub mod NoSuchPart
 pub use Rattle.gobject.specs.Objects
 pub use Rattle.ghistory.specs.Graphs
 pub use Rattle.ghistory.specs.Reach

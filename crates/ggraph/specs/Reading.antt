@@ -35,15 +35,15 @@ abbrev pub nothing_read : {A : Type 0} → Reading A
 nothing_read = record { stage = First; graph = []; refs = []; head = None }
 
 -- a ref or HEAD may come
-abbrev pub TakesRefs : Stage → Type 0
-TakesRefs stage = (stage ≡ Nodes) ⊎ (stage ≡ Refs)
+abbrev pub RefMayCome : Stage → Type 0
+RefMayCome stage = (stage ≡ Nodes) ⊎ (stage ≡ Refs)
 
 -- which item may come next
 abbrev pub MayCome : {A : Type 0} → Order → Reading A → Item A → Type 0
 MayCome order old begins = old.stage ≡ First
 MayCome order old (node entry) = (old.stage ≡ Nodes) × MayFollow order old.graph entry
-MayCome order old (ref it) = TakesRefs old.stage × RefMayFollow old.refs it
-MayCome order old (heads head) = TakesRefs old.stage × IsHead head
+MayCome order old (ref it) = RefMayCome old.stage × RefMayFollow old.refs it
+MayCome order old (heads head) = RefMayCome old.stage × IsHead head
 MayCome order old ends = old.stage ≡ Last
 
 -- what is read then
@@ -55,19 +55,19 @@ after old (heads head) = record old { stage = Last; head = head }
 after old ends = record old { stage = Done }
 
 -- the line may come next, and this is read then
-abbrev pub Takes : {A : Type 0} → Order → Reading A → List ℕ → Reading A → Type 0
-Takes {A} order old line new = (item : Item A) × (line ≡ line_of item) × MayCome order old item × (new ≡ after old item)
+abbrev pub ComesNext : {A : Type 0} → Order → Reading A → List ℕ → Reading A → Type 0
+ComesNext {A} order old line new = (item : Item A) × (line ≡ line_of item) × MayCome order old item × (new ≡ after old item)
 
 -- no item that may come next has the line
-abbrev pub TakesNot : {A : Type 0} → Order → Reading A → List ℕ → Type 0
-TakesNot {A} order old line = (item : Item A) → line ≡ line_of item → MayCome order old item → ⊥
+abbrev pub NeverComes : {A : Type 0} → Order → Reading A → List ℕ → Type 0
+NeverComes {A} order old line = (item : Item A) → line ≡ line_of item → MayCome order old item → ⊥
 
 -- why a line is refused: it may not come, or it may and names a parent that comes later
-abbrev pub Refuses : {A : Type 0} → Order → Reading A → List ℕ → ℕ → TextFault → Type 0
-Refuses order old line number Memory = ⊤
-Refuses order old line number (Text at) = (at ≡ number) × TakesNot Any old line
-Refuses {A} order old line number (ParentLater at) =
-    (at ≡ number) × (order ≡ ParentsFirst) × TakesNot ParentsFirst old line
+abbrev pub RefusesLine : {A : Type 0} → Order → Reading A → List ℕ → ℕ → TextFault → Type 0
+RefusesLine order old line number Memory = ⊤
+RefusesLine order old line number (Text at) = (at ≡ number) × NeverComes Any old line
+RefusesLine {A} order old line number (ParentLater at) =
+    (at ≡ number) × (order ≡ ParentsFirst) × NeverComes ParentsFirst old line
     × (item : Item A) × (line ≡ line_of item) × MayCome Any old item
 
 -- why an entry is refused

@@ -1,8 +1,8 @@
 -- A plain pack has one reading, a bad line has one place, and nothing is lost.
-use Rattle.std.proofs.Common.{ap₂, ◌≡◌, ◌≢◌, ◌⊎◌, inl, inr, ℕ, zero, suc, ◌+◌, List, [], ◌∷◌, ◌++◌, length, decimal, refl, ap, sym, subst, ◌∙◌, append_assoc, arith}
+use Rattle.std.proofs.Common.{ap₂, ◌≡◌, ◌≢◌, ◌⊎◌, inl, inr, ℕ, suc, ◌+◌, List, [], ◌∷◌, ◌++◌, length, decimal, map, refl, ap, sym, subst, ◌∙◌, append_assoc, arith}
 use Rattle.std.specs.List.{All}
-use Rattle.std.proofs.lemmas.List.Elements.{All-head, All-tail}
-use Rattle.std.proofs.lemmas.List.{append-nil, append_cancel_left}
+use Rattle.std.proofs.lemmas.List.Elements.{All-append, All-cons, All-head, All-nil, All-tail}
+use Rattle.std.proofs.lemmas.List.{append-nil}
 use Rattle.gname.specs.Ids.{IsId, id_text}
 use Rattle.gname.specs.Laws.{IdTextsAreDigits, IdsHaveTexts, TextsSpellOneId}
 use Rattle.gobject.specs.declared.node.Kind.{Kind}
@@ -12,24 +12,25 @@ use Rattle.gobject.specs.declared.fault.IndexFault.{IndexFault}
 use Rattle.gobject.specs.declared.fault.IndexFault.TheVariants as index_faults
 use Rattle.gobject.specs.Objects.{HasIds, entry_of, node_of}
 use Rattle.gobject.specs.Packs.{LosesNothing}
-use Rattle.gobject.specs.PlainPackText.{line, header, letter, ids_of, ids_text, node_text, nodes_text, end_text, pack_text, PackRefuses, IsInLine, IsIdsText, IsNodeText, IsNodesText, IsFront, MayStand, IsPack, IsBadLine, IndexRefuses}
-use Rattle.gobject.proofs.PlainPackLines.{IsPart-header, IsPart-letter, IsPart-id, IsPart-decimal, IsInLine-part, IsInLine-cons, IsInLine-append, not_in_line, line_parts, IsIdsText-one}
+use Rattle.gobject.specs.PlainPackText.{line, text_of, header, letter, ids_of, ids_text, node_text, end_text, pack_lines, pack_text, PackRefuses, IsInLine, IsIdsText, IsNodeText, AreNodeTexts, IsFront, MayCome, ArePackLines, IsPack, IsWrong, IsCut, IsFollowed, IsBadLine, IndexRefuses}
+use Rattle.gobject.proofs.PlainPackLines.{IsPart-nil, IsPart-id, IsPart-letter, letter_no_end, IsPart-decimal, IsPart-header, IsInLine-part, IsInLine-cons, IsInLine-append, not_in_line, line_parts, IsIdsText-one}
+use Rattle.gobject.proofs.PlainPackReading.{AreNodeTexts-length}
 
 module _ (digits_law : IdTextsAreDigits) (one_law : TextsSpellOneId) where
   -- ---- what a line says
 
   IsInLine-ids : (text : List ℕ) (ids : List (List ℕ)) → IsIdsText text ids → IsInLine text
-  IsInLine-ids text [] h = let none : IsInLine [] = λ at is. absurd (omega arith) in subst IsInLine (sym h) none
+  IsInLine-ids text [] h = subst IsInLine (sym h) (IsInLine-part [] IsPart-nil)
   IsInLine-ids text (id ∷ ids) h =
-      let digits = IsInLine-part h.0 (IsPart-id digits_law h.0 id h.3) in
-      let spaced = IsInLine-cons 32 (h.0 ++ h.1) (λ is. omega arith) (IsInLine-append h.0 h.1 digits (IsInLine-ids h.1 ids h.4)) in
+      let spaced = IsInLine-cons 32 (h.0 ++ h.1) (λ is. omega arith) (IsInLine-append h.0 h.1 (IsInLine-part h.0 (IsPart-id digits_law h.0 id h.3)) (IsInLine-ids h.1 ids h.4)) in
       subst IsInLine (sym h.2) spaced
 
+  -- so is the line of an entry
   IsInLine-node : {A : Type 0} (text : List ℕ) (entry : Entry A) → IsNodeText text entry → IsInLine text
   IsInLine-node text entry h =
-      let word = IsInLine-part (letter entry.node.kind ∷ []) (IsPart-letter entry.node.kind) in
-      subst IsInLine (sym h.1) (IsInLine-cons (letter entry.node.kind) h.0 (word 0) (IsInLine-ids h.0 (ids_of entry) h.2))
+      subst IsInLine (sym h.1) (IsInLine-cons (letter entry.node.kind) h.0 ((IsPart-letter entry.node.kind 0).1) (IsInLine-ids h.0 (ids_of entry) h.2))
 
+  -- and the end
   IsInLine-end : (n : ℕ) → IsInLine (end_text n)
   IsInLine-end n =
       IsInLine-cons 101 (110 ∷ 100 ∷ 32 ∷ decimal n) (λ is. omega arith)
@@ -54,258 +55,259 @@ module _ (digits_law : IdTextsAreDigits) (one_law : TextsSpellOneId) where
       let parents : a.node.parents ≡ b.node.parents = cc in
       ap₂ entry_of ids (ap₂ node_of (letter_one a.node.kind b.node.kind letters) parents)
 
-  letter_no_end : (kind : Kind) → letter kind ≢ 101
-  letter_no_end Commit = λ is. omega arith
-  letter_no_end Tag = λ is. omega arith
+  -- ---- lines that are read
+
+  All-back : (front back : List (List ℕ)) → All IsInLine (front ++ back) → All IsInLine back
+  All-back [] back all = all
+  All-back (first ∷ front) back all = All-back front back (All-tail IsInLine first (front ++ back) all)
+
+  nodes_in_line : {A : Type 0} (nodes : List (List ℕ)) (list : List (Entry A)) → AreNodeTexts nodes list → All IsInLine nodes
+  nodes_in_line [] [] h = All-nil IsInLine
+  nodes_in_line (text ∷ nodes) (entry ∷ list) h = All-cons IsInLine text nodes (IsInLine-node text entry h.0) (nodes_in_line nodes list h.1)
+  nodes_in_line [] (entry ∷ list) h = absurd h
+  nodes_in_line (text ∷ nodes) [] h = absurd h
+
+  pack_in_line : {A : Type 0} (lines : List (List ℕ)) (list : List (Entry A)) → ArePackLines lines list → All IsInLine lines
+  pack_in_line lines list h =
+      subst (All IsInLine) (sym h.are)
+      (All-cons IsInLine header (h.nodes ++ end_text (length list) ∷ []) (IsInLine-part header IsPart-header)
+      (All-append IsInLine h.nodes (end_text (length list) ∷ []) (nodes_in_line h.nodes list h.each)
+      (All-cons IsInLine (end_text (length list)) [] (IsInLine-end (length list)) (All-nil IsInLine))))
+
+  front_in_line : (A : Type 0) (lines : List (List ℕ)) → IsFront A lines → All IsInLine lines
+  front_in_line A [] h = All-nil IsInLine
+  front_in_line A (first ∷ nodes) h =
+      All-cons IsInLine first nodes (subst IsInLine (sym h.0) (IsInLine-part header IsPart-header)) (nodes_in_line nodes h.1.0 h.1.1)
+
+  -- where some lines are at the front of a text, they are the first of its lines
+  more_lines : (lines whole : List (List ℕ)) (rest : List ℕ) → All IsInLine lines → All IsInLine whole → text_of whole ≡ text_of lines ++ rest
+      → (more : List (List ℕ)) × (whole ≡ lines ++ more) × (rest ≡ text_of more)
+  more_lines [] whole rest here there same = (whole, refl, sym same)
+  more_lines (first ∷ lines) [] rest here there same =
+      let whole : [] ≡ line first ++ (text_of lines ++ rest) = same ∙ append_assoc (line first) (text_of lines) rest in
+      absurd (not_in_line first (text_of lines ++ rest) (subst IsInLine whole (IsInLine-part [] IsPart-nil)))
+  more_lines (first ∷ lines) (other ∷ whole) rest here there same =
+      let parts = line_parts other first (text_of whole) (text_of lines ++ rest) (All-head IsInLine other whole there) (All-head IsInLine first lines here)
+      (same ∙ append_assoc (line first) (text_of lines) rest) in
+      let further = more_lines lines whole rest (All-tail IsInLine first lines here) (All-tail IsInLine other whole there) parts.1 in
+      (further.0, ap (λ (l : List ℕ). l ∷ whole) parts.0 ∙ ap (λ (ls : List (List ℕ)). first ∷ ls) further.1, further.2)
+
+  -- ---- what comes in a pack
 
   -- the end is the line of no entry
-  no_end : {A : Type 0} (n : ℕ) (text x y : List ℕ) (entry : Entry A) → IsNodeText text entry → line (end_text n) ++ x ≡ line text ++ y → ⊥
-  no_end n text x y entry h same =
-      let whole : line (end_text n) ++ x ≡ line (letter entry.node.kind ∷ h.0) ++ y = same ∙ ap (λ (t : List ℕ). line t ++ y) h.1 in
-      let first : letter entry.node.kind ≡ 101 = cc in
-      letter_no_end entry.node.kind first
+  end_no_node : {A : Type 0} (n : ℕ) (entry : Entry A) → IsNodeText (end_text n) entry → ⊥
+  end_no_node n entry h = let first : letter entry.node.kind ≡ 101 = (let is = h.1 in cc) in letter_no_end entry.node.kind first
 
-  -- ---- the lines before
-
-  -- a right line comes: the header first, then that of an entry
-  abbrev IsRight : (A : Type 0) → ℕ → List ℕ → Type 0
-  IsRight A zero text = text ≡ header
-  IsRight A (suc n) text = (entry : Entry A) × IsNodeText text entry
-
-  record Comes (A : Type 0) (lines : ℕ) (rest : List ℕ) : Type 0 where
-    text : List ℕ
-    more : List ℕ
-    parts : rest ≡ line text ++ more
-    in_line : IsInLine text
-    right : IsRight A lines text
-
-  -- of two texts of nodes at the front of one text, they are one, or the line of an entry follows one of them
-  nodes_meet : {A : Type 0} (front other x y : List ℕ) (a b : List (Entry A)) (m n : ℕ) → IsNodesText front a → IsNodesText other b
-      → front ++ x ≡ other ++ y → ((a ≡ b) × (x ≡ y)) ⊎ Comes A (suc m) x ⊎ Comes A (suc n) y
-  nodes_meet front other x y [] [] m n h k same =
-      inl (refl, sym (ap (λ (t : List ℕ). t ++ x) h) ∙ same ∙ ap (λ (t : List ℕ). t ++ y) k)
-  nodes_meet front other x y [] (entry ∷ b) m n h k same =
-      inr (inl (record {
-        text = k.0;
-        more = k.1 ++ y;
-        parts = sym (ap (λ (t : List ℕ). t ++ x) h) ∙ same ∙ ap (λ (t : List ℕ). t ++ y) k.2 ∙ append_assoc (line k.0) k.1 y;
-        in_line = IsInLine-node k.0 entry k.3;
-        right = (entry, k.3);
-      }))
-  nodes_meet front other x y (entry ∷ a) [] m n h k same =
-      inr (inr (record {
-        text = h.0;
-        more = h.1 ++ x;
-        parts = sym (ap (λ (t : List ℕ). t ++ y) k) ∙ sym same ∙ ap (λ (t : List ℕ). t ++ x) h.2 ∙ append_assoc (line h.0) h.1 x;
-        in_line = IsInLine-node h.0 entry h.3;
-        right = (entry, h.3);
-      }))
-  nodes_meet front other x y (first ∷ a) (second ∷ b) m n h k same =
-      let whole : line h.0 ++ (h.1 ++ x) ≡ line k.0 ++ (k.1 ++ y) =
-      sym (append_assoc (line h.0) h.1 x) ∙ sym (ap (λ (t : List ℕ). t ++ x) h.2) ∙ same ∙ ap (λ (t : List ℕ). t ++ y) k.2 ∙ append_assoc (line k.0) k.1 y in
-      let parts = line_parts h.0 k.0 (h.1 ++ x) (k.1 ++ y) (IsInLine-node h.0 first h.3) (IsInLine-node k.0 second k.3) whole in
-      let one : first ≡ second = IsNodeText-one h.0 first second h.3 (rw parts.0 k.3) in
-      elim (nodes_meet h.1 k.1 x y a b m n h.4 k.4 parts.1) [
-        | inl both ↦ inl (ap (λ e. e ∷ a) one ∙ ap (λ es. second ∷ es) both.0, both.1)
-        | inr comes ↦ inr comes
+  -- after lines of entries comes one more, or the end
+  next_node : {A : Type 0} (nodes front : List (List ℕ)) (text : List ℕ) (more : List (List ℕ)) (list read : List (Entry A)) (n : ℕ)
+      → AreNodeTexts nodes list → AreNodeTexts front read → nodes ++ end_text n ∷ [] ≡ front ++ text ∷ more
+      → ((entry : Entry A) × IsNodeText text entry) ⊎ ((text ≡ end_text n) × (length front ≡ length nodes))
+  next_node [] [] text more list read n h k same = let is : end_text n ≡ text = cc in inr (sym is, refl)
+  next_node [] (first ∷ front) text more list [] n h k same = absurd k
+  next_node [] (first ∷ front) text more list (entry ∷ read) n h k same =
+      let is : end_text n ≡ first = cc in absurd (end_no_node n entry (subst (λ (t : List ℕ). IsNodeText t entry) (sym is) k.0))
+  next_node (node ∷ nodes) [] text more [] read n h k same = absurd h
+  next_node (node ∷ nodes) [] text more (entry ∷ list) read n h k same =
+      let is : node ≡ text = cc in inl (entry, subst (λ (t : List ℕ). IsNodeText t entry) is h.0)
+  next_node (node ∷ nodes) (first ∷ front) text more [] read n h k same = absurd h
+  next_node (node ∷ nodes) (first ∷ front) text more (entry ∷ list) [] n h k same = absurd k
+  next_node (node ∷ nodes) (first ∷ front) text more (entry ∷ list) (other ∷ read) n h k same =
+      let rest : nodes ++ end_text n ∷ [] ≡ front ++ text ∷ more = cc in
+      elim (next_node nodes front text more list read n h.1 k.1 rest) [
+        | inl comes ↦ inl comes
+        | inr ends ↦ inr (ends.0, ap suc ends.1)
       ]
 
-  -- so it is with the lines before
-  fronts_meet : {A : Type 0} (front other x y : List ℕ) (m n : ℕ) → IsFront A front m → IsFront A other n → front ++ x ≡ other ++ y
-      → ((m ≡ n) × (x ≡ y)) ⊎ Comes A m x ⊎ Comes A n y
-  fronts_meet front other x y zero zero h k same =
-      inl (refl, sym (ap (λ (t : List ℕ). t ++ x) h) ∙ same ∙ ap (λ (t : List ℕ). t ++ y) k)
-  fronts_meet front other x y zero (suc n) h k same =
-      inr (inl (record {
-        text = header;
-        more = k.0 ++ y;
-        parts = sym (ap (λ (t : List ℕ). t ++ x) h) ∙ same ∙ ap (λ (t : List ℕ). t ++ y) k.2 ∙ append_assoc (line header) k.0 y;
-        in_line = IsInLine-part header IsPart-header;
-        right = refl;
-      }))
-  fronts_meet front other x y (suc m) zero h k same =
-      inr (inr (record {
-        text = header;
-        more = h.0 ++ x;
-        parts = sym (ap (λ (t : List ℕ). t ++ y) k) ∙ sym same ∙ ap (λ (t : List ℕ). t ++ x) h.2 ∙ append_assoc (line header) h.0 x;
-        in_line = IsInLine-part header IsPart-header;
-        right = refl;
-      }))
-  fronts_meet {A} front other x y (suc m) (suc n) h k same =
-      let whole : line header ++ (h.0 ++ x) ≡ line header ++ (k.0 ++ y) =
-      sym (append_assoc (line header) h.0 x) ∙ sym (ap (λ (t : List ℕ). t ++ x) h.2) ∙ same ∙ ap (λ (t : List ℕ). t ++ y) k.2 ∙ append_assoc (line header) k.0 y in
-      elim (nodes_meet h.0 k.0 x y h.1 k.1 m n h.3 k.3 (append_cancel_left (line header) (h.0 ++ x) (k.0 ++ y) whole)) [
-        | inl both ↦ inl (ap suc (sym h.4 ∙ ap (λ (l : List (Entry A)). length l) both.0 ∙ k.4), both.1)
-        | inr comes ↦ inr comes
+  -- the line after a front of a pack may come there
+  comes_next : {A : Type 0} (front : List (List ℕ)) (text : List ℕ) (more lines : List (List ℕ)) (list : List (Entry A))
+      → IsFront A front → ArePackLines lines list → lines ≡ front ++ text ∷ more → MayCome A front text
+  comes_next [] text more lines list before h same = let whole = sym same ∙ h.are in cc
+  comes_next (first ∷ front) text more lines list before h same =
+      let whole : header ∷ (h.nodes ++ end_text (length list) ∷ []) ≡ first ∷ (front ++ text ∷ more) = sym h.are ∙ same in
+      let rest : h.nodes ++ end_text (length list) ∷ [] ≡ front ++ text ∷ more = cc in
+      elim (next_node h.nodes front text more list before.1.0 (length list) h.each before.1.1 rest) [
+        | inl comes ↦ inl comes
+        | inr ends ↦ inr (ends.0 ∙ ap end_text (sym (ends.1 ∙ AreNodeTexts-length h.nodes list h.each)))
       ]
 
-  -- ---- where reading stops
+  -- a whole pack is no front of one
+  last_no_node : {A : Type 0} (nodes : List (List ℕ)) (n : ℕ) (list : List (Entry A)) → AreNodeTexts (nodes ++ end_text n ∷ []) list → ⊥
+  last_no_node [] n [] h = h
+  last_no_node [] n (entry ∷ list) h = end_no_node n entry h.0
+  last_no_node (node ∷ nodes) n [] h = h
+  last_no_node (node ∷ nodes) n (entry ∷ list) h = last_no_node nodes n list h.1
 
-  -- no line that may stand begins the rest
-  abbrev Unfit : (A : Type 0) → ℕ → List ℕ → Type 0
-  Unfit A lines rest = (t more : List ℕ) → MayStand A lines t → rest ≡ line t ++ more → ⊥
+  whole_no_front : {A : Type 0} (lines : List (List ℕ)) (list : List (Entry A)) → ArePackLines lines list → IsFront A lines → ⊥
+  whole_no_front {A} lines list h before =
+      let front : IsFront A (header ∷ (h.nodes ++ end_text (length list) ∷ [])) = subst (IsFront A) h.are before in
+      last_no_node h.nodes (length list) front.1.0 front.1.1
 
-  -- the end comes
-  abbrev Over : ℕ → List ℕ → Type 0
-  Over zero rest = ⊥
-  Over (suc n) rest = (more : List ℕ) × (rest ≡ line (end_text n) ++ more)
+  -- two packs of which one begins the other have the same entries, and nothing follows
+  same_nodes : {A : Type 0} (nodes front more : List (List ℕ)) (list read : List (Entry A)) (n m : ℕ) → AreNodeTexts nodes list → AreNodeTexts front read
+      → nodes ++ end_text n ∷ [] ≡ (front ++ end_text m ∷ []) ++ more → (list ≡ read) × (more ≡ [])
+  same_nodes [] [] more [] [] n m h k same = let nothing : [] ≡ more = cc in (refl, sym nothing)
+  same_nodes [] [] more (entry ∷ list) read n m h k same = absurd h
+  same_nodes [] [] more [] (entry ∷ read) n m h k same = absurd k
+  same_nodes [] (first ∷ front) more list [] n m h k same = absurd k
+  same_nodes [] (first ∷ front) more list (entry ∷ read) n m h k same =
+      let is : end_text n ≡ first = cc in absurd (end_no_node n entry (subst (λ (t : List ℕ). IsNodeText t entry) (sym is) k.0))
+  same_nodes (node ∷ nodes) [] more [] read n m h k same = absurd h
+  same_nodes (node ∷ nodes) [] more (entry ∷ list) read n m h k same =
+      let is : node ≡ end_text m = cc in absurd (end_no_node m entry (subst (λ (t : List ℕ). IsNodeText t entry) is h.0))
+  same_nodes (node ∷ nodes) (first ∷ front) more [] read n m h k same = absurd h
+  same_nodes (node ∷ nodes) (first ∷ front) more (entry ∷ list) [] n m h k same = absurd k
+  same_nodes (node ∷ nodes) (first ∷ front) more (entry ∷ list) (other ∷ read) n m h k same =
+      let is : node ≡ first = cc in
+      let rest : nodes ++ end_text n ∷ [] ≡ (front ++ end_text m ∷ []) ++ more = cc in
+      let one : entry ≡ other = IsNodeText-one first entry other (subst (λ (t : List ℕ). IsNodeText t entry) is h.0) k.0 in
+      let further = same_nodes nodes front more list read n m h.1 k.1 rest in
+      (ap (λ e. e ∷ list) one ∙ ap (λ es. other ∷ es) further.0, further.1)
 
-  IsRight-may : (A : Type 0) (lines : ℕ) (text : List ℕ) → IsRight A lines text → MayStand A lines text
-  IsRight-may A zero text h = h
-  IsRight-may A (suc n) text h = inl h
+  same_packs : {A : Type 0} (lines front more : List (List ℕ)) (list read : List (Entry A)) → ArePackLines lines list → ArePackLines front read
+      → lines ≡ front ++ more → (list ≡ read) × (more ≡ [])
+  same_packs lines front more list read h k same =
+      let whole : header ∷ (h.nodes ++ end_text (length list) ∷ []) ≡ header ∷ ((k.nodes ++ end_text (length read) ∷ []) ++ more) =
+      sym h.are ∙ same ∙ ap (λ (ls : List (List ℕ)). ls ++ more) k.are in
+      let rest : h.nodes ++ end_text (length list) ∷ [] ≡ (k.nodes ++ end_text (length read) ∷ []) ++ more = cc in
+      same_nodes h.nodes k.nodes more list read (length list) (length read) h.each k.each rest
 
-  IsInLine-may : (A : Type 0) (lines : ℕ) (text : List ℕ) → MayStand A lines text → IsInLine text
-  IsInLine-may A zero text h = subst IsInLine (sym h) (IsInLine-part header IsPart-header)
-  IsInLine-may A (suc n) text (inl h) = IsInLine-node text h.0 h.1
-  IsInLine-may A (suc n) text (inr h) = subst IsInLine (sym h) (IsInLine-end n)
+  -- ---- one reading
 
-  -- then no right line comes
-  unfit_comes : {A : Type 0} (lines : ℕ) (rest : List ℕ) → Unfit A lines rest → Comes A lines rest → ⊥
-  unfit_comes lines rest h comes = h comes.text comes.more (IsRight-may _ lines comes.text comes.right) comes.parts
+  -- bytes are a pack of one list
+  pub IsPack-one : {A : Type 0} (bytes : List ℕ) (a b : List (Entry A)) → IsPack bytes a → IsPack bytes b → a ≡ b
+  IsPack-one bytes a b h k =
+      let left = more_lines k.lines h.lines [] (pack_in_line k.lines b k.are) (pack_in_line h.lines a h.are) (sym h.whole ∙ k.whole ∙ sym (append-nil (text_of k.lines))) in
+      (same_packs h.lines k.lines left.0 a b h.are k.are left.1).0
 
-  over_comes : {A : Type 0} (lines : ℕ) (rest : List ℕ) → Over lines rest → Comes A lines rest → ⊥
-  over_comes zero rest h comes = h
-  over_comes (suc n) rest h comes = no_end n comes.text h.0 comes.more comes.right.0 comes.right.1 (sym h.1 ∙ comes.parts)
+  no_wrong_line : {A : Type 0} (bytes : List ℕ) (at : ℕ) (list : List (Entry A)) → IsWrong A bytes at → IsPack bytes list → ⊥
+  no_wrong_line {A} bytes at list w h =
+      let left = more_lines w.front h.lines (line w.text ++ w.rest) (front_in_line A w.front w.before) (pack_in_line h.lines list h.are) (sym h.whole ∙ w.parts) in
+      stands left.0 left.1 left.2
+    where
+      stands : (more : List (List ℕ)) → h.lines ≡ w.front ++ more → line w.text ++ w.rest ≡ text_of more → ⊥
+      stands [] whole same = not_in_line w.text w.rest (subst IsInLine (sym same) (IsInLine-part [] IsPart-nil))
+      stands (first ∷ more) whole same =
+          let each = subst (All IsInLine) whole (pack_in_line h.lines list h.are) in
+          let first_in_line = All-head IsInLine first more (All-back w.front (first ∷ more) each) in
+          let is : w.text ≡ first = (line_parts w.text first w.rest (text_of more) w.in_line first_in_line same).0 in
+          w.wrong (comes_next w.front w.text more h.lines list w.before h.are (whole ∙ ap (λ (t : List ℕ). w.front ++ t ∷ more) (sym is)))
 
-  unfit_over : (A : Type 0) (lines : ℕ) (rest : List ℕ) → Unfit A lines rest → Over lines rest → ⊥
-  unfit_over A zero rest h over = over
-  unfit_over A (suc n) rest h over = h (end_text n) over.0 (inr refl) over.1
+  no_cut : {A : Type 0} (bytes : List ℕ) (at : ℕ) (list : List (Entry A)) → IsCut A bytes at → IsPack bytes list → ⊥
+  no_cut {A} bytes at list w h =
+      let left = more_lines w.front h.lines w.rest (front_in_line A w.front w.before) (pack_in_line h.lines list h.are) (sym h.whole ∙ w.parts) in
+      ends left.0 left.1 left.2
+    where
+      ends : (more : List (List ℕ)) → h.lines ≡ w.front ++ more → w.rest ≡ text_of more → ⊥
+      ends [] whole same = whole_no_front h.lines list h.are (subst (IsFront A) (sym (whole ∙ append-nil w.front)) w.before)
+      ends (first ∷ more) whole same = not_in_line first (text_of more) (subst IsInLine same w.in_line)
 
-  -- reading stops after so many lines, with this rest
-  record Halts (A : Type 0) (bytes : List ℕ) (lines : ℕ) (rest : List ℕ) : Type 0 where
-    front : List ℕ
-    parts : bytes ≡ front ++ rest
-    before : IsFront A front lines
-    halt : Unfit A lines rest ⊎ Over lines rest
+  no_followed : {A : Type 0} (bytes : List ℕ) (at : ℕ) (list : List (Entry A)) → IsFollowed A bytes at → IsPack bytes list → ⊥
+  no_followed bytes at list k h =
+      let left = more_lines k.lines h.lines k.rest (pack_in_line k.lines k.list k.before) (pack_in_line h.lines list h.are) (sym h.whole ∙ k.parts) in
+      let nothing = (same_packs h.lines k.lines left.0 list k.list h.are k.before left.1).1 in
+      k.more (left.2 ∙ ap text_of nothing)
 
-  halts_comes : {A : Type 0} (bytes : List ℕ) (lines : ℕ) (rest : List ℕ) → Halts A bytes lines rest → Comes A lines rest → ⊥
-  halts_comes bytes lines rest h comes =
-      elim h.halt [
-        | inl unfit ↦ unfit_comes lines rest unfit comes
-        | inr over ↦ over_comes lines rest over comes
+  -- no line of a pack is wrong
+  pub IsPack-no_bad_line : {A : Type 0} (bytes : List ℕ) (at : ℕ) (list : List (Entry A)) → IsPack bytes list → IsBadLine A bytes at → ⊥
+  IsPack-no_bad_line bytes at list h (inl w) = no_wrong_line bytes at list w h
+  IsPack-no_bad_line bytes at list h (inr (inl w)) = no_cut bytes at list w h
+  IsPack-no_bad_line bytes at list h (inr (inr w)) = no_followed bytes at list w h
+
+  -- ---- a bad line
+
+  -- the line after some lines that go on in the other
+  abbrev Extends : List (List ℕ) → List ℕ → List (List ℕ) → Type 0
+  Extends front rest lines = (text : List ℕ) × (more : List (List ℕ)) × (after : List ℕ) × (lines ≡ front ++ text ∷ more) × (rest ≡ line text ++ after)
+
+  -- of two lists of lines at the front of a text, they are one, or one goes on with the line that follows the other
+  lines_meet : (lines others : List (List ℕ)) (x y : List ℕ) → All IsInLine lines → All IsInLine others
+      → text_of lines ++ x ≡ text_of others ++ y → (lines ≡ others) ⊎ Extends lines x others ⊎ Extends others y lines
+  lines_meet [] [] x y here there same = inl refl
+  lines_meet [] (second ∷ others) x y here there same =
+      inr (inl (second, others, text_of others ++ y, refl, same ∙ append_assoc (line second) (text_of others) y))
+  lines_meet (first ∷ lines) [] x y here there same =
+      inr (inr (first, lines, text_of lines ++ x, refl, sym same ∙ append_assoc (line first) (text_of lines) x))
+  lines_meet (first ∷ lines) (second ∷ others) x y here there same =
+      let whole : line first ++ (text_of lines ++ x) ≡ line second ++ (text_of others ++ y) =
+      sym (append_assoc (line first) (text_of lines) x) ∙ same ∙ append_assoc (line second) (text_of others) y in
+      let parts = line_parts first second (text_of lines ++ x) (text_of others ++ y) (All-head IsInLine first lines here) (All-head IsInLine second others there) whole in
+      elim (lines_meet lines others x y (All-tail IsInLine first lines here) (All-tail IsInLine second others there) parts.1) [
+        | inl is ↦ inl (ap (λ (l : List ℕ). l ∷ lines) parts.0 ∙ ap (λ (ls : List (List ℕ)). second ∷ ls) is)
+        | inr (inl h) ↦ inr (inl (h.0, h.1, h.2, sym (ap (λ (l : List ℕ). l ∷ others) parts.0) ∙ ap (λ (ls : List (List ℕ)). first ∷ ls) h.3, h.4))
+        | inr (inr h) ↦ inr (inr (h.0, h.1, h.2, ap (λ (l : List ℕ). l ∷ lines) parts.0 ∙ ap (λ (ls : List (List ℕ)). second ∷ ls) h.3, h.4))
       ]
 
-  -- it stops in one place
-  halts_one : {A : Type 0} (bytes : List ℕ) (m n : ℕ) (x y : List ℕ) → Halts A bytes m x → Halts A bytes n y → (m ≡ n) × (x ≡ y)
-  halts_one bytes m n x y h k =
-      elim (fronts_meet h.front k.front x y m n h.before k.before (sym h.parts ∙ k.parts)) [
-        | inl both ↦ both
-        | inr (inl comes) ↦ absurd (halts_comes bytes m x h comes)
-        | inr (inr comes) ↦ absurd (halts_comes bytes n y k comes)
-      ]
+  -- no line that may come follows
+  abbrev Unfit : (A : Type 0) → List (List ℕ) → List ℕ → Type 0
+  Unfit A lines rest = (text more : List ℕ) → MayCome A lines text → rest ≡ line text ++ more → ⊥
 
-  -- bytes follow the end
-  abbrev Exceeds : ℕ → List ℕ → Type 0
-  Exceeds zero rest = ⊥
-  Exceeds (suc n) rest = (more : List ℕ) × (rest ≡ line (end_text n) ++ more) × (more ≢ [])
+  -- reading stops after these lines: they are right, but no line that may come follows; or they are a pack
+  abbrev Halts : (A : Type 0) → List (List ℕ) → List ℕ → Type 0
+  Halts A lines rest = (IsFront A lines × Unfit A lines rest) ⊎ ((list : List (Entry A)) × ArePackLines lines list)
 
-  Exceeds-over : (lines : ℕ) (rest : List ℕ) → Exceeds lines rest → Over lines rest
-  Exceeds-over zero rest h = h
-  Exceeds-over (suc n) rest h = (h.0, h.1)
+  -- a line of an entry among others
+  middle_node : {A : Type 0} (nodes : List (List ℕ)) (text : List ℕ) (more : List (List ℕ)) (list : List (Entry A)) → AreNodeTexts (nodes ++ text ∷ more) list
+      → ((front : List (Entry A)) × AreNodeTexts nodes front) × ((entry : Entry A) × IsNodeText text entry)
+  middle_node [] text more [] h = absurd h
+  middle_node [] text more (entry ∷ list) h = (([], tt), (entry, h.0))
+  middle_node (node ∷ nodes) text more [] h = absurd h
+  middle_node (node ∷ nodes) text more (entry ∷ list) h =
+      let further = middle_node nodes text more list h.1 in ((entry ∷ further.0.0, (h.0, further.0.1)), further.1)
 
-  -- a bad line is the one where reading stops, or the one after the end
+  -- the line after a front of right lines may come there
+  front_next : (A : Type 0) (front : List (List ℕ)) (text : List ℕ) (more : List (List ℕ)) → IsFront A (front ++ text ∷ more) → IsFront A front × MayCome A front text
+  front_next A [] text more h = (tt, h.0)
+  front_next A (first ∷ nodes) text more h =
+      let node = middle_node nodes text more h.1.0 h.1.1 in ((h.0, (node.0.0, node.0.1)), inl node.1)
+
+  -- where reading stops, no other reading goes on
+  halts_here : {A : Type 0} (lines : List (List ℕ)) (rest : List ℕ) (others : List (List ℕ)) (more : List ℕ) → Halts A lines rest → Halts A others more
+      → Extends lines rest others → ⊥
+  halts_here {A} lines rest others more (inl h) (inl k) on =
+      let P : List (List ℕ) → Type 0 = λ ls. IsFront A ls in
+      h.1 on.0 on.2 (front_next A lines on.0 on.1 (subst P on.3 k.0)).1 on.4
+  halts_here lines rest others more (inl h) (inr k) on = h.1 on.0 on.2 (comes_next lines on.0 on.1 others k.0 h.0 k.1 on.3) on.4
+  halts_here {A} lines rest others more (inr h) (inl k) on =
+      let P : List (List ℕ) → Type 0 = λ ls. IsFront A ls in
+      whole_no_front lines h.0 h.1 (front_next A lines on.0 on.1 (subst P on.3 k.0)).0
+  halts_here lines rest others more (inr h) (inr k) on =
+      let nothing = (same_packs others lines (on.0 ∷ on.1) k.0 h.0 k.1 h.1 on.3).1 in cc
+
+  may_in_line : (A : Type 0) (lines : List (List ℕ)) (text : List ℕ) → MayCome A lines text → IsInLine text
+  may_in_line A [] text h = subst IsInLine (sym h) (IsInLine-part header IsPart-header)
+  may_in_line A (first ∷ nodes) text (inl h) = IsInLine-node text h.0 h.1
+  may_in_line A (first ∷ nodes) text (inr h) = subst IsInLine (sym h) (IsInLine-end (length nodes))
+
+  -- a bad line is the one after those where reading stops
   record Bad (A : Type 0) (bytes : List ℕ) (at : ℕ) : Type 0 where
-    lines : ℕ
+    lines : List (List ℕ)
     rest : List ℕ
-    halts : Halts A bytes lines rest
-    which : ((at ≡ lines + 1) × Unfit A lines rest) ⊎ ((at ≡ lines + 2) × Exceeds lines rest)
+    parts : bytes ≡ text_of lines ++ rest
+    each : All IsInLine lines
+    halts : Halts A lines rest
+    place : at ≡ length lines + 1
 
   Bad-of : {A : Type 0} (bytes : List ℕ) (at : ℕ) → IsBadLine A bytes at → Bad A bytes at
   Bad-of {A} bytes at (inl w) =
-      let unfit : Unfit A w.lines (line w.text ++ w.rest) = λ t more may same.
-        let one = line_parts w.text t w.rest more w.in_line (IsInLine-may A w.lines t may) same in
-        let P : List ℕ → Type 0 = λ text. MayStand A w.lines text in
-        w.wrong (subst P (sym one.0) may) in
-      record {
-        lines = w.lines;
-        rest = line w.text ++ w.rest;
-        halts = record { front = w.front; parts = w.parts ∙ append_assoc w.front (line w.text) w.rest; before = w.before; halt = inl unfit };
-        which = inl (w.place, unfit);
-      }
+      let unfit : Unfit A w.front (line w.text ++ w.rest) = λ text more may same.
+        let P : List ℕ → Type 0 = λ t. MayCome A w.front t in
+        w.wrong (subst P (sym (line_parts w.text text w.rest more w.in_line (may_in_line A w.front text may) same).0) may) in
+      record { lines = w.front; rest = line w.text ++ w.rest; parts = w.parts; each = front_in_line A w.front w.before; halts = inl (w.before, unfit); place = w.place }
   Bad-of {A} bytes at (inr (inl w)) =
-      let unfit : Unfit A w.lines w.rest = λ t more may same. not_in_line t more (subst IsInLine same w.in_line) in
-      record {
-        lines = w.lines;
-        rest = w.rest;
-        halts = record { front = w.front; parts = w.parts; before = w.before; halt = inl unfit };
-        which = inl (w.place, unfit);
-      }
+      let unfit : Unfit A w.front w.rest = λ text more may same. not_in_line text more (subst IsInLine same w.in_line) in
+      record { lines = w.front; rest = w.rest; parts = w.parts; each = front_in_line A w.front w.before; halts = inl (w.before, unfit); place = w.place }
   Bad-of bytes at (inr (inr w)) =
-      let parts : bytes ≡ (line header ++ w.before.nodes) ++ (line (end_text (length w.list)) ++ w.rest) =
-      w.parts ∙ ap (λ (f : List ℕ). f ++ w.rest) w.before.whole ∙ append_assoc (line header ++ w.before.nodes) (line (end_text (length w.list))) w.rest in
-      record {
-        lines = suc (length w.list);
-        rest = line (end_text (length w.list)) ++ w.rest;
-        halts = record { front = line header ++ w.before.nodes; parts = parts; before = (w.before.nodes, w.list, refl, w.before.each, refl); halt = inr (w.rest, refl) };
-        which = inr (omega (arith, w.place), (w.rest, refl, w.more));
-      }
-
-  unfit_exceeds : (A : Type 0) (m n : ℕ) (x y : List ℕ) → m ≡ n → x ≡ y → Unfit A m x → Exceeds n y → ⊥
-  unfit_exceeds A m n x y lines rests h k =
-      let P : ℕ → Type 0 = λ l. Unfit A l x in
-      let Q : List ℕ → Type 0 = λ r. Unfit A n r in
-      unfit_over A n y (subst Q rests (subst P lines h)) (Exceeds-over n y k)
+      record { lines = w.lines; rest = w.rest; parts = w.parts; each = pack_in_line w.lines w.list w.before; halts = inr (w.list, w.before); place = w.place }
 
   -- a bad line has one place
   pub IsBadLine-one : {A : Type 0} (bytes : List ℕ) (a b : ℕ) → IsBadLine A bytes a → IsBadLine A bytes b → a ≡ b
   IsBadLine-one {A} bytes a b h k =
       let f : Bad A bytes a = Bad-of bytes a h in
       let g : Bad A bytes b = Bad-of bytes b k in
-      let one = halts_one bytes f.lines g.lines f.rest g.rest f.halts g.halts in
-      elim (f.which) [
-        | inl u ↦
-            elim (g.which) [
-              | inl v ↦ u.0 ∙ ap (λ n. n + 1) one.0 ∙ sym v.0
-              | inr v ↦ absurd (unfit_exceeds A f.lines g.lines f.rest g.rest one.0 one.1 u.1 v.1)
-            ]
-        | inr u ↦
-            elim (g.which) [
-              | inl v ↦ absurd (unfit_exceeds A g.lines f.lines g.rest f.rest (sym one.0) (sym one.1) v.1 u.1)
-              | inr v ↦ u.0 ∙ ap (λ n. n + 2) one.0 ∙ sym v.0
-            ]
-      ]
-
-  -- a pack is where reading stops too
-  Halts-pack : {A : Type 0} (bytes : List ℕ) (list : List (Entry A)) → IsPack bytes list → Halts A bytes (suc (length list)) (line (end_text (length list)))
-  Halts-pack bytes list h = record {
-    front = line header ++ h.nodes;
-    parts = h.whole;
-    before = (h.nodes, list, refl, h.each, refl);
-    halt = inr ([], sym (append-nil (line (end_text (length list)))));
-  }
-
-  exceeds_end : (n lines : ℕ) (rest : List ℕ) → lines ≡ suc n → rest ≡ line (end_text n) → Exceeds lines rest → ⊥
-  exceeds_end n lines rest is same h =
-      let P : ℕ → Type 0 = λ l. Exceeds l rest in
-      let found : Exceeds (suc n) rest = subst P is h in
-      found.2 (append_cancel_left (line (end_text n)) found.0 [] (sym found.1 ∙ same ∙ sym (append-nil (line (end_text n)))))
-
-  -- no line of a pack is bad
-  pub IsPack-no_bad_line : {A : Type 0} (bytes : List ℕ) (at : ℕ) (list : List (Entry A)) → IsPack bytes list → IsBadLine A bytes at → ⊥
-  IsPack-no_bad_line {A} bytes at list h k =
-      let f : Bad A bytes at = Bad-of bytes at k in
-      let pack = Halts-pack bytes list h in
-      let one = halts_one bytes f.lines (suc (length list)) f.rest (line (end_text (length list))) f.halts pack in
-      elim (f.which) [
-        | inl u ↦ unfit_over A f.lines f.rest u.1 (ended f.lines f.rest one.0 one.1)
-        | inr u ↦ exceeds_end (length list) f.lines f.rest one.0 one.1 u.1
-      ]
-    where
-      ended : (lines : ℕ) (rest : List ℕ) → lines ≡ suc (length list) → rest ≡ line (end_text (length list)) → Over lines rest
-      ended lines rest is same =
-          let P : ℕ → Type 0 = λ l. Over l rest in
-          subst P (sym is) ([], same ∙ sym (append-nil (line (end_text (length list)))))
-
-  -- bytes are a pack of one list
-  pub IsPack-one : {A : Type 0} (bytes : List ℕ) (a b : List (Entry A)) → IsPack bytes a → IsPack bytes b → a ≡ b
-  IsPack-one {A} bytes a b h k =
-      let same : h.nodes ++ line (end_text (length a)) ≡ k.nodes ++ line (end_text (length b)) =
-      append_cancel_left (line header) (h.nodes ++ line (end_text (length a))) (k.nodes ++ line (end_text (length b)))
-      (sym (append_assoc (line header) h.nodes (line (end_text (length a)))) ∙ sym h.whole ∙ k.whole ∙ append_assoc (line header) k.nodes (line (end_text (length b)))) in
-      elim (nodes_meet h.nodes k.nodes (line (end_text (length a))) (line (end_text (length b))) a b 0 0 h.each k.each same) [
-        | inl both ↦ both.0
-        | inr (inl comes) ↦ absurd (no_end (length a) comes.text [] comes.more comes.right.0 comes.right.1 (append-nil (line (end_text (length a))) ∙ comes.parts))
-        | inr (inr comes) ↦ absurd (no_end (length b) comes.text [] comes.more comes.right.0 comes.right.1 (append-nil (line (end_text (length b))) ∙ comes.parts))
+      elim (lines_meet f.lines g.lines f.rest g.rest f.each g.each (sym f.parts ∙ g.parts)) [
+        | inl is ↦ f.place ∙ ap (λ (ls : List (List ℕ)). length ls + 1) is ∙ sym g.place
+        | inr (inl on) ↦ absurd (halts_here f.lines f.rest g.lines g.rest f.halts g.halts on)
+        | inr (inr on) ↦ absurd (halts_here g.lines g.rest f.lines f.rest g.halts f.halts on)
       ]
 
 module _ (texts_law : IdsHaveTexts) (digits_law : IdTextsAreDigits) (one_law : TextsSpellOneId) where
@@ -321,15 +323,15 @@ module _ (texts_law : IdsHaveTexts) (digits_law : IdTextsAreDigits) (one_law : T
       let parents = IsIdsText-image entry.node.parents h.parents in
       (ids_text (ids_of entry), refl, (id_text entry.id, ids_text entry.node.parents, refl, (texts_law entry.id h.id).0, parents))
 
-  IsNodesText-image : {A : Type 0} (list : List (Entry A)) → All HasIds list → IsNodesText (nodes_text list) list
-  IsNodesText-image [] h = refl
-  IsNodesText-image (entry ∷ list) h =
-      (node_text entry, nodes_text list, refl, IsNodeText-image entry (All-head HasIds entry list h), IsNodesText-image list (All-tail HasIds entry list h))
+  AreNodeTexts-image : {A : Type 0} (list : List (Entry A)) → All HasIds list → AreNodeTexts (map node_text list) list
+  AreNodeTexts-image [] h = tt
+  AreNodeTexts-image (entry ∷ list) h = (IsNodeText-image entry (All-head HasIds entry list h), AreNodeTexts-image list (All-tail HasIds entry list h))
 
   -- the text of a list is a pack of it
-  pub IsPack-image : {A : Type 0} (list : List (Entry A)) → All HasIds list → IsPack (pack_text list) list
+  IsPack-image : {A : Type 0} (list : List (Entry A)) → All HasIds list → IsPack (pack_text list) list
   unfolding pack_text
-  IsPack-image list h = record { nodes = nodes_text list; whole = refl; each = IsNodesText-image list h }
+  IsPack-image list h =
+      record { lines = pack_lines list; whole = refl; are = record { nodes = map node_text list; are = refl; each = AreNodeTexts-image list h } }
 
   no_fault : {A : Type 0} (bytes : List ℕ) (list : List (Entry A)) (fault : IndexFault) → IsPack bytes list → IndexRefuses A bytes fault
       → fault ≡ index_faults.Memory

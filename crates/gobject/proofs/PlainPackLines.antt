@@ -16,7 +16,7 @@ use Rattle.gobject.specs.declared.node.Kind.{Kind}
 use Rattle.gobject.specs.declared.node.Kind.TheVariants.{Commit, Tag}
 use Rattle.gobject.specs.declared.plain_pack.read.Separator.{Separator}
 use Rattle.gobject.specs.declared.plain_pack.read.Separator.TheVariants.{Space, LineFeed}
-use Rattle.gobject.specs.PlainPackText.{line, header, letter, IsInLine, IsIdsText}
+use Rattle.gobject.specs.PlainPackText.{line, text_of, header, letter, IsInLine, IsIdsText}
 use Rattle.gobject.specs.PlainPackReading.{IsPart, NoId, format_of_digits, separator_byte}
 
 -- ---- parts
@@ -78,6 +78,11 @@ letter_other Tag = (λ is. omega arith, λ is. omega arith)
 
 pub IsPart-letter : (kind : Kind) → IsPart (letter kind ∷ [])
 IsPart-letter kind = IsPart-cons (letter kind) [] (letter_other kind).0 (letter_other kind).1 IsPart-nil
+
+-- the letter of a kind does not begin the end
+pub letter_no_end : (kind : Kind) → letter kind ≢ 101
+letter_no_end Commit = λ is. omega arith
+letter_no_end Tag = λ is. omega arith
 
 glyph_other : (upper b : Bool) (d : ℕ) → (cond b (48 + d) (cond upper (55 + d) (87 + d)) ≢ 32) × (cond b (48 + d) (cond upper (55 + d) (87 + d)) ≢ 10)
 glyph_other upper true d = (λ is. omega arith, λ is. omega arith)
@@ -208,6 +213,18 @@ line_parts (c ∷ a) (d ∷ b) x y h k same =
     let others : line a ++ x ≡ line b ++ y = cc in
     let parts = line_parts a b x y (λ at. h (suc at)) (λ at. k (suc at)) others in
     (ap (λ byte. byte ∷ a) first ∙ ap (λ (text : List ℕ). d ∷ text) parts.0, parts.1)
+
+-- the text of some lines and of others
+text_of-append : (lines more : List (List ℕ)) → text_of (lines ++ more) ≡ text_of lines ++ text_of more
+text_of-append [] more = refl
+text_of-append (first ∷ lines) more =
+    ap (λ (text : List ℕ). line first ++ text) (text_of-append lines more) ∙ sym (append_assoc (line first) (text_of lines) (text_of more))
+
+-- some lines, one more, and what follows
+pub text_of-push : (lines : List (List ℕ)) (text rest : List ℕ) → text_of (lines ++ text ∷ []) ++ rest ≡ text_of lines ++ (line text ++ rest)
+text_of-push lines text rest =
+    ap (λ (front : List ℕ). front ++ rest) (text_of-append lines (text ∷ []) ∙ ap (λ (last : List ℕ). text_of lines ++ last) (append-nil (line text)))
+    ∙ append_assoc (text_of lines) (line text) rest
 
 -- ---- ids
 

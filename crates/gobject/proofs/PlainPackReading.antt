@@ -1,5 +1,5 @@
 -- Reading a plain pack part by part: what is read stays right, and what is refused is a bad line.
-use Rattle.std.proofs.Common.{ap₂, ◌≡◌, ◌≢◌, inl, inr, ℕ, suc, ◌+◌, ◌≤◌, ◌<◌, List, [], ◌∷◌, ◌++◌, length, codes, decimal, Option, None, Some, MatchOption, refl, ap, sym, subst, ◌∙◌, append_assoc, arith}
+use Rattle.std.proofs.Common.{ap₂, ◌≡◌, ◌⊎◌, ⊎_elim, inl, inr, ℕ, suc, ◌+◌, ◌≤◌, ◌<◌, List, [], ◌∷◌, ◌++◌, length, length-append, codes, decimal, Option, None, Some, MatchOption, refl, ap, sym, subst, ◌∙◌, append_assoc, arith}
 use Rattle.std.proofs.lemmas.List.{append-nil}
 use Rattle.gname.specs.Ids.{IsIdText}
 use Rattle.gname.specs.Laws.{IdTextsAreDigits}
@@ -11,9 +11,9 @@ use Rattle.gobject.specs.declared.plain_pack.read.Separator.TheVariants.{Space, 
 use Rattle.gobject.specs.declared.plain_pack.read.Next.{Next}
 use Rattle.gobject.specs.declared.plain_pack.read.Next.TheVariants.{Header, Word, Id, Parent, Count, Nothing}
 use Rattle.gobject.specs.Objects.{entry_of, node_of}
-use Rattle.gobject.specs.PlainPackText.{line, header, letter, ids_of, end_text, IsIdsText, IsNodeText, IsNodesText, IsFront, MayStand, IsPack, IsBadLine}
+use Rattle.gobject.specs.PlainPackText.{line, text_of, header, letter, ids_of, end_text, IsNodeText, AreNodeTexts, IsFront, MayCome, IsPack, IsBadLine}
 use Rattle.gobject.specs.PlainPackReading.{IsPart, separator_byte, with_parent, EndsId, Leads, NeverLeads, line_number, HasRead}
-use Rattle.gobject.proofs.PlainPackLines.{IsPart-id, IsPart-letter, IsPart-end, IsPart-decimal, IsPart-header, length-decimal-most, length-id-most, part_one, part_long, part_none, first_line, id_follows, ids_rest, IsIdsText-push}
+use Rattle.gobject.proofs.PlainPackLines.{IsPart-id, IsPart-letter, letter_no_end, IsPart-end, IsPart-decimal, IsPart-header, length-decimal-most, length-id-most, part_one, part_long, part_none, first_line, text_of-push, id_follows, ids_rest, IsIdsText-push}
 
 -- ---- one part more
 
@@ -22,16 +22,25 @@ goes_on : (before front opening part : List ℕ) → before ≡ front ++ opening
 goes_on before front opening part h = ap (λ (b : List ℕ). b ++ (part ++ 32 ∷ [])) h ∙ simp append_assoc
 
 -- a part at the end of a line
-ends : (before front opening part : List ℕ) → before ≡ front ++ opening → before ++ (part ++ 10 ∷ []) ≡ (front ++ line (opening ++ part)) ++ []
-ends before front opening part h = ap (λ (b : List ℕ). b ++ (part ++ 10 ∷ [])) h ∙ simp (append_assoc, append-nil)
+ends : (before : List ℕ) (front : List (List ℕ)) (opening part : List ℕ) → before ≡ text_of front ++ opening
+    → before ++ (part ++ 10 ∷ []) ≡ text_of (front ++ (opening ++ part) ∷ []) ++ []
+ends before front opening part h =
+    let moved : (text : List ℕ) → (text ++ opening) ++ (part ++ 10 ∷ []) ≡ text ++ (line (opening ++ part) ++ []) = λ text. simp (append_assoc, append-nil) in
+    ap (λ (b : List ℕ). b ++ (part ++ 10 ∷ [])) h ∙ moved (text_of front) ∙ sym (text_of-push front (opening ++ part) [])
+
+pub AreNodeTexts-length : {A : Type 0} (nodes : List (List ℕ)) (list : List (Entry A)) → AreNodeTexts nodes list → length nodes ≡ length list
+AreNodeTexts-length [] [] h = refl
+AreNodeTexts-length (text ∷ nodes) (entry ∷ list) h = ap suc (AreNodeTexts-length nodes list h.1)
+AreNodeTexts-length [] (entry ∷ list) h = absurd h
+AreNodeTexts-length (text ∷ nodes) [] h = absurd h
 
 -- one more line of an entry
-IsNodesText-push : {A : Type 0} (nodes text : List ℕ) (list : List (Entry A)) (entry : Entry A) → IsNodesText nodes list
-    → IsNodeText text entry → IsNodesText (nodes ++ line text) (list ++ entry ∷ [])
-IsNodesText-push nodes text [] entry h one =
-    (text, [], ap (λ (more : List ℕ). more ++ line text) h ∙ sym (append-nil (line text)), one, refl)
-IsNodesText-push nodes text (first ∷ list) entry h one =
-    (h.0, h.1 ++ line text, ap (λ (more : List ℕ). more ++ line text) h.2 ∙ append_assoc (line h.0) h.1 (line text), h.3, IsNodesText-push h.1 text list entry h.4 one)
+AreNodeTexts-push : {A : Type 0} (nodes : List (List ℕ)) (text : List ℕ) (list : List (Entry A)) (entry : Entry A) → AreNodeTexts nodes list
+    → IsNodeText text entry → AreNodeTexts (nodes ++ text ∷ []) (list ++ entry ∷ [])
+AreNodeTexts-push [] text [] entry h one = (one, tt)
+AreNodeTexts-push (first ∷ nodes) text (other ∷ list) entry h one = (h.0, AreNodeTexts-push nodes text list entry h.1 one)
+AreNodeTexts-push [] text (other ∷ list) entry h one = absurd h
+AreNodeTexts-push (first ∷ nodes) text [] entry h one = absurd h
 
 -- the line of an entry up to its own id
 IsNodeText-first : (A : Type 0) (opening part id : List ℕ) (kind : Kind) → opening ≡ letter kind ∷ 32 ∷ [] → IsIdText part id
@@ -50,27 +59,27 @@ IsNodeText-parent opening node part id entry opens h spelt =
     (h.0 ++ 32 ∷ part, whole, IsIdsText-push h.0 part id (ids_of entry) h.2 spelt)
 
 -- an id of an entry is read
-HasRead-id : {A : Type 0} (list new : List (Entry A)) (entry : Entry A) (after : Next A) (end : Separator) (before front opening part : List ℕ)
-    → before ≡ front ++ opening → (nodes : List ℕ) → front ≡ line header ++ nodes → IsNodesText nodes list
+HasRead-id : {A : Type 0} (list new : List (Entry A)) (entry : Entry A) (after : Next A) (end : Separator) (before : List ℕ) (front : List (List ℕ)) (opening part : List ℕ)
+    → before ≡ text_of front ++ opening → (nodes : List (List ℕ)) → front ≡ header ∷ nodes → AreNodeTexts nodes list
     → IsNodeText (opening ++ part) entry → EndsId list entry end after new
     → HasRead after new (before ++ (part ++ separator_byte end ∷ []))
 HasRead-id list new entry after Space before front opening part parts nodes begins each node h =
     rw (h.0, h.1) (record {
       front = front;
       opening = (opening ++ part) ++ 32 ∷ [];
-      parts = goes_on before front opening part parts;
+      parts = goes_on before (text_of front) opening part parts;
       lines = (nodes, begins, each);
       opens = (opening ++ part, refl, node);
     })
 HasRead-id list new entry after LineFeed before front opening part parts nodes begins each node h =
     rw (h.0, h.1) (record {
-      front = front ++ line (opening ++ part);
+      front = front ++ (opening ++ part) ∷ [];
       opening = [];
       parts = ends before front opening part parts;
       lines = (
-        nodes ++ line (opening ++ part),
-        ap (λ (f : List ℕ). f ++ line (opening ++ part)) begins ∙ append_assoc (line header) nodes (line (opening ++ part)),
-        IsNodesText-push nodes (opening ++ part) list entry each node,
+        nodes ++ (opening ++ part) ∷ [],
+        ap (λ (f : List (List ℕ)). f ++ (opening ++ part) ∷ []) begins,
+        AreNodeTexts-push nodes (opening ++ part) list entry each node,
       );
       opens = refl;
     })
@@ -79,19 +88,19 @@ HasRead-id list new entry after LineFeed before front opening part parts nodes b
 pub HasRead-part : {A : Type 0} (next after : Next A) (list new : List (Entry A)) (before part : List ℕ) (end : Separator) → HasRead next list before
     → Leads next list part end after new → HasRead after new (before ++ (part ++ separator_byte end ∷ []))
 HasRead-part {A} Header after list new before part LineFeed h l =
-    let P : List (Entry A) → Type 0 = λ entries. IsNodesText [] entries in
+    let P : List (Entry A) → Type 0 = λ entries. AreNodeTexts [] entries in
     rw (l.1, l.2) (record {
-      front = line header;
+      front = header ∷ [];
       opening = [];
-      parts = ap₂ (λ (b p : List ℕ). b ++ (p ++ 10 ∷ [])) (h.parts ∙ ap₂ (λ (f o : List ℕ). f ++ o) h.lines.0 h.opens) l.0;
-      lines = ([], refl, subst P (sym h.lines.1) refl);
+      parts = ap₂ (λ (b p : List ℕ). b ++ (p ++ 10 ∷ [])) (h.parts ∙ ap₂ (λ (f : List (List ℕ)) (o : List ℕ). text_of f ++ o) h.lines.0 h.opens) l.0;
+      lines = ([], refl, subst P (sym h.lines.1) tt);
       opens = refl;
     })
 HasRead-part Word (Id kind) list new before part Space h l =
     rw (l.1) (record {
       front = h.front;
       opening = (h.opening ++ part) ++ 32 ∷ [];
-      parts = goes_on before h.front h.opening part h.parts;
+      parts = goes_on before (text_of h.front) h.opening part h.parts;
       lines = h.lines;
       opens = ap₂ (λ (o p : List ℕ). (o ++ p) ++ 32 ∷ []) h.opens l.0;
     })
@@ -99,7 +108,7 @@ HasRead-part Word Count list new before part Space h l =
     rw (l.1) (record {
       front = h.front;
       opening = (h.opening ++ part) ++ 32 ∷ [];
-      parts = goes_on before h.front h.opening part h.parts;
+      parts = goes_on before (text_of h.front) h.opening part h.parts;
       lines = h.lines;
       opens = ap₂ (λ (o p : List ℕ). (o ++ p) ++ 32 ∷ []) h.opens l.0;
     })
@@ -109,12 +118,12 @@ HasRead-part (Parent entry) after list new before part end h l =
     HasRead-id list new (with_parent entry l.0) after end before h.front h.opening part h.parts h.lines.0 h.lines.1 h.lines.2 (IsNodeText-parent h.opening h.opens.0 part l.0 entry h.opens.1 h.opens.2 l.1) l.2
 HasRead-part Count after list new before part LineFeed h l =
     rw (l.1, l.2) (record {
-      front = h.front ++ line (h.opening ++ part);
+      front = h.front ++ (h.opening ++ part) ∷ [];
       opening = [];
       parts = ends before h.front h.opening part h.parts;
       lines = record {
         nodes = h.lines.0;
-        whole = ap₂ (λ (f t : List ℕ). f ++ line t) h.lines.1 (ap₂ (λ (o p : List ℕ). o ++ p) h.opens l.0);
+        are = ap₂ (λ (f : List (List ℕ)) (t : List ℕ). f ++ t ∷ []) h.lines.1 (ap₂ (λ (o p : List ℕ). o ++ p) h.opens l.0);
         each = h.lines.2;
       };
       opens = refl;
@@ -134,9 +143,10 @@ pub IsPack-read : {A : Type 0} (next : Next A) (list : List (Entry A)) (before p
 IsPack-read {A} next list before part h is none =
     let P : Next A → Type 0 = λ n. HasRead n list before in
     let read : HasRead Nothing list before = subst P is h in
-    let whole : before ++ part ≡ read.front = ap₂ (λ (b p : List ℕ). b ++ p) (read.parts ∙ ap (λ (o : List ℕ). read.front ++ o) read.opens ∙ append-nil read.front) none ∙ append-nil read.front in
-    let Q : List ℕ → Type 0 = λ text. IsPack text list in
-    subst Q (sym whole) read.lines
+    let front = text_of read.front in
+    let whole : before ++ part ≡ front =
+    ap₂ (λ (b p : List ℕ). b ++ p) (read.parts ∙ ap (λ (o : List ℕ). front ++ o) read.opens ∙ append-nil front) none ∙ append-nil front in
+    record { lines = read.front; whole = whole; are = read.lines }
 
 -- what an answer says of a part that may come next, and of one that may not
 pub leads_at : {A : Type 0} (found : Option (Next A)) (after next same : Next A) (list new : List (Entry A)) (part : List ℕ) (end : Separator)
@@ -175,9 +185,9 @@ module _ (digits_law : IdTextsAreDigits) where
   ends_id list entry Space = (Parent entry, list, (refl, refl))
   ends_id list entry LineFeed = (Word, list ++ entry ∷ [], (refl, refl))
 
-  letter_no_end : (kind : Kind) → letter kind ≢ 101
-  letter_no_end Commit = λ is. omega arith
-  letter_no_end Tag = λ is. omega arith
+  -- what may stand in a line after those of so many entries
+  abbrev MayStand : Type 0 → ℕ → List ℕ → Type 0
+  MayStand A n text = ((entry : Entry A) × IsNodeText text entry) ⊎ (text ≡ end_text n)
 
   -- the first part of a pack
   may_begin : {A : Type 0} (list : List (Entry A)) (text x t more : List ℕ) → text ≡ [] → t ≡ header → text ++ x ≡ line t ++ more → Follows Header list x
@@ -186,7 +196,7 @@ module _ (digits_law : IdTextsAreDigits) where
       record { part = header; end = LineFeed; rest = more; after = Word; new = list; parts = parts; is = IsPart-header; few = omega arith; leads = (refl, refl, refl) }
 
   -- the first part of a line
-  may_word : {A : Type 0} (list : List (Entry A)) (text x t more : List ℕ) (n : ℕ) → text ≡ [] → MayStand A (suc n) t → text ++ x ≡ line t ++ more
+  may_word : {A : Type 0} (list : List (Entry A)) (text x t more : List ℕ) (n : ℕ) → text ≡ [] → MayStand A n t → text ++ x ≡ line t ++ more
       → Follows Word list x
   may_word list text x t more n opens (inl h) same =
       let node = h.1 in
@@ -199,7 +209,7 @@ module _ (digits_law : IdTextsAreDigits) where
       record { part = codes "end"; end = Space; rest = (decimal n ++ 10 ∷ []) ++ more; after = Count; new = list; parts = parts; is = IsPart-end; few = omega arith; leads = (refl, refl) }
 
   -- the id of an entry
-  may_id : {A : Type 0} (kind : Kind) (list : List (Entry A)) (text x t more : List ℕ) (n : ℕ) → text ≡ letter kind ∷ 32 ∷ [] → MayStand A (suc n) t
+  may_id : {A : Type 0} (kind : Kind) (list : List (Entry A)) (text x t more : List ℕ) (n : ℕ) → text ≡ letter kind ∷ 32 ∷ [] → MayStand A n t
       → text ++ x ≡ line t ++ more → Follows (Id kind) list x
   may_id {A} kind list text x t more n opens (inl h) same =
       let node = h.1 in
@@ -218,7 +228,7 @@ module _ (digits_law : IdTextsAreDigits) where
 
   -- one more parent
   may_parent : {A : Type 0} (entry : Entry A) (list : List (Entry A)) (text node x t more : List ℕ) (n : ℕ) → text ≡ node ++ 32 ∷ []
-      → IsNodeText node entry → MayStand A (suc n) t → text ++ x ≡ line t ++ more → Follows (Parent entry) list x
+      → IsNodeText node entry → MayStand A n t → text ++ x ≡ line t ++ more → Follows (Parent entry) list x
   may_parent entry list text node x t more n opens own (inl h) same =
       let whole : ((letter entry.node.kind ∷ own.0) ++ 32 ∷ []) ++ x ≡ line (letter h.0.node.kind ∷ h.1.0) ++ more =
       sym (ap (λ (o : List ℕ). o ++ x) (opens ∙ ap (λ (l : List ℕ). l ++ 32 ∷ []) own.1)) ∙ same ∙ ap (λ (l : List ℕ). line l ++ more) h.1.1 in
@@ -233,7 +243,7 @@ module _ (digits_law : IdTextsAreDigits) where
       absurd (letter_no_end entry.node.kind first)
 
   -- the number of entries
-  may_count : {A : Type 0} (list : List (Entry A)) (text x t more : List ℕ) → text ≡ codes "end " → MayStand A (suc (length list)) t
+  may_count : {A : Type 0} (list : List (Entry A)) (text x t more : List ℕ) → text ≡ codes "end " → MayStand A (length list) t
       → text ++ x ≡ line t ++ more → Follows Count list x
   may_count list text x t more opens (inl h) same =
       let whole : codes "end " ++ x ≡ line (letter h.0.node.kind ∷ h.1.0) ++ more =
@@ -248,39 +258,64 @@ module _ (digits_law : IdTextsAreDigits) where
 
   -- ---- bad lines
 
-  -- where no line that may stand begins the rest, the line is bad
-  bad_line : {A : Type 0} (whole front rest : List ℕ) (lines at : ℕ) → whole ≡ front ++ rest → IsFront A front lines
-      → ((t more : List ℕ) → MayStand A lines t → rest ≡ line t ++ more → ⊥) → at ≡ lines + 1 → IsBadLine A whole at
-  bad_line whole front rest lines at parts before none place =
+  rest_of : (before x front opening : List ℕ) → before ≡ front ++ opening → before ++ x ≡ front ++ (opening ++ x)
+  rest_of before x front opening h = ap (λ (b : List ℕ). b ++ x) h ∙ append_assoc front opening x
+
+  -- where no line that may come begins the rest, the line is bad
+  bad_line : {A : Type 0} (whole : List ℕ) (front : List (List ℕ)) (rest : List ℕ) (at : ℕ) → whole ≡ text_of front ++ rest → IsFront A front
+      → ((t more : List ℕ) → MayCome A front t → rest ≡ line t ++ more → ⊥) → at ≡ length front + 1 → IsBadLine A whole at
+  bad_line whole front rest at parts before none place =
       elim (first_line rest) [
-        | inl one ↦ inr (inl (record { front = front; rest = rest; lines = lines; parts = parts; before = before; in_line = one; place = place }))
+        | inl one ↦ inr (inl (record { front = front; rest = rest; parts = parts; before = before; in_line = one; place = place }))
         | inr found ↦
-            let split : whole ≡ front ++ line found.0 ++ found.1 =
-            parts ∙ ap (λ (r : List ℕ). front ++ r) found.2 ∙ sym (append_assoc front (line found.0) found.1) in
-            inl (record { front = front; text = found.0; rest = found.1; lines = lines; parts = split; before = before; in_line = found.3; wrong = λ may. none found.0 found.1 may found.2; place = place })
+            let split : whole ≡ text_of front ++ (line found.0 ++ found.1) = parts ∙ ap (λ (r : List ℕ). text_of front ++ r) found.2 in
+            inl (record { front = front; text = found.0; rest = found.1; parts = split; before = before; in_line = found.3; wrong = λ may. none found.0 found.1 may found.2; place = place })
       ]
+
+  -- in the first line
+  bad_first : {A : Type 0} (whole : List ℕ) (front : List (List ℕ)) (rest : List ℕ) → whole ≡ text_of front ++ rest → front ≡ []
+      → ((t more : List ℕ) → t ≡ header → rest ≡ line t ++ more → ⊥) → IsBadLine A whole 1
+  bad_first {A} whole front rest parts is none =
+      let P : List (List ℕ) → Type 0 = λ f. IsFront A f in
+      let count = ap (λ (f : List (List ℕ)). length f) is in
+      bad_line whole front rest 1 parts (subst P (sym is) tt) (λ t more may same. let Q : List (List ℕ) → Type 0 = λ f. MayCome A f t in none t more (subst Q is may) same) (omega (arith, count))
+
+  -- in a line after those of some entries
+  bad_next : {A : Type 0} (whole : List ℕ) (front nodes : List (List ℕ)) (list : List (Entry A)) (rest : List ℕ) → whole ≡ text_of front ++ rest
+      → front ≡ header ∷ nodes → AreNodeTexts nodes list → ((t more : List ℕ) → MayStand A (length list) t → rest ≡ line t ++ more → ⊥)
+      → IsBadLine A whole (length list + 2)
+  bad_next {A} whole front nodes list rest parts is each none =
+      let P : List (List ℕ) → Type 0 = λ f. IsFront A f in
+      let count = ap (λ (f : List (List ℕ)). length f) is in
+      let long = AreNodeTexts-length nodes list each in
+      let stands : (t : List ℕ) → MayCome A (header ∷ nodes) t → MayStand A (length list) t = λ t. ⊎_elim (λ node. inl node) (λ end. inr (end ∙ ap end_text long)) in
+      bad_line whole front rest (length list + 2) parts (subst P (sym is) (refl, (list, each)))
+      (λ t more may same. let Q : List (List ℕ) → Type 0 = λ f. MayCome A f t in none t more (stands t (subst Q is may)) same) (omega (arith, count, long))
 
   -- where no part that may come next begins the rest, the line is bad
   bad_part : {A : Type 0} (next : Next A) (list : List (Entry A)) (before x whole : List ℕ) → HasRead next list before → whole ≡ before ++ x
       → (next ≡ Nothing → x ≡ [] → ⊥) → (Follows next list x → ⊥) → IsBadLine A whole (line_number next (length list))
   bad_part Header list before x whole h is goes none =
-      bad_line whole h.front (h.opening ++ x) 0 1 (is ∙ ap (λ (b : List ℕ). b ++ x) h.parts ∙ append_assoc h.front h.opening x) h.lines.0
-      (λ t more may same. none (may_begin list h.opening x t more h.opens may same)) refl
+      bad_first whole h.front (h.opening ++ x) (is ∙ rest_of before x (text_of h.front) h.opening h.parts) h.lines.0
+      (λ t more may same. none (may_begin list h.opening x t more h.opens may same))
   bad_part Word list before x whole h is goes none =
-      bad_line whole h.front (h.opening ++ x) (suc (length list)) (length list + 2) (is ∙ ap (λ (b : List ℕ). b ++ x) h.parts ∙ append_assoc h.front h.opening x) (h.lines.0, list, h.lines.1, h.lines.2, refl)
-      (λ t more may same. none (may_word list h.opening x t more (length list) h.opens may same)) (omega arith)
+      bad_next whole h.front h.lines.0 list (h.opening ++ x) (is ∙ rest_of before x (text_of h.front) h.opening h.parts) h.lines.1 h.lines.2
+      (λ t more may same. none (may_word list h.opening x t more (length list) h.opens may same))
   bad_part (Id kind) list before x whole h is goes none =
-      bad_line whole h.front (h.opening ++ x) (suc (length list)) (length list + 2) (is ∙ ap (λ (b : List ℕ). b ++ x) h.parts ∙ append_assoc h.front h.opening x) (h.lines.0, list, h.lines.1, h.lines.2, refl)
-      (λ t more may same. none (may_id kind list h.opening x t more (length list) h.opens may same)) (omega arith)
+      bad_next whole h.front h.lines.0 list (h.opening ++ x) (is ∙ rest_of before x (text_of h.front) h.opening h.parts) h.lines.1 h.lines.2
+      (λ t more may same. none (may_id kind list h.opening x t more (length list) h.opens may same))
   bad_part (Parent entry) list before x whole h is goes none =
-      bad_line whole h.front (h.opening ++ x) (suc (length list)) (length list + 2) (is ∙ ap (λ (b : List ℕ). b ++ x) h.parts ∙ append_assoc h.front h.opening x) (h.lines.0, list, h.lines.1, h.lines.2, refl)
-      (λ t more may same. none (may_parent entry list h.opening h.opens.0 x t more (length list) h.opens.1 h.opens.2 may same)) (omega arith)
+      bad_next whole h.front h.lines.0 list (h.opening ++ x) (is ∙ rest_of before x (text_of h.front) h.opening h.parts) h.lines.1 h.lines.2
+      (λ t more may same. none (may_parent entry list h.opening h.opens.0 x t more (length list) h.opens.1 h.opens.2 may same))
   bad_part Count list before x whole h is goes none =
-      bad_line whole h.front (h.opening ++ x) (suc (length list)) (length list + 2) (is ∙ ap (λ (b : List ℕ). b ++ x) h.parts ∙ append_assoc h.front h.opening x) (h.lines.0, list, h.lines.1, h.lines.2, refl)
-      (λ t more may same. none (may_count list h.opening x t more h.opens may same)) (omega arith)
+      bad_next whole h.front h.lines.0 list (h.opening ++ x) (is ∙ rest_of before x (text_of h.front) h.opening h.parts) h.lines.1 h.lines.2
+      (λ t more may same. none (may_count list h.opening x t more h.opens may same))
   bad_part Nothing list before x whole h is goes none =
-      let parts : whole ≡ h.front ++ x = is ∙ ap (λ (b : List ℕ). b ++ x) (h.parts ∙ ap (λ (o : List ℕ). h.front ++ o) h.opens ∙ append-nil h.front) in
-      inr (inr (record { pack = h.front; list = list; rest = x; parts = parts; before = h.lines; more = goes refl; place = refl }))
+      let parts : whole ≡ text_of h.front ++ x = is ∙ ap (λ (b : List ℕ). b ++ x) (h.parts ∙ ap (λ (o : List ℕ). text_of h.front ++ o) h.opens ∙ append-nil (text_of h.front)) in
+      let count = ap (λ (f : List (List ℕ)). length f) h.lines.are in
+      let long = AreNodeTexts-length h.lines.nodes list h.lines.each in
+      let last = length-append h.lines.nodes (end_text (length list) ∷ []) in
+      inr (inr (record { lines = h.front; list = list; rest = x; parts = parts; before = h.lines; more = goes refl; place = omega (arith, count, long, last) }))
 
   not_nil : (a : List ℕ) (byte : ℕ) (x : List ℕ) → a ++ byte ∷ x ≡ [] → ⊥
   not_nil [] byte x h = cc

@@ -1,11 +1,14 @@
 -- What is written piece by piece.
-use Rattle.std.proofs.Common.{◌≡◌, ℕ, ◌+◌, ◌<◌, List, [], ◌∷◌, ◌++◌, length, get_or, take, drop, ap, sym, ◌∙◌, append_assoc, length-append, arith}
+use Rattle.std.proofs.Common.{◌≡◌, ℕ, ◌+◌, ◌<◌, List, [], ◌∷◌, ◌++◌, length, map, get_or, take, drop, refl, ap, sym, ◌∙◌, append_assoc, length-append, arith}
 use Rattle.std.specs.List.{flat_map}
-use Rattle.std.proofs.lemmas.List.{flat_map_more, take_more, take-append-drop}
+use Rattle.std.proofs.lemmas.List.{append-nil, flat_map_more, take_more, take-append-drop}
 use Rattle.std.proofs.lemmas.List.Concat.{flat_map-append}
 use Rattle.gobject.specs.declared.fault.PackFault.{PackFault}
 use Rattle.gobject.specs.declared.fault.PackFault.TheVariants.{Memory, TooLarge, Other}
-use Rattle.gobject.specs.PlainPackText.{PackRefuses}
+use Rattle.gobject.specs.declared.node.Entry.{Entry}
+use Rattle.gobject.specs.PlainPackText.{PackRefuses, line, text_of, header, node_text, end_text, pack_text}
+use Rattle.gobject.specs.PlainPackWriting.{nodes_text}
+use Rattle.gobject.proofs.PlainPackLines.{text_of-push}
 
 -- what is refused is refused with more after it
 pub PackRefuses-front : (text more : List ℕ) (fault : PackFault) → PackRefuses text fault → PackRefuses (text ++ more) fault
@@ -31,3 +34,17 @@ pub PackRefuses-at : {X : Type 0} (f : X → List ℕ) (xs : List X) (i : ℕ) (
     → x ≡ get_or xs i x → PackRefuses ((old ++ flat_map f (take i xs)) ++ f x) fault → PackRefuses (old ++ flat_map f xs) fault
 PackRefuses-at f xs i x old fault lt is h =
     rw (pieces_split f xs (i + 1) old, ← pieces_more f xs i x old lt is) (PackRefuses-front _ _ fault h)
+
+nodes_text-is : {A : Type 0} (list : List (Entry A)) → text_of (map node_text list) ≡ nodes_text list
+nodes_text-is [] = refl
+nodes_text-is (entry ∷ list) = ap (λ (text : List ℕ). line (node_text entry) ++ text) (nodes_text-is list)
+
+-- a pack is the header, the lines of its entries and the end
+pub pack_text-is : {A : Type 0} (list : List (Entry A)) → pack_text list ≡ (line header ++ nodes_text list) ++ line (end_text (length list))
+unfolding pack_text
+pack_text-is list =
+    let last = end_text (length list) in
+    sym (append-nil (text_of (header ∷ (map node_text list ++ last ∷ []))))
+    ∙ text_of-push (header ∷ map node_text list) last []
+    ∙ ap (λ (text : List ℕ). text_of (header ∷ map node_text list) ++ text) (append-nil (line last))
+    ∙ ap (λ (text : List ℕ). (line header ++ text) ++ line last) (nodes_text-is list)

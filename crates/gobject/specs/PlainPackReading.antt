@@ -1,5 +1,6 @@
 -- Reading a plain pack part by part: what comes next, what may come, and what was read.
-use Rattle.std.specs.Prelude.{◌≡◌, ◌≢◌, ◌==◌, if◌then◌else◌, ℕ, ◌+◌, List, [], ◌∷◌, ◌++◌, length, slice_index, codes, decimal, Result, MatchResult, Vec}
+use Rattle.std.specs.Prelude.{◌≡◌, ◌≢◌, ◌==◌, if◌then◌else◌, ℕ, ◌+◌, List, [], ◌∷◌, ◌++◌, length, slice_index}
+use Rattle.std.specs.Prelude.{codes, decimal, Result, MatchResult, Vec}
 use Rattle.gname.specs.declared.formats.Format.{Format}
 use Rattle.gname.specs.declared.formats.Format.TheVariants.{Sha1, Sha256}
 use Rattle.gname.specs.Formats.{id_text_length}
@@ -12,7 +13,8 @@ use Rattle.gobject.specs.declared.plain_pack.read.Next.{Next}
 use Rattle.gobject.specs.declared.plain_pack.read.Next.TheVariants.{Header, Word, Id, Parent, Count, Nothing}
 use Rattle.gobject.specs.declared.plain_pack.read.Lines.{Lines}
 use Rattle.gobject.specs.Objects.{entry_of, node_of}
-use Rattle.gobject.specs.PlainPackText.{line, header, letter, IsNodeText, IsNodesText, IsPack, IndexRefuses}
+use Rattle.gobject.specs.PlainPackText.{text_of, header, letter, IsNodeText, AreNodeTexts, ArePackLines, IsPack}
+use Rattle.gobject.specs.PlainPackText.{IndexRefuses}
 
 -- neither a space nor a line feed is in the text
 abbrev pub IsPart : List ℕ → Type 0
@@ -77,10 +79,10 @@ line_number Nothing n = n + 3
 line_number _ n = n + 2
 
 -- the lines before the one that the next part stands in
-abbrev pub AreLines : {A : Type 0} → Next A → List (Entry A) → List ℕ → Type 0
-AreLines Header list text = (text ≡ []) × (list ≡ [])
-AreLines Nothing list text = IsPack text list
-AreLines _ list text = (nodes : List ℕ) × (text ≡ line header ++ nodes) × IsNodesText nodes list
+abbrev pub AreLines : {A : Type 0} → Next A → List (Entry A) → List (List ℕ) → Type 0
+AreLines Header list lines = (lines ≡ []) × (list ≡ [])
+AreLines Nothing list lines = ArePackLines lines list
+AreLines _ list lines = (nodes : List (List ℕ)) × (lines ≡ header ∷ nodes) × AreNodeTexts nodes list
 
 -- what stands in its line before the next part
 abbrev pub IsOpening : {A : Type 0} → Next A → List ℕ → Type 0
@@ -91,9 +93,9 @@ IsOpening _ text = text ≡ []
 
 -- the bytes before the part that comes next
 pub record HasRead {A : Type 0} (next : Next A) (list : List (Entry A)) (bytes : List ℕ) : Type 0 where
-  pub front : List ℕ
+  pub front : List (List ℕ)
   pub opening : List ℕ
-  pub parts : bytes ≡ front ++ opening
+  pub parts : bytes ≡ text_of front ++ opening
   pub lines : AreLines next list front
   pub opens : IsOpening next opening
 

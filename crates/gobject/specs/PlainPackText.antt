@@ -1,7 +1,7 @@
 -- The text of a plain pack: lines, each ended by a line feed, whose parts are separated by one space. The first is
 -- `GPK1`; then one for each entry, `c` for a commit or `t` for a tag, its id and those of its parents; at last
 -- `end` and how many entries there are.
-use Rattle.std.specs.Prelude.{◌≡◌, ◌≢◌, ◌⊎◌, ℕ, zero, suc, ◌+◌, ◌<◌, List, [], ◌∷◌, ◌++◌, length, slice_index, codes}
+use Rattle.std.specs.Prelude.{◌≡◌, ◌≢◌, ◌⊎◌, ⊤, ℕ, ◌+◌, ◌<◌, List, [], ◌∷◌, ◌++◌, length, map, slice_index, codes}
 use Rattle.std.specs.Prelude.{decimal}
 use Rattle.std.specs.List.{flat_map}
 use Rattle.gname.specs.Ids.{IsIdText, id_text}
@@ -14,11 +14,16 @@ use Rattle.gobject.specs.declared.fault.IndexFault.{IndexFault}
 use Rattle.gobject.specs.declared.fault.IndexFault.TheVariants as index_faults
 use Rattle.gobject.specs.Packs.{max_pack}
 
--- ---- what is written
-
 -- a line and its line feed
 abbrev pub line : List ℕ → List ℕ
 line text = text ++ 10 ∷ []
+
+-- the text of some lines
+abbrev pub text_of : List (List ℕ) → List ℕ
+text_of [] = []
+text_of (first ∷ lines) = line first ++ text_of lines
+
+-- ---- what is written
 
 -- the first line
 abbrev pub header : List ℕ
@@ -41,17 +46,17 @@ ids_text ids = flat_map (λ id. 32 ∷ id_text id) ids
 abbrev pub node_text : {A : Type 0} → Entry A → List ℕ
 node_text entry = letter entry.node.kind ∷ ids_text (ids_of entry)
 
--- the lines of some entries
-abbrev pub nodes_text : {A : Type 0} → List (Entry A) → List ℕ
-nodes_text list = flat_map (λ entry. line (node_text entry)) list
-
 -- the last line, after so many entries
 abbrev pub end_text : ℕ → List ℕ
 end_text n = codes "end " ++ decimal n
 
--- the pack of some entries
+-- the lines of the pack of some entries
+abbrev pub pack_lines : {A : Type 0} → List (Entry A) → List (List ℕ)
+pack_lines list = header ∷ (map node_text list ++ end_text (length list) ∷ [])
+
+-- the pack
 unfoldable pub pack_text : {A : Type 0} → List (Entry A) → List ℕ
-pack_text list = line header ++ nodes_text list ++ line (end_text (length list))
+pack_text list = text_of (pack_lines list)
 
 -- why a text is not packed: it has too many bytes, or there is no memory
 abbrev pub PackRefuses : List ℕ → PackFault → Type 0
@@ -72,16 +77,23 @@ abbrev pub IsNodeText : {A : Type 0} → List ℕ → Entry A → Type 0
 IsNodeText text entry = (ids : List ℕ) × (text ≡ letter entry.node.kind ∷ ids) × IsIdsText ids (ids_of entry)
 
 -- a line of each of the entries
-abbrev pub IsNodesText : {A : Type 0} → List ℕ → List (Entry A) → Type 0
-IsNodesText text [] = text ≡ []
-IsNodesText text (entry ∷ list) =
-    (node more : List ℕ) × (text ≡ line node ++ more) × IsNodeText node entry × IsNodesText more list
+abbrev pub AreNodeTexts : {A : Type 0} → List (List ℕ) → List (Entry A) → Type 0
+AreNodeTexts [] [] = ⊤
+AreNodeTexts (text ∷ lines) (entry ∷ list) = IsNodeText text entry × AreNodeTexts lines list
+AreNodeTexts [] (entry ∷ list) = ⊥
+AreNodeTexts (text ∷ lines) [] = ⊥
+
+-- the lines of a pack of the entries
+pub record ArePackLines {A : Type 0} (lines : List (List ℕ)) (list : List (Entry A)) : Type 0 where
+  pub nodes : List (List ℕ)
+  pub are : lines ≡ header ∷ (nodes ++ end_text (length list) ∷ [])
+  pub each : AreNodeTexts nodes list
 
 -- a pack of the entries
 pub record IsPack {A : Type 0} (bytes : List ℕ) (list : List (Entry A)) : Type 0 where
-  pub nodes : List ℕ
-  pub whole : bytes ≡ line header ++ nodes ++ line (end_text (length list))
-  pub each : IsNodesText nodes list
+  pub lines : List (List ℕ)
+  pub whole : bytes ≡ text_of lines
+  pub are : ArePackLines lines list
 
 -- ---- the first line that is wrong
 
@@ -89,50 +101,45 @@ pub record IsPack {A : Type 0} (bytes : List ℕ) (list : List (Entry A)) : Type
 abbrev pub IsInLine : List ℕ → Type 0
 IsInLine text = (at : ℕ) → slice_index text at ≢ 10
 
--- what may stand before a line, being so many lines: nothing, or the header and a line of each of some entries
-abbrev pub IsFront : (A : Type 0) → List ℕ → ℕ → Type 0
-IsFront A front zero = front ≡ []
-IsFront A front (suc n) =
-    (nodes : List ℕ) × (list : List (Entry A)) × (front ≡ line header ++ nodes)
-    × IsNodesText nodes list × (length list ≡ n)
+-- lines that a pack may begin with, before its end: the header, and a line of each of some entries
+abbrev pub IsFront : Type 0 → List (List ℕ) → Type 0
+IsFront A [] = ⊤
+IsFront A (first ∷ nodes) = (first ≡ header) × ((list : List (Entry A)) × AreNodeTexts nodes list)
 
--- what may stand in a line after so many: the header in the first one, then a line of an entry, or the end that
--- counts them
-abbrev pub MayStand : (A : Type 0) → ℕ → List ℕ → Type 0
-MayStand A zero text = text ≡ header
-MayStand A (suc n) text = ((entry : Entry A) × IsNodeText text entry) ⊎ (text ≡ end_text n)
+-- the line that may come after these: the header first, then a line of an entry, or the end that counts them
+abbrev pub MayCome : Type 0 → List (List ℕ) → List ℕ → Type 0
+MayCome A [] text = text ≡ header
+MayCome A (first ∷ nodes) text = ((entry : Entry A) × IsNodeText text entry) ⊎ (text ≡ end_text (length nodes))
 
 -- the lines before are right, and this one is not
 pub record IsWrong (A : Type 0) (bytes : List ℕ) (at : ℕ) : Type 0 where
-  pub front : List ℕ
+  pub front : List (List ℕ)
   pub text : List ℕ
   pub rest : List ℕ
-  pub lines : ℕ
-  pub parts : bytes ≡ front ++ line text ++ rest
-  pub before : IsFront A front lines
+  pub parts : bytes ≡ text_of front ++ (line text ++ rest)
+  pub before : IsFront A front
   pub in_line : IsInLine text
-  pub wrong : MayStand A lines text → ⊥
-  pub place : at ≡ lines + 1
+  pub wrong : MayCome A front text → ⊥
+  pub place : at ≡ length front + 1
 
 -- the lines before are right, and the input ends in this one, or before it
 pub record IsCut (A : Type 0) (bytes : List ℕ) (at : ℕ) : Type 0 where
-  pub front : List ℕ
+  pub front : List (List ℕ)
   pub rest : List ℕ
-  pub lines : ℕ
-  pub parts : bytes ≡ front ++ rest
-  pub before : IsFront A front lines
+  pub parts : bytes ≡ text_of front ++ rest
+  pub before : IsFront A front
   pub in_line : IsInLine rest
-  pub place : at ≡ lines + 1
+  pub place : at ≡ length front + 1
 
 -- a pack comes to its end in the line before, and more bytes follow
 pub record IsFollowed (A : Type 0) (bytes : List ℕ) (at : ℕ) : Type 0 where
-  pub pack : List ℕ
+  pub lines : List (List ℕ)
   pub list : List (Entry A)
   pub rest : List ℕ
-  pub parts : bytes ≡ pack ++ rest
-  pub before : IsPack pack list
+  pub parts : bytes ≡ text_of lines ++ rest
+  pub before : ArePackLines lines list
   pub more : rest ≢ []
-  pub place : at ≡ length list + 3
+  pub place : at ≡ length lines + 1
 
 -- the first line, counted from 1, that is not as it has to be
 abbrev pub IsBadLine : (A : Type 0) → List ℕ → ℕ → Type 0

@@ -29,8 +29,8 @@
 //!
 //! # Stands on
 //!
-//! `gname` for ids, `memchr` for the ends of parts, `arrayvec` for a part that is cut, `itoa` for the count in a pack, `thiserror` for the
-//! texts of faults; the proofs cite `hex`.
+//! `gname` for ids, `memchr` for the ends of parts, `arrayvec` for a part that is cut, `itoa` for the
+//! count in a pack, `thiserror` for the texts of faults; the proofs cite `hex`.
 #![tactic(auto)]
 
 mod entry_ids;

@@ -5,7 +5,7 @@ ghost use Rattle.std.specs.Prelude.{◌≡◌, MatchOption, IfOk, ◌∷◌};
 ghost use Rattle.gobject.specs.Objects.{HasIds};
 ghost use Rattle.ggraph.specs.RepositoryText.{IsHead, node_line, ref_line, head_line, spaced_ids};
 ghost use Rattle.grefs.specs.RefLists.{IsBelowRefs};
-ghost use Rattle.ggraph.specs.TextParts.{IsNoNode, IsNoEntry, IsNoRef, IsNoHead, IsNoIdText, IsHeadAt, IsHeadOn};
+ghost use Rattle.ggraph.specs.NoSuchPart.{IsNoNode, IsNoEntry, IsNoRef, IsNoHead, IsNoIdText, IsHeadAt, IsHeadOn};
 ghost use Rattle.gname.specs.Ids.{IsId};
 
 use crate::text::laws::text_laws;

@@ -5,7 +5,7 @@ ghost use Rattle.std.specs.Prelude.{◌≡◌, ◌++◌, MatchOption, IfOk, All,
 ghost use Rattle.gname.specs.Ids.{IsId, id_text};
 ghost use Rattle.grefs.specs.RefLists.{IsBelowRefs};
 ghost use Rattle.ggraph.specs.RepositoryText.{spaced_ids};
-ghost use Rattle.ggraph.specs.TextParts.{BeginsWithNoId, BeginsWithNoSpacedId, IsNoIds};
+ghost use Rattle.ggraph.specs.NoSuchPart.{BeginsWithNoId, BeginsWithNoSpacedId, IsNoIds};
 
 use crate::text::laws::text_laws;
 use gname::{ID_TEXT_LENGTH, NameFault, Oid, RefName};

@@ -44,8 +44,8 @@ pub(crate) struct Reading<A: Allocator + Copy> {
 }
 
 impl<A: Allocator + Copy> Reading<A> {
-    ghost use Rattle.ggraph.specs.Reading.{Refuses, Takes, TakesRefs, nothing_read};
-    ghost use Rattle.ggraph.specs.TextParts.{IsNoNode, IsNoRef};
+    ghost use Rattle.ggraph.specs.Reading.{RefusesLine, ComesNext, RefMayCome, nothing_read};
+    ghost use Rattle.ggraph.specs.NoSuchPart.{IsNoNode, IsNoRef};
 
     /// No line was read. It takes no memory.
     pub(crate) fn new(alloc: A) -> Reading<A>
@@ -59,7 +59,7 @@ impl<A: Allocator + Copy> Reading<A> {
         }
     }
 
-    /// Takes the next line, which is the one of the text with this number.
+    /// ComesNext the next line, which is the one of the text with this number.
     pub(crate) fn take(
         &mut self,
         alloc: A,
@@ -67,8 +67,8 @@ impl<A: Allocator + Copy> Reading<A> {
         line: &[u8],
         number: usize,
     ) -> Result<(), TextFault>
-        ensures ok { OnOk result (Takes order self.old line.now self.new) }
-        ensures refused { IfErr result (Refuses order self.old line.now number) }
+        ensures ok { OnOk result (ComesNext order self.old line.now self.new) }
+        ensures refused { IfErr result (RefusesLine order self.old line.now number) }
     {
         match self.stage {
             Stage::First => {
@@ -99,8 +99,8 @@ impl<A: Allocator + Copy> Reading<A> {
         number: usize,
     ) -> Result<(), TextFault>
         requires { self.old.stage ≡ Stage.Nodes }
-        ensures ok { OnOk result (Takes order self.old line.now self.new) }
-        ensures refused { IfErr result (Refuses order self.old line.now number) }
+        ensures ok { OnOk result (ComesNext order self.old line.now self.new) }
+        ensures refused { IfErr result (RefusesLine order self.old line.now number) }
     {
         text_laws();
         match node_of(alloc, line)? {
@@ -116,10 +116,10 @@ impl<A: Allocator + Copy> Reading<A> {
         line: &[u8],
         number: usize,
     ) -> Result<(), TextFault>
-        requires due { TakesRefs self.old.stage }
+        requires due { RefMayCome self.old.stage }
         requires no_node { self.old.stage ≡ Stage.Nodes → IsNoNode A line.now }
-        ensures ok { OnOk result (Takes order self.old line.now self.new) }
-        ensures refused { IfErr result (Refuses order self.old line.now number) }
+        ensures ok { OnOk result (ComesNext order self.old line.now self.new) }
+        ensures refused { IfErr result (RefusesLine order self.old line.now number) }
     {
         text_laws();
         match ref_of(alloc, line)? {
@@ -138,11 +138,11 @@ impl<A: Allocator + Copy> Reading<A> {
         line: &[u8],
         number: usize,
     ) -> Result<(), TextFault>
-        requires due { TakesRefs self.old.stage }
+        requires due { RefMayCome self.old.stage }
         requires no_node { self.old.stage ≡ Stage.Nodes → IsNoNode A line.now }
         requires no_ref { IsNoRef line.now }
-        ensures ok { OnOk result (Takes order self.old line.now self.new) }
-        ensures refused { IfErr result (Refuses order self.old line.now number) }
+        ensures ok { OnOk result (ComesNext order self.old line.now self.new) }
+        ensures refused { IfErr result (RefusesLine order self.old line.now number) }
     {
         match head_of(alloc, line)? {
             Some(head) => {

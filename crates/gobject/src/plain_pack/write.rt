@@ -3,8 +3,8 @@
 
 ghost use Rattle.std.specs.Prelude.{◌≡◌, ◌≤◌, ◌++◌, ◌∷◌, [], ℕ, length, MatchResult, IfOk};
 ghost use Rattle.gobject.specs.Packs.{max_pack};
-ghost use Rattle.gobject.specs.PlainPackText.{letter, line, ids_text, node_text, nodes_text, end_text, pack_text, PackRefuses};
-ghost use Rattle.gobject.specs.PlainPackWriting.{Writes};
+ghost use Rattle.gobject.specs.PlainPackText.{letter, line, ids_text, node_text, end_text, pack_text, PackRefuses};
+ghost use Rattle.gobject.specs.PlainPackWriting.{Writes, nodes_text};
 
 use crate::fault::PackFault;
 use crate::node::{Entry, Kind};

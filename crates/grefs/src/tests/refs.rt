@@ -46,14 +46,14 @@ fn nth_digit(turn: usize) -> u8 {
 
 // Each name stands at the id of its last turn, and the others nowhere.
 fn check_refs(rt: &(impl Abort + AllocGlobal), refs: &Refs, order: &[usize]) {
-    let mut count = 0;
+    let mut count: usize = 0;
     for place in 0..NAMES.len() {
         let wanted = nth_name(rt, place);
         let turn = order.iter().rposition(|set| *set == place);
         assert_eq!(rt; refs.get(&wanted), turn.map(|turn| id(rt, nth_digit(turn))));
         if turn.is_some() {
             assert!(rt; is_name_at(refs, count, &wanted), "{count} of {order:?}");
-            count += 1;
+            count = count.saturating_add(1);
         }
     }
     assert_eq!(rt; refs.len(), count);
