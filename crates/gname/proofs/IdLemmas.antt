@@ -14,7 +14,7 @@ use Rattle.gname.specs.declared.formats.Format.{Format}
 use Rattle.gname.specs.declared.formats.Format.TheVariants.{Sha1, Sha256}
 use Rattle.gname.specs.Formats.{id_length, id_text_length}
 use Rattle.gname.specs.Ids.{IsId, IsIdOf, IsIdText, IsIdTextOf, IsFirstBadDigit, ReadsId, format_of, id_text, upper_id_text, id_fault_of}
-use Rattle.gname.specs.Laws.{IdTextFacts, IsClean}
+use Rattle.gname.specs.Laws.{IdTextFacts}
 use Rattle.gname.specs.declared.ids.OidFault.{OidFault}
 use Rattle.gname.specs.declared.ids.OidFault.TheVariants.{Length, Digit}
 

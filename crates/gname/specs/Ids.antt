@@ -1,5 +1,5 @@
 -- Object ids, and the texts that spell them (gitprotocol-common(5), "ABNF Notation": `obj-id`).
-use Rattle.std.specs.Prelude.{◌≡◌, ◌≢◌, ℕ, ◌<◌, ◌==◌, false, if◌then◌else◌, List, length, nat_eq, take, slice_index, Result, Ok, Err}
+use Rattle.std.specs.Prelude.{◌≡◌, ◌≢◌, ℕ, ◌<◌, ◌==◌, false, if◌then◌else◌, List, length, take, slice_index, Result, Ok, Err}
 use Rattle.std.specs.List.{AllPass}
 use Rattle.std.specs.Ordering.{nat_cmp, on, then_cmp}
 use Rattle.std.specs.declared.cmp.Ordering.{Ordering}
