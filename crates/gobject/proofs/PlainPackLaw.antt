@@ -290,8 +290,8 @@ module _ (digits_law : IdTextsAreDigits) (one_law : TextsSpellOneId) where
   Bad-of : {A : Type 0} (bytes : List ℕ) (at : ℕ) → IsBadLine A bytes at → Bad A bytes at
   Bad-of {A} bytes at (inl w) =
       let unfit : Unfit A w.front (line w.text ++ w.rest) = λ text more may same.
-        let P : List ℕ → Type 0 = λ t. MayCome A w.front t in
-        w.wrong (subst P (sym (line_parts w.text text w.rest more w.in_line (may_in_line A w.front text may) same).0) may) in
+      let P : List ℕ → Type 0 = λ t. MayCome A w.front t in
+      w.wrong (subst P (sym (line_parts w.text text w.rest more w.in_line (may_in_line A w.front text may) same).0) may) in
       record { lines = w.front; rest = line w.text ++ w.rest; parts = w.parts; each = front_in_line A w.front w.before; halts = inl (w.before, unfit); place = w.place }
   Bad-of {A} bytes at (inr (inl w)) =
       let unfit : Unfit A w.front w.rest = λ text more may same. not_in_line text more (subst IsInLine same w.in_line) in

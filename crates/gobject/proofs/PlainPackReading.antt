@@ -328,19 +328,19 @@ module _ (digits_law : IdTextsAreDigits) where
   IsBadLine-part {A} next list before part end more h is never =
       let text = part ++ separator_byte end ∷ more in
       bad_part next list before text _ h (simp append_assoc) (λ _ none. not_nil part (separator_byte end) more none) (λ f.
-        let one = part_one part f.part end f.end more f.rest is f.is f.parts in
-        let P : List ℕ → Type 0 = λ p. Leads next list p f.end f.after f.new in
-        let Q : Separator → Type 0 = λ e. Leads next list part e f.after f.new in
-        never f.after f.new (subst Q (sym one.1) (subst P (sym one.0) f.leads)))
+      let one = part_one part f.part end f.end more f.rest is f.is f.parts in
+      let P : List ℕ → Type 0 = λ p. Leads next list p f.end f.after f.new in
+      let Q : Separator → Type 0 = λ e. Leads next list part e f.after f.new in
+      never f.after f.new (subst Q (sym one.1) (subst P (sym one.0) f.leads)))
 
   -- so does one that is too long
   pub IsBadLine-long : {A : Type 0} (next : Next A) (list : List (Entry A)) (before part more : List ℕ) → HasRead next list before → IsPart part
       → 64 < length part → IsBadLine A ((before ++ part) ++ more) (line_number next (length list))
   IsBadLine-long next list before part more h is long =
       bad_part next list before (part ++ more) _ h (append_assoc before part more) (λ _ none. some part long none) (λ f.
-        let most = part_long part f.part f.end more f.rest is f.parts in
-        let few = f.few in
-        absurd (omega arith))
+      let most = part_long part f.part f.end more f.rest is f.parts in
+      let few = f.few in
+      absurd (omega arith))
     where
       some : (p : List ℕ) → 64 < length p → p ++ more ≡ [] → ⊥
       some [] lt none = absurd (omega arith)

@@ -104,15 +104,15 @@ abbrev pub Reads : {A : Type 0} → Lines A → Lines A → Result (Unit {0}) In
 Reads {A} old new result part end =
     MatchResult result
     (λ _. (before : List ℕ) → IsPart part → HasRead old.next old.entries.items before →
-      HasRead new.next new.entries.items (before ++ (part ++ separator_byte end ∷ [])))
+    HasRead new.next new.entries.items (before ++ (part ++ separator_byte end ∷ [])))
     (λ fault. (before more : List ℕ) → IsPart part → HasRead old.next old.entries.items before →
-      IndexRefuses A ((before ++ (part ++ separator_byte end ∷ [])) ++ more) fault)
+    IndexRefuses A ((before ++ (part ++ separator_byte end ∷ [])) ++ more) fault)
 
 -- the input ends with a part that has not ended: it is a pack of the entries, or refused
 abbrev pub Finishes : {A : Type 0} → Lines A → Result (Vec (Entry A) A) IndexFault → List ℕ → Type 0
 Finishes {A} lines result part =
     MatchResult result
     (λ entries. (before : List ℕ) → IsPart part → HasRead lines.next lines.entries.items before →
-      IsPack (before ++ part) entries.items)
+    IsPack (before ++ part) entries.items)
     (λ fault. (before : List ℕ) → IsPart part → HasRead lines.next lines.entries.items before →
-      IndexRefuses A (before ++ part) fault)
+    IndexRefuses A (before ++ part) fault)

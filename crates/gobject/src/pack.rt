@@ -52,7 +52,7 @@ pub trait Indexer<A: Allocator + Copy> {
         ensures { MatchResult result
             (λ _. ((given : List ℕ) → fed self.now feed.old given → fed self.now feed.new (given ++ piece.now)))
             (λ fault. ((given more : List ℕ) → fed self.now feed.old given
-                → index_fails self.now ((given ++ piece.now) ++ more) fault)) };
+            → index_fails self.now ((given ++ piece.now) ++ more) fault)) };
 
     /// The entries of the pack whose pieces were fed, in its order.
     fn finish(&self, feed: Self::Feed) -> Result<Vec<Entry<A>, A>, IndexFault>

@@ -3,6 +3,7 @@
 
 ghost use Rattle.std.specs.Prelude.{◌≡◌, [], ℕ, ◌+◌, List, length, decimal, MatchOption, IfOk, IsTrue, ◌↔◌};
 ghost use Rattle.gname.specs.Ids.{IsIdText};
+ghost use Rattle.gobject.specs.Objects.{entry_of, node_of};
 ghost use Rattle.gobject.specs.PlainPackReading.{IsPart, SplitsPart, format_of_digits, NoId, Leads, NeverLeads, EndsId, with_parent, line_number, Reads, Finishes};
 
 use crate::fault::IndexFault;
@@ -117,6 +118,17 @@ fn is_count(part: &[u8], count: usize) -> bool
     part == digits.format(count).as_bytes()
 }
 
+/// An entry without parents. It takes no memory.
+fn new_entry<A: Allocator + Copy>(alloc: A, kind: Kind, id: Oid) -> Entry<A>
+    ensures { result ≡ entry_of id (node_of kind []) }
+{
+    let parents = Parents::new(alloc);
+    Entry {
+        id,
+        node: Node { kind, parents },
+    }
+}
+
 /// The entry with one more parent.
 fn push_parent<A: Allocator + Copy>(mut entry: Entry<A>, id: Oid) -> Result<Entry<A>, AllocError>
     ensures { IfOk result (λ longer. longer ≡ with_parent entry id) }
@@ -126,7 +138,11 @@ fn push_parent<A: Allocator + Copy>(mut entry: Entry<A>, id: Oid) -> Result<Entr
 }
 
 /// What follows an id of an entry: one more parent, or, at the end of its line, another line.
-fn after_id<A: Allocator + Copy>(entries: &mut Vec<Entry<A>, A>, entry: Entry<A>, separator: Separator) -> Result<Next<A>, AllocError>
+fn after_id<A: Allocator + Copy>(
+    entries: &mut Vec<Entry<A>, A>,
+    entry: Entry<A>,
+    separator: Separator,
+) -> Result<Next<A>, AllocError>
     ensures { IfOk result (λ next. EndsId entries.old.items entry separator next entries.new.items) }
 {
     match separator {
@@ -139,7 +155,13 @@ fn after_id<A: Allocator + Copy>(entries: &mut Vec<Entry<A>, A>, entry: Entry<A>
 }
 
 /// What follows a part, `None` where the part may not stand there.
-fn after_part<A: Allocator + Copy>(alloc: A, entries: &mut Vec<Entry<A>, A>, next: Next<A>, part: &[u8], separator: Separator) -> Result<Option<Next<A>>, AllocError>
+fn after_part<A: Allocator + Copy>(
+    alloc: A,
+    entries: &mut Vec<Entry<A>, A>,
+    next: Next<A>,
+    part: &[u8],
+    separator: Separator,
+) -> Result<Option<Next<A>>, AllocError>
     ensures { IfOk result (λ found. MatchOption found
         (NeverLeads next entries.old.items part.now separator)
         (λ after. Leads next entries.old.items part.now separator after entries.new.items)) }
@@ -151,8 +173,8 @@ fn after_part<A: Allocator + Copy>(alloc: A, entries: &mut Vec<Entry<A>, A>, nex
             let Some(id) = id_of(part) else {
                 return Ok(None);
             };
-            let node = Node { kind, parents: Parents::new(alloc) };
-            let after = after_id(entries, Entry { id, node }, separator)?;
+            let entry = new_entry(alloc, kind, id);
+            let after = after_id(entries, entry, separator)?;
             Ok(Some(after))
         }
         Next::Parent(entry) => {

@@ -5,8 +5,7 @@ use gname::Format;
 use std::process::Abort;
 
 // A commit without parents.
-const FIRST: &[u8; 54] =
-    b"GPK1\nc eeeeeeeeeeeeeeeeeeeeeeeeeeeeeeeeeeeeeeee\nend 1\n";
+const FIRST: &[u8; 54] = b"GPK1\nc eeeeeeeeeeeeeeeeeeeeeeeeeeeeeeeeeeeeeeee\nend 1\n";
 
 // Three commits with ids of 64 digits.
 const SHA256: &[u8; 342] =

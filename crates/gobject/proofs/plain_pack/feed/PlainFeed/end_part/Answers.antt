@@ -7,6 +7,10 @@ use Rattle.gobject.proofs.PlainPackFeed.{Feeds-then, Feeds-more, Feeds-part, nil
 use Rattle.gobject.proofs.PlainPackLines.{IsPart-nil}
 use Rattle.gobject.proofs.plain_pack.feed.PlainFeed.end_part.Goals as goal
 
+-- the part that was moved out is what was kept
+kept : (part moved : ArrayVec ℕ) (bytes : List ℕ) → moved ≡ part → bytes ≡ moved.items → part.items ++ [] ≡ bytes
+kept part moved bytes is lent = append-nil part.items ∙ sym (ap (λ (v : ArrayVec ℕ). v.items) is) ∙ sym lent
+
 pub returns-then-is_empty : goal.returns-then-is_empty
 returns-then-is_empty g c =
     let none : c.args.self.now.part.items ≡ [] = nil-of_empty c.args.self.now.part.items (sym c.is_empty.ensures ∙ c.if-is_empty.true) in
@@ -20,8 +24,7 @@ returns-in_err-keep g c =
 
 pub returns : goal.returns
 returns g c =
-    let whole : c.keep.new.self.part.items ++ [] ≡ c.as_slice.result.now =
-    append-nil c.keep.new.self.part.items ∙ sym (ap (λ (v : ArrayVec ℕ). v.items) c.replace-part.ensures.value) ∙ sym c.as_slice.ensures.value in
+    let whole : c.keep.new.self.part.items ++ [] ≡ c.as_slice.result.now = kept c.keep.new.self.part c.replace-part.result c.as_slice.result.now c.replace-part.ensures.value c.as_slice.ensures.value in
     let none : c.replace-part.new.dest.items ≡ [] = ap (λ (v : ArrayVec ℕ). v.items) c.replace-part.ensures.after ∙ c.new.ensures in
     Feeds-then c.args.self.now c.keep.new.self (record { lines = c.take-2.new.self; part = c.replace-part.new.dest }) c.args.text.now (separator_byte c.args.separator ∷ []) c.take-2.result c.in_ok-keep.ensures
     (Feeds-part c.keep.new.self (record { lines = c.take-2.new.self; part = c.replace-part.new.dest }) [] c.as_slice.result.now c.args.separator c.take-2.result IsPart-nil whole none c.take-2.ensures)
