@@ -5,10 +5,7 @@ use Rattle.std.specs.Option.{option_map}
 use Rattle.std.proofs.lemmas.List.Sums.{sum_by-set, sum_by-cons, count_by-le-length}
 use Rattle.std.proofs.lemmas.List.Folds.{sum_by-replicate}
 use Rattle.std.proofs.lemmas.List.{length-set}
-use Rattle.std.proofs.lemmas.List.Elements.{All-head, All-tail}
 use Rattle.gobject.specs.declared.node.Entry.{Entry}
-use Rattle.gobject.specs.Objects.{IsShaped}
-use Rattle.ghistory.specs.Graphs.{IsGraph}
 use Rattle.ghistory.specs.Walks.{marked_parents}
 
 abbrev pub count_marks : List Bool → ℕ
@@ -25,12 +22,6 @@ count_more marks p inside free =
 
 pub count_less : (marks : List Bool) → count_marks marks ≤ length marks
 count_less marks = count_by-le-length (λ mark. mark) marks
-
--- fewer places are left without a mark
-pub fewer_left : (marks : List Bool) (p n : ℕ) → p < length marks → get_or marks p false ≡ false → length marks ≡ n → n - count_marks (set marks p true) + 1 ≤ n - count_marks marks
-fewer_left marks p n inside free long =
-    let e = count_more marks p inside free in let l = count_less (set marks p true) in let s = length-set marks p true in
-    omega (arith, e, l, s)
 
 pub parents_none : {A : Type 0} (g : List (Entry A)) (n : ℕ) → marked_parents g (replicate n false) ≡ 0
 parents_none [] n = refl
@@ -50,38 +41,23 @@ parents_more (entry ∷ g) (mark ∷ marks) (suc p) parents inside free are =
 count_cons : (mark : Bool) (marks : List Bool) → count_marks (mark ∷ marks) ≡ cond mark 1 0 + count_marks marks
 count_cons mark marks = sum_by-cons (λ m. cond m 1 0) mark marks
 
-pub parents_few : {A : Type 0} (g : List (Entry A)) (marks : List Bool) → All (λ entry. IsShaped entry.node) g → marked_parents g marks ≤ 64 * count_marks marks
-parents_few [] marks shaped = omega arith
-parents_few (entry ∷ g) [] shaped = omega arith
-parents_few (entry ∷ g) (true ∷ marks) shaped =
-    let e = parents_few g marks (All-tail (λ entry. IsShaped entry.node) entry g shaped) in
-    let few = (All-head (λ entry. IsShaped entry.node) entry g shaped).few in
+pub parents_few : {A : Type 0} (g : List (Entry A)) (marks : List Bool) → ((p : ℕ) (entry : Entry A) → slice_get g p ≡ Some entry → length entry.node.parents ≤ 64) → marked_parents g marks ≤ 64 * count_marks marks
+parents_few [] marks narrow = omega arith
+parents_few (entry ∷ g) [] narrow = omega arith
+parents_few (entry ∷ g) (true ∷ marks) narrow =
+    let e = parents_few g marks (λ p. narrow (suc p)) in
+    let few = narrow 0 entry refl in
     let c = count_cons true marks in
     omega (arith, e, few, c)
-parents_few (entry ∷ g) (false ∷ marks) shaped =
-    let e = parents_few g marks (All-tail (λ entry. IsShaped entry.node) entry g shaped) in
+parents_few (entry ∷ g) (false ∷ marks) narrow =
+    let e = parents_few g marks (λ p. narrow (suc p)) in
     let c = count_cons false marks in
     omega (arith, e, c)
 
--- the count so far
-pub record IsCounted {A : Type 0} (g : List (Entry A)) (marks : List Bool) (ids parents : ℕ) : Type 0 where
-  pub ids_are : ids ≡ count_marks marks
-  pub parents_are : parents ≡ marked_parents g marks
-
-pub begins_count : {A : Type 0} (g : List (Entry A)) → IsCounted g (replicate (length g) false) 0 0
-begins_count g = record { ids_are = sym (count_none (length g)); parents_are = sym (parents_none g (length g)) }
-
-module _ {A : Type 0} (g : List (Entry A)) (marks : List Bool) (ids parents : ℕ) (old : IsCounted g marks ids parents) (p : ℕ) (more : List (List ℕ)) (inside : p < length marks) (free : get_or marks p false ≡ false) (are : option_map (λ entry. entry.node.parents) (slice_get g p) ≡ Some more) where
-  pub counts : IsCounted g (set marks p true) (ids + 1) (parents + length more)
-  counts = record {
-    ids_are = let e = count_more marks p inside free in let o = old.ids_are in omega (arith, e, o);
-    parents_are = let e = parents_more g marks p more inside free are in let o = old.parents_are in omega (arith, e, o);
-  }
-
-  -- few parents were counted with this one
-  pub counts_fit : length marks ≡ length g → IsGraph g → parents + length more < 2 ^ 64
-  counts_fit long graph =
-      let e = parents_more g marks p more inside free are in
-      let few = parents_few g (set marks p true) graph.shaped in
-      let l = count_less (set marks p true) in let s = length-set marks p true in let o = old.parents_are in let n = graph.few in
-      omega (arith, e, few, l, s, o, n)
+-- few parents were counted with this one
+pub counts_fit : {A : Type 0} (g : List (Entry A)) (marks : List Bool) (parents p : ℕ) (more : List (List ℕ)) → parents ≡ marked_parents g marks → p < length marks → get_or marks p false ≡ false → option_map (λ entry. entry.node.parents) (slice_get g p) ≡ Some more → length marks ≡ length g → length g ≤ 1048576 → ((q : ℕ) (entry : Entry A) → slice_get g q ≡ Some entry → length entry.node.parents ≤ 64) → parents + length more < 2 ^ 64
+counts_fit g marks parents p more are inside free is long small narrow =
+    let e = parents_more g marks p more inside free is in
+    let few = parents_few g (set marks p true) narrow in
+    let l = count_less (set marks p true) in let s = length-set marks p true in
+    omega (arith, e, few, l, s, are, long, small)

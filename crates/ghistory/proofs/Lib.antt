@@ -5,10 +5,16 @@ pub mod Holding
 pub mod IdLists
 pub mod LevelLaws
 pub mod LevelWalk
+pub mod Looking
+pub mod Marking
+pub mod Misses
 pub mod OfferLaws
 pub mod OfferLemmas
+pub mod Offering
 pub mod OrderLemmas
 pub mod PeelLemmas
+pub mod Reached
 pub mod Reaching
-pub mod Selecting
+pub mod Stopping
+pub mod Tagging
 pub mod Walking

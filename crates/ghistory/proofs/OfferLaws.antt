@@ -3,7 +3,7 @@ use Rattle.std.proofs.Common.{◌≡◌, ℕ, zero, suc, ◌≤◌, Bool, false,
 use Rattle.std.specs.List.{IsDistinct, AllByRecursion}
 use Rattle.std.proofs.lemmas.List.Elements.{Contains-append_left}
 use Rattle.gobject.specs.declared.node.Entry.{Entry}
-use Rattle.ghistory.specs.Walks.{Selects, none, keep, skip}
+use Rattle.ghistory.specs.Selecting.{Selects, none, keep, skip}
 use Rattle.ghistory.specs.Levels.{level, levels_below}
 use Rattle.ghistory.specs.Offer.{IsUntold, OffersAreExact}
 use Rattle.ghistory.proofs.IdLists.{either_way, nothing_in_nil, contains_head, contains_tail, contains_cases}

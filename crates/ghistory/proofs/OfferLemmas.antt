@@ -1,14 +1,15 @@
 -- The offer by look-ups in two lists of levels is the offer.
 use Rattle.std.proofs.Common.{◌≡◌, ℕ, zero, suc, ◌≤◌, Bool, true, false, true≢false, ◌&&◌, not, cond, List, [], ◌∷◌, take, filter, Contains, is_some, refl, sym, ap, subst, ◌∙◌, inl, inr, eq-or-lt_of_le, arith}
+use Rattle.std.proofs.lemmas.List.Elements.{Contains-append_right, Contains-append_cases}
 use Rattle.gobject.specs.declared.node.Entry.{Entry}
 use Rattle.gobject.specs.Objects.{node_at}
 use Rattle.ghistory.specs.Reach.{Reaches, here, onward, SomeReaches}
-use Rattle.ghistory.specs.Walks.{Selects, none, keep, skip}
-use Rattle.ghistory.specs.Levels.{is_in, level, levels_below, AreLevels, Steps}
+use Rattle.ghistory.specs.Selecting.{Selects, none, keep, skip}
+use Rattle.ghistory.specs.Levels.{is_in, level, levels_below, AreLevels, LevelsAreReached, Steps}
 use Rattle.ghistory.specs.Offer.{IsOffer, IsUntold, is_untold}
 use Rattle.ghistory.proofs.IdLists.{either_way, nothing_in_nil, in_or_not, contains_from_in, absent_from_in}
 use Rattle.ghistory.proofs.Reaching.{reaches_parent}
-use Rattle.ghistory.proofs.LevelLaws.{exact_at}
+use Rattle.ghistory.proofs.LevelLaws.{exact_at, levels_end}
 
 -- ---- all levels about some ids are what one of them reaches
 
@@ -49,6 +50,21 @@ module _ {A : Type 0} (g : List (Entry A)) (tips : List (List ℕ)) where
 
   pub in_reached : (count : ℕ) (a : List ℕ) → Contains (levels_below g tips count) a → SomeReaches g tips a
   in_reached count a h = let near = (exact_at g tips count).near a h in steps_reach near.0 a near.2
+
+-- what is before a level is at one of those before it
+pub some_level : {A : Type 0} (g : List (Entry A)) (tips : List (List ℕ)) (count : ℕ) (a : List ℕ) → Contains (levels_below g tips count) a → (k : ℕ) × Contains (level g tips k) a
+some_level g tips zero a c = nothing_in_nil a c
+some_level g tips (suc count) a c =
+    elim (Contains-append_cases (levels_below g tips count) (level g tips count) a c) [
+      | inl before ↦ some_level g tips count a before
+      | inr last ↦ (count, last)
+    ]
+
+pub levels_are_reached : (A : Type 0) → LevelsAreReached A
+levels_are_reached A g tips a = (
+  λ c. in_reached g tips (suc c.0) a (Contains-append_right (levels_below g tips c.0) (level g tips c.0) a c.1),
+  λ s. (let end = levels_end g tips in some_level g tips end.0 a (reached_in g tips end.0 end.1 a s)),
+)
 
 -- ---- a filter selects
 

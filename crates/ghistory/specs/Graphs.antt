@@ -1,6 +1,6 @@
 -- Graphs of commits and tags: which ids a graph holds, with which nodes, and which is a parent of which.
 -- A graph is the list of its entries in the order in which they first came.
-use Rattle.std.specs.Prelude.{◌≡◌, ℕ, ◌≤◌, List, length, Contains, All, Some, IsSome}
+use Rattle.std.specs.Prelude.{◌≡◌, ℕ, ◌≤◌, List, length, take, slice_get, Contains, All, Some, IsSome}
 use Rattle.gobject.specs.declared.node.Node.{Node}
 use Rattle.gobject.specs.declared.node.Entry.{Entry}
 use Rattle.gobject.specs.Objects.{node_at, IdsDiffer, IsShaped}
@@ -16,6 +16,10 @@ Holds g a = IsSome (node_at g a)
 -- `a` is held, and `b` is one of its parents
 abbrev pub HasParent : {A : Type 0} → List (Entry A) → List ℕ → List ℕ → Type 0
 HasParent {A} g a b = (node : Node A) × IsNode g a node × Contains node.parents b
+
+-- parents come first: each parent of an entry is held by the entries before it
+abbrev pub IsOrdered : {A : Type 0} → List (Entry A) → Type 0
+IsOrdered {A} g = (place : ℕ) (entry : Entry A) → slice_get g place ≡ Some entry → All (Holds (take place g)) entry.node.parents
 
 -- the most nodes of a graph
 abbrev pub max_nodes : ℕ

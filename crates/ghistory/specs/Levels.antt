@@ -6,6 +6,7 @@ use Rattle.std.specs.Str.{bytes_eq}
 use Rattle.gobject.specs.declared.node.Entry.{Entry}
 use Rattle.gobject.specs.Objects.{node_at}
 use Rattle.ghistory.specs.Graphs.{HasParent}
+use Rattle.ghistory.specs.Reach.{SomeReaches}
 
 -- whether the id is one of the list
 abbrev pub is_in : List (List ℕ) → List ℕ → Bool
@@ -76,3 +77,7 @@ pub record LevelsAreDistances {A : Type 0} (g : List (Entry A)) (tips : List (Li
   pub few : (k : ℕ) → length (levels_below g tips k) ≤ length tips + length (flat_map (λ entry. entry.node.parents) g)
   pub ends : (k : ℕ) × (level g tips k ≡ [])
   pub stays : (j k : ℕ) → j ≤ k → level g tips j ≡ [] → level g tips k ≡ []
+
+-- an id is at some level exactly where some tip reaches it
+abbrev pub LevelsAreReached : Type 0 → Type 0
+LevelsAreReached A = (g : List (Entry A)) (tips : List (List ℕ)) (a : List ℕ) → ((k : ℕ) × Contains (level g tips k) a) ↔ SomeReaches g tips a

@@ -3,7 +3,10 @@ pub mod Graphs
 pub mod Insert
 pub mod Laws
 pub mod Levels
+pub mod Marks
 pub mod Offer
 pub mod Peeling
 pub mod Reach
+pub mod Selecting
+pub mod Sending
 pub mod Walks

@@ -7,7 +7,7 @@ use Rattle.gobject.specs.Objects.{node_at}
 use Rattle.ghistory.specs.Graphs.{Holds}
 use Rattle.ghistory.specs.Reach.{SomeReaches}
 use Rattle.ghistory.specs.Levels.{is_in, level, levels_below}
-use Rattle.ghistory.specs.Walks.{Selects}
+use Rattle.ghistory.specs.Selecting.{Selects}
 
 -- an id that the other end may have yet: it is held, no common id reaches it, and it was not sent before
 pub record IsUntold {A : Type 0} (g : List (Entry A)) (commons sent : List (List ℕ)) (a : List ℕ) : Type 0 where

@@ -1,10 +1,10 @@
 // The graph in the order in which its objects first came.
 #![tactic(auto)]
 
-ghost use Rattle.std.specs.Prelude.{◌≡◌, [], length, is_some, IsTrue, ◌↔◌, slice_get, MatchOption, OnOk, OnErr, None, ◌≤◌, ◌<◌, ◌++◌, ◌∷◌};
+ghost use Rattle.std.specs.Prelude.{◌≡◌, [], length, is_some, IsTrue, ◌↔◌, slice_get, MatchOption, OnOk, OnErr, IfOk, None, Some, ◌≤◌, ◌<◌, ◌++◌, ◌∷◌};
 ghost use Rattle.std.specs.Option.{option_copied, option_map};
 ghost use Rattle.gobject.specs.Objects.{IsShaped, entry_of, node_at, place_of};
-ghost use Rattle.ghistory.specs.Graphs.{IsGraph, Holds, max_nodes};
+ghost use Rattle.ghistory.specs.Graphs.{IsGraph, IsOrdered, Holds, max_nodes};
 
 use gname::Oid;
 use gobject::{Entry, Node};
@@ -69,7 +69,8 @@ impl<A: Allocator + Copy> Graph<A> {
 
     /// How many nodes there are.
     pub fn len(&self) -> usize
-        ensures { result ≡ length self.now }
+        ensures len { result ≡ length self.now }
+        ensures graph { IsGraph self.now }
     {
         self.entries.len()
     }
@@ -93,6 +94,44 @@ impl<A: Allocator + Copy> Graph<A> {
         ensures { option_copied result ≡ node_at self.now id.now }
     {
         node_of(self.entries.as_slice(), id)
+    }
+
+    // The number of an id, which is its place in store order.
+    pub(crate) fn number(&self, id: &Oid) -> Option<usize>
+        ensures { result ≡ place_of self.now id.now }
+    {
+        place_of(self.entries.as_slice(), id)
+    }
+
+    // The parents of the node at a place.
+    pub(crate) fn parents(&self, place: usize) -> &[Oid]
+        requires { place < length self.now }
+        ensures { option_map (λ entry. entry.node.parents) (slice_get self.now place) ≡ Some result.now }
+    {
+        self.entries[place].node.parents.as_slice()
+    }
+
+    // The id at a place.
+    pub(crate) fn id_at(&self, place: usize) -> &Oid
+        requires { place < length self.now }
+        ensures { option_map (λ entry. entry.id) (slice_get self.now place) ≡ Some result.now }
+    {
+        &self.entries[place].id
+    }
+
+    // A copy of the entry at a place.
+    pub(crate) fn entry_in(&self, place: usize, alloc: A) -> Result<Entry<A>, AllocError>
+        requires { place < length self.now }
+        ensures { IfOk result (λ entry. slice_get self.now place ≡ Some entry) }
+    {
+        self.entries[place].copy_in(alloc)
+    }
+
+    // Whether it is known that parents come first.
+    pub(crate) fn is_ordered(&self) -> bool
+        ensures { IsTrue result → IsOrdered self.now }
+    {
+        false
     }
 
     /// The id and the node at a place of the store order, which counts from 0.

@@ -1,63 +1,18 @@
 // The ids that a client offers as haves.
 #![tactic(auto)]
 
-ghost use Rattle.std.specs.Prelude.{◌≡◌, take, filter, IfOk, MatchResult};
+ghost use Rattle.std.specs.Prelude.{◌≡◌, ◌<◌, [], IfOk, MatchResult, Bool, List, ℕ, length, not, ◌&&◌, slice_index_or, false};
+ghost use Rattle.ghistory.specs.Offer.{IsOffer};
+ghost use Rattle.ghistory.specs.Levels.{AreLevels, new_ids};
+ghost use Rattle.ghistory.specs.Walks.{HasMet};
 ghost use Rattle.ghistory.specs.declared.fault.GraphFault.TheVariants.{Memory};
-ghost use Rattle.ghistory.specs.Offer.{IsOffer, is_untold};
 
+use crate::common::met_of;
 use crate::fault::GraphFault;
-use crate::graph::{Graph, node_of};
-use crate::levels::all_levels;
+use crate::graph::Graph;
+use crate::walk::{Walk, walk_from};
 use gname::Oid;
-use gobject::Entry;
 use std::alloc::{AllocError, Allocator};
-
-// Whether the id is held and in neither list.
-fn is_untold<A: Allocator + Copy>(
-    entries: &[Entry<A>],
-    reached: &[Oid],
-    sent: &[Oid],
-    id: &Oid,
-) -> bool
-    ensures { result ≡ is_untold entries.now reached.now sent.now id.now }
-{
-    node_of(entries, id).is_some() && !reached.contains(id) && !sent.contains(id)
-}
-
-// The first `n` of the ids that are held and in neither list.
-fn first_untold<A: Allocator + Copy>(
-    alloc: A,
-    entries: &[Entry<A>],
-    ids: &[Oid],
-    reached: &[Oid],
-    sent: &[Oid],
-    n: usize,
-) -> Result<Vec<Oid, A>, AllocError>
-    ensures { IfOk result (λ first.
-        first.items ≡ take n (filter (is_untold entries.now reached.now sent.now) ids.now)) }
-{
-    ids.iter()
-        .copied()
-        .filter(|id| is_untold(entries, reached, sent, id))
-        .take(n)
-        .collect(alloc)
-}
-
-/// What `Graph::haves` answers, over the graph's entries.
-pub fn haves_of<A: Allocator + Copy>(
-    alloc: A,
-    entries: &[Entry<A>],
-    tips: &[Oid],
-    commons: &[Oid],
-    sent: &[Oid],
-    n: usize,
-) -> Result<Vec<Oid, A>, AllocError>
-    ensures { IfOk result (λ ids. IsOffer entries.now tips.now commons.now sent.now n ids.items) }
-{
-    let ids = all_levels(alloc, entries, tips)?;
-    let reached = all_levels(alloc, entries, commons)?;
-    first_untold(alloc, entries, &ids, &reached, sent, n)
-}
 
 impl<A: Allocator + Copy> Graph<A> {
     /// The ids to offer as haves to another end that has `commons` (gitprotocol-v2(5), "fetch"): the
@@ -65,7 +20,7 @@ impl<A: Allocator + Copy> Graph<A> {
     ///
     /// Level 0 is the tips in order, each once. Each next level is the parents of the ids of the level
     /// before it, in order, each once, without ids of earlier levels; an id that is not held has no
-    /// parents. It fails with `Memory` alone.
+    /// parents. It goes no further than to the level where it has `n`. It fails with `Memory` alone.
     pub fn haves(
         &self,
         tips: &[Oid],
@@ -77,9 +32,53 @@ impl<A: Allocator + Copy> Graph<A> {
             (λ ids. IsOffer self.now tips.now commons.now sent.now n ids.items)
             (λ fault. fault ≡ Memory) }
     {
-        let ids = haves_of(self.allocator(), self.entries(), tips, commons, sent, n)?;
-        Ok(ids)
+        let known = walk_from(self, commons)?;
+        let sent = met_of(self, sent)?;
+        Ok(first_untold(self, tips, &known, &sent, n)?)
     }
+}
+
+// Whether neither walk has met the number.
+fn is_untold<A: Allocator + Copy>(known: &Walk<A>, sent: &Walk<A>, number: usize) -> bool
+    requires known { number < length known.now.marks.items }
+    requires sent { number < length sent.now.marks.items }
+    ensures { result ≡ (not (slice_index_or known.now.marks.items number false) && not (slice_index_or sent.now.marks.items number false)) }
+{
+    !known.marks[number] && !sent.marks[number]
+}
+
+// The first `n` ids of the levels about the tips that neither walk has met.
+fn first_untold<A: Allocator + Copy>(
+    graph: &Graph<A>,
+    tips: &[Oid],
+    known: &Walk<A>,
+    sent: &Walk<A>,
+    n: usize,
+) -> Result<Vec<Oid, A>, AllocError>
+    requires known { (ids : List (List ℕ)) × HasMet graph.now ids known.now.marks.items known.now.met.items known.now.lost known.now.parents }
+    requires sent { (ids : List (List ℕ)) × HasMet graph.now ids sent.now.marks.items sent.now.met.items sent.now.lost sent.now.parents }
+    ensures { IfOk result (λ list. (commons reached others : List (List ℕ)) →
+        AreLevels graph.now commons reached →
+        HasMet graph.now reached known.now.marks.items known.now.met.items known.now.lost known.now.parents →
+        HasMet graph.now (new_ids [] others) sent.now.marks.items sent.now.met.items sent.now.lost sent.now.parents →
+        IsOffer graph.now tips.now commons others n list.items) }
+{
+    let mut list = Vec::new(graph.allocator());
+    let mut walk = Walk::new(graph)?;
+    walk.meet_all(graph, &[], tips)?;
+    let mut at = 0;
+    while at < walk.met.len() {
+        if list.len() == n {
+            return Ok(list);
+        }
+        let number = walk.met[at];
+        if is_untold(known, sent, number) {
+            list.push(*graph.id_at(number))?;
+        }
+        walk.meet_all(graph, &[], graph.parents(number))?;
+        at += 1;
+    }
+    Ok(list)
 }
 
 #[cfg(test)]

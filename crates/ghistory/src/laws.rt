@@ -2,7 +2,7 @@
 #![tactic(auto)]
 
 ghost use Rattle.ghistory.specs.Laws.{EntriesComeInOrder};
-ghost use Rattle.ghistory.specs.Levels.{LevelsAreDistances};
+ghost use Rattle.ghistory.specs.Levels.{LevelsAreDistances, LevelsAreReached};
 ghost use Rattle.ghistory.specs.Offer.{OffersAreExact};
 
 use gname::Oid;
@@ -14,6 +14,11 @@ use std::alloc::Allocator;
 /// parents; so from some level on all are empty.
 pub fn levels_are_distances<A: Allocator + Copy>(entries: &[Entry<A>], tips: &[Oid])
     ensures { LevelsAreDistances entries.now tips.now }
+{}
+
+/// An id is at some level about some tips exactly where one of the tips reaches it.
+pub fn levels_are_reached<A: Allocator + Copy>()
+    ensures { LevelsAreReached A }
 {}
 
 /// There is one offer for each request for haves. It has at most so many ids as were asked for, each

@@ -4,9 +4,9 @@
 ghost use Rattle.std.specs.Prelude.{◌≡◌, IfSome, Some, List, ℕ};
 ghost use Rattle.ghistory.specs.Peeling.{PeelsTo};
 
-use crate::graph::{Graph, node_of};
+use crate::graph::Graph;
 use gname::Oid;
-use gobject::{Entry, Kind};
+use gobject::Kind;
 use std::alloc::Allocator;
 
 impl<A: Allocator + Copy> Graph<A> {
@@ -16,22 +16,23 @@ impl<A: Allocator + Copy> Graph<A> {
         ensures found { IfSome result (PeelsTo self.now id.now) }
         ensures only { (c : List ℕ) → PeelsTo self.now id.now c → result ≡ Some c }
     {
-        peel_in(self.entries(), id)
-    }
-}
-
-// A chain that ends has no more tags than there are entries, since none comes twice.
-fn peel_in<A: Allocator + Copy>(entries: &[Entry<A>], id: &Oid) -> Option<Oid>
-    ensures found { IfSome result (PeelsTo entries.now id.now) }
-    ensures only { (c : List ℕ) → PeelsTo entries.now id.now c → result ≡ Some c }
-{
-    let mut at = *id;
-    for _entry in entries {
-        let node = node_of(entries, &at)?;
-        match node.kind {
-            Kind::Commit => return Some(at),
-            Kind::Tag => at = *node.parents.as_slice().first()?,
+        // An id of the chain is kept, a further one at each power of two. Where the chain comes to
+        // it again, it goes round.
+        let mut at = *id;
+        let mut kept = *id;
+        for steps in 0..self.len() {
+            let node = self.node(&at)?;
+            match node.kind {
+                Kind::Commit => return Some(at),
+                Kind::Tag => at = *node.parents.as_slice().first()?,
+            }
+            if at == kept {
+                return None;
+            }
+            if (steps + 1).is_power_of_two() {
+                kept = at;
+            }
         }
+        None
     }
-    None
 }

@@ -1,7 +1,8 @@
 // Tests of walks and of adding entries. An id is a number below 256, as forty digits.
-use crate::{Count, Graph, GraphFault};
-use gname::Oid;
+use crate::{Count, FullMarks, Graph, GraphFault};
+use gname::{Oid, RefName};
 use gobject::{Entry, Kind, Node, Parents};
+use grefs::Refs;
 use std::process::Abort;
 
 const DIGITS: [u8; 16] = *b"0123456789abcdef";
@@ -280,4 +281,203 @@ fn all_entries_come_in_or_none(rt: HostRuntime) {
     assert!(rt; !graph.contains(&id(&rt, 4)));
     check_insert(&rt, &mut graph, AGAIN, Ok(1));
     assert_eq!(rt; graph.len(), 4);
+}
+
+// An id by a number of up to four digits.
+fn far_id(rt: &impl Abort, number: usize) -> Oid {
+    let mut text = [b'0'; 40];
+    let mut left = number;
+    for place in 36..40usize {
+        text[75 - place] = DIGITS[left % 16];
+        left /= 16;
+    }
+    Oid::from_hex(&text).expect(rt, "an id")
+}
+
+// So many commits, each with the one before it as its parent.
+fn chain(rt: &(impl Abort + AllocGlobal), commits: usize) -> Graph {
+    let mut entries = Vec::new(rt.alloc());
+    for number in 0..commits {
+        let before = [far_id(rt, number.max(1) - 1)];
+        let ids = if number > 0 { before.as_slice() } else { &[] };
+        let parents = Parents::from_slice(rt.alloc(), ids).expect(rt, "memory");
+        let node = Node {
+            kind: Kind::Commit,
+            parents,
+        };
+        let id = far_id(rt, number);
+        entries.push(Entry { id, node }).expect(rt, "memory");
+    }
+    let mut graph = Graph::new(rt.alloc());
+    let answer = graph.insert_all(entries.as_slice());
+    assert_eq!(rt; answer, Ok(commits));
+    graph
+}
+
+#[test]
+fn a_walk_stops_at_marked_ids(rt: HostRuntime) {
+    let graph = chain(&rt, 1001);
+    let mut known = FullMarks::new(rt.alloc());
+    assert!(rt; !known.marked(0));
+    let marked = graph.mark_full(&[far_id(&rt, 999)], &mut known);
+    assert_eq!(rt; marked, Ok(()));
+    for (number, mark) in [(0, true), (999, true), (1000, false), (5000, false)] {
+        assert_eq!(rt; known.marked(number), mark, "{number}");
+    }
+    let top = [far_id(&rt, 1000)];
+    let short = Count { ids: 2, parents: 1 };
+    assert_eq!(rt; graph.missing_known(&top, &known), Ok((None, short)));
+    let long = Count {
+        ids: 1001,
+        parents: 1000,
+    };
+    assert_eq!(rt; graph.missing_counted(&top), Ok((None, long)));
+}
+
+#[test]
+fn marks_are_kept(rt: HostRuntime) {
+    let graph = graph_of(&rt, CHAIN);
+    let mut known = FullMarks::new(rt.alloc());
+    for (number, marks) in [
+        (1, [false, true, false, false]),
+        (4, [false, true, false, true]),
+    ] {
+        let answer = graph.mark_full(&[id(&rt, number)], &mut known);
+        assert_eq!(rt; answer, Ok(()));
+        for (place, mark) in marks.iter().enumerate() {
+            assert_eq!(rt; known.marked(place), *mark, "{number} {place}");
+        }
+    }
+}
+
+const COMMON: &[(&[usize], &[usize])] = &[
+    (&[], &[]),
+    (&[9, 8], &[]),
+    (&[2, 9, 1, 2], &[2, 1]),
+    (&[4, 3, 2, 1, 3], &[4, 3, 2, 1]),
+];
+
+#[test]
+fn common_ids_are_the_distinct_held_haves(rt: HostRuntime) {
+    let graph = graph_of(&rt, CHAIN);
+    for (haves, wanted) in COMMON {
+        let haves = ids_of(&rt, haves);
+        let common = graph.common_ids(haves.as_slice());
+        let ids = common.expect(&rt, "memory");
+        let wanted = ids_of(&rt, wanted);
+        assert_eq!(rt; ids.as_slice(), wanted.as_slice());
+    }
+}
+
+const TAGGED: &[Row] = &[
+    (Kind::Commit, 1, &[]),
+    (Kind::Commit, 2, &[1]),
+    (Kind::Commit, 3, &[2]),
+    (Kind::Tag, 17, &[3]),
+    (Kind::Tag, 18, &[17]),
+    (Kind::Tag, 19, &[1]),
+    (Kind::Tag, 20, &[21]),
+    (Kind::Tag, 21, &[20]),
+    (Kind::Tag, 22, &[99]),
+];
+
+struct TagCase {
+    wants: &'static [usize],
+    commons: &'static [usize],
+    tips: &'static [usize],
+    sent: &'static [usize],
+}
+
+const TAG_CASES: &[TagCase] = &[
+    // the tag of a commit that is sent
+    TagCase {
+        wants: &[3],
+        commons: &[],
+        tips: &[17],
+        sent: &[1, 2, 3, 17],
+    },
+    TagCase {
+        wants: &[3],
+        commons: &[1],
+        tips: &[17],
+        sent: &[2, 3, 17],
+    },
+    // a commit that is common is not sent, nor are its tags
+    TagCase {
+        wants: &[3],
+        commons: &[3],
+        tips: &[17, 19],
+        sent: &[],
+    },
+    TagCase {
+        wants: &[3],
+        commons: &[1],
+        tips: &[19],
+        sent: &[2, 3],
+    },
+    // each tag of a chain
+    TagCase {
+        wants: &[3],
+        commons: &[],
+        tips: &[18, 18, 3],
+        sent: &[1, 2, 3, 17, 18],
+    },
+    // tags that are no ref's, that go round, and that lead out of the graph
+    TagCase {
+        wants: &[3],
+        commons: &[],
+        tips: &[],
+        sent: &[1, 2, 3],
+    },
+    TagCase {
+        wants: &[3],
+        commons: &[2],
+        tips: &[20, 22, 99],
+        sent: &[3],
+    },
+];
+
+const NAMES: [&[u8]; 3] = [b"refs/tags/a", b"refs/tags/b", b"refs/tags/c"];
+
+fn refs_of(rt: &(impl Abort + AllocGlobal), tips: &[usize]) -> Refs {
+    let mut refs = Refs::new(rt.alloc());
+    for (text, tip) in NAMES.iter().zip(tips) {
+        let name = RefName::new(rt.alloc(), text).expect(rt, "a name");
+        refs.set(name, id(rt, *tip)).expect(rt, "memory");
+    }
+    refs
+}
+
+#[test]
+fn tags_are_sent_with_their_commits(rt: HostRuntime) {
+    let graph = graph_of(&rt, TAGGED);
+    for case in TAG_CASES {
+        let wants = ids_of(&rt, case.wants);
+        let commons = ids_of(&rt, case.commons);
+        let refs = refs_of(&rt, case.tips);
+        let answer = graph.send_list_tags(wants.as_slice(), commons.as_slice(), &refs);
+        let list = answer.expect(&rt, "memory");
+        assert_eq!(rt; list.len(), case.sent.len());
+        for (entry, number) in list.iter().zip(case.sent) {
+            assert!(rt; entry.id == id(&rt, *number), "{number}");
+        }
+    }
+}
+
+#[test]
+fn a_chain_of_tags_peels_to_its_commit(rt: HostRuntime) {
+    let graph = graph_of(&rt, TAGGED);
+    for (from, commit) in [
+        (3, Some(3)),
+        (17, Some(3)),
+        (18, Some(3)),
+        (19, Some(1)),
+        (20, None),
+        (21, None),
+        (22, None),
+        (99, None),
+    ] {
+        let wanted = commit.map(|number| id(&rt, number));
+        assert_eq!(rt; graph.peel(&id(&rt, from)), wanted, "{from}");
+    }
 }

@@ -12,13 +12,13 @@ returns-then-not-branch-clause-answer g c =
     let P : List ℕ → Type 0 = λ want. Any (Reaches c.args.self.now want) c.args.commons.now in
     let one : IsReady c.args.self.now c.args.wants.now c.args.commons.now → P c.want-item.result = λ r. subst P (sym c.want-item.is) (r.each c.loop-want.want-index c.want-item.result c.loop-want-test.true) in (
       λ e. absurd (false≢true e),
-      λ r. absurd (false≢true (sym c.if-not-branch.true ∙ c.in_ok-reaches_one.ensures.answer.1 (one r))),
+      λ r. absurd (false≢true (sym c.if-not-branch.true ∙ (c.in_ok-reached_by.ensures c.args.commons.now c.in_ok-goals.ensures).1 (one r))),
     )
 
 pub loop-want-preserved : goal.loop-want-preserved
 loop-want-preserved g c =
     let P : List ℕ → Type 0 = λ want. Any (Reaches c.args.self.now want) c.args.commons.now in
-    let one : P c.want-item.result = c.in_ok-reaches_one.ensures.answer.0 c.if-not-branch.false in
+    let one : P c.want-item.result = (c.in_ok-reached_by.ensures c.args.commons.now c.in_ok-goals.ensures).0 c.if-not-branch.false in
     All-more P c.args.wants.now c.loop-want.want-index c.want-item.result c.loop-want-test.true c.loop-want.invariant (subst P c.want-item.is one)
 
 pub returns-clause-answer : goal.returns-clause-answer

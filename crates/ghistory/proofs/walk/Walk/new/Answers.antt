@@ -1,0 +1,12 @@
+use Rattle.std.proofs.Common.{◌≡◌, List, Bool, length, replicate, false, sym, ◌∙◌, subst}
+use Rattle.ghistory.specs.Walks.{HasMet}
+use Rattle.ghistory.specs.Marks.{stop_at}
+use Rattle.ghistory.proofs.Stopping.{stop_length}
+use Rattle.ghistory.proofs.Walking.{meets_nothing}
+use Rattle.ghistory.proofs.walk.Walk.new.Goals as goal
+
+pub returns-clause-met : goal.returns-clause-met
+returns-clause-met g c =
+    λ known.
+    let marks = c.in_ok-marks.ensures.items_if_clones_equal (λ y h. h) in
+    rw (marks, c.new.ensures.items) (meets_nothing (stop_at known c.args.graph.now) _ (c.len.ensures.len ∙ sym (stop_length known c.args.graph.now)))
