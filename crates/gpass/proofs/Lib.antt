@@ -1,0 +1,10 @@
+pub mod Reaching
+pub mod Holding
+pub mod GraphLemmas
+pub mod NodeLemmas
+pub mod PeelLemmas
+pub mod PassPlaces
+pub mod PassCounting
+pub mod PassDown
+pub mod PassTags
+pub mod PassSending

@@ -1,0 +1,13 @@
+use Rattle.std.proofs.Common.{sym}
+use Rattle.gpass.specs.Passes.{entries_of}
+use Rattle.gpass.proofs.PassTags.{commit_at, tag_at}
+use Rattle.gpass.proofs.pass.tags.named.Goals as goal
+
+pub returns-in-Commit : goal.returns-in-Commit
+returns-in-Commit g c =
+    commit_at (entries_of c.args.graph.now) c.requires.order c.args.place c.requires.held c.node_at-node.result.now c.node_at-node.ensures c.in-Commit.is
+
+pub returns-in_ok-first-in-Tag : goal.returns-in_ok-first-in-Tag
+returns-in_ok-first-in-Tag g c =
+    let names = rw c.as_slice.ensures at (sym c.in_ok-first-in-Tag.ensures.value) in
+    rw c.number.ensures (tag_at (entries_of c.args.graph.now) c.requires.order c.args.place c.requires.held c.node_at-node.result.now c.node_at-node.ensures c.in_ok-first-in-Tag.field-0.now c.in-Tag.is names)

@@ -1,0 +1,185 @@
+-- Passes over a graph whose entries come after their parents.
+use Rattle.std.specs.Prelude.{◌≡◌, ◌⊎◌, ℕ, zero, suc, ◌+◌, ◌<◌, ◌≤◌, Bool, true, false, not, ◌&&◌, List, length, slice_get, slice_index_or, Contains, Some}
+use Rattle.std.specs.List.{Any, filter_map}
+use Rattle.gpass.specs.declared.node.Node.{Node}
+use Rattle.gpass.specs.declared.node.Entry.{Entry}
+use Rattle.gpass.specs.Graphs.{place_of, HasParent, IsGraph}
+use Rattle.gpass.specs.Peeling.{IsTagOf, IsCommit, Tags, PeelsTo}
+use Rattle.gpass.specs.Reach.{Reaches, SomeReaches}
+use Rattle.gpass.specs.Selecting.{Selects}
+use Rattle.gpass.specs.Sending.{IsNew, IsTagToSend, IsToSend}
+
+-- the entries of a graph in store order
+abbrev pub entries_of : {A : Type 0} → List (Entry A) → List (Entry A)
+entries_of graph = graph
+
+-- `b` is a parent of `a`, and they stand at these places
+pub record IsEdge {A : Type 0} (g : List (Entry A)) (p q : ℕ) : Type 0 where
+  pub child : List ℕ
+  pub parent : List ℕ
+  pub edge : HasParent g child parent
+  pub child_at : place_of g child ≡ Some p
+  pub parent_at : place_of g parent ≡ Some q
+
+-- each parent of each entry is held at an earlier place
+abbrev pub IsOrdered : {A : Type 0} → List (Entry A) → Type 0
+IsOrdered g = (a b : List ℕ) (p : ℕ) → place_of g a ≡ Some p → HasParent g a b → (q : ℕ) × (place_of g b ≡ Some q) × (q < p)
+
+-- a graph in which parents come first
+pub record IsInOrder {A : Type 0} (g : List (Entry A)) : Type 0 where
+  pub graph : IsGraph g
+  pub ordered : IsOrdered g
+
+-- one of the ids stands at this place
+pub record IsPlaceOf {A : Type 0} (g : List (Entry A)) (ids : List (List ℕ)) (p : ℕ) : Type 0 where
+  pub id : List ℕ
+  pub among : Contains ids id
+  pub at : place_of g id ≡ Some p
+
+-- one of the ids reaches the object at this place
+pub record IsReachedAt {A : Type 0} (g : List (Entry A)) (ids : List (List ℕ)) (p : ℕ) : Type 0 where
+  pub id : List ℕ
+  pub at : place_of g id ≡ Some p
+  pub reached : SomeReaches g ids id
+
+-- the object at this place reaches one of the ids
+pub record IsReachingAt {A : Type 0} (g : List (Entry A)) (ids : List (List ℕ)) (p : ℕ) : Type 0 where
+  pub id : List ℕ
+  pub at : place_of g id ≡ Some p
+  pub reaching : Any (Reaches g id) ids
+
+-- the object at this place is new
+pub record IsNewAt {A : Type 0} (g : List (Entry A)) (wants commons : List (List ℕ)) (p : ℕ) : Type 0 where
+  pub id : List ℕ
+  pub at : place_of g id ≡ Some p
+  pub new : IsNew g wants commons id
+
+-- ---- marks by place
+
+abbrev pub is_marked : List Bool → ℕ → Bool
+is_marked marks p = slice_index_or marks p false
+
+-- the places of the ids are marked too
+pub record MarksAll {A : Type 0} (g : List (Entry A)) (ids : List (List ℕ)) (old new : List Bool) : Type 0 where
+  pub long : length new ≡ length old
+  pub kept : (p : ℕ) → is_marked old p ≡ true → is_marked new p ≡ true
+  pub marked : (p : ℕ) → IsPlaceOf g ids p → p < length old → is_marked new p ≡ true
+  pub only : (p : ℕ) → is_marked new p ≡ true → (is_marked old p ≡ true) ⊎ IsPlaceOf g ids p
+
+-- wanted, and not known
+abbrev pub is_open : List Bool → List Bool → ℕ → Bool
+is_open wanted known p = is_marked wanted p && not (is_marked known p)
+
+-- what a place adds to a count
+abbrev pub one : Bool → ℕ
+one true = 1
+one false = 0
+
+-- how many places below `n` are open
+unfoldable pub open_below : List Bool → List Bool → ℕ → ℕ
+open_below wanted known zero = 0
+open_below wanted known (suc n) = open_below wanted known n + one (is_open wanted known n)
+
+-- the count of the open places below `next` is right
+pub record IsCounted (wanted known : List Bool) (next pending : ℕ) : Type 0 where
+  pub long : length known ≡ length wanted
+  pub inside : next ≤ length wanted
+  pub count : pending ≡ open_below wanted known next
+
+-- ---- the pass down
+
+-- the pass has been at the places from `next` on
+pub record IsPassed {A : Type 0} (g : List (Entry A)) (wants commons : List (List ℕ)) (wanted known : List Bool) (next : ℕ) : Type 0 where
+  pub wants_in : (p : ℕ) → IsPlaceOf g wants p → is_marked wanted p ≡ true
+  pub commons_in : (p : ℕ) → IsPlaceOf g commons p → is_marked known p ≡ true
+  pub wanted_sound : (p : ℕ) → is_marked wanted p ≡ true → IsReachedAt g wants p
+  pub known_sound : (p : ℕ) → is_marked known p ≡ true → IsReachedAt g commons p
+  pub wanted_ahead : (p q : ℕ) → IsEdge g p q → next ≤ p → is_marked wanted p ≡ true → (is_marked wanted q ≡ true) ⊎ (is_marked known q ≡ true)
+  pub known_ahead : (p q : ℕ) → IsEdge g p q → next ≤ p → is_marked known p ≡ true → is_marked known q ≡ true
+
+-- the open places are those of the new objects, and none is below `next`
+pub record IsDone {A : Type 0} (g : List (Entry A)) (wants commons : List (List ℕ)) (wanted known : List Bool) (next : ℕ) : Type 0 where
+  pub new : (p : ℕ) → is_open wanted known p ≡ true → IsNewAt g wants commons p
+  pub all : (p : ℕ) → IsNewAt g wants commons p → is_open wanted known p ≡ true
+  pub above : (p : ℕ) → is_open wanted known p ≡ true → next ≤ p
+
+-- ---- the pass up
+
+-- the place of one of the ids is marked
+pub record HasMarked {A : Type 0} (g : List (Entry A)) (ids : List (List ℕ)) (marks : List Bool) : Type 0 where
+  pub place : ℕ
+  pub among : IsPlaceOf g ids place
+  pub marked : is_marked marks place ≡ true
+
+-- of the places below `n` those are marked whose objects reach one of the goals
+pub record MarksReaching {A : Type 0} (g : List (Entry A)) (goals : List (List ℕ)) (n : ℕ) (marks : List Bool) : Type 0 where
+  pub sound : (p : ℕ) → is_marked marks p ≡ true → IsReachingAt g goals p
+  pub all : (p : ℕ) → p < n → IsReachingAt g goals p → is_marked marks p ≡ true
+
+-- ---- tags
+
+-- the object at this place is a commit
+pub record IsCommitAt {A : Type 0} (g : List (Entry A)) (p : ℕ) : Type 0 where
+  pub id : List ℕ
+  pub at : place_of g id ≡ Some p
+  pub commit : IsCommit g id
+
+-- the object at the first place is a tag, and names the one at the second, an earlier one
+pub record IsTagAt {A : Type 0} (g : List (Entry A)) (p q : ℕ) : Type 0 where
+  pub id : List ℕ
+  pub at : place_of g id ≡ Some p
+  pub named : List ℕ
+  pub named_at : place_of g named ≡ Some q
+  pub tag : IsTagOf g id named
+  pub below : q < p
+
+-- tags lead from the object at the first place to the one at the second
+pub record IsLedTo {A : Type 0} (g : List (Entry A)) (p q : ℕ) : Type 0 where
+  pub id : List ℕ
+  pub at : place_of g id ≡ Some p
+  pub end : List ℕ
+  pub end_at : place_of g end ≡ Some q
+  pub steps : ℕ
+  pub leads : Tags g steps id end
+
+-- the chain of tags from the first place ends at the commit at the second
+pub record IsPeeledAt {A : Type 0} (g : List (Entry A)) (p q : ℕ) : Type 0 where
+  pub led : IsLedTo g p q
+  pub commit : IsCommitAt g q
+
+-- a tag on the chain from the first place stands at the second
+pub record IsOnChain {A : Type 0} (g : List (Entry A)) (p q : ℕ) : Type 0 where
+  pub led : IsLedTo g p q
+  pub next : List ℕ
+  pub tag : IsTagOf g led.end next
+
+-- the tags on the chain from the place are marked too
+pub record MarksChain {A : Type 0} (g : List (Entry A)) (start : ℕ) (old new : List Bool) : Type 0 where
+  pub long : length new ≡ length old
+  pub kept : (p : ℕ) → is_marked old p ≡ true → is_marked new p ≡ true
+  pub marked : (p : ℕ) → IsOnChain g start p → is_marked new p ≡ true
+  pub only : (p : ℕ) → is_marked new p ≡ true → (is_marked old p ≡ true) ⊎ IsOnChain g start p
+
+-- a tag on the chain of one of the tips whose commit is open stands at this place
+pub record IsOpenTag {A : Type 0} (g : List (Entry A)) (tips : List (List ℕ)) (wanted known : List Bool) (p : ℕ) : Type 0 where
+  pub start : ℕ
+  pub tip : IsPlaceOf g tips start
+  pub chain : IsOnChain g start p
+  pub commit : ℕ
+  pub peeled : IsPeeledAt g start commit
+  pub open_there : is_open wanted known commit ≡ true
+
+-- the marks are at the tags of the tips' chains whose commit is open
+pub record MarksTags {A : Type 0} (g : List (Entry A)) (tips : List (List ℕ)) (wanted known tagged : List Bool) : Type 0 where
+  pub marked : (p : ℕ) → IsOpenTag g tips wanted known p → is_marked tagged p ≡ true
+  pub only : (p : ℕ) → is_marked tagged p ≡ true → IsOpenTag g tips wanted known p
+
+-- ---- the answer
+
+-- the entries at some places
+abbrev pub entries_at : {A : Type 0} → List (Entry A) → List ℕ → List (Entry A)
+entries_at g places = filter_map (λ p. slice_get g p) places
+
+-- the places of the objects to send, in store order
+abbrev pub IsPlacesToSend : {A : Type 0} → List (Entry A) → List (List ℕ) → List (List ℕ) → List (List ℕ) → List ℕ → Type 0
+IsPlacesToSend g wants commons tips places = Selects (IsToSend g wants commons tips) g (entries_at g places)
