@@ -8,3 +8,4 @@ pub mod PassCounting
 pub mod PassDown
 pub mod PassTags
 pub mod PassSending
+pub mod PassUp

@@ -7,9 +7,9 @@ use Rattle.gpass.specs.declared.node.Entry.{Entry}
 use Rattle.gpass.specs.Graphs.{place_of, HasParent}
 use Rattle.gpass.specs.Reach.{here, SomeReaches}
 use Rattle.gpass.specs.Sending.{IsNew}
-use Rattle.gpass.specs.Passes.{IsEdge, IsOrdered, IsInOrder, IsPlaceOf, IsReachedAt, IsNewAt, MarksAll, IsCounted, IsPassed, IsDone, is_marked, is_open, open_below}
+use Rattle.gpass.specs.Passes.{IsEdge, IsInOrder, IsPlaceOf, IsReachedAt, IsNewAt, MarksAll, IsCounted, IsPassed, IsDone, is_marked, is_open, open_below}
 use Rattle.gpass.proofs.Reaching.{kept_along, place_same, some_reaches}
-use Rattle.gpass.proofs.PassPlaces.{one_place, held_place, edge_place, place_edge, edge_down, marked_inside, none_marked}
+use Rattle.gpass.proofs.PassPlaces.{HasParentsFirst, one_place, held_place, edge_place, place_edge, edge_down, marked_inside, none_marked}
 use Rattle.gpass.proofs.PassCounting.{open_least, open_if}
 
 -- ---- what is reached, place by place
@@ -57,7 +57,7 @@ module _ {A : Type 0} (g : List (Entry A)) (wants commons : List (List ℕ)) (en
 
 -- ---- one place down
 
-module _ {A : Type 0} (g : List (Entry A)) (wants commons : List (List ℕ)) (wanted known : List Bool) (next place : ℕ) (is : next ≡ place + 1) (old : IsPassed g wants commons wanted known next) (ordered : IsOrdered g) (parents : List (List ℕ)) (are : option_map (λ entry. entry.node.parents) (slice_get g place) ≡ Some parents) where
+module _ {A : Type 0} (g : List (Entry A)) (wants commons : List (List ℕ)) (wanted known : List Bool) (next place : ℕ) (is : next ≡ place + 1) (old : IsPassed g wants commons wanted known next) (ordered : HasParentsFirst g) (parents : List (List ℕ)) (are : option_map (λ entry. entry.node.parents) (slice_get g place) ≡ Some parents) where
   -- a later place is not marked by the parents
   not_ahead : (ids : List (List ℕ)) (marks marks' : List Bool) → MarksAll g parents marks marks' → ((q : ℕ) → IsPlaceOf g parents q → q < place) → (p : ℕ) → place ≤ p → is_marked marks' p ≡ true → is_marked marks p ≡ true
   not_ahead ids marks marks' more below p past m =
@@ -134,7 +134,7 @@ module _ {A : Type 0} (g : List (Entry A)) (wants commons : List (List ℕ)) (wa
 
 -- ---- at the end
 
-module _ {A : Type 0} (g : List (Entry A)) (wants commons : List (List ℕ)) (wanted known : List Bool) (next : ℕ) (last : IsPassed g wants commons wanted known next) (ordered : IsOrdered g) (none : open_below wanted known next ≡ 0) where
+module _ {A : Type 0} (g : List (Entry A)) (wants commons : List (List ℕ)) (wanted known : List Bool) (next : ℕ) (last : IsPassed g wants commons wanted known next) (ordered : HasParentsFirst g) (none : open_below wanted known next ≡ 0) where
   open_above : (p : ℕ) → is_open wanted known p ≡ true → next ≤ p
   open_above p is =
       elim (cases_lt p next) [

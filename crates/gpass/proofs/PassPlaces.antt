@@ -1,23 +1,30 @@
 -- Places of ids, the parents at a place, and marks by place.
-use Rattle.std.proofs.Common.{◌≡◌, ◌⊎◌, inl, inr, ℕ, zero, suc, ◌+◌, ◌<◌, ◌≤◌, Bool, true, false, List, [], ◌∷◌, ◌++◌, length, get_or, set, take, Contains, Option, Some, None, refl, sym, ap, ◌∙◌, subst, arith, replicate}
+use Rattle.std.proofs.Common.{◌≡◌, ◌⊎◌, inl, inr, ℕ, zero, suc, ◌+◌, ◌<◌, ◌≤◌, Bool, true, false, List, [], ◌∷◌, ◌++◌, length, get_or, set, take, Contains, Option, Some, None, IsSome, rules, max, refl, sym, ap, ◌∙◌, subst, arith, replicate}
 use Rattle.std.specs.List.{slice_get}
 use Rattle.std.specs.Option.{option_map}
 use Rattle.std.proofs.lemmas.List.{get_or-set_same, get_or-set_other, length-set, length-replicate, take_more}
-use Rattle.std.proofs.lemmas.List.Elements.{Contains-append_left, Contains-push, Contains-push_cases}
-use Rattle.std.proofs.lemmas.Option.{none-some, slice_get_cases}
+use Rattle.std.proofs.lemmas.List.Elements.{All-contains, Contains-append_left, Contains-push, Contains-push_cases}
+use Rattle.std.proofs.lemmas.Option.{none-some, slice_get_cases, slice_get-get_or}
+use Rattle.std.proofs.lemmas.List.Quantifiers.{position-Some}
+use Rattle.std.specs.Ordering.{ord_max, nat_cmp}
 use Rattle.std.proofs.lemmas.Bool.{false≢true, cases_eq}
+use Rattle.std.proofs.lemmas.Bool.Decides.{nat_tests}
 use Rattle.gpass.specs.declared.node.Node.{Node}
 use Rattle.gpass.specs.declared.node.Entry.{Entry}
-use Rattle.gpass.specs.Graphs.{place_of, HasParent, IsNode, IdsDiffer}
-use Rattle.gpass.specs.Passes.{IsEdge, IsOrdered, IsInOrder, IsPlaceOf, MarksAll, is_marked}
+use Rattle.gpass.specs.Graphs.{has_id, node_at, place_of, Holds, HasParent, IsNode, IdsDiffer}
+use Rattle.gpass.specs.Passes.{IsEdge, IsInOrder, IsPlaceOf, MarksAll, is_marked}
 use Rattle.gpass.proofs.Reaching.{place_inside, node_at_place, node_at_none}
-use Rattle.gpass.proofs.Holding.{own_place}
+use Rattle.gpass.proofs.Holding.{has_id_is, own_place}
 
 Some-same : {X : Type 0} (x y : X) → Some x ≡ Some y → x ≡ y
 Some-same x y e = cc
 
 pub contains_none : {X : Type 0} (x : X) → Contains [] x → ⊥
 contains_none x h = let k : h.0 < 0 = h.1 in omega arith
+
+pub only_one : (a x : List ℕ) → Contains (a ∷ []) x → x ≡ a
+only_one a x (zero, inside, is) = sym is
+only_one a x (suc k, inside, is) = absurd (omega arith)
 
 -- ---- places
 
@@ -66,8 +73,46 @@ module _ {A : Type 0} (g : List (Entry A)) (p : ℕ) (parents : List (List ℕ))
       let P : List (List ℕ) → Type 0 = λ xs. Contains xs x.id in
       record { child = a; parent = x.id; edge = (n.0, n.1, subst P (sym n.2) x.among); child_at = at; parent_at = x.at }
 
+-- ---- the order
+
+-- parents come first, place by place
+abbrev pub HasParentsFirst : {A : Type 0} → List (Entry A) → Type 0
+HasParentsFirst g = (a b : List ℕ) (p : ℕ) → place_of g a ≡ Some p → HasParent g a b → (q : ℕ) × (place_of g b ≡ Some q) × (q < p)
+
+id_there : {A : Type 0} (g : List (Entry A)) (a : List ℕ) (p : ℕ) (entry : Entry A) → place_of g a ≡ Some p → slice_get g p ≡ Some entry → entry.id ≡ a
+id_there g a p entry e there =
+    let found = position-Some (has_id a) g p entry e in
+    let same : get_or g p entry ≡ entry = Some-same (get_or g p entry) entry (sym (slice_get-get_or g p entry found.0) ∙ there) in
+    has_id_is a entry (ap (has_id a) (sym same) ∙ found.1)
+
+taken : {X : Type 0} (xs : List X) (n p : ℕ) (x : X) → slice_get (take n xs) p ≡ Some x → (p < n) × (slice_get xs p ≡ Some x)
+taken xs zero p x at = absurd (none-some x at)
+taken [] (suc n) p x at = absurd (none-some x at)
+taken (y ∷ xs) (suc n) zero x at = (omega arith, at)
+taken (y ∷ xs) (suc n) (suc p) x at = let h = taken xs n p x at in let low = h.0 in (omega arith, h.1)
+
+-- an id that the first entries hold has one of their places
+held_before : {A : Type 0} (g : List (Entry A)) (n : ℕ) (b : List ℕ) (o : Option (Node A)) → node_at (take n g) b ≡ o → IsSome o → IdsDiffer g → (q : ℕ) × (place_of g b ≡ Some q) × (q < n)
+held_before g n b None e held differ = absurd (search (rules, held))
+held_before {A} g n b (Some node) e held differ =
+    let at = held_place (take n g) b node e in
+    let there = entry_there (take n g) at.0 (place_inside (take n g) b at.0 at.1) in
+    let low = taken g n at.0 there.0 there.1 in
+    let P : List ℕ → Type 0 = λ a. place_of g a ≡ Some at.0 in
+    (at.0, subst P (id_there (take n g) b at.0 there.0 at.1 there.1) (own_place g at.0 there.0 differ low.1), low.0)
+
+pub parents_first : {A : Type 0} (g : List (Entry A)) → IsInOrder g → HasParentsFirst g
+parents_first {A} g order a b p at h =
+    let there = entry_there g p (place_inside g a p at) in
+    let is : Some (there.0).node ≡ Some h.0 = sym (node_at_place g a p at ∙ ap (option_map (λ (entry : Entry A). entry.node)) there.1) ∙ h.1 in
+    let same = Some-same (there.0).node h.0 is in
+    let P : List (List ℕ) → Type 0 = λ xs. Contains xs b in
+    let among = subst P (ap (λ (node : Node A). node.parents) (sym same)) h.2 in
+    let held = All-contains (λ x. Holds (take p g) x) (there.0).node.parents b (order.ordered p there.0 there.1) among in
+    held_before g p b (node_at (take p g) b) refl held order.differ
+
 -- a parent comes first
-pub edge_down : {A : Type 0} (g : List (Entry A)) (p q : ℕ) → IsOrdered g → IsEdge g p q → q < p
+pub edge_down : {A : Type 0} (g : List (Entry A)) (p q : ℕ) → HasParentsFirst g → IsEdge g p q → q < p
 edge_down g p q ordered e =
     let o = ordered e.child e.parent p e.child_at e.edge in
     let same : q ≡ o.0 = one_place g e.parent q o.0 e.parent_at o.1 in
@@ -77,8 +122,8 @@ edge_down g p q ordered e =
 pub parents_below : {A : Type 0} (g : List (Entry A)) (p : ℕ) (parents : List (List ℕ)) → IsInOrder g → p < length g → option_map (λ entry. entry.node.parents) (slice_get g p) ≡ Some parents → (q : ℕ) → IsPlaceOf g parents q → q < p
 parents_below g p parents order inside are q x =
     let there = entry_there g p inside in
-    let at = own_place g p there.0 order.graph.differ there.1 in
-    edge_down g p q order.ordered (place_edge g p parents are (there.0).id q at x)
+    let at = own_place g p there.0 order.differ there.1 in
+    edge_down g p q (parents_first g order) (place_edge g p parents are (there.0).id q at x)
 
 -- ---- marks
 
@@ -200,3 +245,10 @@ set_past (mark ∷ marks) (suc p) b past = ap (λ xs. mark ∷ xs) (set_past mar
 -- a mark that was read
 pub read_mark : (marks slice : List Bool) (p : ℕ) (r b : Bool) → slice ≡ marks → r ≡ is_marked slice p → r ≡ b → is_marked marks p ≡ b
 read_mark marks slice p r b same read is = ap (λ xs. is_marked xs p) (sym same) ∙ sym read ∙ is
+
+pub max_is : (a b m : ℕ) → m ≡ ord_max nat_cmp a b → m ≡ max a b
+max_is a b m e = grind (arith, nat_tests)
+
+-- a place of one id
+pub one_item : {A : Type 0} (g : List (Entry A)) (a : List ℕ) (p : ℕ) → IsPlaceOf g (a ∷ []) p → place_of g a ≡ Some p
+one_item g a p x = ap (place_of g) (sym (only_one a x.id x.among)) ∙ x.at

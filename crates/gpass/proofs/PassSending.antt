@@ -13,7 +13,7 @@ use Rattle.gpass.specs.Sending.{IsNew, IsTagToSend, IsToSend}
 use Rattle.gpass.specs.Passes.{IsInOrder, IsPlaceOf, IsNewAt, IsDone, IsLedTo, IsPeeledAt, IsOpenTag, MarksTags, entries_at, is_marked, is_open}
 use Rattle.gpass.proofs.Reaching.{place_same}
 use Rattle.gpass.proofs.Holding.{own_place}
-use Rattle.gpass.proofs.PassPlaces.{held_place, entry_there, marked_inside}
+use Rattle.gpass.proofs.PassPlaces.{parents_first, held_place, entry_there, marked_inside}
 use Rattle.gpass.proofs.PassTags.{tags_on, chain_peels, commit_below}
 use Rattle.gpass.proofs.PassCounting.{shut_idle}
 
@@ -57,7 +57,7 @@ module _ {A : Type 0} (g : List (Entry A)) (wants commons tips : List (List ℕ)
 
   module _ (order : IsInOrder g) (tagged : List Bool) (marks : MarksTags g tips wanted known tagged) (p : ℕ) (entry : Entry A) (at : slice_get g p ≡ Some entry) where
     own : place_of g entry.id ≡ Some p
-    own = own_place g p entry order.graph.differ at
+    own = own_place g p entry order.differ at
 
     open_sent : is_open wanted known p ≡ true → IsToSend g wants commons tips entry
     open_sent is =
@@ -79,7 +79,7 @@ module _ {A : Type 0} (g : List (Entry A)) (wants commons tips : List (List ℕ)
     none_below below (inr tag) =
         let x = sends_open_tag entry.id p own tag in
         let h = done.above x.commit x.open_there in
-        let l = commit_below g order.ordered x.start p x.commit x.chain x.peeled in
+        let l = commit_below g (parents_first g order) x.start p x.commit x.chain x.peeled in
         omega arith
 
 -- ---- one place after the other

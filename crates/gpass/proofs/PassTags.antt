@@ -3,19 +3,19 @@ use Rattle.std.proofs.Common.{◌≡◌, ◌⊎◌, inl, inr, ℕ, zero, suc, �
 use Rattle.std.specs.List.{slice_get}
 use Rattle.std.specs.Option.{option_map}
 use Rattle.std.proofs.lemmas.List.{length-set}
-use Rattle.std.proofs.lemmas.List.Elements.{Contains-append_left, Contains-push}
+use Rattle.std.proofs.lemmas.List.Elements.{All-contains, Contains-append_left, Contains-push}
 use Rattle.std.proofs.lemmas.Option.{none-some}
 use Rattle.std.proofs.lemmas.Bool.{false≢true}
 use Rattle.gpass.specs.declared.node.Kind.TheVariants.{Commit, Tag}
 use Rattle.gpass.specs.declared.node.Node.{Node}
 use Rattle.gpass.specs.declared.node.Entry.{Entry}
-use Rattle.gpass.specs.Graphs.{place_of, HasParent, IsNode}
+use Rattle.gpass.specs.Graphs.{place_of, HasParent, IsNode, IsShaped}
 use Rattle.gpass.specs.Peeling.{IsTagOf, IsCommit, Tags, PeelsTo}
-use Rattle.gpass.specs.Passes.{IsOrdered, IsInOrder, IsPlaceOf, IsCommitAt, IsTagAt, IsLedTo, IsPeeledAt, IsOnChain, MarksChain, IsOpenTag, MarksTags, is_marked, is_open}
+use Rattle.gpass.specs.Passes.{IsInOrder, IsPlaceOf, IsCommitAt, IsTagAt, IsLedTo, IsPeeledAt, IsOnChain, MarksChain, IsOpenTag, MarksTags, is_marked, is_open}
 use Rattle.gpass.proofs.Reaching.{place_same, node_at_place}
 use Rattle.gpass.proofs.Holding.{own_place}
 use Rattle.gpass.proofs.PeelLemmas.{onward, peel_ends, tags_more}
-use Rattle.gpass.proofs.PassPlaces.{one_place, held_place, entry_there, contains_none, set_cases, set_there, set_kept, none_marked, place_next, one_more}
+use Rattle.gpass.proofs.PassPlaces.{HasParentsFirst, parents_first, one_place, held_place, entry_there, contains_none, set_cases, set_there, set_kept, none_marked, place_next, one_more}
 
 Some-same : {X : Type 0} (x y : X) → Some x ≡ Some y → x ≡ y
 Some-same x y e = cc
@@ -23,6 +23,15 @@ Some-same x y e = cc
 contains_first : (xs : List (List ℕ)) (b : List ℕ) → slice_get xs 0 ≡ Some b → Contains xs b
 contains_first [] b is = absurd (none-some b is)
 contains_first (x ∷ xs) b is = (0, omega arith, Some-same x b is)
+
+first_none : (xs : List (List ℕ)) → length xs ≡ 1 → slice_get xs 0 ≡ None → ⊥
+first_none [] one none = omega arith
+first_none (x ∷ xs) one none = none-some x (sym none)
+
+contains_get : {X : Type 0} (xs : List X) (p : ℕ) (x : X) → slice_get xs p ≡ Some x → Contains xs x
+contains_get [] p x at = absurd (none-some x at)
+contains_get (y ∷ xs) zero x at = (0, omega arith, Some-same y x at)
+contains_get (y ∷ xs) (suc p) x at = let h = contains_get xs p x at in let inside = h.1 in (suc h.0, omega arith, h.2)
 
 module _ {A : Type 0} (g : List (Entry A)) where
   one_node : (a : List ℕ) (m n : Node A) → IsNode g a m → IsNode g a n → m ≡ n
@@ -41,7 +50,7 @@ module _ {A : Type 0} (g : List (Entry A)) where
   tag_parent : (a b : List ℕ) → IsTagOf g a b → HasParent g a b
   tag_parent a b tag = (tag.node, tag.held, contains_first tag.node.parents b tag.names)
 
-  tags_on : (m n : ℕ) (a b c : List ℕ) → Tags g m a b → Tags g n b c → (k : ℕ) × Tags g k a c
+  pub tags_on : (m n : ℕ) (a b c : List ℕ) → Tags g m a b → Tags g n b c → (k : ℕ) × Tags g k a c
   tags_on zero n a b c same rest = (n, subst (λ (x : List ℕ). Tags g n x c) (sym same) rest)
   tags_on (suc m) n a b c (next, tag, more) rest =
       let on = tags_on m n next b c more rest in (suc on.0, (next, tag, on.1))
@@ -52,23 +61,34 @@ module _ {A : Type 0} (g : List (Entry A)) (order : IsInOrder g) (p : ℕ) (insi
   pub led_none : IsLedTo g p p
   led_none =
       let there = entry_there g p inside in
-      let at = own_place g p there.0 order.graph.differ there.1 in
+      let at = own_place g p there.0 order.differ there.1 in
       record { id = (there.0).id; at = at; end = (there.0).id; end_at = at; steps = zero; leads = refl }
 
   module _ (node : Node A) (are : option_map (λ entry. entry.node) (slice_get g p) ≡ Some node) where
     pub commit_at : node.kind ≡ Commit → IsCommitAt g p
     commit_at kind =
         let there = entry_there g p inside in
-        let at = own_place g p there.0 order.graph.differ there.1 in
+        let at = own_place g p there.0 order.differ there.1 in
         record { id = (there.0).id; at = at; commit = record { node = node; held = node_at_place g (there.0).id p at ∙ are; commit = kind } }
+
+    -- a tag names an object
+    pub tag_named : node.kind ≡ Tag → slice_get node.parents 0 ≡ None → ⊥
+    tag_named kind none =
+        let there = entry_there g p inside in
+        let is : Some (there.0).node ≡ Some node = sym (ap (option_map (λ (entry : Entry A). entry.node)) there.1) ∙ are in
+        let same = Some-same (there.0).node node is in
+        let shaped = (All-contains (λ (entry : Entry A). IsShaped entry.node) g there.0 order.shaped (contains_get g p there.0 there.1)).tag in
+        let S : Node A → Type 0 = λ n. n.kind ≡ Tag → length n.parents ≡ 1 in
+        let one = subst S same shaped kind in
+        first_none node.parents one none
 
     tag_place : (b : List ℕ) → node.kind ≡ Tag → slice_get node.parents 0 ≡ Some b → (q : ℕ) × (place_of g b ≡ Some q) × IsTagAt g p q
     tag_place b kind names =
         let there = entry_there g p inside in
         let a : List ℕ = (there.0).id in
-        let at = own_place g p there.0 order.graph.differ there.1 in
+        let at = own_place g p there.0 order.differ there.1 in
         let tag : IsTagOf g a b = record { node = node; held = node_at_place g a p at ∙ are; tag = kind; names = names } in
-        let q = order.ordered a b p at (tag_parent g a b tag) in
+        let q = parents_first g order a b p at (tag_parent g a b tag) in
         (q.0, q.1, record { id = a; at = at; named = b; named_at = q.1; tag = tag; below = q.2 })
 
     pub tag_at : (b : List ℕ) → node.kind ≡ Tag → slice_get node.parents 0 ≡ Some b → MatchOption (place_of g b) (IsCommitAt g p) (λ q. IsTagAt g p q)
@@ -131,7 +151,7 @@ module _ {A : Type 0} (g : List (Entry A)) where
       let same = peel_ends g x.led.id x.commit.id y.commit.id px.0 px.1 px.2 (subst P start py) in
       one_place g x.commit.id q r x.commit.at (ap (place_of g) same ∙ y.commit.at)
 
-  tags_down : IsOrdered g → (m : ℕ) (a b : List ℕ) (p q : ℕ) → place_of g a ≡ Some p → place_of g b ≡ Some q → Tags g m a b → q ≤ p
+  tags_down : HasParentsFirst g → (m : ℕ) (a b : List ℕ) (p q : ℕ) → place_of g a ≡ Some p → place_of g b ≡ Some q → Tags g m a b → q ≤ p
   tags_down ordered zero a b p q at bt same =
       let e = one_place g a p q at (ap (place_of g) same ∙ bt) in omega arith
   tags_down ordered (suc m) a b p q at bt (next, tag, rest) =
@@ -141,7 +161,7 @@ module _ {A : Type 0} (g : List (Entry A)) where
       omega arith
 
   -- the commit of a chain stands before its tags
-  pub commit_below : IsOrdered g → (p q r : ℕ) → IsOnChain g p q → IsPeeledAt g p r → r ≤ q
+  pub commit_below : HasParentsFirst g → (p q r : ℕ) → IsOnChain g p q → IsPeeledAt g p r → r ≤ q
   commit_below ordered p q r x y =
       let peels = peels_at p r y in
       let start = place_same g x.led.id y.led.id p x.led.at y.led.at in

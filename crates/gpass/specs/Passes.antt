@@ -1,9 +1,9 @@
 -- Passes over a graph whose entries come after their parents.
-use Rattle.std.specs.Prelude.{◌≡◌, ◌⊎◌, ℕ, zero, suc, ◌+◌, ◌<◌, ◌≤◌, Bool, true, false, not, ◌&&◌, List, length, slice_get, slice_index_or, Contains, Some}
+use Rattle.std.specs.Prelude.{◌≡◌, ◌⊎◌, ℕ, zero, suc, ◌+◌, ◌<◌, ◌≤◌, Bool, true, false, not, ◌&&◌, List, length, slice_get, slice_index_or, take, All, Contains, Some}
 use Rattle.std.specs.List.{Any, filter_map}
 use Rattle.gpass.specs.declared.node.Node.{Node}
 use Rattle.gpass.specs.declared.node.Entry.{Entry}
-use Rattle.gpass.specs.Graphs.{place_of, HasParent, IsGraph}
+use Rattle.gpass.specs.Graphs.{place_of, Holds, HasParent, IdsDiffer, IsShaped, max_nodes}
 use Rattle.gpass.specs.Peeling.{IsTagOf, IsCommit, Tags, PeelsTo}
 use Rattle.gpass.specs.Reach.{Reaches, SomeReaches}
 use Rattle.gpass.specs.Selecting.{Selects}
@@ -21,13 +21,15 @@ pub record IsEdge {A : Type 0} (g : List (Entry A)) (p q : ℕ) : Type 0 where
   pub child_at : place_of g child ≡ Some p
   pub parent_at : place_of g parent ≡ Some q
 
--- each parent of each entry is held at an earlier place
+-- parents come first: each parent of an entry is held by the entries before it
 abbrev pub IsOrdered : {A : Type 0} → List (Entry A) → Type 0
-IsOrdered g = (a b : List ℕ) (p : ℕ) → place_of g a ≡ Some p → HasParent g a b → (q : ℕ) × (place_of g b ≡ Some q) × (q < p)
+IsOrdered {A} g = (place : ℕ) (entry : Entry A) → slice_get g place ≡ Some entry → All (Holds (take place g)) entry.node.parents
 
--- a graph in which parents come first
+-- the entries of a graph in which parents come first
 pub record IsInOrder {A : Type 0} (g : List (Entry A)) : Type 0 where
-  pub graph : IsGraph g
+  pub differ : IdsDiffer g
+  pub shaped : All (λ entry. IsShaped entry.node) g
+  pub few : length g ≤ max_nodes
   pub ordered : IsOrdered g
 
 -- one of the ids stands at this place

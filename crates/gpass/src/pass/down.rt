@@ -2,7 +2,7 @@
 // below which nothing wanted is new.
 #![tactic(auto)]
 
-ghost use Rattle.std.specs.Prelude.{◌≡◌, ◌≤◌, ◌<◌, ◌+◌, ℕ, List, IfErr, IfOk, IsTrue, ◌↔◌, length, slice_set, true};
+ghost use Rattle.std.specs.Prelude.{◌≡◌, ◌≤◌, ◌<◌, ◌+◌, ℕ, List, IfErr, IfOk, IsTrue, ◌↔◌, ◌||◌, length, slice_set, true};
 ghost use Rattle.gpass.specs.Passes.{IsCounted, IsDone, IsInOrder, IsPassed, IsPlaceOf, IsPlacesToSend, MarksAll, entries_at, entries_of, is_marked, is_open, one};
 ghost use Rattle.gpass.specs.declared.fault.GraphFault.TheVariants.{Memory};
 
@@ -31,7 +31,7 @@ pub(crate) fn places_to_send<A: Allocator + Copy>(
     let tagged = tags_of(graph, &pass, tips)?;
     let mut places = Vec::new(graph.allocator());
     for place in pass.next..pass.wanted.len().max(tagged.len()) {
-        if pass.is_open(place) || is_marked(tagged.as_slice(), place) {
+        if pass.is_sent(tagged.as_slice(), place) {
             places.push(place)?;
         }
     }
@@ -65,6 +65,7 @@ fn pass_down<A: Allocator + Copy>(
 ) -> Result<Pass<A>, GraphFault>
     requires { IsInOrder (entries_of graph.now) }
     ensures done { IfOk result (λ pass. IsDone (entries_of graph.now) wants.now commons.now pass.wanted.items pass.known.items pass.next) }
+    ensures inside { IfOk result (λ pass. (pass.next ≤ length pass.wanted.items) × (length pass.wanted.items ≤ length (entries_of graph.now))) }
     ensures fault { IfErr result (λ fault. fault ≡ Memory) }
 {
     let end = end_of(graph, wants).max(end_of(graph, commons));
@@ -103,6 +104,13 @@ impl<A: Allocator + Copy> Pass<A> {
         is_marked(self.wanted.as_slice(), place) && !is_marked(self.known.as_slice(), place)
     }
 
+    // Whether the place is open or tagged.
+    fn is_sent(&self, tagged: &[bool], place: usize) -> bool
+        ensures { result ≡ (is_open self.now.wanted.items self.now.known.items place || is_marked tagged.now place) }
+    {
+        self.is_open(place) || is_marked(tagged, place)
+    }
+
     // What the place adds to the count.
     fn count_at(&self, place: usize) -> usize
         ensures { result ≡ one (is_open self.now.wanted.items self.now.known.items place) }
@@ -118,6 +126,7 @@ impl<A: Allocator + Copy> Pass<A> {
         requires pending { 0 < self.old.pending }
         ensures counted { IsCounted self.new.wanted.items self.new.known.items self.new.next self.new.pending }
         ensures next { self.new.next + 1 ≡ self.old.next }
+        ensures long { length self.new.wanted.items ≡ length self.old.wanted.items }
         ensures passed { (wants commons : List (List ℕ)) →
             IsPassed (entries_of graph.now) wants commons self.old.wanted.items self.old.known.items self.old.next →
             IsPassed (entries_of graph.now) wants commons self.new.wanted.items self.new.known.items self.new.next }

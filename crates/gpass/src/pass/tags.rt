@@ -21,6 +21,7 @@ pub(crate) fn tags_of<A: Allocator + Copy>(
 ) -> Result<Vec<bool, A>, GraphFault>
     requires { IsInOrder (entries_of graph.now) }
     ensures marks { IfOk result (λ tagged. MarksTags (entries_of graph.now) tips.now pass.now.wanted.items pass.now.known.items tagged.items) }
+    ensures inside { IfOk result (λ tagged. length tagged.items ≤ length (entries_of graph.now)) }
     ensures fault { IfErr result (λ fault. fault ≡ Memory) }
 {
     let mut tagged = no_marks(graph.allocator(), end_of(graph, tips))?;

@@ -6,7 +6,7 @@ abbrev pub invariant-loop-pass : goal.invariant-loop-pass
 invariant-loop-pass g l = record {
   counted : IsCounted l.pass.wanted.items l.pass.known.items l.pass.next l.pass.pending;
   passed : IsPassed (entries_of l.graph) l.wants l.commons l.pass.wanted.items l.pass.known.items l.pass.next;
-  inside : l.pass.next ≤ length (entries_of l.graph)
+  fits : length l.pass.wanted.items ≤ length (entries_of l.graph)
 }
 
 abbrev pub decreases-loop-pass : goal.decreases-loop-pass

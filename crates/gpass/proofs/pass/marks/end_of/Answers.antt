@@ -1,16 +1,16 @@
-use Rattle.std.proofs.Common.{◌≡◌, ◌∙◌, ◌<◌, ◌≤◌, inl, inr, ℕ, length, sym, arith}
+use Rattle.std.proofs.Common.{◌≡◌, ◌∙◌, ◌<◌, ◌≤◌, ◌+◌, inl, inr, ℕ, length, sym, arith}
 use Rattle.std.proofs.lemmas.Option.{none-some}
 use Rattle.std.proofs.lemmas.List.{take_all}
 use Rattle.gpass.specs.Passes.{IsPlaceOf, entries_of}
 use Rattle.gpass.proofs.Reaching.{place_inside}
-use Rattle.gpass.proofs.PassPlaces.{is_none, one_place, place_next}
+use Rattle.gpass.proofs.PassPlaces.{is_none, max_is, one_place, place_next}
 use Rattle.gpass.proofs.pass.marks.end_of.Goals as goal
 use Rattle.gpass.proofs.pass.marks.end_of.Goals.{in-Some, in_default}
 
 pub overflow_add-place : goal.overflow_add-place
 overflow_add-place g c =
     let inside = place_inside (entries_of c.args.graph.now) c.id-item.result c.in-Some.place (sym c.in-Some.ensures) in
-    let few = c.requires.graph.few in
+    let few = c.requires.few in
     omega arith
 
 pub loop-id-preserved : goal.loop-id-preserved
@@ -22,7 +22,7 @@ loop-id-preserved g c =
       | in-Some w ↦
           let at = sym w.in-Some.ensures in
           let inside = place_inside held c.id-item.result w.in-Some.place at in
-          let most = w.max-end.ensures in
+          let most = max_is c.loop-id.end (w.in-Some.place + 1) w.max-end.result w.max-end.ensures in
           let fits = before.fits in
           rw w.end-is (record {
             below = λ p x. elim (place_next held ids c.loop-id.id-index c.id-item.result c.loop-id-test.true c.id-item.is p x) [

@@ -1,6 +1,6 @@
 use Rattle.std.proofs.Common.{◌≡◌, ◌∙◌, ℕ, ◌+◌, ◌-◌, ◌<◌, ◌≤◌, true, false, length, arith}
 use Rattle.gpass.specs.Passes.{IsCounted, IsPlaceOf, entries_of, is_marked}
-use Rattle.gpass.proofs.PassPlaces.{parents_below, read_mark}
+use Rattle.gpass.proofs.PassPlaces.{parents_below, parents_first, read_mark}
 use Rattle.gpass.proofs.PassCounting.{some_next, next_open, next_shut, open_if, shut_known, shut_idle}
 use Rattle.gpass.proofs.PassDown.{knows, wants_more, goes_by}
 use Rattle.gpass.proofs.pass.down.Pass.step.Goals as goal
@@ -91,7 +91,7 @@ returns-then-is_marked-clause-passed g c =
     let parents = c.parents.result.now in
     let below = parents_below held place parents c.requires.order inside c.parents.ensures in
     rw (c.know_all.ensures.wanted, c.know_all.ensures.next)
-    (λ wants commons old. knows held wants commons self.wanted.items self.known.items self.next place is old c.requires.order.ordered parents c.parents.ensures below c.know_all.new.self.known.items c.know_all.ensures.known marked)
+    (λ wants commons old. knows held wants commons self.wanted.items self.known.items self.next place is old (parents_first held c.requires.order) parents c.parents.ensures below c.know_all.new.self.known.items c.know_all.ensures.known marked)
 
 pub returns-then-is_marked-2-clause-passed : goal.returns-then-is_marked-2-clause-passed
 returns-then-is_marked-2-clause-passed g c =
@@ -106,7 +106,7 @@ returns-then-is_marked-2-clause-passed g c =
     let parents = c.parents-then-is_marked-2.result.now in
     let below = parents_below held place parents c.requires.order inside c.parents-then-is_marked-2.ensures in
     rw (c.want_all.ensures.known, c.want_all.ensures.next)
-    (λ wants commons old. wants_more held wants commons self.wanted.items self.known.items self.next place is old c.requires.order.ordered parents c.parents-then-is_marked-2.ensures below c.want_all.new.self.wanted.items c.want_all.ensures.wanted marked free)
+    (λ wants commons old. wants_more held wants commons self.wanted.items self.known.items self.next place is old (parents_first held c.requires.order) parents c.parents-then-is_marked-2.ensures below c.want_all.new.self.wanted.items c.want_all.ensures.wanted marked free)
 
 pub returns-else-is_marked-2-clause-counted : goal.returns-else-is_marked-2-clause-counted
 returns-else-is_marked-2-clause-counted g c =
