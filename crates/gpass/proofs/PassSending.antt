@@ -3,7 +3,7 @@ use Rattle.std.proofs.Common.{◌≡◌, ◌⊎◌, inl, inr, ℕ, zero, suc, �
 use Rattle.std.specs.List.{slice_get, filter_map}
 use Rattle.std.proofs.lemmas.List.{take_more, take_all, append-nil}
 use Rattle.std.proofs.lemmas.List.Elements.{filter_map-append}
-use Rattle.std.proofs.lemmas.Option.{none-some, slice_get-get_or}
+use Rattle.std.proofs.lemmas.Option.{none-some, slice_get_past}
 use Rattle.std.proofs.lemmas.Bool.{false≢true, false_from_ne_true}
 use Rattle.gpass.specs.declared.node.Entry.{Entry}
 use Rattle.gpass.specs.Graphs.{place_of}
@@ -141,3 +141,18 @@ module _ {A : Type 0} (g : List (Entry A)) (wants commons tips : List (List ℕ)
           (false_from_ne_true (is_marked tagged p) (λ m. (let h = marked_inside tagged p m in omega arith)))) before in
       let S : List (Entry A) → Type 0 = λ xs. Selects (IsToSend g wants commons tips) xs (entries_at g places) in
       subst S (ap (λ n. take n g) e ∙ whole) on
+
+-- ---- copies
+
+module _ {A : Type 0} (g : List (Entry A)) (places : List ℕ) (i : ℕ) (inside : i < length places) where
+  one_at : entries_at g (take (i + 1) places) ≡ entries_at g (take i places) ++ entries_at g (get_or places i 0 ∷ [])
+  one_at = ap (entries_at g) (take_more places i 0 inside) ∙ filter_map-append (λ q. slice_get g q) (take i places) (get_or places i 0 ∷ [])
+
+  pub copies_next : (entry : Entry A) → slice_get g (get_or places i 0) ≡ Some entry → entries_at g (take (i + 1) places) ≡ entries_at g (take i places) ++ entry ∷ []
+  copies_next entry at = one_at ∙ rw at refl
+
+  pub copies_past : length g ≤ get_or places i 0 → entries_at g (take (i + 1) places) ≡ entries_at g (take i places)
+  copies_past past =
+      let none = slice_get_past g (get_or places i 0) past in
+      let last : entries_at g (get_or places i 0 ∷ []) ≡ [] = rw none refl in
+      one_at ∙ ap (λ xs. entries_at g (take i places) ++ xs) last ∙ append-nil (entries_at g (take i places))

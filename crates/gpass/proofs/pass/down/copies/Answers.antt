@@ -1,13 +1,21 @@
-use Rattle.std.proofs.Common.{◌≡◌, ◌∙◌, ◌++◌, ◌∷◌, [], Some, None, take, refl, sym, ap}
-use Rattle.std.proofs.lemmas.List.{take_more}
-use Rattle.std.proofs.lemmas.List.Elements.{filter_map-append}
+use Rattle.std.proofs.Common.{◌≡◌, ◌∙◌, ◌++◌, ◌∷◌, [], ◌≤◌, get_or, length, sym, ap}
+use Rattle.gpass.specs.Graphs.{entry_of}
 use Rattle.gpass.specs.Passes.{entries_at, entries_of}
+use Rattle.gpass.proofs.PassPlaces.{is_none}
+use Rattle.gpass.proofs.PassSending.{copies_next, copies_past}
 use Rattle.gpass.proofs.pass.down.copies.Goals as goal
 use Rattle.gpass.proofs.pass.down.copies.Goals.{in-Some+in_ok-node+in_ok-push, in_default}
 
 pub loop-place-preserved : goal.loop-place-preserved
 loop-place-preserved g c =
+    let held = entries_of c.args.graph.now in
+    let places = c.args.places.now in
     elim c.match-at.branch [
-      | in-Some+in_ok-node+in_ok-push w ↦ (let a = w.in-Some.ensures in let n = w.in_ok-node.ensures in let p = w.in_ok-push.ensures.items in ?)
-      | in_default w ↦ (let a = c.at.ensures in let n = w.in_default.not-Some in ?)
+      | in-Some+in_ok-node+in_ok-push w ↦
+          let next = copies_next held places c.loop-place.place-index c.loop-place-test.true (entry_of w.in-Some.id.now w.in-Some.node.now) w.in-Some.ensures in
+          rw (w.list-is, w.in_ok-push.ensures.items, w.in_ok-node.ensures, c.loop-place.invariant) (sym next)
+      | in_default w ↦
+          let none = is_none c.at.result w.in_default.not-Some in
+          let past = rw none at c.at.ensures in
+          rw w.list-is (c.loop-place.invariant ∙ sym (copies_past held places c.loop-place.place-index c.loop-place-test.true past))
     ]

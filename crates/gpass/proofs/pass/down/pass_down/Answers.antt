@@ -1,7 +1,7 @@
 use Rattle.std.proofs.Common.{◌≡◌, ◌∙◌, ◌<◌, ◌≤◌, ℕ, length, replicate, false, sym, ap, arith}
 use Rattle.std.proofs.lemmas.List.{length-replicate}
 use Rattle.gpass.specs.Passes.{IsPlaceOf, entries_of, open_below}
-use Rattle.gpass.proofs.PassPlaces.{parents_first, max_is}
+use Rattle.gpass.proofs.PassPlaces.{parents_first}
 use Rattle.gpass.proofs.PassCounting.{counted_none}
 use Rattle.gpass.proofs.PassDown.{starts, ends}
 use Rattle.gpass.proofs.pass.down.pass_down.Goals as goal
@@ -11,12 +11,12 @@ want_all-requires-clause-counted g c = rw (c.in_ok-no_marks.ensures.marks, c.in_
 
 pub want_all-requires-clause-below : goal.want_all-requires-clause-below
 want_all-requires-clause-below g c =
-    let most = max_is _ _ c.max-end.result c.max-end.ensures in
+    let most = c.max-end.ensures in
     λ p x. (let h = c.end_of.ensures.below p x in omega arith)
 
 pub know_all-requires-clause-below : goal.know_all-requires-clause-below
 know_all-requires-clause-below g c =
-    let most = max_is _ _ c.max-end.result c.max-end.ensures in
+    let most = c.max-end.ensures in
     let same = c.want_all.ensures.next in
     λ p x. (let h = c.end_of-2.ensures.below p x in omega arith)
 
@@ -24,7 +24,7 @@ pub loop-pass-init : goal.loop-pass-init
 loop-pass-init g c =
     let held = entries_of c.args.graph.now in
     let end = c.max-end.result in
-    let most = max_is _ _ end c.max-end.ensures in
+    let most = c.max-end.ensures in
     let wants = rw c.in_ok-no_marks.ensures.marks at c.want_all.ensures.wanted in
     let commons = rw (c.want_all.ensures.known, c.in_ok-no_marks-2.ensures.marks) at c.know_all.ensures.known in
     let long = length-replicate end false in

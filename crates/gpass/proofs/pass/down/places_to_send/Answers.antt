@@ -1,7 +1,6 @@
 use Rattle.std.proofs.Common.{◌≡◌, ◌∙◌, ◌<◌, ◌≤◌, inl, inr, length, sym, arith}
 use Rattle.std.proofs.lemmas.Bool.{or_cases, or_parts}
 use Rattle.gpass.specs.Passes.{entries_of, is_marked, is_open}
-use Rattle.gpass.proofs.PassPlaces.{max_is}
 use Rattle.gpass.proofs.PassSending.{none_so_far, sends_place, drops_place, all_places}
 use Rattle.gpass.proofs.pass.down.places_to_send.Goals as goal
 use Rattle.gpass.proofs.pass.down.places_to_send.Goals.{then-is_sent+in_ok-push, else-is_sent}
@@ -18,7 +17,7 @@ loop-place-preserved g c =
     let held = entries_of c.args.graph.now in
     let pass = c.in_ok-pass.pass in
     let tagged = c.in_ok-tagged.tagged in
-    let most = max_is _ _ c.max-place-end.result c.max-place-end.ensures in
+    let most = c.max-place-end.ensures in
     let wanted_len = pass.wanted.ok.0 in
     let tagged_len = tagged.ok.0 in
     let i = c.in_ok-pass.ensures.inside.1 in
@@ -47,7 +46,7 @@ returns-clause-answer g c =
     let held = entries_of c.args.graph.now in
     let pass = c.in_ok-pass.pass in
     let tagged = c.in_ok-tagged.tagged in
-    let most = max_is _ _ c.max-place-end.result c.max-place-end.ensures in
+    let most = c.max-place-end.ensures in
     let wanted_len = pass.wanted.ok.0 in
     let tagged_len = tagged.ok.0 in
     let h = c.in_ok-pass.ensures.inside.0 in
