@@ -5,12 +5,14 @@ use Rattle.std.proofs.lemmas.Bool.{cases_Bool, false≢true}
 use Rattle.std.proofs.lemmas.Option.{none-some}
 use Rattle.std.proofs.lemmas.List.Elements.{All-nil, All-cons, All-head, All-tail, All-map, All-contains, All-contains_itself}
 use Rattle.std.proofs.lemmas.Slice.Eq.{bytes_eq-Decides}
-use Rattle.ggraph.specs.declared.node.Node.{Node}
-use Rattle.ggraph.specs.declared.node.Entry.{Entry}
-use Rattle.ggraph.specs.Graphs.{has_id, node_at, Holds, IsNode, IdsDiffer}
-use Rattle.ggraph.specs.Reach.{IsClosed, IsFull, IsSafe}
-use Rattle.ggraph.specs.RefLists.{RefList}
-use Rattle.ggraph.specs.Walks.{Misses}
+use Rattle.gobject.specs.declared.node.Node.{Node}
+use Rattle.gobject.specs.declared.node.Entry.{Entry}
+use Rattle.gobject.specs.Objects.{has_id, node_at, IdsDiffer}
+use Rattle.ghistory.specs.Graphs.{Holds, IsNode}
+use Rattle.ghistory.specs.Reach.{IsClosed, IsFull}
+use Rattle.ggraph.specs.SafeRefs.{IsSafe}
+use Rattle.grefs.specs.RefLists.{RefList}
+use Rattle.ghistory.specs.Walks.{Misses}
 use Rattle.gcmd.specs.Commands.{HoldsParents}
 
 -- the ids at which the refs stand

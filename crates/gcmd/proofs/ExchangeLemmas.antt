@@ -1,9 +1,9 @@
 -- From the steps of an exchange to the whole.
 use Rattle.std.proofs.Common.{◌≡◌, ℕ, Bool, List, Option, Err, [], ◌∷◌, refl, sym, subst, inl, inr}
 use Rattle.gpkt.specs.Packets.{Packet}
-use Rattle.ggraph.specs.RefLists.{RefList}
-use Rattle.ggraph.specs.declared.node.Entry.{Entry}
-use Rattle.ggraph.specs.declared.head.Head.{Head}
+use Rattle.grefs.specs.RefLists.{RefList}
+use Rattle.gobject.specs.declared.node.Entry.{Entry}
+use Rattle.grefs.specs.declared.head.Head.{Head}
 use Rattle.std.specs.Io.KnownBytes.{Appends}
 use Rattle.gcmd.specs.Request.{LsRefs, Ls, Says}
 use Rattle.gcmd.specs.Reading.{ReadsLines}

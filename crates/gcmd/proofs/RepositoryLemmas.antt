@@ -4,11 +4,11 @@ use Rattle.std.specs.List.{slice_get}
 use Rattle.std.proofs.lemmas.List.{take_more, take_all}
 use Rattle.std.proofs.lemmas.List.Elements.{All-append, All-cons, All-head, All-nil, All-tail}
 use Rattle.std.proofs.lemmas.Option.{slice_get_read}
-use Rattle.ggraph.specs.Graphs.{Holds}
-use Rattle.ggraph.specs.RefLists.{RefList}
-use Rattle.ggraph.specs.declared.node.Entry.{Entry}
-use Rattle.ggraph.specs.declared.head.Head.{Head}
-use Rattle.ggraph.specs.declared.fault.GraphFault.{GraphFault}
+use Rattle.ghistory.specs.Graphs.{Holds}
+use Rattle.grefs.specs.RefLists.{RefList}
+use Rattle.gobject.specs.declared.node.Entry.{Entry}
+use Rattle.grefs.specs.declared.head.Head.{Head}
+use Rattle.ggraph.specs.declared.fault.TextFault.{TextFault}
 use Rattle.ggraph.specs.declared.text.Order.TheVariants.{ParentsFirst}
 use Rattle.ggraph.specs.declared.text.Repository.{Repository}
 use Rattle.ggraph.specs.Loading as load
@@ -47,9 +47,9 @@ all_there P (y ∷ xs) (suc place) x all at = all_there P xs place x (All-tail P
 none_missing : {A : Type 0} (graph : List (Entry A)) (refs : RefList) (name : List ℕ) → HoldsRefs graph refs → IsFirstMissing graph refs name → ⊥
 none_missing graph refs name all first = first.missing (all_there (λ (ref : List ℕ × List ℕ). Holds graph ref.1) refs first.place (name, first.id) all first.there)
 
-pub accepts_unloaded : {A : Type 0} (text : List ℕ) (fault : GraphFault) (told : RepoFault A) → load.Accepts A ParentsFirst text (Err fault) → IsTextFault fault told → Accepts A text (Err told)
+pub accepts_unloaded : {A : Type 0} (text : List ℕ) (fault : TextFault) (told : RepoFault A) → load.Accepts A ParentsFirst text (Err fault) → IsTextFault fault told → Accepts A text (Err told)
 accepts_unloaded text fault told accepts is repo names refs head =
-    subst (λ (f : GraphFault). IsTextFault f told) (accepts repo.graph repo.refs repo.head names.1 names.0) is
+    subst (λ (f : TextFault). IsTextFault f told) (accepts repo.graph repo.refs repo.head names.1 names.0) is
 
 pub accepts_refused : {A : Type 0} (text : List ℕ) (it : Repository A) (told : RepoFault A) → load.Accepts A ParentsFirst text (Ok it) → RefusesRefs it told → Accepts A text (Err told)
 accepts_refused text it Memory accepts refuses repo names refs head = refl

@@ -4,14 +4,14 @@ use Rattle.std.specs.Prelude.{◌≡◌, ℕ, Bool, true, false, ◌&&◌, ◌||
 use Rattle.std.specs.List.{list_any, starts_with}
 use Rattle.std.specs.Str.{bytes_eq}
 use Rattle.gname.specs.Names.{head_name}
-use Rattle.ggraph.specs.Graphs.{IsNode}
-use Rattle.ggraph.specs.Peeling.{PeelsTo}
-use Rattle.ggraph.specs.RefLists.{RefList, ref_at}
-use Rattle.ggraph.specs.declared.node.Node.{Node}
-use Rattle.ggraph.specs.declared.node.Entry.{Entry}
-use Rattle.ggraph.specs.declared.node.Kind.TheVariants as kind
-use Rattle.ggraph.specs.declared.head.Head.{Head}
-use Rattle.ggraph.specs.declared.head.Head.TheVariants as head
+use Rattle.ghistory.specs.Graphs.{IsNode}
+use Rattle.ghistory.specs.Peeling.{PeelsTo}
+use Rattle.grefs.specs.RefLists.{RefList, ref_at}
+use Rattle.gobject.specs.declared.node.Node.{Node}
+use Rattle.gobject.specs.declared.node.Entry.{Entry}
+use Rattle.gobject.specs.declared.node.Kind.TheVariants as kind
+use Rattle.grefs.specs.declared.head.Head.{Head}
+use Rattle.grefs.specs.declared.head.Head.TheVariants as head
 use Rattle.gcmd.specs.Request.{LsRefs, is_none_yet}
 use Rattle.gcmd.specs.declared.reply.RefLine.{RefLine}
 

@@ -2,12 +2,13 @@
 use Rattle.std.specs.Prelude.{◌≡◌, ◌↔◌, ℕ, ◌≤◌, ◌⊎◌, ◌++◌, Bool, IsTrue, if◌then◌else◌, List, length, codes, All, Option}
 use Rattle.std.specs.Fmt.{decimal}
 use Rattle.std.specs.Io.KnownBytes.{Appends}
-use Rattle.ggraph.specs.Graphs.{Holds}
-use Rattle.ggraph.specs.Reach.{IsClosed, IsSafe}
+use Rattle.ghistory.specs.Graphs.{Holds}
+use Rattle.ghistory.specs.Reach.{IsClosed}
+use Rattle.ggraph.specs.SafeRefs.{IsSafe}
 use Rattle.ggraph.specs.Loading.{StopsAt}
 use Rattle.ggraph.specs.RepositoryText.{repository_text, IsLoadable}
-use Rattle.ggraph.specs.declared.node.Entry.{Entry}
-use Rattle.ggraph.specs.declared.fault.GraphFault.{GraphFault}
+use Rattle.gobject.specs.declared.node.Entry.{Entry}
+use Rattle.ggraph.specs.declared.fault.TextFault.{TextFault}
 use Rattle.ggraph.specs.declared.text.Order.TheVariants.{Any}
 use Rattle.ggraph.specs.declared.text.Repository.{Repository}
 use Rattle.gcmd.specs.Repository.{Names, HoldsRefs, HoldsHead, RefusesText}
@@ -79,7 +80,7 @@ report_line report =
 module _ (A : Type 0) (file : List ℕ) (written_old written_new : Option (List ℕ)) (status : ℕ) where
   -- the file is no repository, or there is no memory to judge it: nothing is written
   pub record IsUnchecked : Type 0 where
-    pub fault : GraphFault
+    pub fault : TextFault
     pub refused : StopsAt A Any file fault
     pub written : written_new ≡ written_old
     pub exits : status ≡ 1

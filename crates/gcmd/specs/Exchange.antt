@@ -14,9 +14,9 @@ use Rattle.gcmd.specs.Sending.{AppendsSome}
 use Rattle.gcmd.specs.RequestReader.{request_view}
 use Rattle.gcmd.specs.declared.request.Request as read
 use Rattle.gcmd.specs.Answer.{IsAnswer}
-use Rattle.ggraph.specs.RefLists.{RefList}
-use Rattle.ggraph.specs.declared.node.Entry.{Entry}
-use Rattle.ggraph.specs.declared.head.Head.{Head}
+use Rattle.grefs.specs.RefLists.{RefList}
+use Rattle.gobject.specs.declared.node.Entry.{Entry}
+use Rattle.grefs.specs.declared.head.Head.{Head}
 use Rattle.gcmd.specs.declared.reply.RefLine.{RefLine}
 use Rattle.gcmd.specs.declared.fault.Why.{Why}
 use Rattle.gcmd.specs.declared.fault.Why.TheVariants as why

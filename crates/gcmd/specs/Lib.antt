@@ -15,7 +15,7 @@ pub mod RequestState
 pub mod RequestReader
 pub use Rattle.gpkt.specs.Packets
 pub use Rattle.gname.specs.Names
-pub use Rattle.ggraph.specs.Graphs
-pub use Rattle.ggraph.specs.Peeling
-pub use Rattle.ggraph.specs.RefLists
+pub use Rattle.ghistory.specs.Graphs
+pub use Rattle.ghistory.specs.Peeling
+pub use Rattle.grefs.specs.RefLists
 pub use Rattle.ggraph.specs.RepositoryText

@@ -5,10 +5,12 @@ use Rattle.std.specs.Fmt.{decimal}
 use Rattle.std.specs.Option.{option_copied}
 use Rattle.gpkt.specs.declared.fault.LineFault.{LineFault}
 use Rattle.gpkt.specs.declared.fault.LineFault.TheVariants as line
-use Rattle.ggraph.specs.declared.fault.GraphFault.{GraphFault}
-use Rattle.ggraph.specs.declared.fault.GraphFault.TheVariants as graph
+use Rattle.ghistory.specs.declared.fault.GraphFault.{GraphFault}
 use Rattle.gcmd.specs.Faults.{why_code}
-use Rattle.ggraph.specs.Faults.{code_of}
+use Rattle.ghistory.specs.Faults.{graph_fault_row}
+use Rattle.ggraph.specs.Faults.{text_fault_row}
+use Rattle.ggraph.specs.declared.fault.TextFault.{TextFault}
+use Rattle.ggraph.specs.declared.fault.TextFault.TheVariants as text
 use Rattle.gcmd.specs.declared.exchange.LsFault.{LsFault}
 use Rattle.gcmd.specs.declared.exchange.LsFault.TheVariants as ls
 use Rattle.gcmd.specs.declared.fault.MessageFault.{MessageFault}
@@ -47,25 +49,16 @@ repository_line (repo.ParentLater at) = line_of 68 (codes "ParentLater") None (S
 repository_line (repo.RefMissing name) = line_of 71 (codes "RefMissing") None None (Some name)
 repository_line repo.Memory = line_of 64 (codes "Memory") None None None
 
-abbrev pub graph_name : GraphFault → List ℕ
-graph_name (graph.Conflict id) = codes "Conflict"
-graph_name graph.TooMany = codes "TooMany"
-graph_name graph.TooManyParents = codes "TooManyParents"
-graph_name graph.TagShape = codes "TagShape"
-graph_name graph.Memory = codes "Memory"
-graph_name (graph.Text at) = codes "Text"
-graph_name (graph.ParentLater at) = codes "ParentLater"
-graph_name graph.Refs = codes "Refs"
-graph_name (graph.Pack fault) = codes "Pack"
-graph_name (graph.Index fault) = codes "Index"
-
-abbrev pub line_in_text : GraphFault → Option ℕ
-line_in_text (graph.Text at) = Some at
-line_in_text (graph.ParentLater at) = Some at
-line_in_text _ = None
-
 abbrev pub graph_line : GraphFault → List ℕ
-graph_line fault = line_of (code_of fault) (graph_name fault) None (line_in_text fault) None
+graph_line fault = line_of (graph_fault_row fault).0 (graph_fault_row fault).1 None None None
+
+abbrev pub line_in_text : TextFault → Option ℕ
+line_in_text (text.Text at) = Some at
+line_in_text (text.ParentLater at) = Some at
+line_in_text text.Memory = None
+
+abbrev pub text_line : TextFault → List ℕ
+text_line fault = line_of (text_fault_row fault).0 (text_fault_row fault).1 None (line_in_text fault) None
 
 abbrev pub packet_name : LineFault → List ℕ
 packet_name line.BadDigits = codes "BadDigits"

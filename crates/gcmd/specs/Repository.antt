@@ -3,17 +3,17 @@
 use Rattle.std.specs.Prelude.{◌≡◌, ℕ, ◌⊎◌, ⊤, List, take, All, Some, slice_get, Result, Ok, Err, MatchResult}
 use Rattle.std.specs.declared.alloc.AllocError.{AllocError}
 use Rattle.gname.specs.Names.{head_name}
-use Rattle.ggraph.specs.Graphs.{Holds}
-use Rattle.ggraph.specs.RefLists.{RefList}
+use Rattle.ghistory.specs.Graphs.{Holds}
+use Rattle.grefs.specs.RefLists.{RefList}
 use Rattle.ggraph.specs.Loading.{StopsAt}
 use Rattle.ggraph.specs.RepositoryText.{repository_text, IsLoadable}
-use Rattle.ggraph.specs.declared.node.Entry.{Entry}
-use Rattle.ggraph.specs.declared.head.Head.{Head}
-use Rattle.ggraph.specs.declared.head.Head.TheVariants as head
+use Rattle.gobject.specs.declared.node.Entry.{Entry}
+use Rattle.grefs.specs.declared.head.Head.{Head}
+use Rattle.grefs.specs.declared.head.Head.TheVariants as head
 use Rattle.ggraph.specs.declared.text.Repository.{Repository}
 use Rattle.ggraph.specs.declared.text.Order.TheVariants.{ParentsFirst}
-use Rattle.ggraph.specs.declared.fault.GraphFault.{GraphFault}
-use Rattle.ggraph.specs.declared.fault.GraphFault.TheVariants as load
+use Rattle.ggraph.specs.declared.fault.TextFault.{TextFault}
+use Rattle.ggraph.specs.declared.fault.TextFault.TheVariants as load
 use Rattle.gcmd.specs.declared.repository.RepoFile.{RepoFile}
 use Rattle.gcmd.specs.declared.repository.RepoFault.{RepoFault}
 use Rattle.gcmd.specs.declared.repository.RepoFault.TheVariants.{Text, ParentLater, RefMissing, Memory}
@@ -68,7 +68,7 @@ RefusesText {A} text (RefMissing name) = (repo : Repository A) × Names text rep
 RefusesText text Memory = ⊤
 
 -- the fault for each fault of loading; others than these do not come
-abbrev pub IsTextFault : {A : Type 0} → GraphFault → RepoFault A → Type 0
+abbrev pub IsTextFault : {A : Type 0} → TextFault → RepoFault A → Type 0
 IsTextFault (load.Text line) fault = fault ≡ Text line
 IsTextFault (load.ParentLater line) fault = fault ≡ ParentLater line
 IsTextFault _ fault = fault ≡ Memory

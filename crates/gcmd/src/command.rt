@@ -3,8 +3,9 @@
 
 ghost use Rattle.std.specs.Prelude.{◌≡◌, ◌≤◌, ◌↔◌, All, IfErr, IfOk, IsTrue, OnOk, map};
 ghost use Rattle.std.specs.Io.KnownBytes.{Appends};
-ghost use Rattle.ggraph.specs.Graphs.{Holds};
-ghost use Rattle.ggraph.specs.Reach.{IsClosed, IsSafe};
+ghost use Rattle.ghistory.specs.Graphs.{Holds};
+ghost use Rattle.ghistory.specs.Reach.{IsClosed};
+ghost use Rattle.ggraph.specs.SafeRefs.{IsSafe};
 ghost use Rattle.gcmd.specs.Commands.{end_status, EndsAs, Serves, Checks, HoldsParents, IsReport, report_line, yes_or_no};
 
 use crate::exchange::{LsEnd, ls_once};
@@ -88,7 +89,7 @@ pub fn cmd_check<A: Allocator + Copy, W: Write, E: Write>(
 {
     let repo = match load(alloc, file, Order::Any) {
         Ok(repo) => repo,
-        Err(fault) => return fail(&FaultLine::of_graph(&fault), errors),
+        Err(fault) => return fail(&FaultLine::of_text(&fault), errors),
     };
     let report = match report_of(alloc, &repo) {
         Ok(report) => report,

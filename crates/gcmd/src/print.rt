@@ -5,12 +5,12 @@
 ghost use Rattle.std.specs.Prelude.{◌≡◌, None, OnOk, codes, map};
 ghost use Rattle.std.specs.Io.KnownBytes.{Appends};
 ghost use Rattle.std.specs.Option.{option_copied};
-ghost use Rattle.gcmd.specs.Printing.{exchange_line, graph_line, graph_name, line_in_text, message_line, number_part, packet_name, peer_text, printed, repository_line, shown, text_part, why_name};
+ghost use Rattle.gcmd.specs.Printing.{exchange_line, graph_line, line_in_text, message_line, number_part, packet_name, peer_text, printed, repository_line, shown, text_line, text_part, why_name};
 
 use crate::exchange::LsFault;
 use crate::fault::{MessageFault, Why};
 use crate::repository::RepoFault;
-use ggraph::GraphFault;
+use ggraph::{GraphFault, TextFault};
 use gpkt::LineFault;
 use std::alloc::Allocator;
 use std::io;
@@ -63,17 +63,24 @@ impl<'a> FaultLine<'a> {
         }
     }
 
-    /// A fault of loading or of a walk.
-    pub(crate) fn of_graph(fault: &GraphFault) -> FaultLine<'a>
-        ensures { printed result ≡ graph_line fault.now }
+    /// A fault of loading.
+    pub(crate) fn of_text(fault: &TextFault) -> FaultLine<'a>
+        ensures { printed result ≡ text_line fault.now }
     {
         FaultLine {
             number: fault.code(),
-            name: graph_fault_name(fault),
+            name: fault.name(),
             frame: None,
-            line: graph_fault_line(fault),
+            line: line_in_text(fault),
             text: None,
         }
+    }
+
+    /// A fault of a walk.
+    pub(crate) fn of_graph(fault: &GraphFault) -> FaultLine<'a>
+        ensures { printed result ≡ graph_line fault.now }
+    {
+        FaultLine::plain(fault.code(), fault.name())
     }
 
     pub(crate) fn of_exchange(fault: &'a LsFault) -> FaultLine<'a>
@@ -169,29 +176,12 @@ fn peer_text(why: &Why) -> Option<&[u8]>
     }
 }
 
-fn graph_fault_line(fault: &GraphFault) -> Option<usize>
+fn line_in_text(fault: &TextFault) -> Option<usize>
     ensures { result ≡ line_in_text fault.now }
 {
     match fault {
-        GraphFault::Text { line } | GraphFault::ParentLater { line } => Some(*line),
-        _ => None,
-    }
-}
-
-fn graph_fault_name(fault: &GraphFault) -> &'static str
-    ensures { result.now ≡ graph_name fault.now }
-{
-    match fault {
-        GraphFault::Conflict { .. } => "Conflict",
-        GraphFault::TooMany => "TooMany",
-        GraphFault::TooManyParents => "TooManyParents",
-        GraphFault::TagShape => "TagShape",
-        GraphFault::Memory => "Memory",
-        GraphFault::Pack(_) => "Pack",
-        GraphFault::Index(_) => "Index",
-        GraphFault::Text { .. } => "Text",
-        GraphFault::ParentLater { .. } => "ParentLater",
-        GraphFault::Refs => "Refs",
+        TextFault::Text { line } | TextFault::ParentLater { line } => Some(*line),
+        TextFault::Memory => None,
     }
 }
 

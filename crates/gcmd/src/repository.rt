@@ -4,7 +4,7 @@ ghost use Rattle.std.specs.Prelude.{◌≡◌, ◌↔◌, IfOk, IfErr, IsTrue, M
 ghost use Rattle.gcmd.specs.Repository.{Accepts, repo_fault_code, Names, HoldsRefs, HoldsHead, IsFirstMissing, RefusesText, RefusesRefs, IsTextFault, missing_fault};
 
 use crate::answer::head_name;
-use ggraph::{Graph, GraphFault, Head, Order, Refs, Repository, load};
+use ggraph::{Graph, Head, Order, Refs, Repository, TextFault, load};
 use gname::{Oid, RefName};
 use std::alloc::{AllocError, Allocator};
 use thiserror::Error;
@@ -77,12 +77,12 @@ impl<A: Allocator + Copy> RepoFile<A> {
 }
 
 // The fault of a text that was not loaded.
-fn text_fault<A: Allocator + Copy>(fault: GraphFault) -> RepoFault<A>
+fn text_fault<A: Allocator + Copy>(fault: TextFault) -> RepoFault<A>
     ensures { IsTextFault fault result }
 {
     match fault {
-        GraphFault::Text { line } => RepoFault::Text { line },
-        GraphFault::ParentLater { line } => RepoFault::ParentLater { line },
+        TextFault::Text { line } => RepoFault::Text { line },
+        TextFault::ParentLater { line } => RepoFault::ParentLater { line },
         _ => RepoFault::Memory,
     }
 }

@@ -6,17 +6,17 @@ use Rattle.std.proofs.lemmas.List.Elements.{All-head, All-tail, All-cons}
 use Rattle.gname.specs.Ids.{IsId, id_text}
 use Rattle.gname.proofs.IdLemmas.{IsIdText-id_text, clean-of_id_text}
 use Rattle.gname.proofs.NameLemmas.{NameFacts-of_name}
-use Rattle.ggraph.specs.declared.node.Kind.{Kind}
-use Rattle.ggraph.specs.declared.node.Kind.TheVariants.{Commit, Tag}
-use Rattle.ggraph.specs.declared.node.Entry.{Entry}
-use Rattle.ggraph.specs.declared.head.Head.{Head}
-use Rattle.ggraph.specs.declared.head.Head.TheVariants as heads_of
+use Rattle.gobject.specs.declared.node.Kind.{Kind}
+use Rattle.gobject.specs.declared.node.Kind.TheVariants.{Commit, Tag}
+use Rattle.gobject.specs.declared.node.Entry.{Entry}
+use Rattle.grefs.specs.declared.head.Head.{Head}
+use Rattle.grefs.specs.declared.head.Head.TheVariants as heads_of
 use Rattle.ggraph.specs.declared.text.Order.{Order}
 use Rattle.ggraph.specs.declared.text.reading.Stage.{Stage}
 use Rattle.ggraph.specs.declared.text.reading.Stage.TheVariants.{Nodes, Refs, Done}
 use Rattle.ggraph.specs.declared.text.reading.Reading.{Reading}
-use Rattle.ggraph.specs.Graphs.{HasIds}
-use Rattle.ggraph.specs.RefLists.{IsBelowRefs, RefList}
+use Rattle.gobject.specs.Objects.{HasIds}
+use Rattle.grefs.specs.RefLists.{IsBelowRefs, RefList}
 use Rattle.ggraph.specs.RepositoryText.{EachBehind, IsHead, IsLoadable, MayFollow, RefMayFollow, first_line, head_line, kind_letter, last_line, lines_of, node_line, ref_line, repository_text, spaced_ids}
 use Rattle.ggraph.specs.Reading.{Item, MayCome, TakesRefs, after, begins, ends, heads, line_of, node, nothing_read, ref}
 use Rattle.ggraph.proofs.Items.{ReadsTo}

@@ -1,26 +1,24 @@
 -- Which line may come next: each line stands for one item.
-use Rattle.std.proofs.Common.{◌≡◌, inl, inr, ℕ, List, [], ◌∷◌, ◌++◌, All, codes, refl, sym, ◌∙◌, ap, subst, arith, lit<, ◌<◌, get_or, Result, Ok, Err, OnOk, IfErr}
+use Rattle.std.proofs.Common.{ap₂, ◌≡◌, inl, inr, ℕ, List, [], ◌∷◌, ◌++◌, All, codes, refl, sym, ◌∙◌, ap, subst, arith, lit<, ◌<◌, get_or, Result, Ok, Err, OnOk, IfErr}
 use Rattle.std.proofs.lemmas.List.{append_cancel_left}
 use Rattle.std.proofs.lemmas.List.Elements.{All-head, All-tail, All-cons}
 use Rattle.gname.specs.Ids.{IsId, id_text}
-use Rattle.ggraph.specs.declared.node.Kind.{Kind}
-use Rattle.ggraph.specs.declared.node.Kind.TheVariants.{Commit, Tag}
-use Rattle.ggraph.specs.declared.node.Node.{Node}
-use Rattle.ggraph.specs.declared.node.Entry.{Entry}
-use Rattle.ggraph.specs.declared.head.Head.{Head}
-use Rattle.ggraph.specs.declared.head.Head.TheVariants as heads_of
-use Rattle.ggraph.specs.declared.fault.GraphFault.{GraphFault}
-use Rattle.ggraph.specs.declared.fault.GraphFault.TheVariants as faults
+use Rattle.gobject.specs.declared.node.Kind.{Kind}
+use Rattle.gobject.specs.declared.node.Kind.TheVariants.{Commit, Tag}
+use Rattle.gobject.specs.declared.node.Entry.{Entry}
+use Rattle.grefs.specs.declared.head.Head.{Head}
+use Rattle.grefs.specs.declared.head.Head.TheVariants as heads_of
+use Rattle.ggraph.specs.declared.fault.TextFault.{TextFault}
+use Rattle.ggraph.specs.declared.fault.TextFault.TheVariants as faults
 use Rattle.ggraph.specs.declared.text.Order.{Order}
 use Rattle.ggraph.specs.declared.text.Order.TheVariants.{Any, ParentsFirst}
 use Rattle.ggraph.specs.declared.text.reading.Stage.{Stage}
 use Rattle.ggraph.specs.declared.text.reading.Stage.TheVariants.{First, Nodes, Refs, Last, Done}
 use Rattle.ggraph.specs.declared.text.reading.Reading.{Reading}
-use Rattle.ggraph.specs.Graphs.{HasIds}
+use Rattle.gobject.specs.Objects.{HasIds, entry_of, node_of}
 use Rattle.ggraph.specs.RepositoryText.{IsHead, MayFollow, RefMayFollow, first_line, head_line, kind_letter, last_line, node_line, ref_line, spaced_ids}
 use Rattle.ggraph.specs.Reading.{Item, MayCome, begins, line_of, node, ref, heads, ends, Refuses, RefusesEntry, RefusesRef, Takes, TakesNot, TakesRefs}
 use Rattle.ggraph.specs.TextParts.{IsNoNode, IsNoRef, IsNoHead}
-use Rattle.ggraph.proofs.NodeLemmas.{node_same}
 use Rattle.ggraph.proofs.TextLemmas.{one_front, one_id}
 
 -- ---- lines that differ
@@ -70,12 +68,6 @@ spaced_one (x ∷ xs) (y ∷ ys) vx vy e =
     let rests = spaced_one xs ys (All-tail IsId x xs vx) (All-tail IsId y ys vy) fronts.1 in
     ap (λ (z : List ℕ). z ∷ xs) fronts.0 ∙ ap (λ (zs : List (List ℕ)). y ∷ zs) rests
 
-entry_same : {A : Type 0} → (a b : Entry A) → a.id ≡ b.id → a.node ≡ b.node → a ≡ b
-entry_same {A} a b ids nodes =
-    let of_id : List ℕ → Entry A = λ id. record { id = id; node = a.node } in
-    let of_node : Node A → Entry A = λ n. record { id = b.id; node = n } in
-    ap of_id ids ∙ ap of_node nodes
-
 ids_of_line : {A : Type 0} → (entry : Entry A) → HasIds entry → All IsId (entry.id ∷ entry.node.parents)
 ids_of_line entry valid = All-cons IsId entry.id entry.node.parents valid.id valid.parents
 
@@ -85,7 +77,7 @@ one_entry a b va vb e =
     let lists = spaced_one (a.id ∷ a.node.parents) (b.id ∷ b.node.parents) (ids_of_line a va) (ids_of_line b vb) parts.1 in
     let ids : a.id ≡ b.id = (cc) in
     let parents : a.node.parents ≡ b.node.parents = (cc) in
-    entry_same a b ids (node_same a.node b.node parts.0 parents)
+    ap₂ entry_of ids (ap₂ node_of parts.0 parents)
 
 pub one_ref : (a b : List ℕ × List ℕ) → IsId a.1 → IsId b.1 → ref_line a ≡ ref_line b → a ≡ b
 one_ref a b va vb e =
@@ -188,40 +180,26 @@ one_item order other old ends ends may there e = refl
 
 -- ---- what taking a node or a ref answers
 
-pub node_taken : {A : Type 0} (order : Order) (old : Reading A) (line : List ℕ) (graph : List (Entry A)) (entry : Entry A) (r : Result (Unit {0}) GraphFault) → old.stage ≡ Nodes → line ≡ node_line entry → OnOk r (MayFollow order old.graph entry × (graph ≡ old.graph ++ entry ∷ [])) → OnOk r (Takes order old line (record old { graph = graph }))
+pub node_taken : {A : Type 0} (order : Order) (old : Reading A) (line : List ℕ) (graph : List (Entry A)) (entry : Entry A) (r : Result (Unit {0}) TextFault) → old.stage ≡ Nodes → line ≡ node_line entry → OnOk r (MayFollow order old.graph entry × (graph ≡ old.graph ++ entry ∷ [])) → OnOk r (Takes order old line (record old { graph = graph }))
 node_taken {A} order old line graph entry (Ok u) here is (may, grown) =
     let with_graph : List (Entry A) → Reading A = λ g. record old { graph = g } in
     (node entry, is, (here, may), ap with_graph grown)
 node_taken order old line graph entry (Err e) here is facts = tt
 
-pub node_stopped : {A : Type 0} (order : Order) (old : Reading A) (line : List ℕ) (number : ℕ) (entry : Entry A) (r : Result (Unit {0}) GraphFault) → old.stage ≡ Nodes → line ≡ node_line entry → HasIds entry → IfErr r (RefusesEntry order old.graph entry number) → IfErr r (Refuses order old line number)
+pub node_stopped : {A : Type 0} (order : Order) (old : Reading A) (line : List ℕ) (number : ℕ) (entry : Entry A) (r : Result (Unit {0}) TextFault) → old.stage ≡ Nodes → line ≡ node_line entry → HasIds entry → IfErr r (RefusesEntry order old.graph entry number) → IfErr r (Refuses order old line number)
 node_stopped order old line number entry (Ok u) here is valid facts = tt
 node_stopped order old line number entry (Err faults.Memory) here is valid facts = tt
 node_stopped order old line number entry (Err (faults.Text at)) here is valid facts = (facts.0, node_refused Any old line entry here is valid facts.1)
 node_stopped order old line number entry (Err (faults.ParentLater at)) here is valid facts = (facts.0, facts.1, node_refused ParentsFirst old line entry here is valid facts.3, node entry, is, (here, facts.2))
-node_stopped order old line number entry (Err (faults.Conflict id)) here is valid facts = absurd facts
-node_stopped order old line number entry (Err faults.TooMany) here is valid facts = absurd facts
-node_stopped order old line number entry (Err faults.TooManyParents) here is valid facts = absurd facts
-node_stopped order old line number entry (Err faults.TagShape) here is valid facts = absurd facts
-node_stopped order old line number entry (Err faults.Refs) here is valid facts = absurd facts
-node_stopped order old line number entry (Err (faults.Pack why)) here is valid facts = absurd facts
-node_stopped order old line number entry (Err (faults.Index why)) here is valid facts = absurd facts
 
-pub ref_taken : {A : Type 0} (order : Order) (old : Reading A) (line : List ℕ) (refs : List (List ℕ × List ℕ)) (it : List ℕ × List ℕ) (r : Result (Unit {0}) GraphFault) → TakesRefs old.stage → line ≡ ref_line it → OnOk r (RefMayFollow old.refs it × (refs ≡ old.refs ++ it ∷ [])) → OnOk r (Takes order old line (record old { stage = Refs; refs = refs }))
+pub ref_taken : {A : Type 0} (order : Order) (old : Reading A) (line : List ℕ) (refs : List (List ℕ × List ℕ)) (it : List ℕ × List ℕ) (r : Result (Unit {0}) TextFault) → TakesRefs old.stage → line ≡ ref_line it → OnOk r (RefMayFollow old.refs it × (refs ≡ old.refs ++ it ∷ [])) → OnOk r (Takes order old line (record old { stage = Refs; refs = refs }))
 ref_taken {A} order old line refs it (Ok u) due is (may, grown) =
     let with_refs : List (List ℕ × List ℕ) → Reading A = λ rs. record old { stage = Refs; refs = rs } in
     (ref it, is, (due, may), ap with_refs grown)
 ref_taken order old line refs it (Err e) due is facts = tt
 
-pub ref_stopped : {A : Type 0} (order : Order) (old : Reading A) (line : List ℕ) (number : ℕ) (it : List ℕ × List ℕ) (r : Result (Unit {0}) GraphFault) → TakesRefs old.stage → line ≡ ref_line it → IsId it.1 → IfErr r (RefusesRef old.refs it number) → IfErr r (Refuses order old line number)
+pub ref_stopped : {A : Type 0} (order : Order) (old : Reading A) (line : List ℕ) (number : ℕ) (it : List ℕ × List ℕ) (r : Result (Unit {0}) TextFault) → TakesRefs old.stage → line ≡ ref_line it → IsId it.1 → IfErr r (RefusesRef old.refs it number) → IfErr r (Refuses order old line number)
 ref_stopped order old line number it (Ok u) due is valid facts = tt
 ref_stopped order old line number it (Err faults.Memory) due is valid facts = tt
 ref_stopped order old line number it (Err (faults.Text at)) due is valid facts = (facts.0, ref_refused Any old line it due is valid facts.1)
 ref_stopped order old line number it (Err (faults.ParentLater at)) due is valid facts = absurd facts
-ref_stopped order old line number it (Err (faults.Conflict id)) due is valid facts = absurd facts
-ref_stopped order old line number it (Err faults.TooMany) due is valid facts = absurd facts
-ref_stopped order old line number it (Err faults.TooManyParents) due is valid facts = absurd facts
-ref_stopped order old line number it (Err faults.TagShape) due is valid facts = absurd facts
-ref_stopped order old line number it (Err faults.Refs) due is valid facts = absurd facts
-ref_stopped order old line number it (Err (faults.Pack why)) due is valid facts = absurd facts
-ref_stopped order old line number it (Err (faults.Index why)) due is valid facts = absurd facts

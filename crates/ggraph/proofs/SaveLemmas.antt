@@ -3,9 +3,9 @@ use Rattle.std.proofs.Common.{◌≡◌, ℕ, ◌+◌, ◌<◌, List, [], ◌∷
 use Rattle.std.proofs.lemmas.List.{append_assoc, append-nil, take_more}
 use Rattle.gname.specs.Ids.{id_text}
 use Rattle.ggraph.specs.RepositoryText.{head_line, last_line, node_line, ref_line, repository_text, spaced_ids, text_of}
-use Rattle.ggraph.specs.RefLists.{RefList}
-use Rattle.ggraph.specs.declared.node.Entry.{Entry}
-use Rattle.ggraph.specs.declared.head.Head.{Head}
+use Rattle.grefs.specs.RefLists.{RefList}
+use Rattle.gobject.specs.declared.node.Entry.{Entry}
+use Rattle.grefs.specs.declared.head.Head.{Head}
 use Rattle.ggraph.proofs.LoadLemmas.{text_of-append}
 use Rattle.ggraph.proofs.TextLemmas.{spaced-append}
 

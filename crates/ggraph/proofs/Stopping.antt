@@ -1,16 +1,16 @@
 -- Where a text is refused, and that no text of a repository is.
 use Rattle.std.proofs.Common.{◌≡◌, inl, inr, ℕ, ◌+◌, List, [], ◌∷◌, ◌++◌, length, map, codes, Ok, Err, refl, sym, ◌∙◌, ap, subst}
 use Rattle.std.proofs.lemmas.List.{append_assoc, length-map}
-use Rattle.ggraph.specs.declared.node.Entry.{Entry}
-use Rattle.ggraph.specs.declared.head.Head.{Head}
-use Rattle.ggraph.specs.declared.fault.GraphFault.{GraphFault}
-use Rattle.ggraph.specs.declared.fault.GraphFault.TheVariants as faults
+use Rattle.gobject.specs.declared.node.Entry.{Entry}
+use Rattle.grefs.specs.declared.head.Head.{Head}
+use Rattle.ggraph.specs.declared.fault.TextFault.{TextFault}
+use Rattle.ggraph.specs.declared.fault.TextFault.TheVariants as faults
 use Rattle.ggraph.specs.declared.text.Order.{Order}
 use Rattle.ggraph.specs.declared.text.Order.TheVariants.{Any, ParentsFirst}
 use Rattle.ggraph.specs.declared.text.Repository.{Repository}
 use Rattle.ggraph.specs.declared.text.reading.Stage.TheVariants.{Done}
 use Rattle.ggraph.specs.declared.text.reading.Reading.{Reading}
-use Rattle.ggraph.specs.RefLists.{RefList}
+use Rattle.grefs.specs.RefLists.{RefList}
 use Rattle.ggraph.specs.RepositoryText.{IsLoadable, lines_of, repository_text}
 use Rattle.ggraph.specs.Reading.{Item, MayCome, Refuses, TakesNot, after, begins, ends, heads, line_of, node, nothing_read, ref}
 use Rattle.ggraph.specs.Loading.{Accepts, Begins, EndsEarly, GoesOn, HasNoLf, IsWhole, IsWrongLine, StopsAt}
@@ -65,7 +65,7 @@ goes_on order text rest line behind items old so_far next clean =
 counted_lines : {A : Type 0} (items : List (Item A)) (number : ℕ) → number ≡ length items + 1 → number ≡ length (map line_of items) + 1
 counted_lines items number e = e ∙ ap (λ (n : ℕ). n + 1) (sym (length-map items line_of))
 
-pub stops_refused : {A : Type 0} (order : Order) (text rest line behind : List ℕ) (old : Reading A) (number : ℕ) (fault : GraphFault) → Progress order text rest old number → rest ≡ line ++ (codes "\n" ++ behind) → HasNoLf line → Refuses order old line number fault → StopsAt A order text fault
+pub stops_refused : {A : Type 0} (order : Order) (text rest line behind : List ℕ) (old : Reading A) (number : ℕ) (fault : TextFault) → Progress order text rest old number → rest ≡ line ++ (codes "\n" ++ behind) → HasNoLf line → Refuses order old line number fault → StopsAt A order text fault
 stops_refused order text rest line behind old number faults.Memory progress next clean refuses = tt
 stops_refused order text rest line behind old number (faults.Text at) (items, so_far, counted, small) next clean refuses = (
   map line_of items,
@@ -87,13 +87,6 @@ stops_refused {A} order text rest line behind old number (faults.ParentLater at)
     ),
   ),
 )
-stops_refused order text rest line behind old number (faults.Conflict id) progress next clean refuses = absurd refuses
-stops_refused order text rest line behind old number faults.TooMany progress next clean refuses = absurd refuses
-stops_refused order text rest line behind old number faults.TooManyParents progress next clean refuses = absurd refuses
-stops_refused order text rest line behind old number faults.TagShape progress next clean refuses = absurd refuses
-stops_refused order text rest line behind old number faults.Refs progress next clean refuses = absurd refuses
-stops_refused order text rest line behind old number (faults.Pack why) progress next clean refuses = absurd refuses
-stops_refused order text rest line behind old number (faults.Index why) progress next clean refuses = absurd refuses
 
 pub stops_early : {A : Type 0} (order : Order) (text rest : List ℕ) (old : Reading A) (number : ℕ) → Progress order text rest old number → HasNoLf rest → (rest ≡ [] → old.stage ≡ Done → ⊥) → StopsAt A order text (faults.Text number)
 stops_early order text rest old number (items, so_far, counted, small) clean early = (
@@ -131,22 +124,15 @@ module _ {A : Type 0} (order : Order) (text : List ℕ) (g : List (Entry A)) (re
       let none = no_line_left lines (lines_of g refs head) rest (lines_begun order lines begun) (lines_are_lines order g refs head valid) (line_from rest clean) (sym e ∙ spells) in
       early none.0 (record { graph = g; refs = refs; head = head; loadable = valid; parts = none.1 })
 
-  not_stopped : (fault : GraphFault) → StopsAt A order text fault → fault ≡ faults.Memory
+  not_stopped : (fault : TextFault) → StopsAt A order text fault → fault ≡ faults.Memory
   not_stopped faults.Memory stops = refl
   not_stopped (faults.Text at) (lines, counted, begun, inl wrong) = absurd (wrong_line_not lines begun wrong)
   not_stopped (faults.Text at) (lines, counted, begun, inr early) = absurd (ends_early_not lines begun early)
   not_stopped (faults.ParentLater at) (first, (lines, counted, begun, (line, goes, never, may))) =
       absurd (never (subst (λ (o : Order). Begins A o (lines ++ line ∷ [])) first (goes_on_begins lines line begun goes)))
-  not_stopped (faults.Conflict id) stops = absurd stops
-  not_stopped faults.TooMany stops = absurd stops
-  not_stopped faults.TooManyParents stops = absurd stops
-  not_stopped faults.TagShape stops = absurd stops
-  not_stopped faults.Refs stops = absurd stops
-  not_stopped (faults.Pack why) stops = absurd stops
-  not_stopped (faults.Index why) stops = absurd stops
 
 -- a text of a repository is loaded as that repository, or there is no memory
-pub accepts_err : {A : Type 0} (order : Order) (text : List ℕ) (fault : GraphFault) → StopsAt A order text fault → Accepts A order text (Err fault)
+pub accepts_err : {A : Type 0} (order : Order) (text : List ℕ) (fault : TextFault) → StopsAt A order text fault → Accepts A order text (Err fault)
 accepts_err order text fault stops g refs head valid e = not_stopped order text g refs head valid e fault stops
 
 pub accepts_ok : {A : Type 0} (order : Order) (text : List ℕ) (repo : Repository A) → text ≡ repository_text repo.graph repo.refs repo.head → IsLoadable order repo.graph repo.refs repo.head → Accepts A order text (Ok repo)

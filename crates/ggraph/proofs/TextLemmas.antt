@@ -6,7 +6,7 @@ use Rattle.std.proofs.lemmas.List.Elements.{All-push, All-head, All-tail, All-ni
 use Rattle.gname.specs.Ids.{IsId, IsIdText, ReadsId, id_text}
 use Rattle.gname.specs.declared.ids.OidFault.{OidFault}
 use Rattle.gname.proofs.IdLemmas.{IsIdText-id_text, IsIdText-one, ReadsId-one, ReadsId-of_text}
-use Rattle.ggraph.specs.RefLists.{IsBelowRefs}
+use Rattle.grefs.specs.RefLists.{IsBelowRefs}
 use Rattle.ggraph.specs.RepositoryText.{spaced_ids, ref_line}
 use Rattle.ggraph.specs.TextParts.{BeginsWithNoId, BeginsWithNoSpacedId, IsNoIds, IsNoEntry, IsNoRef, IsNoIdText}
 

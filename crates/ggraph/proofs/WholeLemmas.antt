@@ -1,14 +1,14 @@
 -- What the items of a whole text are: the lines of a repository.
 use Rattle.std.proofs.Common.{◌≡◌, inl, inr, ℕ, List, [], ◌∷◌, ◌++◌, map, refl, sym, ◌∙◌, ap, subst}
 use Rattle.std.proofs.lemmas.List.{append_assoc, append-nil}
-use Rattle.ggraph.specs.declared.node.Entry.{Entry}
-use Rattle.ggraph.specs.declared.head.Head.{Head}
-use Rattle.ggraph.specs.declared.head.Head.TheVariants.{None}
+use Rattle.gobject.specs.declared.node.Entry.{Entry}
+use Rattle.grefs.specs.declared.head.Head.{Head}
+use Rattle.grefs.specs.declared.head.Head.TheVariants.{None}
 use Rattle.ggraph.specs.declared.text.Order.{Order}
 use Rattle.ggraph.specs.declared.text.reading.Stage.{Stage}
 use Rattle.ggraph.specs.declared.text.reading.Stage.TheVariants.{First, Nodes, Refs, Last, Done}
 use Rattle.ggraph.specs.declared.text.reading.Reading.{Reading}
-use Rattle.ggraph.specs.RefLists.{RefList}
+use Rattle.grefs.specs.RefLists.{RefList}
 use Rattle.ggraph.specs.RepositoryText.{EachBehind, IsLoadable, MayFollow, RefMayFollow, first_line, head_line, last_line, lines_of, node_line, ref_line, repository_text, text_of}
 use Rattle.ggraph.specs.Reading.{Item, MayCome, TakesRefs, after, begins, ends, heads, line_of, node, nothing_read, ref}
 use Rattle.ggraph.specs.Loading.{Begins}

@@ -1,16 +1,11 @@
--- The faults' numbers.
-use Rattle.std.specs.Prelude.{ℕ}
-use Rattle.ggraph.specs.declared.fault.GraphFault.{GraphFault}
-use Rattle.ggraph.specs.declared.fault.GraphFault.TheVariants.{Conflict, TooMany, TooManyParents, TagShape, Memory, Text, ParentLater, Refs, Pack, Index}
+-- The table of faults: the number and the name of each.
+use Rattle.std.specs.Prelude.{codes}
+use Rattle.gname.specs.Faults.{FaultRow}
+use Rattle.ggraph.specs.declared.fault.TextFault.{TextFault}
+use Rattle.ggraph.specs.declared.fault.TextFault.TheVariants as text
 
-abbrev pub code_of : GraphFault → ℕ
-code_of (Conflict id) = 60
-code_of TooMany = 61
-code_of TooManyParents = 62
-code_of TagShape = 63
-code_of Memory = 64
-code_of (Text line) = 67
-code_of (ParentLater line) = 68
-code_of Refs = 69
-code_of (Pack cause) = 65
-code_of (Index cause) = 66
+-- why a repository text was not loaded, or not saved
+abbrev pub text_fault_row : TextFault → FaultRow
+text_fault_row (text.Text line) = (67, codes "Text")
+text_fault_row (text.ParentLater line) = (68, codes "ParentLater")
+text_fault_row text.Memory = (64, codes "Memory")

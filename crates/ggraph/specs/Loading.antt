@@ -1,13 +1,13 @@
 -- Loading a repository text: where it is refused, and for what.
 use Rattle.std.specs.Prelude.{◌≡◌, ◌≢◌, ◌⊎◌, ⊤, ℕ, ◌+◌, ◌<◌, List, [], ◌∷◌, ◌++◌, length, slice_index, codes, Result, MatchResult}
-use Rattle.ggraph.specs.declared.node.Entry.{Entry}
-use Rattle.ggraph.specs.declared.head.Head.{Head}
-use Rattle.ggraph.specs.declared.fault.GraphFault.{GraphFault}
-use Rattle.ggraph.specs.declared.fault.GraphFault.TheVariants.{Memory, Text, ParentLater}
+use Rattle.gobject.specs.declared.node.Entry.{Entry}
+use Rattle.grefs.specs.declared.head.Head.{Head}
+use Rattle.ggraph.specs.declared.fault.TextFault.{TextFault}
+use Rattle.ggraph.specs.declared.fault.TextFault.TheVariants.{Memory, Text, ParentLater}
 use Rattle.ggraph.specs.declared.text.Order.{Order}
 use Rattle.ggraph.specs.declared.text.Order.TheVariants.{Any, ParentsFirst}
 use Rattle.ggraph.specs.declared.text.Repository.{Repository}
-use Rattle.ggraph.specs.RefLists.{RefList}
+use Rattle.grefs.specs.RefLists.{RefList}
 use Rattle.ggraph.specs.RepositoryText.{IsLoadable, lines_of, repository_text, text_of}
 
 -- the lines are the first of a repository's, or all of them
@@ -52,7 +52,7 @@ NamesLaterParent A text lines =
 
 -- why a text is refused: the lines before the one with the number are right, and that one is wrong, or is not there;
 -- want of memory may come at any text
-abbrev pub StopsAt : (A : Type 0) → Order → List ℕ → GraphFault → Type 0
+abbrev pub StopsAt : (A : Type 0) → Order → List ℕ → TextFault → Type 0
 StopsAt A order text Memory = ⊤
 StopsAt A order text (Text number) =
     (lines : List (List ℕ)) × (number ≡ length lines + 1) × Begins A order lines
@@ -60,10 +60,9 @@ StopsAt A order text (Text number) =
 StopsAt A order text (ParentLater number) =
     (order ≡ ParentsFirst)
     × ((lines : List (List ℕ)) × (number ≡ length lines + 1) × Begins A order lines × NamesLaterParent A text lines)
-StopsAt A order text _ = ⊥
 
 -- a text of a repository that may be loaded is read as that one, where there is memory
-abbrev pub Accepts : (A : Type 0) → Order → List ℕ → Result (Repository A) GraphFault → Type 0
+abbrev pub Accepts : (A : Type 0) → Order → List ℕ → Result (Repository A) TextFault → Type 0
 Accepts A order text result =
     (graph : List (Entry A)) (refs : RefList) (head : Head A) → IsLoadable order graph refs head
     → text ≡ repository_text graph refs head

@@ -1,16 +1,16 @@
 -- Reading a repository text line by line: which lines may come next, and what they add.
 use Rattle.std.specs.Prelude.{◌≡◌, ◌⊎◌, ⊤, ℕ, List, [], ◌∷◌, ◌++◌}
-use Rattle.ggraph.specs.declared.node.Entry.{Entry}
-use Rattle.ggraph.specs.declared.head.Head.{Head}
-use Rattle.ggraph.specs.declared.head.Head.TheVariants.{None}
-use Rattle.ggraph.specs.declared.fault.GraphFault.{GraphFault}
-use Rattle.ggraph.specs.declared.fault.GraphFault.TheVariants.{Memory, Text, ParentLater}
+use Rattle.gobject.specs.declared.node.Entry.{Entry}
+use Rattle.grefs.specs.declared.head.Head.{Head}
+use Rattle.grefs.specs.declared.head.Head.TheVariants.{None}
+use Rattle.ggraph.specs.declared.fault.TextFault.{TextFault}
+use Rattle.ggraph.specs.declared.fault.TextFault.TheVariants.{Memory, Text, ParentLater}
 use Rattle.ggraph.specs.declared.text.Order.{Order}
 use Rattle.ggraph.specs.declared.text.Order.TheVariants.{Any, ParentsFirst}
 use Rattle.ggraph.specs.declared.text.reading.Stage.{Stage}
 use Rattle.ggraph.specs.declared.text.reading.Stage.TheVariants.{First, Nodes, Refs, Last, Done}
 use Rattle.ggraph.specs.declared.text.reading.Reading.{Reading}
-use Rattle.ggraph.specs.RefLists.{RefList}
+use Rattle.grefs.specs.RefLists.{RefList}
 use Rattle.ggraph.specs.RepositoryText.{IsHead, MayFollow, RefMayFollow, first_line, head_line, last_line, node_line, ref_line}
 
 -- what a line stands for
@@ -62,21 +62,19 @@ abbrev pub TakesNot : {A : Type 0} → Order → Reading A → List ℕ → Type
 TakesNot {A} order old line = (item : Item A) → line ≡ line_of item → MayCome order old item → ⊥
 
 -- why a line is refused: it may not come, or it may and names a parent that comes later
-abbrev pub Refuses : {A : Type 0} → Order → Reading A → List ℕ → ℕ → GraphFault → Type 0
+abbrev pub Refuses : {A : Type 0} → Order → Reading A → List ℕ → ℕ → TextFault → Type 0
 Refuses order old line number Memory = ⊤
 Refuses order old line number (Text at) = (at ≡ number) × TakesNot Any old line
 Refuses {A} order old line number (ParentLater at) = (at ≡ number) × (order ≡ ParentsFirst) × TakesNot ParentsFirst old line × (item : Item A) × (line ≡ line_of item) × MayCome Any old item
-Refuses order old line number _ = ⊥
 
 -- why an entry is refused
-abbrev pub RefusesEntry : {A : Type 0} → Order → List (Entry A) → Entry A → ℕ → GraphFault → Type 0
+abbrev pub RefusesEntry : {A : Type 0} → Order → List (Entry A) → Entry A → ℕ → TextFault → Type 0
 RefusesEntry order g entry number Memory = ⊤
 RefusesEntry order g entry number (Text at) = (at ≡ number) × (MayFollow Any g entry → ⊥)
 RefusesEntry order g entry number (ParentLater at) = (at ≡ number) × (order ≡ ParentsFirst) × MayFollow Any g entry × (MayFollow ParentsFirst g entry → ⊥)
-RefusesEntry order g entry number _ = ⊥
 
 -- why a ref is refused
-abbrev pub RefusesRef : RefList → List ℕ × List ℕ → ℕ → GraphFault → Type 0
+abbrev pub RefusesRef : RefList → List ℕ × List ℕ → ℕ → TextFault → Type 0
 RefusesRef refs it number Memory = ⊤
 RefusesRef refs it number (Text at) = (at ≡ number) × (RefMayFollow refs it → ⊥)
 RefusesRef refs it number _ = ⊥

@@ -2,15 +2,16 @@
 -- for HEAD and a last line, each ended by LF. Ids are written in lower case.
 use Rattle.std.specs.Prelude.{◌≡◌, ⊤, ℕ, ◌<◌, List, [], ◌∷◌, ◌++◌, length, map, All, codes, None}
 use Rattle.gname.specs.Ids.{IsId, id_text}
-use Rattle.ggraph.specs.declared.node.Kind.{Kind}
-use Rattle.ggraph.specs.declared.node.Kind.TheVariants.{Commit, Tag}
-use Rattle.ggraph.specs.declared.node.Entry.{Entry}
-use Rattle.ggraph.specs.declared.head.Head.{Head}
-use Rattle.ggraph.specs.declared.head.Head.TheVariants.{Id, Symref}
+use Rattle.gobject.specs.declared.node.Kind.{Kind}
+use Rattle.gobject.specs.declared.node.Kind.TheVariants.{Commit, Tag}
+use Rattle.gobject.specs.declared.node.Entry.{Entry}
+use Rattle.grefs.specs.declared.head.Head.{Head}
+use Rattle.grefs.specs.declared.head.Head.TheVariants.{Id, Symref}
 use Rattle.ggraph.specs.declared.text.Order.{Order}
 use Rattle.ggraph.specs.declared.text.Order.TheVariants.{Any, ParentsFirst}
-use Rattle.ggraph.specs.Graphs.{HasIds, Holds, IsShaped, node_at, max_nodes}
-use Rattle.ggraph.specs.RefLists.{RefList, AreBelow, IsBelowRefs, max_refs}
+use Rattle.gobject.specs.Objects.{HasIds, IsShaped, node_at}
+use Rattle.ghistory.specs.Graphs.{Holds, max_nodes}
+use Rattle.grefs.specs.RefLists.{RefList, AreBelow, IsBelowRefs, max_refs}
 
 -- ---- lines
 

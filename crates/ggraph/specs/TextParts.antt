@@ -1,11 +1,11 @@
 -- What a part of a line may not be, where a reader finds none.
 use Rattle.std.specs.Prelude.{◌≡◌, ℕ, List, ◌∷◌, ◌++◌, All, codes}
 use Rattle.gname.specs.Ids.{IsId, id_text}
-use Rattle.ggraph.specs.declared.node.Entry.{Entry}
-use Rattle.ggraph.specs.declared.head.Head.{Head}
-use Rattle.ggraph.specs.declared.head.Head.TheVariants.{Id, Symref}
-use Rattle.ggraph.specs.RefLists.{IsBelowRefs}
-use Rattle.ggraph.specs.Graphs.{HasIds}
+use Rattle.gobject.specs.declared.node.Entry.{Entry}
+use Rattle.grefs.specs.declared.head.Head.{Head}
+use Rattle.grefs.specs.declared.head.Head.TheVariants.{Id, Symref}
+use Rattle.grefs.specs.RefLists.{IsBelowRefs}
+use Rattle.gobject.specs.Objects.{HasIds}
 use Rattle.ggraph.specs.RepositoryText.{IsHead, node_line, ref_line, head_line, spaced_ids}
 
 -- the text does not begin with an id

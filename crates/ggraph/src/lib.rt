@@ -28,34 +28,17 @@
 // and `thiserror`; its proofs cite `hex`.
 #![tactic(auto)]
 
-mod entry_ids;
 mod fault;
-mod graph;
-mod haves;
-mod head;
-mod insert;
-pub mod laws;
-mod levels;
-mod node;
-mod pack;
-mod peel;
-mod plain_pack;
-mod refs;
 mod text;
-mod walk;
 
-pub use crate::entry_ids::have_ids;
-pub use crate::fault::GraphFault;
-pub use crate::graph::{Graph, MAX_NODES};
-pub use crate::head::{Head, Target};
-pub use crate::node::{Entry, Kind, MAX_PARENTS, Node, Parents};
-pub use crate::pack::{Faithful, IndexFault, Indexer, PackFault, Packer};
-pub use crate::plain_pack::PlainPack;
-pub use crate::refs::{MAX_REFS, Refs};
+pub use crate::fault::TextFault;
 pub use crate::text::{Order, Repository, load, save};
-pub use crate::walk::Count;
+pub use ghistory::{Count, Graph, GraphFault, MAX_NODES, laws};
+pub use gobject::{
+    Entry, Faithful, IndexFault, Indexer, Kind, MAX_PARENTS, Node, PackFault, Packer, Parents,
+    PlainPack, have_ids,
+};
+pub use grefs::{Head, MAX_REFS, Refs, RefsFault, Target, is_below_refs};
 
 #[cfg(test)]
 mod tests;
-#[cfg(test)]
-mod walk_tests;

@@ -1,7 +1,7 @@
 // Whole texts, as the format's own example has them, texts that are refused, and the limits of refs.
 ghost use Rattle.std.specs.Prelude.{◌≡◌, MatchResult};
 
-use crate::{Graph, GraphFault, Head, Kind, MAX_REFS, Order, Refs, Repository, Target, load, save};
+use crate::{Graph, Head, Kind, Order, Refs, Repository, TextFault, load, save};
 use gname::{Oid, RefName};
 use std::alloc::Allocator;
 use std::process::Abort;
@@ -40,7 +40,7 @@ fn read(
     rt: &(impl Abort + AllocGlobal),
     short: &str,
     order: Order,
-) -> Result<Repository, GraphFault> {
+) -> Result<Repository, TextFault> {
     let text = spelled(rt, short);
     load(rt.alloc(), text.as_slice(), order)
 }
@@ -51,10 +51,10 @@ fn fault_of(rt: &(impl Abort + AllocGlobal), short: &str, order: Order) -> Optio
     Some((fault.code(), line_of(&fault)))
 }
 
-fn line_of(fault: &GraphFault) -> usize {
+fn line_of(fault: &TextFault) -> usize {
     match fault {
-        GraphFault::Text { line } => *line,
-        GraphFault::ParentLater { line } => *line,
+        TextFault::Text { line } => *line,
+        TextFault::ParentLater { line } => *line,
         _ => 0,
     }
 }
@@ -115,10 +115,10 @@ fn saves_what_it_loads(rt: HostRuntime) {
 }
 
 // What is saved is loaded again as it was, or there is no memory: the contracts of `save` and `load` say so.
-fn reload<A: Allocator + Copy>(alloc: A, it: &Repository<A>) -> Result<Repository<A>, GraphFault>
+fn reload<A: Allocator + Copy>(alloc: A, it: &Repository<A>) -> Result<Repository<A>, TextFault>
     ensures { MatchResult result
         (λ again. (again.graph ≡ it.now.graph) × (again.refs ≡ it.now.refs) × (again.head ≡ it.now.head))
-        (λ fault. fault ≡ GraphFault.Memory) }
+        (λ fault. fault ≡ TextFault.Memory) }
 {
     let text = save(alloc, &it.graph, &it.refs, &it.head)?;
     load(alloc, text.as_slice(), Order::Any)
@@ -222,39 +222,11 @@ fn peels_tags(rt: HostRuntime) {
     }
 }
 
-const SET: &[(&str, u8)] = &[
-    ("refs/b", b'1'),
-    ("refs/a", b'2'),
-    ("refs/c", b'3'),
-    ("refs/b", b'4'),
-];
-
-#[test]
-fn sets_refs(rt: HostRuntime) {
-    let mut refs = Refs::new(rt.alloc());
-    for (text, digit) in SET {
-        refs.set(name(&rt, text), id(&rt, *digit)).expect(&rt, text);
-    }
-    assert_eq!(rt; refs.len(), 3);
-    assert!(rt; refs.get(&name(&rt, "refs/b")) == Some(id(&rt, b'4')));
-    assert!(rt; refs.get(&name(&rt, "refs/d")).is_none());
-    for (place, text) in [(0, "refs/a"), (1, "refs/b"), (2, "refs/c")] {
-        assert!(rt; is_name_at(&refs, place, &name(&rt, text)));
-    }
-    assert!(rt; refs.set(name(&rt, "HEAD"), id(&rt, b'1')) == Err(GraphFault::Refs));
-}
-
 fn is_name_at(refs: &Refs, place: usize, wanted: &RefName) -> bool {
     match refs.at(place) {
         Some((name, _)) => name == wanted,
         None => false,
     }
-}
-
-#[test]
-fn points_head_below_refs(rt: HostRuntime) {
-    assert!(rt; Target::new(name(&rt, "HEAD")).is_none());
-    assert!(rt; Target::new(name(&rt, "refs/x")).is_some());
 }
 
 // The name with this number.
@@ -263,35 +235,12 @@ fn numbered(rt: &(impl Abort + AllocGlobal), number: usize) -> RefName {
     name(rt, text.as_str())
 }
 
-// As many refs as there can be, at the id of forty 1.
-fn most_refs(rt: &(impl Abort + AllocGlobal)) -> Refs {
-    let mut refs = Refs::new(rt.alloc());
-    for number in 0..MAX_REFS {
-        let set = refs.set(numbered(rt, number), id(rt, b'1'));
-        assert!(rt; set == Ok(()), "ref {number}");
-    }
-    refs
-}
-
 // There are as many refs, and at a place that with its number.
 fn check_most_refs(rt: &(impl Abort + AllocGlobal), refs: &Refs) {
     assert_eq!(rt; refs.len(), 65_536);
     for place in [0, 1, 40_000, 65_535] {
         assert!(rt; is_name_at(refs, place, &numbered(rt, place)), "at {place}");
     }
-}
-
-#[test]
-fn sets_65536_refs_and_no_more(rt: HostRuntime) {
-    let mut refs = most_refs(&rt);
-    for text in ["refs/65536", "refs/0", "refs/a"] {
-        let set = refs.set(name(&rt, text), id(&rt, b'2'));
-        assert!(rt; set == Err(GraphFault::Refs), "{text}");
-    }
-    check_most_refs(&rt, &refs);
-    assert!(rt; refs.set(numbered(&rt, 7), id(&rt, b'2')) == Ok(()));
-    assert!(rt; refs.get(&numbered(&rt, 7)) == Some(id(&rt, b'2')));
-    assert!(rt; refs.get(&numbered(&rt, 8)) == Some(id(&rt, b'1')));
 }
 
 // A text with so many refs.

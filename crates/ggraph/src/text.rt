@@ -7,11 +7,10 @@ mod parts;
 mod reading;
 mod saving;
 
-use crate::graph::Graph;
-use crate::head::Head;
-use crate::refs::Refs;
 pub use crate::text::loading::load;
 pub use crate::text::saving::save;
+use ghistory::Graph;
+use grefs::{Head, Refs};
 use std::alloc::{Allocator, Global};
 
 /// Which order of nodes a text may have.

@@ -1,4 +1,4 @@
--- Facts on object ids and their texts, for callers to cite.
+-- Facts on object ids and their texts.
 use Rattle.std.proofs.Common.{◌≡◌, ◌≢◌, ℕ, ◌+◌, ◌*◌, ◌%◌, ◌<◌, true, inl, inr, List, length, take, Result, Ok, Err, IsErrAnd, refl, sym, ap, ◌∙◌, arith}
 use Rattle.std.specs.List.{AllPass}
 use Rattle.std.specs.Result.{result_unwrap_or}
@@ -11,7 +11,7 @@ use Rattle.hex.specs.declared.error.FromHexError.{FromHexError}
 use Rattle.hex.specs.declared.error.FromHexError.TheVariants.{InvalidStringLength, OddLength}
 use Rattle.hex.proofs.HexLemmas.{decode_of-ok, decode_of-err, decode_of-encode_lower, decode_of-encode_upper, decode_sized-twice, decode_sized-other, decode_sized-odd, decode_sized-ok, length-encode_with}
 use Rattle.gname.specs.Ids.{id_length, id_text_length, IsId, IsIdText, IsFirstBadDigit, ReadsId, id_text, upper_id_text, id_fault_of}
-use Rattle.gname.specs.Laws.{IsClean}
+use Rattle.gname.specs.Laws.{IdTextFacts, IsClean}
 use Rattle.gname.specs.declared.ids.OidFault.{OidFault}
 use Rattle.gname.specs.declared.ids.OidFault.TheVariants.{Length, Digit}
 
@@ -133,3 +133,10 @@ hex_digit_clean b h = grind (arith, nat_tests)
 -- an id's text has its number of bytes, and no control character, space or LF
 pub clean-of_id_text : (text id : List ℕ) → IsIdText text id → IsClean text
 clean-of_id_text text id h k d low = hex_digit_clean _ (AllPass-of_id_text text id h k d low)
+
+pub IdTextFacts-of_text : (text id : List ℕ) → IsIdText text id → IdTextFacts text id
+IdTextFacts-of_text text id h = record {
+  spelt = IsId-of_text text id h;
+  digits = AllPass-of_id_text text id h;
+  clean = clean-of_id_text text id h;
+}

@@ -1,3 +1,4 @@
+pub mod DigitLemmas
 pub mod IdLemmas
 pub mod NameLemmas
 pub mod PlaceLemmas

@@ -1,4 +1,4 @@
--- Facts on ref names and prefixes, for callers to cite.
+-- Facts on ref names and prefixes.
 use Rattle.std.proofs.Common.{◌≡◌, ◌≢◌, ℕ, ◌<◌, ◌≤◌, Bool, true, false, ◌||◌, ◌==◌, nat_lt, cond, List, length, Option, Some, None, refl, sym, ap, ◌∙◌, arith}
 use Rattle.std.specs.Prelude.{position, All, codes, nat_eq}
 use Rattle.std.specs.Cmp.Lexicographic.{pointwise}
@@ -6,9 +6,10 @@ use Rattle.std.specs.List.{ends_with, position_or_len, starts_with}
 use Rattle.std.specs.Option.{option_map, option_or}
 use Rattle.std.proofs.lemmas.Bool.Decides.{nat_tests}
 use Rattle.std.proofs.lemmas.List.Sums.{fails_before_first}
+use Rattle.std.proofs.lemmas.Slice.Eq.{bytes_eq-Decides}
 use Rattle.gname.specs.declared.faults.NameFault.{NameFault}
 use Rattle.gname.specs.declared.faults.NameFault.TheVariants.{Empty, TooLong, NotRef, End, Memory, BadByte, Component, DoubleDot, AtBrace}
-use Rattle.gname.specs.Names.{IsPrefix, IsRefName, at_brace, bad_byte, component, double_dot, empty, end, head_name, is_bad_byte, max_name, name_fault, not_ref, prefix_fault, too_long}
+use Rattle.gname.specs.Names.{IsPrefix, IsRefName, at_brace, bad_byte, begins_bad_component, component, double_dot, empty, end, first_place_from, head_name, is_bad_byte, max_name, name_fault, not_ref, prefix_fault, too_long}
 use Rattle.gname.specs.Laws.{IsClean, NameFacts, PrefixFacts}
 
 -- ---- a list of rules none of which finds a fault
@@ -80,6 +81,17 @@ IsPrefix-of_name text h =
     let keeps = KeepsRules-of_name text h in
     rw (keeps.within, keeps.bytes) refl
 
+other_root : (head below : Bool) → cond (head || below) None (Some NotRef) ≡ None → (head ≡ true → ⊥) → below ≡ true
+other_root true below h differs = absurd (differs refl)
+other_root false true h differs = refl
+other_root false false h differs = cc h
+
+-- a name at the root is HEAD
+below-of_root : (text : List ℕ) → not_ref text ≡ None → text ≢ head_name → starts_with nat_eq text (codes "refs/") ≡ true
+unfolding not_ref
+below-of_root text h differs =
+    other_root (pointwise nat_eq text head_name) _ h (λ same. differs ((bytes_eq-Decides text head_name).0 same))
+
 pub NameFacts-of_name : (text : List ℕ) → IsRefName text → NameFacts text
 NameFacts-of_name text h =
     let keeps = KeepsRules-of_name text h in
@@ -87,6 +99,7 @@ NameFacts-of_name text h =
       some = empty-None text keeps.some;
       within = too_long-None text keeps.within;
       clean = clean-of_bytes text keeps.bytes;
+      below = below-of_root text keeps.root;
       prefix = IsPrefix-of_name text h;
     }
 
@@ -96,6 +109,19 @@ PrefixFacts-of_prefix text h =
     let a = option_or-None (too_long text) _ h in
     let b = option_or-None (bad_byte text) _ a.1 in
     record { within = too_long-None text a.0; clean = clean-of_bytes text b.0 }
+
+-- the bound and the bytes alone
+pub name_within : (text : List ℕ) → IsRefName text → length text ≤ max_name
+name_within text h = (NameFacts-of_name text h).within
+
+pub name_clean : (text : List ℕ) → IsRefName text → IsClean text
+name_clean text h = (NameFacts-of_name text h).clean
+
+pub prefix_within : (text : List ℕ) → IsPrefix text → length text ≤ max_name
+prefix_within text h = (PrefixFacts-of_prefix text h).within
+
+pub prefix_clean : (text : List ℕ) → IsPrefix text → IsClean text
+prefix_clean text h = (PrefixFacts-of_prefix text h).clean
 
 -- ---- no rule tells of memory
 
@@ -169,3 +195,9 @@ unfolding prefix_fault
 prefix_fault-never_Memory text =
     never_memory _ (tells_memory-or (too_long text) _ (too_long-told text)
     (tells_memory-or (bad_byte text) None (bad_byte-told text) refl))
+
+-- ---- HEAD
+
+pub IsRefName-head : IsRefName head_name
+unfolding name_fault empty too_long not_ref bad_byte is_bad_byte component begins_bad_component first_place_from double_dot at_brace end
+IsRefName-head = refl

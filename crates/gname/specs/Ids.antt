@@ -45,11 +45,6 @@ ReadsId text (Ok id) = IsIdText text id × IsId id
 ReadsId text (Err Length) = length text ≢ id_text_length
 ReadsId text (Err (Digit at)) = (length text ≡ id_text_length) × IsFirstBadDigit text at
 
--- the number of each fault
-abbrev pub id_fault_code : OidFault → ℕ
-id_fault_code Length = 1
-id_fault_code (Digit at) = 2
-
 -- the fault of an id for each fault of hexadecimal text
 abbrev pub id_fault_of : FromHexError → OidFault
 id_fault_of (InvalidHexCharacter c at) = Digit at

@@ -1,7 +1,9 @@
 -- What follows from the definitions of object ids, ref names and prefixes.
-use Rattle.std.specs.Prelude.{◌≡◌, ◌≢◌, ℕ, ◌<◌, ◌≤◌, Bool, true, false, List, length, All, Some, MatchOption, Result, Ok}
+use Rattle.std.specs.Prelude.{◌≡◌, ◌≢◌, ℕ, ◌<◌, ◌≤◌, Bool, true, false, List, length, codes, nat_eq, All, Some, MatchOption, Result, Ok}
+use Rattle.std.specs.List.{AllPass, starts_with}
+use Rattle.hex.specs.Hex.{is_hex_digit}
 use Rattle.gname.specs.Ids.{IsId, IsIdText, ReadsId, id_text, upper_id_text}
-use Rattle.gname.specs.Names.{IsPrefix, IsRefName, first_place, max_name, name_fault, prefix_fault}
+use Rattle.gname.specs.Names.{IsPrefix, IsRefName, first_place, head_name, max_name, name_fault, prefix_fault}
 use Rattle.gname.specs.declared.ids.OidFault.{OidFault}
 use Rattle.gname.specs.declared.faults.NameFault.TheVariants.{Memory}
 
@@ -9,21 +11,35 @@ use Rattle.gname.specs.declared.faults.NameFault.TheVariants.{Memory}
 abbrev pub IdsHaveTexts : Type 0
 IdsHaveTexts = (id : List ℕ) → IsId id → IsIdText (id_text id) id × IsIdText (upper_id_text id) id
 
--- a text spells one id, and each text has one reading: that id, where it spells one
+-- the bytes of a text are above the control characters and the space: no LF, for one
+abbrev pub IsClean : List ℕ → Type 0
+IsClean text = All (λ b. 32 < b) text
+
+-- the text of an id is clean and of digits alone, and what it spells is an id
+pub record IdTextFacts (text id : List ℕ) : Type 0 where
+  pub spelt : IsId id
+  pub digits : AllPass is_hex_digit text
+  pub clean : IsClean text
+
+abbrev pub IdTextsAreDigits : Type 0
+IdTextsAreDigits = (text id : List ℕ) → IsIdText text id → IdTextFacts text id
+
+-- a text spells one id
+abbrev pub TextsSpellOneId : Type 0
+TextsSpellOneId = (text a b : List ℕ) → IsIdText text a → IsIdText text b → a ≡ b
+
+-- each text has one reading: the id that it spells, where it spells one
 abbrev pub TextsHaveOneReading : Type 0
 TextsHaveOneReading =
     ((text id : List ℕ) → IsIdText text id → ReadsId text (Ok id))
     × ((text : List ℕ) (a b : Result (List ℕ) OidFault) → ReadsId text a → ReadsId text b → a ≡ b)
 
--- the bytes of a text are above the control characters and the space: no LF, for one
-abbrev pub IsClean : List ℕ → Type 0
-IsClean text = All (λ b. 32 < b) text
-
--- a ref name has a byte, is within the limit and is clean, and it is a prefix, too
+-- a ref name has a byte, is within the limit and is clean; it is HEAD or begins with refs/; it is a prefix, too
 pub record NameFacts (text : List ℕ) : Type 0 where
   pub some : 0 < length text
   pub within : length text ≤ max_name
   pub clean : IsClean text
+  pub below : text ≢ head_name → starts_with nat_eq text (codes "refs/") ≡ true
   pub prefix : IsPrefix text
 
 -- a prefix is within the limit and clean
@@ -37,7 +53,7 @@ NamesAreClean = (text : List ℕ) → IsRefName text → NameFacts text
 abbrev pub PrefixesAreClean : Type 0
 PrefixesAreClean = (text : List ℕ) → IsPrefix text → PrefixFacts text
 
--- no rule tells of memory
+-- no rule finds that memory is missing
 abbrev pub RulesTakeNoMemory : Type 0
 RulesTakeNoMemory = (text : List ℕ) → (name_fault text ≢ Some Memory) × (prefix_fault text ≢ Some Memory)
 

@@ -1,4 +1,5 @@
 pub use Rattle.hex.specs.Hex
+pub mod Faults
 pub mod Ids
 pub mod Names
 pub mod Laws

@@ -133,15 +133,3 @@ Owns rule text result =
 -- what asking a rule answers
 abbrev pub Asks : Rule → List ℕ → Result (Unit {0}) NameFault → Type 0
 Asks rule text result = MatchResult result (λ _. rule text ≡ None) (λ fault. rule text ≡ Some fault)
-
--- the number of each fault
-abbrev pub name_fault_code : NameFault → ℕ
-name_fault_code Empty = 10
-name_fault_code TooLong = 11
-name_fault_code NotRef = 12
-name_fault_code (BadByte at) = 13
-name_fault_code (Component at) = 14
-name_fault_code (DoubleDot at) = 15
-name_fault_code (AtBrace at) = 16
-name_fault_code End = 17
-name_fault_code Memory = 18

@@ -2,7 +2,7 @@
 #![tactic(auto)]
 
 ghost use Rattle.std.specs.Prelude.{◌≡◌};
-ghost use Rattle.gname.specs.Names.{name_fault_code};
+ghost use Rattle.gname.specs.Faults.{name_fault_row};
 ghost use Rattle.gname.specs.declared.faults.NameFault.TheVariants.{Memory};
 
 use std::alloc::AllocError;
@@ -42,20 +42,34 @@ pub enum NameFault {
 }
 
 impl NameFault {
-    /// The fault's number.
+    /// The number of the fault.
     pub fn code(&self) -> u32
-        ensures { result ≡ name_fault_code self.now }
+        ensures { result ≡ (name_fault_row self.now).0 }
+    {
+        self.row().0
+    }
+
+    /// The name of the fault.
+    pub fn name(&self) -> &'static str
+        ensures { result.now ≡ (name_fault_row self.now).1 }
+    {
+        self.row().1
+    }
+
+    // The table: the number and the name of each fault.
+    fn row(&self) -> (u32, &'static str)
+        ensures { (result.0, result.1.now) ≡ name_fault_row self.now }
     {
         match self {
-            NameFault::Empty => 10,
-            NameFault::TooLong => 11,
-            NameFault::NotRef => 12,
-            NameFault::BadByte { .. } => 13,
-            NameFault::Component { .. } => 14,
-            NameFault::DoubleDot { .. } => 15,
-            NameFault::AtBrace { .. } => 16,
-            NameFault::End => 17,
-            NameFault::Memory => 18,
+            NameFault::Empty => (10, "Empty"),
+            NameFault::TooLong => (11, "TooLong"),
+            NameFault::NotRef => (12, "NotRef"),
+            NameFault::BadByte { .. } => (13, "BadByte"),
+            NameFault::Component { .. } => (14, "Component"),
+            NameFault::DoubleDot { .. } => (15, "DoubleDot"),
+            NameFault::AtBrace { .. } => (16, "AtBrace"),
+            NameFault::End => (17, "End"),
+            NameFault::Memory => (18, "Memory"),
         }
     }
 }

@@ -5,8 +5,10 @@ ghost use Rattle.std.specs.Prelude.{◌≡◌, ℕ, List, Some, nat_eq, refl};
 ghost use Rattle.std.specs.Ordering.{nat_cmp};
 ghost use Rattle.std.specs.Cmp as Cmp;
 ghost use Rattle.std.specs.Cmp.Lexicographic.{pointwise, slice_cmp, nat_list_eq_equiv, nat_list_cmp_total, texts_ties, texts_po};
-ghost use Rattle.gname.specs.Ids.{IsId, IsIdText, ReadsId, id_text, id_fault_code, id_fault_of};
+ghost use Rattle.gname.specs.Ids.{IsId, IsIdText, ReadsId, id_text, id_fault_of};
+ghost use Rattle.gname.specs.Faults.{id_fault_row};
 
+use crate::digits::write_digits;
 use hex::{FromHex, FromHexError};
 use std::cmp::Ordering;
 use std::marker::Model;
@@ -53,7 +55,7 @@ impl Oid {
         ensures reads_back { IsIdText out.new self.now }
         ensures id { IsId self.now }
     {
-        hex::encode_to_slice(self.bytes, out).unwrap();
+        write_digits(&self.bytes, out);
     }
 
     /// The bytes of the id.
@@ -115,13 +117,27 @@ pub enum OidFault {
 }
 
 impl OidFault {
-    /// The fault's number.
+    /// The number of the fault.
     pub fn code(&self) -> u32
-        ensures { result ≡ id_fault_code self.now }
+        ensures { result ≡ (id_fault_row self.now).0 }
+    {
+        self.row().0
+    }
+
+    /// The name of the fault.
+    pub fn name(&self) -> &'static str
+        ensures { result.now ≡ (id_fault_row self.now).1 }
+    {
+        self.row().1
+    }
+
+    // The table: the number and the name of each fault.
+    fn row(&self) -> (u32, &'static str)
+        ensures { (result.0, result.1.now) ≡ id_fault_row self.now }
     {
         match self {
-            OidFault::Length => 1,
-            OidFault::Digit { .. } => 2,
+            OidFault::Length => (1, "Length"),
+            OidFault::Digit { .. } => (2, "Digit"),
         }
     }
 }

@@ -1,11 +1,23 @@
-// Laws of ids, names and prefixes: each function does nothing, and its contract is the law.
+//! Laws of ids, names and prefixes. Each function does nothing, and its contract is the law: a caller
+//! that calls it may rely on the law from there on.
 #![tactic(auto)]
 
-ghost use Rattle.gname.specs.Laws.{FirstPlacesAreFirst, IdsHaveTexts, NamesAreClean, PrefixesAreClean, RulesTakeNoMemory, TextsHaveOneReading};
+ghost use Rattle.gname.specs.Laws.{FirstPlacesAreFirst, IdsHaveTexts, IdTextsAreDigits, NamesAreClean, PrefixesAreClean, RulesTakeNoMemory, TextsHaveOneReading, TextsSpellOneId};
 
 /// Each id has a text in lower case and one in upper case, which read back as the id.
 pub fn ids_have_texts()
     ensures { IdsHaveTexts }
+{}
+
+/// The text of an id has hexadecimal digits alone, so no control character or space. What a text
+/// spells is an id.
+pub fn id_texts_are_digits()
+    ensures { IdTextsAreDigits }
+{}
+
+/// A text spells one id.
+pub fn texts_spell_one_id()
+    ensures { TextsSpellOneId }
 {}
 
 /// Each text has one reading, and a text that spells an id is read as that id.
@@ -13,18 +25,18 @@ pub fn texts_have_one_reading()
     ensures { TextsHaveOneReading }
 {}
 
-/// A ref name has a byte, 1,000 bytes at most, and none that is a control character or a space. Each
-/// name is a prefix.
+/// A ref name has at least one byte and at most 1,000, and none that is a control character or a
+/// space. It is `HEAD` or begins with `refs/`. Each name is a prefix.
 pub fn names_are_clean()
     ensures { NamesAreClean }
 {}
 
-/// A prefix has 1,000 bytes at most, and none that is a control character or a space.
+/// A prefix has at most 1,000 bytes, and none that is a control character or a space.
 pub fn prefixes_are_clean()
     ensures { PrefixesAreClean }
 {}
 
-/// The rules tell faults of the text, and never want of memory.
+/// The rules find faults of the text, and never that memory is missing.
 pub fn rules_take_no_memory()
     ensures { RulesTakeNoMemory }
 {}

@@ -16,6 +16,7 @@
 // It stands on `hex` for digits and on `memchr` for searches in a name.
 #![tactic(auto)]
 
+mod digits;
 mod faults;
 mod ids;
 pub mod laws;

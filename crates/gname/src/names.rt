@@ -1,12 +1,16 @@
 // Ref names.
 #![tactic(auto)]
 
-ghost use Rattle.std.specs.Prelude.{◌≡◌, ◌↔◌, ℕ, List, IsTrue, Some, nat_eq, refl};
+ghost use Rattle.std.specs.Prelude.{◌≡◌, ◌≤◌, ◌↔◌, ℕ, List, IfOk, IsTrue, Some, length, nat_eq, refl};
+ghost use Rattle.std.proofs.Common.{rules};
+ghost use Rattle.std.specs.Cmp.Rules.{hashing};
+ghost use Rattle.std.specs.Hash as fed;
 ghost use Rattle.std.specs.List.{starts_with};
 ghost use Rattle.std.specs.Ordering.{nat_cmp};
 ghost use Rattle.std.specs.Cmp as Cmp;
 ghost use Rattle.std.specs.Cmp.Lexicographic.{pointwise, slice_cmp, nat_list_eq_equiv, nat_list_cmp_total, texts_ties, texts_po};
-ghost use Rattle.gname.specs.Names.{IsRefName, Owns, head_name, name_fault};
+ghost use Rattle.gname.specs.Laws.{IsClean};
+ghost use Rattle.gname.specs.Names.{IsRefName, Owns, head_name, max_name, name_fault};
 
 use crate::faults::NameFault;
 use crate::prefixes::Prefix;
@@ -14,7 +18,10 @@ use crate::rules;
 use std::alloc::{AllocError, Allocator, Global};
 use std::cmp::Ordering;
 use std::fmt;
+use std::hash::{Hash, Hasher};
 use std::marker::Model;
+
+const HEAD: &[u8; 4] = b"HEAD";
 
 /// A ref name: `HEAD`, or a name below `refs/`. Names are equal and ordered by their bytes.
 #[derive(Drop)]
@@ -45,11 +52,19 @@ impl<A: Allocator + Copy> RefName<A> {
         Ok(RefName { text })
     }
 
+    /// The name `HEAD`. Only memory can be missing.
+    pub fn head(alloc: A) -> Result<RefName<A>, AllocError>
+        ensures { IfOk result (λ name. name ≡ head_name) }
+    {
+        let text = Vec::from_slice(alloc, HEAD)?;
+        Ok(RefName { text })
+    }
+
     /// Whether the name is `HEAD`, the only one that is not below `refs/`.
     pub fn is_head(&self) -> bool
         ensures { IsTrue result ↔ (self.now ≡ head_name) }
     {
-        self.as_bytes() == b"HEAD".as_slice()
+        self.as_bytes() == HEAD.as_slice()
     }
 
     /// Whether the name begins with the bytes of the prefix. Each name begins with the empty one.
@@ -59,10 +74,13 @@ impl<A: Allocator + Copy> RefName<A> {
         self.as_bytes().starts_with(prefix.as_bytes())
     }
 
-    /// The bytes of the name.
+    /// The bytes of the name: at most 1,000, and no control character or space.
+    #[tactic(auto, using(crate::proofs::NameLemmas::name_within, crate::proofs::NameLemmas::name_clean))]
     pub fn as_bytes(&self) -> &[u8]
         ensures bytes { result.now ≡ self.now }
         ensures name { IsRefName self.now }
+        ensures within { length self.now ≤ max_name }
+        ensures clean { IsClean self.now }
     {
         self.text.as_slice()
     }
@@ -112,6 +130,16 @@ impl<A: Allocator + Copy> Ord for RefName<A> {
 
     fn cmp(&self, other: &RefName<A>) -> Ordering {
         self.as_bytes().cmp(other.as_bytes())
+    }
+}
+
+impl<A: Allocator + Copy> Hash for RefName<A> {
+    ghost hash_input = { fed.slice fed.u8 };
+
+    ghost respects_eq = { Prim.search (hashing, rules) };
+
+    fn hash<H: Hasher>(&self, state: &mut H) {
+        self.as_bytes().hash(state);
     }
 }
 

@@ -1,10 +1,11 @@
 // Prefixes of ref names.
 #![tactic(auto)]
 
-ghost use Rattle.std.specs.Prelude.{◌≡◌, ℕ, List, nat_eq};
+ghost use Rattle.std.specs.Prelude.{◌≡◌, ◌≤◌, ℕ, List, length, nat_eq};
 ghost use Rattle.std.specs.Cmp as Cmp;
 ghost use Rattle.std.specs.Cmp.Lexicographic.{pointwise, nat_list_eq_equiv};
-ghost use Rattle.gname.specs.Names.{IsPrefix, Owns, prefix_fault};
+ghost use Rattle.gname.specs.Laws.{IsClean};
+ghost use Rattle.gname.specs.Names.{IsPrefix, Owns, max_name, prefix_fault};
 
 use crate::faults::NameFault;
 use crate::rules;
@@ -39,10 +40,13 @@ impl<A: Allocator + Copy> Prefix<A> {
         Ok(Prefix { text })
     }
 
-    /// The bytes of the prefix.
+    /// The bytes of the prefix: at most 1,000, and no control character or space.
+    #[tactic(auto, using(crate::proofs::NameLemmas::prefix_within, crate::proofs::NameLemmas::prefix_clean))]
     pub fn as_bytes(&self) -> &[u8]
         ensures bytes { result.now ≡ self.now }
         ensures prefix { IsPrefix self.now }
+        ensures within { length self.now ≤ max_name }
+        ensures clean { IsClean self.now }
     {
         self.text.as_slice()
     }

@@ -2,16 +2,16 @@
 #![tactic(auto)]
 
 ghost use Rattle.std.specs.Prelude.{◌≡◌, MatchOption, IfOk, ◌∷◌};
-ghost use Rattle.ggraph.specs.Graphs.{HasIds};
+ghost use Rattle.gobject.specs.Objects.{HasIds};
 ghost use Rattle.ggraph.specs.RepositoryText.{IsHead, node_line, ref_line, head_line, spaced_ids};
-ghost use Rattle.ggraph.specs.RefLists.{IsBelowRefs};
+ghost use Rattle.grefs.specs.RefLists.{IsBelowRefs};
 ghost use Rattle.ggraph.specs.TextParts.{IsNoNode, IsNoEntry, IsNoRef, IsNoHead, IsNoIdText, IsHeadAt, IsHeadOn};
 ghost use Rattle.gname.specs.Ids.{IsId};
 
-use crate::head::{Head, Target};
-use crate::node::{Entry, Kind, Node};
 use crate::text::parts::{ids_of, name_of, take_id, take_spaced};
 use gname::{Oid, RefName};
+use gobject::{Entry, Kind, Node};
+use grefs::{Head, Target};
 use std::alloc::{AllocError, Allocator};
 
 /// The node that a line is, if it is one.

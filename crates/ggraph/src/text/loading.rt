@@ -5,12 +5,11 @@ ghost use Rattle.std.specs.Prelude.{◌≡◌, ◌++◌, MatchOption, IfOk, IfEr
 ghost use Rattle.ggraph.specs.Loading.{Accepts, HasNoLf, StopsAt};
 ghost use Rattle.ggraph.specs.RepositoryText.{IsLoadable, repository_text};
 
-use crate::fault::GraphFault;
-use crate::graph::Graph;
-use crate::head::Head;
-use crate::refs::Refs;
+use crate::fault::TextFault;
 use crate::text::reading::{Reading, Stage};
 use crate::text::{Order, Repository};
+use ghistory::Graph;
+use grefs::{Head, Refs};
 use memchr::memchr;
 use std::alloc::Allocator;
 
@@ -24,7 +23,7 @@ pub fn load<A: Allocator + Copy>(
     alloc: A,
     text: &[u8],
     order: Order,
-) -> Result<Repository<A>, GraphFault>
+) -> Result<Repository<A>, TextFault>
     ensures ok { IfOk result (λ it.
         (text.now ≡ repository_text it.graph it.refs it.head) × IsLoadable order it.graph it.refs it.head) }
     ensures refused { IfErr result (StopsAt A order text.now) }
@@ -39,7 +38,7 @@ pub fn load<A: Allocator + Copy>(
         number += 1;
     }
     if !rest.is_empty() || reading.stage != Stage::Done {
-        return Err(GraphFault::Text { line: number });
+        return Err(TextFault::Text { line: number });
     }
     Ok(Repository {
         graph: reading.graph,

@@ -3,12 +3,13 @@
 
 ghost use Rattle.std.specs.Prelude.{◌≡◌, ◌++◌, MatchOption, IfOk, All, IsTrue, ◌↔◌, codes};
 ghost use Rattle.gname.specs.Ids.{IsId, id_text};
-ghost use Rattle.ggraph.specs.RefLists.{IsBelowRefs};
+ghost use Rattle.grefs.specs.RefLists.{IsBelowRefs};
 ghost use Rattle.ggraph.specs.RepositoryText.{spaced_ids};
 ghost use Rattle.ggraph.specs.TextParts.{BeginsWithNoId, BeginsWithNoSpacedId, IsNoIds};
 
-use crate::node::Parents;
 use gname::{ID_TEXT_LENGTH, NameFault, Oid, RefName};
+use gobject::Parents;
+use grefs::is_below_refs;
 use std::alloc::{AllocError, Allocator};
 
 /// The id whose forty digits are at the front, and what is behind them.
@@ -78,10 +79,10 @@ pub(crate) fn name_of<A: Allocator + Copy>(
 {
     match RefName::new(alloc, text) {
         Ok(name) => {
-            if name.is_head() {
-                Ok(None)
-            } else {
+            if is_below_refs(&name) {
                 Ok(Some(name))
+            } else {
+                Ok(None)
             }
         }
         Err(NameFault::Memory) => Err(AllocError),

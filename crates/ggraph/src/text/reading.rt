@@ -3,19 +3,19 @@
 
 ghost use Rattle.std.specs.Prelude.{◌≡◌, ◌++◌, ◌∷◌, [], IfErr, OnOk, OnErr, IsTrue, ◌↔◌, All};
 ghost use Rattle.gname.specs.Ids.{IsId};
-ghost use Rattle.ggraph.specs.Graphs.{HasIds, Holds};
-ghost use Rattle.ggraph.specs.RefLists.{IsBelowRefs};
+ghost use Rattle.gobject.specs.Objects.{HasIds};
+ghost use Rattle.ghistory.specs.Graphs.{Holds};
+ghost use Rattle.grefs.specs.RefLists.{IsBelowRefs};
 ghost use Rattle.ggraph.specs.RepositoryText.{MayFollow, RefMayFollow};
 ghost use Rattle.ggraph.specs.Reading.{RefusesEntry, RefusesRef};
 
-use crate::fault::GraphFault;
-use crate::graph::{Graph, MAX_NODES};
-use crate::head::Head;
-use crate::node::Entry;
-use crate::refs::{MAX_REFS, Refs};
+use crate::fault::TextFault;
 use crate::text::Order;
 use crate::text::lines::{head_of, node_of, ref_of};
+use ghistory::{Graph, MAX_NODES};
 use gname::{Oid, RefName};
+use gobject::Entry;
+use grefs::{Head, MAX_REFS, Refs};
 use std::alloc::Allocator;
 
 /// What the next line may be.
@@ -65,14 +65,14 @@ impl<A: Allocator + Copy> Reading<A> {
         order: Order,
         line: &[u8],
         number: usize,
-    ) -> Result<(), GraphFault>
+    ) -> Result<(), TextFault>
         ensures ok { OnOk result (Takes order self.old line.now self.new) }
         ensures refused { IfErr result (Refuses order self.old line.now number) }
     {
         match self.stage {
             Stage::First => {
                 if line != b"gitv2 1".as_slice() {
-                    return Err(GraphFault::Text { line: number });
+                    return Err(TextFault::Text { line: number });
                 }
                 self.stage = Stage::Nodes;
                 Ok(())
@@ -81,12 +81,12 @@ impl<A: Allocator + Copy> Reading<A> {
             Stage::Refs => self.take_ref(alloc, order, line, number),
             Stage::Last => {
                 if line != b"end".as_slice() {
-                    return Err(GraphFault::Text { line: number });
+                    return Err(TextFault::Text { line: number });
                 }
                 self.stage = Stage::Done;
                 Ok(())
             }
-            Stage::Done => Err(GraphFault::Text { line: number }),
+            Stage::Done => Err(TextFault::Text { line: number }),
         }
     }
 
@@ -96,7 +96,7 @@ impl<A: Allocator + Copy> Reading<A> {
         order: Order,
         line: &[u8],
         number: usize,
-    ) -> Result<(), GraphFault>
+    ) -> Result<(), TextFault>
         requires { self.old.stage ≡ Stage.Nodes }
         ensures ok { OnOk result (Takes order self.old line.now self.new) }
         ensures refused { IfErr result (Refuses order self.old line.now number) }
@@ -113,7 +113,7 @@ impl<A: Allocator + Copy> Reading<A> {
         order: Order,
         line: &[u8],
         number: usize,
-    ) -> Result<(), GraphFault>
+    ) -> Result<(), TextFault>
         requires due { TakesRefs self.old.stage }
         requires no_node { self.old.stage ≡ Stage.Nodes → IsNoNode A line.now }
         ensures ok { OnOk result (Takes order self.old line.now self.new) }
@@ -134,7 +134,7 @@ impl<A: Allocator + Copy> Reading<A> {
         order: Order,
         line: &[u8],
         number: usize,
-    ) -> Result<(), GraphFault>
+    ) -> Result<(), TextFault>
         requires due { TakesRefs self.old.stage }
         requires no_node { self.old.stage ≡ Stage.Nodes → IsNoNode A line.now }
         requires no_ref { IsNoRef line.now }
@@ -147,7 +147,7 @@ impl<A: Allocator + Copy> Reading<A> {
                 self.stage = Stage::Last;
                 Ok(())
             }
-            None => Err(GraphFault::Text { line: number }),
+            None => Err(TextFault::Text { line: number }),
         }
     }
 }
@@ -158,26 +158,19 @@ pub(crate) fn add_node<A: Allocator + Copy>(
     entry: Entry<A>,
     order: Order,
     number: usize,
-) -> Result<(), GraphFault>
+) -> Result<(), TextFault>
     requires { HasIds entry }
     ensures ok { OnOk result (MayFollow order graph.old entry × (graph.new ≡ graph.old ++ entry ∷ [])) }
     ensures refused { IfErr result (RefusesEntry order graph.old entry number) }
 {
     if graph.len() >= MAX_NODES || !entry.node.is_shaped() || graph.contains(&entry.id) {
-        return Err(GraphFault::Text { line: number });
+        return Err(TextFault::Text { line: number });
     }
-    if order == Order::ParentsFirst && !holds_all(graph, entry.node.parents.as_slice()) {
-        return Err(GraphFault::ParentLater { line: number });
+    if order == Order::ParentsFirst && !graph.contains_all(entry.node.parents.as_slice()) {
+        return Err(TextFault::ParentLater { line: number });
     }
     graph.push(entry)?;
     Ok(())
-}
-
-// Whether the graph holds each of the ids.
-fn holds_all<A: Allocator + Copy>(graph: &Graph<A>, ids: &[Oid]) -> bool
-    ensures { IsTrue result ↔ All (Holds graph.now) ids.now }
-{
-    ids.iter().all(|id| graph.contains(id))
 }
 
 /// Adds the ref of a line to the refs.
@@ -186,14 +179,14 @@ pub(crate) fn add_ref<A: Allocator + Copy>(
     name: RefName<A>,
     id: Oid,
     number: usize,
-) -> Result<(), GraphFault>
+) -> Result<(), TextFault>
     requires id { IsId id }
     requires name { IsBelowRefs name }
     ensures ok { OnOk result (RefMayFollow refs.old (name, id) × (refs.new ≡ refs.old ++ (name, id) ∷ [])) }
     ensures refused { IfErr result (RefusesRef refs.old (name, id) number) }
 {
     if refs.len() >= MAX_REFS || !refs.are_below(&name) {
-        return Err(GraphFault::Text { line: number });
+        return Err(TextFault::Text { line: number });
     }
     refs.push(name, id)?;
     Ok(())

@@ -3,17 +3,16 @@
 
 ghost use Rattle.std.specs.Prelude.{◌≡◌, ◌++◌, All, IfOk, OnOk, MatchResult, map, codes};
 ghost use Rattle.gname.specs.Ids.{IsId, id_text};
-ghost use Rattle.ggraph.specs.Graphs.{HasIds};
-ghost use Rattle.ggraph.specs.RefLists.{StandsAtId};
+ghost use Rattle.gobject.specs.Objects.{HasIds};
+ghost use Rattle.grefs.specs.RefLists.{StandsAtId};
 ghost use Rattle.ggraph.specs.RepositoryText.{IsHead, IsLoadable, head_line, node_line, ref_line, repository_text, spaced_ids, text_of};
 
-use crate::fault::GraphFault;
-use crate::graph::Graph;
-use crate::head::Head;
-use crate::node::{Entry, Kind};
-use crate::refs::Refs;
+use crate::fault::TextFault;
 use crate::text::Order;
+use ghistory::Graph;
 use gname::{ID_TEXT_LENGTH, Oid, RefName};
+use gobject::{Entry, Kind};
+use grefs::{Head, Refs};
 use std::alloc::{AllocError, Allocator};
 
 /// Writes the one text that keeps these, which `load` reads back in any order of nodes. It fails where
@@ -23,14 +22,14 @@ pub fn save<A: Allocator + Copy>(
     graph: &Graph<A>,
     refs: &Refs<A>,
     head: &Head<A>,
-) -> Result<Vec<u8, A>, GraphFault>
+) -> Result<Vec<u8, A>, TextFault>
     ensures text { MatchResult result (λ text. text.items ≡ repository_text graph.now refs.now head.now)
-        (λ fault. fault ≡ GraphFault.Memory) }
+        (λ fault. fault ≡ TextFault.Memory) }
     ensures loadable { IfOk result (λ text. IsLoadable Order.Any graph.now refs.now head.now) }
 {
     match written(alloc, graph, refs, head) {
         Ok(text) => Ok(text),
-        Err(_) => Err(GraphFault::Memory),
+        Err(_) => Err(TextFault::Memory),
     }
 }
 
@@ -43,6 +42,8 @@ fn written<A: Allocator + Copy>(
     ensures text { IfOk result (λ text. text.items ≡ repository_text graph.now refs.now head.now) }
     ensures loadable { IfOk result (λ text. IsLoadable Order.Any graph.now refs.now head.now) }
 {
+    ghistory::laws::entries_come_in_order::<A>();
+    grefs::laws::refs_come_in_order();
     let mut text = Vec::new(alloc);
     text.extend_from_slice(b"gitv2 1\n")?;
     put_nodes(&mut text, graph.entries())?;

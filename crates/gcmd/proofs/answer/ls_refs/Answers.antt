@@ -1,5 +1,5 @@
 use Rattle.std.proofs.Common.{subst}
-use Rattle.ggraph.specs.RefLists.{RefList}
+use Rattle.grefs.specs.RefLists.{RefList}
 use Rattle.gcmd.specs.Answer.{AddsLines}
 use Rattle.gcmd.proofs.AnswerLemmas.{IsAnswer-from}
 use Rattle.gcmd.proofs.answer.ls_refs.Goals as goal

@@ -1,7 +1,7 @@
 use Rattle.std.proofs.Common.{◌≡◌, List, ℕ, Option, Some, None, sym}
 use Rattle.std.specs.Option.{IfSome}
-use Rattle.ggraph.specs.Peeling.{PeelsTo}
-use Rattle.ggraph.specs.declared.node.Entry.{Entry}
+use Rattle.ghistory.specs.Peeling.{PeelsTo}
+use Rattle.gobject.specs.declared.node.Entry.{Entry}
 use Rattle.gcmd.specs.Answer.{IsTagAt, IsPeeled}
 use Rattle.gcmd.proofs.answer.peeled_id.Goals as goal
 

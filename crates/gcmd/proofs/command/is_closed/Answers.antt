@@ -1,5 +1,5 @@
 use Rattle.std.proofs.Common.{List, All, IsTrue, ◌↔◌, subst}
-use Rattle.ggraph.specs.declared.node.Entry.{Entry}
+use Rattle.gobject.specs.declared.node.Entry.{Entry}
 use Rattle.gcmd.specs.Commands.{HoldsParents}
 use Rattle.gcmd.proofs.CheckLemmas.{closed-from_each, closed-each}
 use Rattle.gcmd.proofs.command.is_closed.Goals as goal

@@ -1,6 +1,6 @@
 use Rattle.std.proofs.Common.{◌∙◌, ap, map, List, ℕ, subst}
-use Rattle.ggraph.specs.Walks.{Misses}
-use Rattle.ggraph.specs.RefLists.{RefList}
+use Rattle.ghistory.specs.Walks.{Misses}
+use Rattle.grefs.specs.RefLists.{RefList}
 use Rattle.gcmd.proofs.CheckLemmas.{safe-missing}
 use Rattle.gcmd.proofs.command.is_safe.Goals as goal
 

@@ -1,7 +1,7 @@
 use Rattle.std.proofs.Common.{◌++◌, ◌<◌, List, ℕ, length, map, codes, ap, ◌∙◌, subst, arith}
 use Rattle.std.proofs.lemmas.List.Elements.{All-more}
-use Rattle.ggraph.specs.declared.node.Entry.{Entry}
-use Rattle.ggraph.specs.Graphs.{HasIds}
+use Rattle.gobject.specs.declared.node.Entry.{Entry}
+use Rattle.gobject.specs.Objects.{HasIds}
 use Rattle.ggraph.specs.RepositoryText.{node_line, text_of}
 use Rattle.ggraph.proofs.SaveLemmas.{lines_more, next_seen}
 use Rattle.ggraph.proofs.text.saving.put_nodes.Goals as goal

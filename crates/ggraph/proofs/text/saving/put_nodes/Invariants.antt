@@ -1,5 +1,5 @@
 use Rattle.std.proofs.Common.{◌≡◌, ◌++◌, All, take, map}
-use Rattle.ggraph.specs.Graphs.{HasIds}
+use Rattle.gobject.specs.Objects.{HasIds}
 use Rattle.ggraph.specs.RepositoryText.{node_line, text_of}
 use Rattle.ggraph.proofs.text.saving.put_nodes.Given as goal
 

@@ -1,6 +1,6 @@
 use Rattle.std.proofs.Common.{◌++◌, ◌<◌, List, ℕ, length, map, codes, ap, ◌∙◌, subst, arith}
 use Rattle.std.proofs.lemmas.List.Elements.{All-more}
-use Rattle.ggraph.specs.RefLists.{StandsAtId}
+use Rattle.grefs.specs.RefLists.{StandsAtId}
 use Rattle.ggraph.specs.RepositoryText.{ref_line, text_of}
 use Rattle.ggraph.proofs.SaveLemmas.{lines_more, next_seen}
 use Rattle.ggraph.proofs.text.saving.put_refs.Goals as goal

@@ -1,5 +1,5 @@
 use Rattle.std.proofs.Common.{◌≡◌, ◌++◌, All, take, map}
-use Rattle.ggraph.specs.RefLists.{StandsAtId}
+use Rattle.grefs.specs.RefLists.{StandsAtId}
 use Rattle.ggraph.specs.RepositoryText.{ref_line, text_of}
 use Rattle.ggraph.proofs.text.saving.put_refs.Given as goal
 

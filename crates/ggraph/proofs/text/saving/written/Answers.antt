@@ -20,4 +20,4 @@ pub returns-clause-loadable : goal.returns-clause-loadable
 returns-clause-loadable g c =
     let ids = rw c.entries.ensures.entries at c.in_ok-put_nodes.ensures.ids in
     let at = rw c.as_slice.ensures.refs at c.in_ok-put_refs.ensures.ids in
-    loads_again c.args.graph.now c.args.refs.now c.args.head.now c.entries.ensures.graph ids c.as_slice.ensures.valid at c.in_ok-put_head.ensures.head
+    loads_again c.entries_come_in_order.ensures c.refs_come_in_order.ensures c.args.graph.now c.args.refs.now c.args.head.now c.entries.ensures.graph ids c.as_slice.ensures.valid at c.in_ok-put_head.ensures.head

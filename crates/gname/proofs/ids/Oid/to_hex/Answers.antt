@@ -5,5 +5,5 @@ use Rattle.gname.proofs.ids.Oid.to_hex.Goals as goal
 
 pub returns-clause-reads_back : goal.returns-clause-reads_back
 returns-clause-reads_back c =
-    let written : c.encode_to_slice.new.output ≡ id_text c.self.inside.bytes = search rules in
+    let written : c.write_digits.new.out ≡ id_text c.self.inside.bytes = search rules in
     rw (written, ← c.self.view_is) (IsIdText-id_text c.self.inside.bytes c.self.invariant)

@@ -1,9 +1,0 @@
-use Rattle.std.proofs.Common.{◌≢◌, subst}
-use Rattle.gname.specs.Names.{IsRefName, head_name}
-use Rattle.ggraph.proofs.NameLemmas.{below_from_other}
-use Rattle.ggraph.proofs.head.Target.new.Goals as goal
-
-pub invariant_of-result : goal.invariant_of-result
-invariant_of-result g c =
-    let differs : c.args.name ≢ head_name = λ same. (let yes_head = c.is_head.ensures.1 same in cc) in
-    below_from_other c.args.name (subst IsRefName c.name.view_is c.name.invariant) differs

@@ -1,8 +1,0 @@
-use Rattle.std.proofs.Common.{take}
-use Rattle.ggraph.specs.Graphs.{IsGraph}
-use Rattle.ggraph.specs.Insert.{Inserts}
-use Rattle.ggraph.proofs.insert.insert_each.Given as goal
-
-abbrev pub invariant-loop-entry : goal.invariant-loop-entry
-invariant-loop-entry g l =
-    IsGraph l.held.items × Inserts l.initial.held.items (take l.entry-index l.entries) l.held.items

@@ -1,5 +1,0 @@
-use Rattle.ggraph.proofs.OfferLaws as laws
-use Rattle.ggraph.proofs.laws.offers_are_exact.Goals as goal
-
-pub returns : goal.returns
-returns g c = laws.offers_are_exact _ _ _ _ _

@@ -1,5 +1,0 @@
-use Rattle.ggraph.proofs.PlainPackLaw.{LosesNothing-plain}
-use Rattle.ggraph.proofs.plain_pack.PlainPackFaithful.loses_nothing.Goals as goal
-
-pub returns : goal.returns
-returns g c = LosesNothing-plain g.row.A.Denot

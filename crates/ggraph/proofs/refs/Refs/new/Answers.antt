@@ -1,5 +1,0 @@
-use Rattle.ggraph.proofs.RefLemmas.{refs_none}
-use Rattle.ggraph.proofs.refs.Refs.new.Goals as goal
-
-pub invariant_of-result : goal.invariant_of-result
-invariant_of-result g c = rw c.new.ensures.items refs_none

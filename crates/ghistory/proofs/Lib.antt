@@ -1,0 +1,14 @@
+pub mod ClosedLemmas
+pub mod Counting
+pub mod Growing
+pub mod Holding
+pub mod IdLists
+pub mod LevelLaws
+pub mod LevelWalk
+pub mod OfferLaws
+pub mod OfferLemmas
+pub mod OrderLemmas
+pub mod PeelLemmas
+pub mod Reaching
+pub mod Selecting
+pub mod Walking

@@ -1,0 +1,9 @@
+pub mod Faults
+pub mod Graphs
+pub mod Insert
+pub mod Laws
+pub mod Levels
+pub mod Offer
+pub mod Peeling
+pub mod Reach
+pub mod Walks

@@ -1,0 +1,39 @@
+-- Which objects lead to which: a commit to its parents, a tag to the object that it names, and so on to theirs
+-- (gitglossary(7), "reachable").
+use Rattle.std.specs.Prelude.{◌≡◌, ℕ, List, ◌++◌, All, Contains}
+use Rattle.gobject.specs.declared.node.Node.{Node}
+use Rattle.gobject.specs.declared.node.Entry.{Entry}
+use Rattle.ghistory.specs.Graphs.{Holds, HasParent, IsNode}
+
+-- an id reaches itself, and where it is held all that a parent of it reaches
+pub data Reaches {A : Type 0} (g : List (Entry A)) : List ℕ → List ℕ → Type 0 where
+  here : {a : List ℕ} → Reaches g a a
+  onward : {a b c : List ℕ} → HasParent g a b → Reaches g b c → Reaches g a c
+
+-- one of the ids reaches `b`
+abbrev pub SomeReaches : {A : Type 0} → List (Entry A) → List (List ℕ) → List ℕ → Type 0
+SomeReaches g ids b = (a : List ℕ) × Contains ids a × Reaches g a b
+
+-- the id's whole ancestry is held, the id itself too
+abbrev pub IsFull : {A : Type 0} → List (Entry A) → List ℕ → Type 0
+IsFull g a = (b : List ℕ) → Reaches g a b → Holds g b
+
+-- no parent is missing: each one of a held object is held
+abbrev pub IsClosed : {A : Type 0} → List (Entry A) → Type 0
+IsClosed g = (a b : List ℕ) → HasParent g a b → Holds g b
+
+-- each parent of the entry's node is held
+unfoldable pub HoldsParents : {A : Type 0} → List (Entry A) → Entry A → Type 0
+HoldsParents g entry = All (Holds g) entry.node.parents
+
+-- an id that both hold names one object
+abbrev pub Agree : {A : Type 0} → List (Entry A) → List (Entry A) → Type 0
+Agree {A} g h = (a : List ℕ) (m n : Node A) → IsNode g a m → IsNode h a n → m ≡ n
+
+-- objects only came, behind those that were there
+abbrev pub Grows : {A : Type 0} → List (Entry A) → List (Entry A) → Type 0
+Grows {A} g h = (more : List (Entry A)) × (h ≡ g ++ more)
+
+-- what was held is held, with the same node
+abbrev pub Keeps : {A : Type 0} → List (Entry A) → List (Entry A) → Type 0
+Keeps {A} g h = (a : List ℕ) (node : Node A) → IsNode g a node → IsNode h a node

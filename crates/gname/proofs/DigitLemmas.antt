@@ -1,0 +1,31 @@
+-- The table of digit pairs.
+use Rattle.std.proofs.Common.{◌≡◌, ℕ, ◌*◌, ◌+◌, ◌/◌, ◌%◌, ◌<◌, ◌==◌, ◌&&◌, Bool, true, false, refl, ◌∙◌, List, slice_index, arith}
+use Rattle.std.specs.List.{AllPass, list_all, range_with_len}
+use Rattle.std.proofs.lemmas.List.FromFn.{get_or-range_with_len, length-range_with_len}
+use Rattle.std.proofs.lemmas.List.Sums.{AllPass-from_list_all}
+use Rattle.std.proofs.lemmas.Bool.{eqb-true}
+use Rattle.hex.specs.Hex.{lower_digits}
+
+-- the table has the digits of a byte at its place
+abbrev has_pair : List ℕ → ℕ → Bool
+has_pair table byte =
+    slice_index table (2 * byte) == slice_index lower_digits (byte / 16)
+    && slice_index table (2 * byte + 1) == slice_index lower_digits (byte % 16)
+
+both_true : (a b : Bool) → (a && b) ≡ true → (a ≡ true) × (b ≡ true)
+both_true true b h = (refl, h)
+both_true false b h = cc h
+
+-- it has those of every byte
+abbrev pub has_pairs : List ℕ → Bool
+has_pairs table = list_all (has_pair table) (range_with_len 0 256)
+
+pub pair_at : (table : List ℕ) → has_pairs table ≡ true → (byte : ℕ) → byte < 256
+    → (slice_index table (2 * byte) ≡ slice_index lower_digits (byte / 16))
+    × (slice_index table (2 * byte + 1) ≡ slice_index lower_digits (byte % 16))
+pair_at table whole byte low =
+    let long = length-range_with_len 0 256 in
+    let here = AllPass-from_list_all (has_pair table) (range_with_len 0 256) whole byte 0 (omega (arith, long)) in
+    let place : slice_index (range_with_len 0 256) byte ≡ byte = get_or-range_with_len 0 256 byte 0 low ∙ omega arith in
+    let both = both_true _ _ (rw place at here) in
+    (eqb-true _ _ both.0, eqb-true _ _ both.1)

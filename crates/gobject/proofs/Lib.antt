@@ -1,0 +1,4 @@
+pub mod PlainPackWriting
+pub mod PlainPackLines
+pub mod PlainPackReading
+pub mod PlainPackLaw

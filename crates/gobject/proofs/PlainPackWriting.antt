@@ -1,0 +1,33 @@
+-- What is written piece by piece.
+use Rattle.std.proofs.Common.{◌≡◌, ℕ, ◌+◌, ◌<◌, List, [], ◌∷◌, ◌++◌, length, get_or, take, drop, ap, sym, ◌∙◌, append_assoc, length-append, arith}
+use Rattle.std.specs.List.{flat_map}
+use Rattle.std.proofs.lemmas.List.{flat_map_more, take_more, take-append-drop}
+use Rattle.std.proofs.lemmas.List.Concat.{flat_map-append}
+use Rattle.gobject.specs.declared.fault.PackFault.{PackFault}
+use Rattle.gobject.specs.declared.fault.PackFault.TheVariants.{Memory, TooLarge, Other}
+use Rattle.gobject.specs.PlainPackText.{PackRefuses}
+
+-- what is refused is refused with more behind it
+pub PackRefuses-front : (text more : List ℕ) (fault : PackFault) → PackRefuses text fault → PackRefuses (text ++ more) fault
+PackRefuses-front text more Memory h = h
+PackRefuses-front text more TooLarge h = omega (arith, h, length-append text more)
+PackRefuses-front text more Other h = h
+
+-- the pieces of a list up to a place, and the piece at that place
+pub pieces_more : {X : Type 0} (f : X → List ℕ) (xs : List X) (i : ℕ) (x : X) (old : List ℕ) → i < length xs → x ≡ get_or xs i x
+    → (old ++ flat_map f (take i xs)) ++ f x ≡ old ++ flat_map f (take (i + 1) xs)
+pieces_more f xs i x old lt is =
+    flat_map_more f old (take i xs) x ∙ ap (λ ys. old ++ flat_map f ys) (ap (λ y. take i xs ++ y ∷ []) is ∙ sym (take_more xs i x lt))
+
+-- and those behind it
+pub pieces_split : {X : Type 0} (f : X → List ℕ) (xs : List X) (i : ℕ) (old : List ℕ)
+    → old ++ flat_map f xs ≡ (old ++ flat_map f (take i xs)) ++ flat_map f (drop i xs)
+pieces_split f xs i old =
+    ap (λ ys. old ++ flat_map f ys) (sym (take-append-drop i xs)) ∙ ap (λ ys. old ++ ys) (flat_map-append f (take i xs) (drop i xs))
+    ∙ sym (append_assoc old (flat_map f (take i xs)) (flat_map f (drop i xs)))
+
+-- where a piece of a list is refused, the whole list is
+pub PackRefuses-at : {X : Type 0} (f : X → List ℕ) (xs : List X) (i : ℕ) (x : X) (old : List ℕ) (fault : PackFault) → i < length xs
+    → x ≡ get_or xs i x → PackRefuses ((old ++ flat_map f (take i xs)) ++ f x) fault → PackRefuses (old ++ flat_map f xs) fault
+PackRefuses-at f xs i x old fault lt is h =
+    rw (pieces_split f xs (i + 1) old, ← pieces_more f xs i x old lt is) (PackRefuses-front _ _ fault h)

@@ -1,0 +1,6 @@
+pub mod Faults
+pub mod Objects
+pub mod Packs
+pub mod PlainPackText
+pub mod PlainPackWriting
+pub mod PlainPackReading

@@ -1,0 +1,52 @@
+-- Objects of a repository, commits and tags, each with its id, and lists of them.
+use Rattle.std.specs.Prelude.{◌≡◌, ℕ, ◌≤◌, ⊤, Bool, List, [], ◌∷◌, length, find, position, All, Option, None}
+use Rattle.std.specs.Str.{bytes_eq}
+use Rattle.std.specs.Option.{option_map}
+use Rattle.gname.specs.Ids.{IsId}
+use Rattle.gobject.specs.declared.node.Kind.{Kind}
+use Rattle.gobject.specs.declared.node.Kind.TheVariants.{Tag}
+use Rattle.gobject.specs.declared.node.Node.{Node}
+use Rattle.gobject.specs.declared.node.Entry.{Entry}
+
+-- a kind with its parents
+abbrev pub node_of : {A : Type 0} → Kind → List (List ℕ) → Node A
+node_of kind parents = record { kind = kind; parents = parents }
+
+-- an id with its node
+abbrev pub entry_of : {A : Type 0} → List ℕ → Node A → Entry A
+entry_of a node = record { id = a; node = node }
+
+-- whether an entry has the id
+abbrev pub has_id : {A : Type 0} → List ℕ → Entry A → Bool
+has_id a entry = bytes_eq entry.id a
+
+-- the node of the first entry with the id; where ids differ, of the only one
+abbrev pub node_at : {A : Type 0} → List (Entry A) → List ℕ → Option (Node A)
+node_at g a = option_map (λ entry. entry.node) (find (has_id a) g)
+
+-- the place of that entry
+abbrev pub place_of : {A : Type 0} → List (Entry A) → List ℕ → Option ℕ
+place_of g a = position (has_id a) g
+
+-- the id of an entry and those of its parents are object ids
+pub record HasIds {A : Type 0} (entry : Entry A) : Type 0 where
+  pub id : IsId entry.id
+  pub parents : All IsId entry.node.parents
+
+-- no id comes twice
+abbrev pub IdsDiffer : {A : Type 0} → List (Entry A) → Type 0
+IdsDiffer [] = ⊤
+IdsDiffer (entry ∷ g) = (node_at g entry.id ≡ None) × IdsDiffer g
+
+-- the most parents of a node
+abbrev pub max_parents : ℕ
+max_parents = 64
+
+-- a tag names one object
+abbrev pub IsTagShaped : {A : Type 0} → Node A → Type 0
+IsTagShaped node = node.kind ≡ Tag → length node.parents ≡ 1
+
+-- a node of a graph has at most so many parents, and a tag exactly one
+pub record IsShaped {A : Type 0} (node : Node A) : Type 0 where
+  pub few : length node.parents ≤ max_parents
+  pub tag : IsTagShaped node

@@ -1,0 +1,28 @@
+-- Packs: what a packer may write of a list of entries, what an indexer may read, and when nothing is lost between the two.
+use Rattle.std.specs.Prelude.{◌≡◌, ℕ, ◌<◌, ◌≤◌, List, length, All}
+use Rattle.gobject.specs.declared.node.Entry.{Entry}
+use Rattle.gobject.specs.declared.fault.PackFault.{PackFault}
+use Rattle.gobject.specs.declared.fault.PackFault.TheVariants.{TooLarge}
+use Rattle.gobject.specs.declared.fault.PackFault.TheVariants as pack_faults
+use Rattle.gobject.specs.declared.fault.IndexFault.{IndexFault}
+use Rattle.gobject.specs.declared.fault.IndexFault.TheVariants as index_faults
+use Rattle.gobject.specs.Objects.{HasIds, IdsDiffer}
+
+-- the most bytes of a pack
+abbrev pub max_pack : ℕ
+max_pack = 67108864
+
+-- entries as a graph has them: under object ids, none of which comes twice
+pub record AreEntries {A : Type 0} (list : List (Entry A)) : Type 0 where
+  pub differ : IdsDiffer list
+  pub ids : All HasIds list
+
+-- Of each list there is one image. The packer writes the image, or tells that it has too many bytes; the indexer
+-- reads the image as the list; and both may want memory.
+pub record LosesNothing {A : Type 0} (packs : List (Entry A) → List ℕ → Type 0) (pack_fails : List (Entry A) → PackFault → Type 0) (indexes : List ℕ → List (Entry A) → Type 0) (index_fails : List ℕ → IndexFault → Type 0) (image : List (Entry A) → List ℕ) : Type 0 where
+  pub packs_image : (list : List (Entry A)) (pack : List ℕ) → AreEntries list → packs list pack → pack ≡ image list
+  pub packs_few : (list : List (Entry A)) (pack : List ℕ) → AreEntries list → packs list pack → length pack ≤ max_pack
+  pub too_large : (list : List (Entry A)) → AreEntries list → pack_fails list TooLarge → max_pack < length (image list)
+  pub packs_each : (list : List (Entry A)) → AreEntries list → pack_fails list pack_faults.Other → ⊥
+  pub reads_image : (list others : List (Entry A)) → AreEntries list → indexes (image list) others → others ≡ list
+  pub reads_each : (list : List (Entry A)) (fault : IndexFault) → AreEntries list → index_fails (image list) fault → fault ≡ index_faults.Memory

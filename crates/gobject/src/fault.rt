@@ -1,0 +1,112 @@
+//! Why entries were not packed, and why bytes were not read as a pack.
+#![tactic(auto)]
+
+ghost use Rattle.std.specs.Prelude.{◌≡◌};
+ghost use Rattle.gobject.specs.Faults.{index_fault_row, pack_fault_row};
+ghost use Rattle.gobject.specs.declared.fault.PackFault.TheVariants as pack_faults;
+ghost use Rattle.gobject.specs.declared.fault.IndexFault.TheVariants as index_faults;
+
+use std::alloc::{AllocError, AllocFailed};
+use thiserror::Error;
+
+/// Why a list of entries was not packed.
+#[derive(Clone, Copy, Debug, PartialEq, Eq, Drop, Error)]
+pub enum PackFault {
+    /// There is no memory.
+    #[error("out of memory")]
+    Memory,
+    /// The pack would have more than `gname::MAX_PACK` bytes.
+    #[error("the pack is too large")]
+    TooLarge,
+    /// Another cause, of the packer's own.
+    #[error("the packer failed")]
+    Other,
+}
+
+impl PackFault {
+    /// The number of the fault.
+    pub fn code(&self) -> u32
+        ensures { result ≡ (pack_fault_row self.now).0 }
+    {
+        self.row().0
+    }
+
+    /// The name of the fault.
+    pub fn name(&self) -> &'static str
+        ensures { result.now ≡ (pack_fault_row self.now).1 }
+    {
+        self.row().1
+    }
+
+    // The table: the number and the name of each fault.
+    fn row(&self) -> (u32, &'static str)
+        ensures { (result.0, result.1.now) ≡ pack_fault_row self.now }
+    {
+        match self {
+            PackFault::Memory | PackFault::TooLarge | PackFault::Other => (65, "Pack"),
+        }
+    }
+}
+
+/// Why bytes were not read as a pack.
+#[derive(Clone, Copy, Debug, PartialEq, Eq, Drop, Error)]
+pub enum IndexFault {
+    /// There is no memory.
+    #[error("out of memory")]
+    Memory,
+    /// The first line, counted from 1, that is not as the format says.
+    #[error("line {line} of the pack is wrong")]
+    Bad { line: usize },
+    /// Another cause, of the indexer's own.
+    #[error("the indexer failed")]
+    Other,
+}
+
+impl IndexFault {
+    /// The number of the fault.
+    pub fn code(&self) -> u32
+        ensures { result ≡ (index_fault_row self.now).0 }
+    {
+        self.row().0
+    }
+
+    /// The name of the fault.
+    pub fn name(&self) -> &'static str
+        ensures { result.now ≡ (index_fault_row self.now).1 }
+    {
+        self.row().1
+    }
+
+    // The table: the number and the name of each fault.
+    fn row(&self) -> (u32, &'static str)
+        ensures { (result.0, result.1.now) ≡ index_fault_row self.now }
+    {
+        match self {
+            IndexFault::Memory | IndexFault::Bad { .. } | IndexFault::Other => (66, "Index"),
+        }
+    }
+}
+
+impl From<AllocError> for PackFault {
+    ghost from_gives = { λ _ fault. fault ≡ pack_faults.Memory };
+
+    fn from(_refused: AllocError) -> PackFault {
+        PackFault::Memory
+    }
+}
+
+impl From<AllocError> for IndexFault {
+    ghost from_gives = { λ _ fault. fault ≡ index_faults.Memory };
+
+    fn from(_refused: AllocError) -> IndexFault {
+        IndexFault::Memory
+    }
+}
+
+impl<T: Drop> From<AllocFailed<T>> for IndexFault {
+    ghost from_gives = { λ _ fault. fault ≡ index_faults.Memory };
+
+    fn from(_refused: AllocFailed<T>) -> IndexFault {
+        IndexFault::Memory
+    }
+}

@@ -1,0 +1,64 @@
+// A pack in plain text: a line for each entry.
+#![tactic(auto)]
+
+mod read;
+mod write;
+
+ghost use Rattle.std.specs.Prelude.{◌≡◌, ◌≤◌, length};
+ghost use Rattle.gobject.specs.Packs.{max_pack};
+ghost use Rattle.gobject.specs.PlainPackText.{pack_text, PackRefuses, IsPack, IndexRefuses};
+
+use crate::fault::{IndexFault, PackFault};
+use crate::node::Entry;
+use crate::pack::{Faithful, Indexer, Packer};
+use gname::laws::{id_texts_are_digits, ids_have_texts, texts_spell_one_id};
+use std::alloc::Allocator;
+
+/// Packs as plain text.
+///
+/// The lines are `GPK1`; for each entry `c` (a commit) or `t` (a tag), its id and the ids of its
+/// parents; and `end` and the number of entries, in decimal without leading zeros. Parts are
+/// separated by one space, and each line is ended by a line feed.
+///
+/// `pack` writes the entries in the order given, ids in lower case. It fails with `TooLarge` where
+/// the text has more than `gname::MAX_PACK` bytes.
+///
+/// `index` reads exactly such texts, with ids in either case, and answers the entries in order. How
+/// many parents an entry has, and whether an id comes again, it does not judge. It fails with `Bad`
+/// at the first line that has not this form: a line that is none of an entry and not the right end,
+/// the line behind the end where bytes follow, and where the input ends early the line that it ends
+/// in, whose number is one more than that of the line feeds.
+///
+/// Both fail with `Memory` where there is no memory.
+#[derive(Clone, Copy, Debug, PartialEq, Eq, Drop)]
+pub struct PlainPack;
+
+impl<A: Allocator + Copy> Packer<A> for PlainPack {
+    ghost packs = { λ _ list pack. (pack ≡ pack_text list) × (length pack ≤ max_pack) };
+
+    ghost pack_fails = { λ _ list. PackRefuses (pack_text list) };
+
+    fn pack(&self, alloc: A, entries: &[Entry<A>]) -> Result<Vec<u8, A>, PackFault> {
+        write::write(alloc, entries)
+    }
+}
+
+impl<A: Allocator + Copy> Indexer<A> for PlainPack {
+    ghost indexes = { λ _ bytes list. IsPack bytes list };
+
+    ghost index_fails = { λ _ bytes. IndexRefuses A bytes };
+
+    fn index(&self, alloc: A, bytes: &[u8]) -> Result<Vec<Entry<A>, A>, IndexFault> {
+        read::read(alloc, bytes)
+    }
+}
+
+impl<A: Allocator + Copy> Faithful<A> for PlainPack {
+    ghost image = { λ _ list. pack_text list };
+
+    fn loses_nothing(&self) {
+        ids_have_texts();
+        id_texts_are_digits();
+        texts_spell_one_id();
+    }
+}

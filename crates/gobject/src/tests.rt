@@ -1,0 +1,5 @@
+//! What no clause says, and examples from outside the proofs.
+mod faults;
+mod makers;
+mod objects;
+mod packs;

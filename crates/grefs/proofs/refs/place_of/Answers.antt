@@ -1,0 +1,11 @@
+use Rattle.std.proofs.Common.{rules}
+use Rattle.std.proofs.lemmas.Fn.{always_returns_same}
+use Rattle.grefs.proofs.RefLemmas.{order, searched}
+use Rattle.grefs.proofs.refs.place_of.Goals as goal
+
+-- the closure compares a ref's name with the name that is looked for
+pub returns : goal.returns
+returns g c =
+    let facts = c.binary_search_by.ensures in
+    let by_name = facts.position (λ ref. order ref.0 c.args.name.now) (always_returns_same _ _ _ (λ a r g called. (search rules, search rules))) in
+    searched c.args.name.now c.args.refs.now c.requires.ascending c.binary_search_by.result facts.bound by_name

@@ -1,0 +1,14 @@
+-- What follows from the definition of refs.
+use Rattle.std.specs.Prelude.{◌<◌, ℕ, List, ◌∷◌, ◌++◌, length}
+use Rattle.grefs.specs.RefLists.{RefList, AreBelow, IsBelowRefs, IsRefs, max_refs}
+
+-- a name may come next: it is below refs/ and above the names that are there, and there is room
+pub record MayComeNext (refs : RefList) (name : List ℕ) : Type 0 where
+  pub below : IsBelowRefs name
+  pub above : AreBelow refs name
+  pub room : length refs < max_refs
+
+-- the name of each ref could come next after those before it
+abbrev pub RefsComeInOrder : Type 0
+RefsComeInOrder = (front : RefList) (ref : List ℕ × List ℕ) (back : RefList) →
+    IsRefs (front ++ ref ∷ back) → MayComeNext front ref.0

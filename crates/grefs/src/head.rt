@@ -1,0 +1,57 @@
+// What HEAD stands at.
+#![tactic(auto)]
+
+ghost use Rattle.std.specs.Prelude.{◌≡◌, ◌≢◌, MatchOption};
+ghost use Rattle.gname.specs.Names.{head_name};
+ghost use Rattle.grefs.specs.RefLists.{IsBelowRefs};
+
+use gname::laws::names_are_clean;
+use gname::{Oid, RefName};
+use std::alloc::{Allocator, Global};
+use std::marker::Model;
+
+/// A name that HEAD can point at: any below `refs/`.
+#[derive(Debug, Drop)]
+pub struct Target<A: Allocator + Copy = Global> {
+    name: RefName<A>,
+}
+
+impl<A: Allocator + Copy> Model for Target<A> {
+    ghost use Rattle.std.specs.Prelude.{List, ℕ};
+    ghost use Rattle.grefs.specs.RefLists.{IsBelowRefs};
+
+    ghost Value = { List ℕ };
+
+    ghost view = { λ target. target.name };
+
+    ghost invariant = { λ target. IsBelowRefs target.name };
+}
+
+impl<A: Allocator + Copy> Target<A> {
+    /// The name as a target, or `None` where it is HEAD itself.
+    pub fn new(name: RefName<A>) -> Option<Target<A>>
+        ensures { MatchOption result (name ≡ head_name) (λ target. (target ≡ name) × (name ≢ head_name)) }
+    {
+        names_are_clean();
+        if name.is_head() {
+            return None;
+        }
+        Some(Target { name })
+    }
+
+    /// The name.
+    pub fn name(&self) -> &RefName<A>
+        ensures name { result.now ≡ self.now }
+        ensures below { IsBelowRefs self.now }
+    {
+        &self.name
+    }
+}
+
+/// What HEAD stands at: nothing, an id, or a ref's name, whether there is such a ref or not.
+#[derive(Debug, Drop)]
+pub enum Head<A: Allocator + Copy = Global> {
+    None,
+    Id(Oid),
+    Symref(Target<A>),
+}

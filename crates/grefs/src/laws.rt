@@ -1,0 +1,9 @@
+// Laws of refs. A call does nothing, and gives its caller's proof the law.
+#![tactic(auto)]
+
+ghost use Rattle.grefs.specs.Laws.{RefsComeInOrder};
+
+/// Each ref could have been added after those before it.
+pub fn refs_come_in_order()
+    ensures { RefsComeInOrder }
+{}

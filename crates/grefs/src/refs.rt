@@ -1,0 +1,152 @@
+// Refs, and what HEAD stands at.
+#![tactic(auto)]
+
+ghost use Rattle.std.specs.Prelude.{◌≡◌, ◌≤◌, ◌↔◌, [], length, IsTrue, IsErrOf, OnOk, OnErr, IfErr, ◌⊎◌, MatchOption, MatchResult, slice_get, ◌<◌, ◌++◌, ◌∷◌};
+ghost use Rattle.grefs.specs.RefLists.{AreBelow, CannotSet, IsBelowRefs, IsRefs, SetsRef, max_refs, ref_at};
+ghost use Rattle.grefs.specs.RefPlaces.{IsFound, IsGap};
+
+use crate::fault::RefsFault;
+use gname::laws::names_are_clean;
+use gname::{Oid, RefName};
+use std::alloc::{AllocError, Allocator, Global};
+use std::marker::Model;
+
+/// The most refs beside HEAD.
+pub const MAX_REFS: usize = 65_536;
+
+/// Names below `refs/` with the ids at which they stand, in the byte order of the names.
+#[derive(Debug, Drop)]
+pub struct Refs<A: Allocator + Copy = Global> {
+    refs: Vec<(RefName<A>, Oid), A>,
+}
+
+impl<A: Allocator + Copy> Model for Refs<A> {
+    ghost use Rattle.grefs.specs.RefLists.{RefList, IsRefs};
+
+    ghost Value = { RefList };
+
+    ghost view = { λ it. it.refs.items };
+
+    ghost invariant = { λ it. IsRefs it.refs.items };
+}
+
+impl<A: Allocator + Copy> Refs<A> {
+    /// No refs. It takes no memory.
+    pub fn new(alloc: A) -> Refs<A>
+        ensures { result ≡ [] }
+    {
+        Refs {
+            refs: Vec::new(alloc),
+        }
+    }
+
+    /// How many refs there are.
+    pub fn len(&self) -> usize
+        ensures { result ≡ length self.now }
+    {
+        self.refs.len()
+    }
+
+    /// Whether there is no ref.
+    pub fn is_empty(&self) -> bool
+        ensures { IsTrue result ↔ (self.now ≡ []) }
+    {
+        self.refs.is_empty()
+    }
+
+    /// The refs in the byte order of their names.
+    pub fn as_slice(&self) -> &[(RefName<A>, Oid)]
+        ensures refs { result.now ≡ self.now }
+        ensures valid { IsRefs self.now }
+    {
+        self.refs.as_slice()
+    }
+
+    /// The id at which a name stands.
+    pub fn get(&self, name: &RefName<A>) -> Option<Oid>
+        ensures { result ≡ ref_at self.now name.now }
+    {
+        match place_of(self.refs.as_slice(), name) {
+            Ok(place) => Some(self.refs[place].1),
+            Err(_) => None,
+        }
+    }
+
+    /// The ref at a place of the names' order, which counts from 0.
+    pub fn at(&self, place: usize) -> Option<(&RefName<A>, Oid)>
+        ensures { MatchOption result (length self.now ≤ place) (λ pair.
+            slice_get self.now place ≡ Some (pair.0.now, pair.1)) }
+    {
+        let pair = self.refs.get(place)?;
+        Some((&pair.0, pair.1))
+    }
+
+    /// Whether the name is above every name of the refs.
+    pub fn are_below(&self, name: &RefName<A>) -> bool
+        ensures { IsTrue result ↔ AreBelow self.now name.now }
+    {
+        match self.refs.last() {
+            Some(last) => last.0 < *name,
+            None => true,
+        }
+    }
+
+    /// Adds a ref behind the others. Where there is no memory the refs stay as they were.
+    pub fn push(&mut self, name: RefName<A>, id: Oid) -> Result<(), AllocError>
+        requires name { IsBelowRefs name }
+        requires above { AreBelow self.old name }
+        requires room { length self.old < max_refs }
+        ensures ok { OnOk result (self.new ≡ self.old ++ (name, id) ∷ []) }
+        ensures err { OnErr result (self.new ≡ self.old) }
+    {
+        self.refs.push((name, id))?;
+        Ok(())
+    }
+
+    /// Puts a name at an id.
+    ///
+    /// It fails with `Refs` where the name is HEAD, or is new where there are `MAX_REFS` refs, and
+    /// with `Memory`. The refs are then as before.
+    pub fn set(&mut self, name: RefName<A>, id: Oid) -> Result<(), RefsFault>
+        ensures ok { OnOk result (SetsRef self.old self.new name id) }
+        ensures refused { IsErrOf result RefsFault.Refs ↔ CannotSet self.old name }
+        ensures faults { IfErr result (λ fault. (fault ≡ RefsFault.Refs) ⊎ (fault ≡ RefsFault.Memory)) }
+        ensures err { OnErr result (self.new ≡ self.old) }
+    {
+        names_are_clean();
+        if name.is_head() {
+            return Err(RefsFault::Refs);
+        }
+        match place_of(self.refs.as_slice(), &name) {
+            Ok(place) => {
+                self.refs[place] = (name, id);
+                Ok(())
+            }
+            Err(place) => {
+                if self.refs.len() == MAX_REFS {
+                    return Err(RefsFault::Refs);
+                }
+                self.refs.insert(place, (name, id))?;
+                Ok(())
+            }
+        }
+    }
+}
+
+/// Whether a name is below `refs/`, as any but `HEAD` is.
+pub fn is_below_refs<A: Allocator + Copy>(name: &RefName<A>) -> bool
+    ensures { IsTrue result ↔ IsBelowRefs name.now }
+{
+    name.as_bytes().starts_with(b"refs/")
+}
+
+// Where the name is, or where it would go.
+fn place_of<A: Allocator + Copy>(
+    refs: &[(RefName<A>, Oid)],
+    name: &RefName<A>,
+) -> Result<usize, usize>
+    requires { IsRefs refs.now }
+    ensures { MatchResult result (IsFound refs.now name.now) (IsGap refs.now name.now) }
+{
+    refs.binary_search_by(|pair| pair.0.cmp(name))
+}
