@@ -8,6 +8,12 @@ pub mod LevelWalk
 pub mod OfferLaws
 pub mod OfferLemmas
 pub mod OrderLemmas
+pub mod PassCounting
+pub mod PassDown
+pub mod PassPlaces
+pub mod PassSending
+pub mod PassTags
+pub mod PassUp
 pub mod PeelLemmas
 pub mod Reaching
 pub mod Selecting

@@ -4,6 +4,8 @@ pub mod Insert
 pub mod Laws
 pub mod Levels
 pub mod Offer
+pub mod Passes
 pub mod Peeling
 pub mod Reach
+pub mod Sending
 pub mod Walks

@@ -1,7 +1,7 @@
 // The graph in the order in which its objects first came.
 #![tactic(auto)]
 
-ghost use Rattle.std.specs.Prelude.{◌≡◌, [], length, is_some, IsTrue, ◌↔◌, slice_get, MatchOption, OnOk, OnErr, None, ◌≤◌, ◌<◌, ◌++◌, ◌∷◌};
+ghost use Rattle.std.specs.Prelude.{◌≡◌, [], length, is_some, IsTrue, ◌↔◌, slice_get, MatchOption, OnOk, OnErr, None, Some, ◌≤◌, ◌<◌, ◌++◌, ◌∷◌};
 ghost use Rattle.std.specs.Option.{option_copied, option_map};
 ghost use Rattle.gobject.specs.Objects.{IsShaped, entry_of, node_at, place_of};
 ghost use Rattle.ghistory.specs.Graphs.{IsGraph, Holds, max_nodes};
@@ -62,6 +62,21 @@ impl<A: Allocator + Copy> Graph<A> {
         self.entries.as_slice()
     }
 
+    /// The place of an id in the store order, which counts from 0.
+    pub fn number(&self, id: &Oid) -> Option<usize>
+        ensures { result ≡ place_of self.now id.now }
+    {
+        place_of(self.entries.as_slice(), id)
+    }
+
+    // The parents of the entry at a place.
+    pub(crate) fn parents(&self, place: usize) -> &[Oid]
+        requires { place < length self.now }
+        ensures { option_map (λ entry. entry.node.parents) (slice_get self.now place) ≡ Some result.now }
+    {
+        self.entries[place].node.parents.as_slice()
+    }
+
     // The allocator that its memory comes from.
     pub(crate) fn allocator(&self) -> A {
         *self.entries.allocator()
@@ -69,7 +84,8 @@ impl<A: Allocator + Copy> Graph<A> {
 
     /// How many nodes there are.
     pub fn len(&self) -> usize
-        ensures { result ≡ length self.now }
+        ensures len { result ≡ length self.now }
+        ensures graph { IsGraph self.now }
     {
         self.entries.len()
     }

@@ -8,6 +8,7 @@ mod haves;
 mod insert;
 pub mod laws;
 mod levels;
+mod pass;
 mod peel;
 mod walk;
 

@@ -1,0 +1,23 @@
+use Rattle.std.proofs.Common.{◌≡◌, ◌∙◌, ◌<◌, ℕ, List, inl, inr, All, Some, take, sym, ap, subst, length, arith}
+use Rattle.std.specs.Option.{option_map}
+use Rattle.std.proofs.lemmas.Bool.{cases_eq}
+use Rattle.gobject.specs.declared.node.Entry.{Entry}
+use Rattle.ghistory.specs.Graphs.{Holds}
+use Rattle.ghistory.specs.Passes.{entries_of}
+use Rattle.ghistory.proofs.PassPlaces.{before_next, get_inside}
+use Rattle.ghistory.proofs.graph.Graph.is_in_order.Goals as goal
+
+pub loop-place-preserved : goal.loop-place-preserved
+loop-place-preserved g c =
+    before_next (entries_of c.args.self.now) c.loop-place.place c.parents.result.now c.loop-place.invariant c.parents.ensures (c.are_before.ensures c.if-not-are_before.false)
+
+pub returns : goal.returns
+returns g c =
+    let past = c.loop-place-test.false in
+    let graph = c.len.ensures.graph in
+    λ t. record {
+      differ = graph.differ;
+      shaped = graph.shaped;
+      few = graph.few;
+      ordered = λ p entry at. c.loop-place.invariant p entry (let h = get_inside (entries_of c.args.self.now) p entry at in let l = c.len.ensures.len in omega arith) at;
+    }

@@ -1,0 +1,203 @@
+// The objects to send: one pass from the last place at which something is wanted or known, down to the first
+// below which nothing wanted is new.
+#![tactic(auto)]
+
+ghost use Rattle.std.specs.Prelude.{◌≡◌, ◌≤◌, ◌<◌, ◌+◌, ℕ, List, IfErr, IfOk, IsTrue, ◌↔◌, ◌||◌, length, slice_set, true};
+ghost use Rattle.ghistory.specs.Passes.{IsCounted, IsDone, IsInOrder, IsPassed, IsPlaceOf, IsPlacesToSend, MarksAll, entries_at, entries_of, is_marked, is_open, one};
+ghost use Rattle.ghistory.specs.declared.fault.GraphFault.TheVariants.{Memory};
+
+use crate::fault::GraphFault;
+use crate::graph::Graph;
+use crate::pass::marks::{end_of, is_marked, no_marks};
+use crate::pass::tags::tags_of;
+use gname::Oid;
+use gobject::Entry;
+use std::alloc::Allocator;
+
+// The places of the objects to send for the wants to one who has the common ids with their ancestries, in store
+// order: of each object that some want reaches and no common id does, and of the tags on the chains of tags that
+// lead from the tips to such commits.
+pub(crate) fn places_to_send<A: Allocator + Copy>(
+    graph: &Graph<A>,
+    wants: &[Oid],
+    commons: &[Oid],
+    tips: &[Oid],
+) -> Result<Vec<usize, A>, GraphFault>
+    requires { IsInOrder (entries_of graph.now) }
+    ensures answer { IfOk result (λ places. IsPlacesToSend (entries_of graph.now) wants.now commons.now tips.now places.items) }
+    ensures fault { IfErr result (λ fault. fault ≡ Memory) }
+{
+    let pass = pass_down(graph, wants, commons)?;
+    let tagged = tags_of(graph, &pass, tips)?;
+    let mut places = Vec::new(graph.allocator());
+    for place in pass.next..pass.wanted.len().max(tagged.len()) {
+        if pass.is_sent(tagged.as_slice(), place) {
+            places.push(place)?;
+        }
+    }
+    Ok(places)
+}
+
+// The entries at the places.
+pub(crate) fn copies<A: Allocator + Copy>(
+    graph: &Graph<A>,
+    places: &[usize],
+) -> Result<Vec<Entry<A>, A>, GraphFault>
+    ensures copies { IfOk result (λ list. list.items ≡ entries_at (entries_of graph.now) places.now) }
+    ensures fault { IfErr result (λ fault. fault ≡ Memory) }
+{
+    let alloc = graph.allocator();
+    let mut list = Vec::new(alloc);
+    for place in places {
+        if let Some((id, node)) = graph.at(*place) {
+            let node = node.copy_in(alloc)?;
+            list.push(Entry { id: *id, node })?;
+        }
+    }
+    Ok(list)
+}
+
+// Goes down until nothing that is wanted and not known is left below.
+pub(crate) fn pass_down<A: Allocator + Copy>(
+    graph: &Graph<A>,
+    wants: &[Oid],
+    commons: &[Oid],
+) -> Result<Pass<A>, GraphFault>
+    requires { IsInOrder (entries_of graph.now) }
+    ensures done { IfOk result (λ pass. IsDone (entries_of graph.now) wants.now commons.now pass.wanted.items pass.known.items pass.next) }
+    ensures inside { IfOk result (λ pass. (pass.next ≤ length pass.wanted.items) × (length pass.wanted.items ≤ length (entries_of graph.now))) }
+    ensures fault { IfErr result (λ fault. fault ≡ Memory) }
+{
+    let end = end_of(graph, wants).max(end_of(graph, commons));
+    let mut pass = Pass {
+        wanted: no_marks(graph.allocator(), end)?,
+        known: no_marks(graph.allocator(), end)?,
+        next: end,
+        pending: 0,
+    };
+    pass.want_all(graph, wants);
+    pass.know_all(graph, commons);
+    while 0 < pass.pending {
+        pass.step(graph);
+    }
+    Ok(pass)
+}
+
+// A pass down the places.
+#[derive(Drop)]
+pub(crate) struct Pass<A: Allocator + Copy> {
+    // Where a want reaches the object, as far as the pass knows.
+    wanted: Vec<bool, A>,
+    // Where a common id reaches it.
+    known: Vec<bool, A>,
+    // The places below this one are still to come.
+    pub(crate) next: usize,
+    // How many of them are wanted and not known.
+    pending: usize,
+}
+
+impl<A: Allocator + Copy> Pass<A> {
+    // Whether the place is wanted and not known.
+    pub(crate) fn is_open(&self, place: usize) -> bool
+        ensures { result ≡ is_open self.now.wanted.items self.now.known.items place }
+    {
+        is_marked(self.wanted.as_slice(), place) && !is_marked(self.known.as_slice(), place)
+    }
+
+    // Whether the place is open or tagged.
+    fn is_sent(&self, tagged: &[bool], place: usize) -> bool
+        ensures { result ≡ (is_open self.now.wanted.items self.now.known.items place || is_marked tagged.now place) }
+    {
+        self.is_open(place) || is_marked(tagged, place)
+    }
+
+    // What the place adds to the count.
+    fn count_at(&self, place: usize) -> usize
+        ensures { result ≡ one (is_open self.now.wanted.items self.now.known.items place) }
+    {
+        if self.is_open(place) { 1 } else { 0 }
+    }
+
+    // Goes on to the next place down. What is left below must be open somewhere.
+    fn step(&mut self, graph: &Graph<A>)
+        requires order { IsInOrder (entries_of graph.now) }
+        requires counted { IsCounted self.old.wanted.items self.old.known.items self.old.next self.old.pending }
+        requires inside { self.old.next ≤ length (entries_of graph.now) }
+        requires pending { 0 < self.old.pending }
+        ensures counted { IsCounted self.new.wanted.items self.new.known.items self.new.next self.new.pending }
+        ensures next { self.new.next + 1 ≡ self.old.next }
+        ensures long { length self.new.wanted.items ≡ length self.old.wanted.items }
+        ensures passed { (wants commons : List (List ℕ)) →
+            IsPassed (entries_of graph.now) wants commons self.old.wanted.items self.old.known.items self.old.next →
+            IsPassed (entries_of graph.now) wants commons self.new.wanted.items self.new.known.items self.new.next }
+    {
+        let place = self.next - 1;
+        self.next = place;
+        if is_marked(self.known.as_slice(), place) {
+            self.know_all(graph, graph.parents(place));
+        } else if is_marked(self.wanted.as_slice(), place) {
+            self.pending -= 1;
+            self.want_all(graph, graph.parents(place));
+        }
+    }
+
+    // Marks the places of the ids as wanted.
+    fn want_all(&mut self, graph: &Graph<A>, ids: &[Oid])
+        requires counted { IsCounted self.old.wanted.items self.old.known.items self.old.next self.old.pending }
+        requires below { (p : ℕ) → IsPlaceOf (entries_of graph.now) ids.now p → p < self.old.next }
+        ensures counted { IsCounted self.new.wanted.items self.new.known.items self.new.next self.new.pending }
+        ensures wanted { MarksAll (entries_of graph.now) ids.now self.old.wanted.items self.new.wanted.items }
+        ensures known { self.new.known.items ≡ self.old.known.items }
+        ensures next { self.new.next ≡ self.old.next }
+    {
+        for id in ids {
+            if let Some(place) = graph.number(id) {
+                self.want(place);
+            }
+        }
+    }
+
+    // Marks the places of the ids as known.
+    fn know_all(&mut self, graph: &Graph<A>, ids: &[Oid])
+        requires counted { IsCounted self.old.wanted.items self.old.known.items self.old.next self.old.pending }
+        requires below { (p : ℕ) → IsPlaceOf (entries_of graph.now) ids.now p → p < self.old.next }
+        ensures counted { IsCounted self.new.wanted.items self.new.known.items self.new.next self.new.pending }
+        ensures known { MarksAll (entries_of graph.now) ids.now self.old.known.items self.new.known.items }
+        ensures wanted { self.new.wanted.items ≡ self.old.wanted.items }
+        ensures next { self.new.next ≡ self.old.next }
+    {
+        for id in ids {
+            if let Some(place) = graph.number(id) {
+                self.know(place);
+            }
+        }
+    }
+
+    // Marks a place that is still to come as wanted.
+    fn want(&mut self, place: usize)
+        requires counted { IsCounted self.old.wanted.items self.old.known.items self.old.next self.old.pending }
+        requires below { place < self.old.next }
+        ensures counted { IsCounted self.new.wanted.items self.new.known.items self.new.next self.new.pending }
+        ensures wanted { self.new.wanted.items ≡ slice_set self.old.wanted.items place true }
+        ensures known { self.new.known.items ≡ self.old.known.items }
+        ensures next { self.new.next ≡ self.old.next }
+    {
+        self.pending -= self.count_at(place);
+        self.wanted[place] = true;
+        self.pending += self.count_at(place);
+    }
+
+    // Marks a place that is still to come as known.
+    fn know(&mut self, place: usize)
+        requires counted { IsCounted self.old.wanted.items self.old.known.items self.old.next self.old.pending }
+        requires below { place < self.old.next }
+        ensures counted { IsCounted self.new.wanted.items self.new.known.items self.new.next self.new.pending }
+        ensures known { self.new.known.items ≡ slice_set self.old.known.items place true }
+        ensures wanted { self.new.wanted.items ≡ self.old.wanted.items }
+        ensures next { self.new.next ≡ self.old.next }
+    {
+        self.pending -= self.count_at(place);
+        self.known[place] = true;
+        self.pending += self.count_at(place);
+    }
+}

@@ -1,8 +1,0 @@
-use Rattle.std.proofs.Common.{take, All}
-use Rattle.std.specs.List.{Any}
-use Rattle.gpass.specs.Reach.{Reaches}
-use Rattle.gpass.specs.Passes.{entries_of}
-use Rattle.gpass.proofs.pass.up.ready.Given as goal
-
-abbrev pub invariant-loop-want : goal.invariant-loop-want
-invariant-loop-want g l = All (λ want. Any (Reaches (entries_of l.graph) want) l.commons) (take l.want-index l.wants)
