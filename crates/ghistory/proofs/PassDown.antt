@@ -1,5 +1,5 @@
 -- What a pass down keeps, and what it ends with.
-use Rattle.std.proofs.Common.{◌≡◌, ◌⊎◌, inl, inr, ℕ, zero, suc, ◌+◌, ◌<◌, ◌≤◌, Bool, true, false, cond, not, ◌&&◌, List, [], ◌∷◌, length, get_or, set, Contains, Option, Some, None, refl, sym, ap, ◌∙◌, subst, arith, replicate}
+use Rattle.std.proofs.Common.{◌≡◌, ◌⊎◌, inl, inr, ℕ, ◌+◌, ◌<◌, ◌≤◌, Bool, true, false, not, List, length, Some, sym, ap, ◌∙◌, subst, arith, replicate}
 use Rattle.std.specs.List.{slice_get}
 use Rattle.std.specs.Option.{option_map}
 use Rattle.std.proofs.lemmas.Bool.{false≢true, cases_Bool, and_parts, not-true, cases_eq, false_from_ne_true, cases_lt}
@@ -7,10 +7,9 @@ use Rattle.gobject.specs.declared.node.Entry.{Entry}
 use Rattle.gobject.specs.Objects.{place_of}
 use Rattle.ghistory.specs.Graphs.{HasParent}
 use Rattle.ghistory.specs.Reach.{here, SomeReaches}
-use Rattle.ghistory.specs.Sending.{IsNew}
-use Rattle.ghistory.specs.Passes.{IsEdge, IsInOrder, IsPlaceOf, IsReachedAt, IsNewAt, MarksAll, IsCounted, IsPassed, IsDone, is_marked, is_open, open_below}
+use Rattle.ghistory.specs.Passes.{IsEdge, IsPlaceOf, IsReachedAt, IsNewAt, MarksAll, IsPassed, IsDone, is_marked, is_open, open_below}
 use Rattle.ghistory.proofs.Reaching.{kept_along, place_same, some_reaches}
-use Rattle.ghistory.proofs.PassPlaces.{HasParentsFirst, one_place, held_place, edge_place, place_edge, edge_down, marked_inside, none_marked}
+use Rattle.ghistory.proofs.PassPlaces.{HasParentsFirst, held_place, edge_place, place_edge, edge_down, marked_inside, none_marked}
 use Rattle.ghistory.proofs.PassCounting.{open_least, open_if}
 
 -- ---- what is reached, place by place

@@ -1,16 +1,16 @@
 -- Which entries the marks select.
-use Rattle.std.proofs.Common.{◌≡◌, ◌⊎◌, inl, inr, ℕ, zero, suc, ◌+◌, ◌-◌, ◌<◌, ◌≤◌, Bool, true, false, List, [], ◌∷◌, ◌++◌, length, get_or, take, Contains, Option, Some, None, refl, sym, ap, ◌∙◌, subst, arith, add-one}
-use Rattle.std.specs.List.{slice_get, filter_map}
+use Rattle.std.proofs.Common.{◌≡◌, ◌⊎◌, inl, inr, ℕ, zero, suc, ◌+◌, ◌-◌, ◌<◌, ◌≤◌, Bool, true, false, List, [], ◌∷◌, ◌++◌, length, get_or, take, Some, refl, sym, ap, ◌∙◌, subst, arith}
+use Rattle.std.specs.List.{slice_get}
 use Rattle.std.proofs.lemmas.List.{take_more, take_all, append-nil}
 use Rattle.std.proofs.lemmas.List.Elements.{filter_map-append}
 use Rattle.std.proofs.lemmas.Option.{none-some, slice_get_past}
 use Rattle.std.proofs.lemmas.Bool.{false≢true, false_from_ne_true}
 use Rattle.gobject.specs.declared.node.Entry.{Entry}
 use Rattle.gobject.specs.Objects.{place_of}
-use Rattle.ghistory.specs.Peeling.{IsTagOf, Tags, PeelsTo}
+use Rattle.ghistory.specs.Peeling.{IsTagOf, Tags}
 use Rattle.ghistory.specs.Walks.{Selects, none, keep, skip}
 use Rattle.ghistory.specs.Sending.{IsNew, IsTagToSend, IsToSend}
-use Rattle.ghistory.specs.Passes.{IsInOrder, IsPlaceOf, IsNewAt, IsDone, IsLedTo, IsPeeledAt, IsOpenTag, MarksTags, entries_at, is_marked, is_open}
+use Rattle.ghistory.specs.Passes.{IsInOrder, IsDone, IsOpenTag, MarksTags, entries_at, is_marked, is_open}
 use Rattle.ghistory.proofs.Reaching.{place_same}
 use Rattle.ghistory.proofs.Holding.{own_place}
 use Rattle.ghistory.proofs.PassPlaces.{parents_first, held_place, entry_there, marked_inside}

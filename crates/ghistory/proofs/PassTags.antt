@@ -1,5 +1,5 @@
 -- Chains of tags, place by place.
-use Rattle.std.proofs.Common.{◌≡◌, ◌⊎◌, inl, inr, ℕ, zero, suc, ◌+◌, ◌<◌, ◌≤◌, Bool, true, false, List, [], ◌∷◌, ◌++◌, length, get_or, set, take, replicate, Contains, Option, Some, None, MatchOption, refl, sym, ap, ◌∙◌, subst, arith}
+use Rattle.std.proofs.Common.{◌≡◌, ◌⊎◌, inl, inr, ℕ, zero, suc, ◌+◌, ◌<◌, ◌≤◌, Bool, true, false, List, [], ◌∷◌, length, get_or, set, take, replicate, Contains, Some, None, MatchOption, refl, sym, ap, ◌∙◌, subst, arith}
 use Rattle.std.specs.List.{slice_get}
 use Rattle.std.specs.Option.{option_map}
 use Rattle.std.proofs.lemmas.List.{length-set}
@@ -16,7 +16,7 @@ use Rattle.ghistory.specs.Passes.{IsInOrder, IsPlaceOf, IsCommitAt, IsTagAt, IsL
 use Rattle.ghistory.proofs.Reaching.{place_same, node_at_place}
 use Rattle.ghistory.proofs.Holding.{own_place}
 use Rattle.ghistory.proofs.PeelLemmas.{onward, peel_ends, tags_more}
-use Rattle.ghistory.proofs.PassPlaces.{HasParentsFirst, parents_first, one_place, held_place, entry_there, contains_none, set_cases, set_there, set_kept, none_marked, place_next, one_more}
+use Rattle.ghistory.proofs.PassPlaces.{HasParentsFirst, parents_first, one_place, entry_there, contains_none, set_cases, set_there, set_kept, none_marked, place_next, one_more}
 
 Some-same : {X : Type 0} (x y : X) → Some x ≡ Some y → x ≡ y
 Some-same x y e = cc

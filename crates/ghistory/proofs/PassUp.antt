@@ -1,5 +1,5 @@
 -- What a pass up keeps, and what it ends with.
-use Rattle.std.proofs.Common.{◌≡◌, ◌⊎◌, inl, inr, ◌↔◌, ℕ, ◌+◌, ◌<◌, ◌≤◌, Bool, true, false, List, [], ◌∷◌, length, get_or, set, replicate, Contains, Option, Some, None, refl, sym, ap, ◌∙◌, subst, arith}
+use Rattle.std.proofs.Common.{◌≡◌, ◌⊎◌, inl, inr, ◌↔◌, ℕ, ◌+◌, ◌<◌, ◌≤◌, Bool, true, false, List, [], ◌∷◌, length, get_or, set, replicate, Contains, Some, None, refl, sym, ap, ◌∙◌, subst, arith}
 use Rattle.std.specs.List.{slice_get, Any, IsAnyAnswer}
 use Rattle.std.specs.Option.{option_map}
 use Rattle.std.specs.Str.{bytes_eq}
@@ -10,12 +10,11 @@ use Rattle.std.proofs.lemmas.Option.{none-some}
 use Rattle.std.proofs.lemmas.Bool.{cases_eq}
 use Rattle.gobject.specs.declared.node.Entry.{Entry}
 use Rattle.gobject.specs.Objects.{place_of}
-use Rattle.ghistory.specs.Graphs.{HasParent}
 use Rattle.ghistory.specs.Reach.{Reaches, here, onward}
 use Rattle.ghistory.specs.Passes.{IsEdge, IsInOrder, IsPlaceOf, IsReachingAt, MarksAll, HasMarked, MarksReaching, is_marked}
 use Rattle.ghistory.proofs.Reaching.{place_same}
 use Rattle.ghistory.proofs.Holding.{own_place}
-use Rattle.ghistory.proofs.PassPlaces.{HasParentsFirst, parents_first, one_place, held_place, entry_there, edge_place, place_edge, edge_down, only_one, set_cases, set_there, set_kept, none_marked}
+use Rattle.ghistory.proofs.PassPlaces.{HasParentsFirst, parents_first, held_place, entry_there, edge_place, place_edge, edge_down, only_one, set_cases, set_there, set_kept, none_marked}
 
 -- ---- one of the goals
 

@@ -2,14 +2,13 @@
 use Rattle.std.specs.Prelude.{◌≡◌, ◌⊎◌, ℕ, zero, suc, ◌+◌, ◌<◌, ◌≤◌, Bool, true, false, not, ◌&&◌, Some}
 use Rattle.std.specs.Prelude.{List, length, slice_get, slice_index_or, take, All, Contains}
 use Rattle.std.specs.List.{Any, filter_map}
-use Rattle.gobject.specs.declared.node.Node.{Node}
 use Rattle.gobject.specs.declared.node.Entry.{Entry}
 use Rattle.gobject.specs.Objects.{place_of, IdsDiffer, IsShaped}
 use Rattle.ghistory.specs.Graphs.{Holds, HasParent, max_nodes}
-use Rattle.ghistory.specs.Peeling.{IsTagOf, IsCommit, Tags, PeelsTo}
+use Rattle.ghistory.specs.Peeling.{IsTagOf, IsCommit, Tags}
 use Rattle.ghistory.specs.Reach.{Reaches, SomeReaches}
 use Rattle.ghistory.specs.Walks.{Selects}
-use Rattle.ghistory.specs.Sending.{IsNew, IsTagToSend, IsToSend}
+use Rattle.ghistory.specs.Sending.{IsNew, IsToSend}
 
 -- the entries of a graph in store order
 abbrev pub entries_of : {A : Type 0} → List (Entry A) → List (Entry A)

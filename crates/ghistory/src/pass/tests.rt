@@ -209,18 +209,16 @@ fn walked(
 #[test]
 fn a_ladder_is_walked_once(rt: HostRuntime) {
     let mut graph = Graph::new(rt.alloc());
-    for number in 0..128usize {
-        let level = number / 2 * 2;
-        let parents: &[usize] = if level == 0 {
-            &[]
-        } else {
-            &[level - 2, level - 1]
-        };
-        add(&rt, &mut graph, Kind::Commit, number, parents);
+    add(&rt, &mut graph, Kind::Commit, 0, &[]);
+    add(&rt, &mut graph, Kind::Commit, 1, &[]);
+    for level in 0..63usize {
+        let both = [2 * level, 2 * level + 1];
+        add(&rt, &mut graph, Kind::Commit, 2 * level + 2, &both);
+        add(&rt, &mut graph, Kind::Commit, 2 * level + 3, &both);
     }
     assert_eq!(&rt; walked(&rt, &graph, 127, 1000), (127, 0));
     assert_eq!(&rt; walked(&rt, &graph, 127, 64), (62, 64));
-    assert_eq!(&rt; walked(&rt, &graph, 64, 127), (0, 128));
+    assert_eq!(&rt; walked(&rt, &graph, 64, 127), (0, 67));
 }
 
 const CHAIN: usize = 1000;

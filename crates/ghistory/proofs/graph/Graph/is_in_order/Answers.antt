@@ -1,8 +1,4 @@
-use Rattle.std.proofs.Common.{◌≡◌, ◌∙◌, ◌<◌, ℕ, List, inl, inr, All, Some, take, sym, ap, subst, length, arith}
-use Rattle.std.specs.Option.{option_map}
-use Rattle.std.proofs.lemmas.Bool.{cases_eq}
-use Rattle.gobject.specs.declared.node.Entry.{Entry}
-use Rattle.ghistory.specs.Graphs.{Holds}
+use Rattle.std.proofs.Common.{arith}
 use Rattle.ghistory.specs.Passes.{entries_of}
 use Rattle.ghistory.proofs.PassPlaces.{before_next, get_inside}
 use Rattle.ghistory.proofs.graph.Graph.is_in_order.Goals as goal
@@ -14,10 +10,10 @@ loop-place-preserved g c =
 pub returns : goal.returns
 returns g c =
     let past = c.loop-place-test.false in
-    let graph = c.len.ensures.graph in
+    let graph = c.len-place-end.ensures.graph in
     λ t. record {
       differ = graph.differ;
       shaped = graph.shaped;
       few = graph.few;
-      ordered = λ p entry at. c.loop-place.invariant p entry (let h = get_inside (entries_of c.args.self.now) p entry at in let l = c.len.ensures.len in omega arith) at;
+      ordered = λ p entry at. c.loop-place.invariant p entry (let h = get_inside (entries_of c.args.self.now) p entry at in let l = c.len-place-end.ensures.len in omega arith) at;
     }

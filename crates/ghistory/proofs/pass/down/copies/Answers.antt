@@ -1,6 +1,6 @@
-use Rattle.std.proofs.Common.{◌≡◌, ◌∙◌, ◌++◌, ◌∷◌, [], ◌≤◌, get_or, length, sym, ap}
+use Rattle.std.proofs.Common.{◌∙◌, sym}
 use Rattle.gobject.specs.Objects.{entry_of}
-use Rattle.ghistory.specs.Passes.{entries_at, entries_of}
+use Rattle.ghistory.specs.Passes.{entries_of}
 use Rattle.ghistory.proofs.PassPlaces.{is_none}
 use Rattle.ghistory.proofs.PassSending.{copies_next, copies_past}
 use Rattle.ghistory.proofs.pass.down.copies.Goals as goal

@@ -1,6 +1,6 @@
-use Rattle.std.proofs.Common.{◌≡◌, ◌∙◌, ◌<◌, ◌≤◌, ℕ, length, replicate, false, sym, ap, arith}
+use Rattle.std.proofs.Common.{◌≡◌, false, arith}
 use Rattle.std.proofs.lemmas.List.{length-replicate}
-use Rattle.ghistory.specs.Passes.{IsPlaceOf, entries_of, open_below}
+use Rattle.ghistory.specs.Passes.{entries_of, open_below}
 use Rattle.ghistory.proofs.PassPlaces.{parents_first}
 use Rattle.ghistory.proofs.PassCounting.{counted_none}
 use Rattle.ghistory.proofs.PassDown.{starts, ends}

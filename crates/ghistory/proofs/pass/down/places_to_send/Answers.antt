@@ -1,4 +1,4 @@
-use Rattle.std.proofs.Common.{◌≡◌, ◌∙◌, ◌<◌, ◌≤◌, inl, inr, length, sym, arith}
+use Rattle.std.proofs.Common.{◌∙◌, ◌<◌, ◌≤◌, length, sym, arith}
 use Rattle.std.proofs.lemmas.Bool.{or_cases, or_parts}
 use Rattle.ghistory.specs.Passes.{entries_of, is_marked, is_open}
 use Rattle.ghistory.proofs.PassSending.{none_so_far, sends_place, drops_place, all_places}

@@ -1,7 +1,7 @@
-use Rattle.std.proofs.Common.{◌≡◌, ◌∙◌, ◌<◌, ◌≤◌, ◌+◌, inl, inr, ℕ, length, sym, arith}
+use Rattle.std.proofs.Common.{◌∙◌, ◌≤◌, ◌+◌, inl, inr, length, sym, arith}
 use Rattle.std.proofs.lemmas.Option.{none-some}
 use Rattle.std.proofs.lemmas.List.{take_all}
-use Rattle.ghistory.specs.Passes.{IsPlaceOf, entries_of}
+use Rattle.ghistory.specs.Passes.{entries_of}
 use Rattle.ghistory.proofs.Reaching.{place_inside}
 use Rattle.ghistory.proofs.PassPlaces.{is_none, max_is, one_place, place_next}
 use Rattle.ghistory.proofs.pass.marks.end_of.Goals as goal

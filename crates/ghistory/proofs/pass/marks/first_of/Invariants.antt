@@ -1,4 +1,4 @@
-use Rattle.std.proofs.Common.{ℕ, ◌≤◌, ◌<◌, take}
+use Rattle.std.proofs.Common.{ℕ, ◌≤◌, take}
 use Rattle.ghistory.specs.Passes.{IsPlaceOf, entries_of}
 use Rattle.ghistory.proofs.pass.marks.first_of.Given as goal
 

@@ -1,8 +1,8 @@
-use Rattle.std.proofs.Common.{◌≡◌, ◌∙◌, ◌<◌, ◌≤◌, false, length, sym, ap, arith}
-use Rattle.std.proofs.lemmas.List.{take_all, length-replicate}
+use Rattle.std.proofs.Common.{◌∙◌, false, length, sym, ap, arith}
+use Rattle.std.proofs.lemmas.List.{length-replicate}
 use Rattle.ghistory.specs.Passes.{entries_of}
 use Rattle.ghistory.proofs.PassPlaces.{is_none, item_place}
-use Rattle.ghistory.proofs.PassTags.{tags_none, tip_absent, tip_open, tip_shut}
+use Rattle.ghistory.proofs.PassTags.{tip_absent, tip_open, tip_shut}
 use Rattle.ghistory.proofs.pass.tags.tags_of.Goals as goal
 use Rattle.ghistory.proofs.pass.tags.tags_of.Goals.{in-Some+then-sent, in-Some+else-sent, in_default}
 

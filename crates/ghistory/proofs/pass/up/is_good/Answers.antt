@@ -1,5 +1,5 @@
-use Rattle.std.proofs.Common.{◌≡◌, ◌∙◌, length, refl, sym, arith}
-use Rattle.ghistory.specs.Passes.{IsPlaceOf, entries_of}
+use Rattle.std.proofs.Common.{◌∙◌, length, refl, sym, arith}
+use Rattle.ghistory.specs.Passes.{entries_of}
 use Rattle.ghistory.proofs.PassUp.{good_placed, good_absent}
 use Rattle.ghistory.proofs.pass.up.is_good.Goals as goal
 

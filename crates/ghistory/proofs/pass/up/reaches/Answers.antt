@@ -1,4 +1,4 @@
-use Rattle.std.proofs.Common.{◌≡◌, ◌<◌, ap, length, arith}
+use Rattle.std.proofs.Common.{ap, length, arith}
 use Rattle.ghistory.specs.Passes.{entries_of}
 use Rattle.ghistory.proofs.PassUp.{any_one}
 use Rattle.ghistory.proofs.pass.up.reaches.Goals as goal

@@ -1,5 +1,5 @@
-use Rattle.std.proofs.Common.{◌≡◌, ◌∙◌, ◌<◌, sym, arith}
-use Rattle.ghistory.specs.Passes.{IsPlaceOf, entries_of}
+use Rattle.std.proofs.Common.{◌∙◌, sym, arith}
+use Rattle.ghistory.specs.Passes.{entries_of}
 use Rattle.ghistory.proofs.PassPlaces.{is_none, item_place, marks_next, marks_past}
 use Rattle.ghistory.proofs.pass.down.Pass.know_all.Goals as goal
 use Rattle.ghistory.proofs.pass.down.Pass.know_all.Goals.{in-Some, in_default}

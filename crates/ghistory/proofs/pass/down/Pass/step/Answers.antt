@@ -1,5 +1,5 @@
-use Rattle.std.proofs.Common.{◌≡◌, ◌∙◌, ℕ, ◌+◌, ◌-◌, ◌<◌, ◌≤◌, true, false, length, arith}
-use Rattle.ghistory.specs.Passes.{IsCounted, IsPlaceOf, entries_of, is_marked}
+use Rattle.std.proofs.Common.{◌≡◌, ◌+◌, ◌-◌, ◌<◌, true, false, length, arith}
+use Rattle.ghistory.specs.Passes.{entries_of}
 use Rattle.ghistory.proofs.PassPlaces.{parents_below, parents_first, read_mark}
 use Rattle.ghistory.proofs.PassCounting.{some_next, next_open, next_shut, open_if, shut_known, shut_idle}
 use Rattle.ghistory.proofs.PassDown.{knows, wants_more, goes_by}
