@@ -11,8 +11,8 @@ use Rattle.ghistory.specs.Walks.{Selects}
 use Rattle.ghistory.specs.Sending.{IsNew, IsToSend}
 
 -- the entries of a graph in store order
-abbrev pub entries_of : {A : Type 0} → List (Entry A) → List (Entry A)
-entries_of graph = graph
+abbrev pub entries_in : {A : Type 0} → List (Entry A) → List (Entry A)
+entries_in graph = graph
 
 abbrev pub IdList : Type 0
 IdList = List (List ℕ)

@@ -3,7 +3,7 @@
 #![tactic(auto)]
 
 ghost use Rattle.std.specs.Prelude.{◌≡◌, ◌≤◌, ◌<◌, ◌+◌, ℕ, List, IfErr, IfOk, IsTrue, ◌↔◌, ◌||◌, length, slice_set, true};
-ghost use Rattle.ghistory.specs.Passes.{IsCounted, IsDone, IsInOrder, IsPassed, IsPlaceOf, IsPlacesToSend, MarksAll, entries_at, entries_of, is_marked, is_open, one};
+ghost use Rattle.ghistory.specs.Passes.{IsCounted, IsDone, IsInOrder, IsPassed, IsPlaceOf, IsPlacesToSend, MarksAll, entries_at, entries_in, is_marked, is_open, one};
 ghost use Rattle.ghistory.specs.declared.fault.GraphFault.TheVariants.{Memory};
 
 use crate::fault::GraphFault;
@@ -23,8 +23,8 @@ pub(crate) fn places_to_send<A: Allocator + Copy>(
     commons: &[Oid],
     tips: &[Oid],
 ) -> Result<Vec<usize, A>, GraphFault>
-    requires { IsInOrder (entries_of graph.now) }
-    ensures answer { IfOk result (λ places. IsPlacesToSend (entries_of graph.now) wants.now commons.now tips.now places.items) }
+    requires { IsInOrder (entries_in graph.now) }
+    ensures answer { IfOk result (λ places. IsPlacesToSend (entries_in graph.now) wants.now commons.now tips.now places.items) }
     ensures fault { IfErr result (λ fault. fault ≡ Memory) }
 {
     let pass = pass_down(graph, wants, commons)?;
@@ -43,7 +43,7 @@ pub(crate) fn copies<A: Allocator + Copy>(
     graph: &Graph<A>,
     places: &[usize],
 ) -> Result<Vec<Entry<A>, A>, GraphFault>
-    ensures copies { IfOk result (λ list. list.items ≡ entries_at (entries_of graph.now) places.now) }
+    ensures copies { IfOk result (λ list. list.items ≡ entries_at (entries_in graph.now) places.now) }
     ensures fault { IfErr result (λ fault. fault ≡ Memory) }
 {
     let alloc = graph.allocator();
@@ -63,9 +63,9 @@ pub(crate) fn pass_down<A: Allocator + Copy>(
     wants: &[Oid],
     commons: &[Oid],
 ) -> Result<Pass<A>, GraphFault>
-    requires { IsInOrder (entries_of graph.now) }
-    ensures done { IfOk result (λ pass. IsDone (entries_of graph.now) wants.now commons.now pass.wanted.items pass.known.items pass.next) }
-    ensures inside { IfOk result (λ pass. (pass.next ≤ length pass.wanted.items) × (length pass.wanted.items ≤ length (entries_of graph.now))) }
+    requires { IsInOrder (entries_in graph.now) }
+    ensures done { IfOk result (λ pass. IsDone (entries_in graph.now) wants.now commons.now pass.wanted.items pass.known.items pass.next) }
+    ensures inside { IfOk result (λ pass. (pass.next ≤ length pass.wanted.items) × (length pass.wanted.items ≤ length (entries_in graph.now))) }
     ensures fault { IfErr result (λ fault. fault ≡ Memory) }
 {
     let end = end_of(graph, wants).max(end_of(graph, commons));
@@ -120,16 +120,16 @@ impl<A: Allocator + Copy> Pass<A> {
 
     // Goes on to the next place down. What is left below must be open somewhere.
     fn step(&mut self, graph: &Graph<A>)
-        requires order { IsInOrder (entries_of graph.now) }
+        requires order { IsInOrder (entries_in graph.now) }
         requires counted { IsCounted self.old.wanted.items self.old.known.items self.old.next self.old.pending }
-        requires inside { self.old.next ≤ length (entries_of graph.now) }
+        requires inside { self.old.next ≤ length (entries_in graph.now) }
         requires pending { 0 < self.old.pending }
         ensures counted { IsCounted self.new.wanted.items self.new.known.items self.new.next self.new.pending }
         ensures next { self.new.next + 1 ≡ self.old.next }
         ensures long { length self.new.wanted.items ≡ length self.old.wanted.items }
         ensures passed { (wants commons : List (List ℕ)) →
-            IsPassed (entries_of graph.now) wants commons self.old.wanted.items self.old.known.items self.old.next →
-            IsPassed (entries_of graph.now) wants commons self.new.wanted.items self.new.known.items self.new.next }
+            IsPassed (entries_in graph.now) wants commons self.old.wanted.items self.old.known.items self.old.next →
+            IsPassed (entries_in graph.now) wants commons self.new.wanted.items self.new.known.items self.new.next }
     {
         let place = self.next - 1;
         self.next = place;
@@ -144,9 +144,9 @@ impl<A: Allocator + Copy> Pass<A> {
     // Marks the places of the ids as wanted.
     fn want_all(&mut self, graph: &Graph<A>, ids: &[Oid])
         requires counted { IsCounted self.old.wanted.items self.old.known.items self.old.next self.old.pending }
-        requires below { (p : ℕ) → IsPlaceOf (entries_of graph.now) ids.now p → p < self.old.next }
+        requires below { (p : ℕ) → IsPlaceOf (entries_in graph.now) ids.now p → p < self.old.next }
         ensures counted { IsCounted self.new.wanted.items self.new.known.items self.new.next self.new.pending }
-        ensures wanted { MarksAll (entries_of graph.now) ids.now self.old.wanted.items self.new.wanted.items }
+        ensures wanted { MarksAll (entries_in graph.now) ids.now self.old.wanted.items self.new.wanted.items }
         ensures known { self.new.known.items ≡ self.old.known.items }
         ensures next { self.new.next ≡ self.old.next }
     {
@@ -160,9 +160,9 @@ impl<A: Allocator + Copy> Pass<A> {
     // Marks the places of the ids as known.
     fn know_all(&mut self, graph: &Graph<A>, ids: &[Oid])
         requires counted { IsCounted self.old.wanted.items self.old.known.items self.old.next self.old.pending }
-        requires below { (p : ℕ) → IsPlaceOf (entries_of graph.now) ids.now p → p < self.old.next }
+        requires below { (p : ℕ) → IsPlaceOf (entries_in graph.now) ids.now p → p < self.old.next }
         ensures counted { IsCounted self.new.wanted.items self.new.known.items self.new.next self.new.pending }
-        ensures known { MarksAll (entries_of graph.now) ids.now self.old.known.items self.new.known.items }
+        ensures known { MarksAll (entries_in graph.now) ids.now self.old.known.items self.new.known.items }
         ensures wanted { self.new.wanted.items ≡ self.old.wanted.items }
         ensures next { self.new.next ≡ self.old.next }
     {

@@ -2,7 +2,7 @@
 #![tactic(auto)]
 
 ghost use Rattle.std.specs.Prelude.{◌≡◌, ◌≤◌, ◌<◌, ℕ, IfErr, IfOk, false, length, replicate, slice_set, true};
-ghost use Rattle.ghistory.specs.Passes.{IsInOrder, IsPlaceOf, MarksAll, entries_of, is_marked};
+ghost use Rattle.ghistory.specs.Passes.{IsInOrder, IsPlaceOf, MarksAll, entries_in, is_marked};
 ghost use Rattle.ghistory.specs.declared.fault.GraphFault.TheVariants.{Memory};
 
 use crate::fault::GraphFault;
@@ -31,7 +31,7 @@ pub(crate) fn no_marks<A: Allocator + Copy>(
 
 // Marks the places of the ids that are below the end of the marks.
 pub(crate) fn mark_all<A: Allocator + Copy>(graph: &Graph<A>, ids: &[Oid], marks: &mut Vec<bool, A>)
-    ensures { MarksAll (entries_of graph.now) ids.now marks.old.items marks.new.items }
+    ensures { MarksAll (entries_in graph.now) ids.now marks.old.items marks.new.items }
 {
     for id in ids {
         if let Some(place) = graph.number(id) {
@@ -51,9 +51,9 @@ fn mark<A: Allocator + Copy>(marks: &mut Vec<bool, A>, place: usize)
 
 // The place after the last of the ids' places, and 0 where none of them is held.
 pub(crate) fn end_of<A: Allocator + Copy>(graph: &Graph<A>, ids: &[Oid]) -> usize
-    requires { IsInOrder (entries_of graph.now) }
-    ensures below { (p : ℕ) → IsPlaceOf (entries_of graph.now) ids.now p → p < result }
-    ensures fits { result ≤ length (entries_of graph.now) }
+    requires { IsInOrder (entries_in graph.now) }
+    ensures below { (p : ℕ) → IsPlaceOf (entries_in graph.now) ids.now p → p < result }
+    ensures fits { result ≤ length (entries_in graph.now) }
 {
     let mut end = 0;
     for id in ids {
@@ -66,7 +66,7 @@ pub(crate) fn end_of<A: Allocator + Copy>(graph: &Graph<A>, ids: &[Oid]) -> usiz
 
 // The first of the ids' places, and the end where none is below it.
 pub(crate) fn first_of<A: Allocator + Copy>(graph: &Graph<A>, ids: &[Oid], end: usize) -> usize
-    ensures first { (p : ℕ) → IsPlaceOf (entries_of graph.now) ids.now p → result ≤ p }
+    ensures first { (p : ℕ) → IsPlaceOf (entries_in graph.now) ids.now p → result ≤ p }
     ensures most { result ≤ end }
 {
     let mut first = end;

@@ -3,7 +3,7 @@
 
 ghost use Rattle.std.specs.Prelude.{All, IsTrue, take};
 ghost use Rattle.ghistory.specs.Graphs.{Holds};
-ghost use Rattle.ghistory.specs.Passes.{IsInOrder, entries_of};
+ghost use Rattle.ghistory.specs.Passes.{IsInOrder, entries_in};
 
 use crate::graph::Graph;
 use gname::Oid;
@@ -12,7 +12,7 @@ use std::alloc::Allocator;
 impl<A: Allocator + Copy> Graph<A> {
     // Whether each parent of each entry is held by the entries before it.
     pub(crate) fn is_in_order(&self) -> bool
-        ensures { IsTrue result → IsInOrder (entries_of self.now) }
+        ensures { IsTrue result → IsInOrder (entries_in self.now) }
     {
         for place in 0..self.len() {
             if !self.are_before(self.parents(place), place) {
@@ -24,7 +24,7 @@ impl<A: Allocator + Copy> Graph<A> {
 
     // Whether the entries before the place hold the ids.
     fn are_before(&self, ids: &[Oid], place: usize) -> bool
-        ensures { IsTrue result → All (Holds (take place (entries_of self.now))) ids.now }
+        ensures { IsTrue result → All (Holds (take place (entries_in self.now))) ids.now }
     {
         for id in ids {
             if !self.is_before(id, place) {
@@ -36,7 +36,7 @@ impl<A: Allocator + Copy> Graph<A> {
 
     // Whether the entries before the place hold the id.
     fn is_before(&self, id: &Oid, place: usize) -> bool
-        ensures { IsTrue result → Holds (take place (entries_of self.now)) id.now }
+        ensures { IsTrue result → Holds (take place (entries_in self.now)) id.now }
     {
         match self.number(id) {
             Some(number) => number < place,

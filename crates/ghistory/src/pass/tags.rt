@@ -2,7 +2,7 @@
 #![tactic(auto)]
 
 ghost use Rattle.std.specs.Prelude.{◌≡◌, ◌⊎◌, ◌≤◌, ◌<◌, ℕ, IfErr, IfOk, MatchOption, length, true};
-ghost use Rattle.ghistory.specs.Passes.{IsCommitAt, IsInOrder, IsOnChain, IsPeeledAt, IsPlaceOf, IsTagAt, MarksChain, MarksTags, entries_of, is_open};
+ghost use Rattle.ghistory.specs.Passes.{IsCommitAt, IsInOrder, IsOnChain, IsPeeledAt, IsPlaceOf, IsTagAt, MarksChain, MarksTags, entries_in, is_open};
 ghost use Rattle.ghistory.specs.declared.fault.GraphFault.TheVariants.{Memory};
 
 use crate::fault::GraphFault;
@@ -19,9 +19,9 @@ pub(crate) fn tags_of<A: Allocator + Copy>(
     pass: &Pass<A>,
     tips: &[Oid],
 ) -> Result<Vec<bool, A>, GraphFault>
-    requires { IsInOrder (entries_of graph.now) }
-    ensures marks { IfOk result (λ tagged. MarksTags (entries_of graph.now) tips.now pass.now.wanted.items pass.now.known.items tagged.items) }
-    ensures inside { IfOk result (λ tagged. length tagged.items ≤ length (entries_of graph.now)) }
+    requires { IsInOrder (entries_in graph.now) }
+    ensures marks { IfOk result (λ tagged. MarksTags (entries_in graph.now) tips.now pass.now.wanted.items pass.now.known.items tagged.items) }
+    ensures inside { IfOk result (λ tagged. length tagged.items ≤ length (entries_in graph.now)) }
     ensures fault { IfErr result (λ fault. fault ≡ Memory) }
 {
     let mut tagged = no_marks(graph.allocator(), end_of(graph, tips))?;
@@ -39,10 +39,10 @@ pub(crate) fn tags_of<A: Allocator + Copy>(
 
 // Marks the tags on the chain that begins at the place.
 fn mark_chain<A: Allocator + Copy>(graph: &Graph<A>, start: usize, tagged: &mut Vec<bool, A>)
-    requires order { IsInOrder (entries_of graph.now) }
-    requires held { start < length (entries_of graph.now) }
+    requires order { IsInOrder (entries_in graph.now) }
+    requires held { start < length (entries_in graph.now) }
     requires inside { start < length tagged.old.items }
-    ensures { MarksChain (entries_of graph.now) start tagged.old.items tagged.new.items }
+    ensures { MarksChain (entries_in graph.now) start tagged.old.items tagged.new.items }
 {
     let mut at = start;
     while let Some(next) = named(graph, at) {
@@ -53,9 +53,9 @@ fn mark_chain<A: Allocator + Copy>(graph: &Graph<A>, start: usize, tagged: &mut 
 
 // The place of the commit at the end of the chain of tags that begins at the place.
 fn peeled<A: Allocator + Copy>(graph: &Graph<A>, start: usize) -> usize
-    requires order { IsInOrder (entries_of graph.now) }
-    requires held { start < length (entries_of graph.now) }
-    ensures { IsPeeledAt (entries_of graph.now) start result }
+    requires order { IsInOrder (entries_in graph.now) }
+    requires held { start < length (entries_in graph.now) }
+    ensures { IsPeeledAt (entries_in graph.now) start result }
 {
     let mut at = start;
     while let Some(next) = named(graph, at) {
@@ -66,9 +66,9 @@ fn peeled<A: Allocator + Copy>(graph: &Graph<A>, start: usize) -> usize
 
 // The place of the object that the tag at the place names. `None` where a commit stands there.
 fn named<A: Allocator + Copy>(graph: &Graph<A>, place: usize) -> Option<usize>
-    requires order { IsInOrder (entries_of graph.now) }
-    requires held { place < length (entries_of graph.now) }
-    ensures { MatchOption result (IsCommitAt (entries_of graph.now) place) (λ next. IsTagAt (entries_of graph.now) place next) }
+    requires order { IsInOrder (entries_in graph.now) }
+    requires held { place < length (entries_in graph.now) }
+    ensures { MatchOption result (IsCommitAt (entries_in graph.now) place) (λ next. IsTagAt (entries_in graph.now) place next) }
 {
     let (_, node) = graph.at(place)?;
     match node.kind {

@@ -3,7 +3,7 @@
 
 ghost use Rattle.std.specs.Prelude.{◌≡◌, ◌↔◌, ◌≤◌, ◌<◌, ◌∷◌, [], ℕ, IfErr, IfOk, IsTrue, length, true};
 ghost use Rattle.std.specs.List.{Any};
-ghost use Rattle.ghistory.specs.Passes.{HasMarked, IsInOrder, IsPlaceOf, IsReachingAt, MarksReaching, entries_of, is_marked};
+ghost use Rattle.ghistory.specs.Passes.{HasMarked, IsInOrder, IsPlaceOf, IsReachingAt, MarksReaching, entries_in, is_marked};
 ghost use Rattle.ghistory.specs.Reach.{Reaches};
 ghost use Rattle.ghistory.specs.Walks.{IsReady};
 ghost use Rattle.ghistory.specs.declared.fault.GraphFault.TheVariants.{Memory};
@@ -21,8 +21,8 @@ pub(crate) fn ready<A: Allocator + Copy>(
     wants: &[Oid],
     commons: &[Oid],
 ) -> Result<bool, GraphFault>
-    requires { IsInOrder (entries_of graph.now) }
-    ensures answer { IfOk result (λ answer. IsTrue answer ↔ IsReady (entries_of graph.now) wants.now commons.now) }
+    requires { IsInOrder (entries_in graph.now) }
+    ensures answer { IfOk result (λ answer. IsTrue answer ↔ IsReady (entries_in graph.now) wants.now commons.now) }
     ensures fault { IfErr result (λ fault. fault ≡ Memory) }
 {
     if commons.is_empty() {
@@ -43,8 +43,8 @@ pub(crate) fn reaches<A: Allocator + Copy>(
     a: &Oid,
     b: &Oid,
 ) -> Result<bool, GraphFault>
-    requires { IsInOrder (entries_of graph.now) }
-    ensures answer { IfOk result (λ answer. IsTrue answer ↔ Reaches (entries_of graph.now) a.now b.now) }
+    requires { IsInOrder (entries_in graph.now) }
+    ensures answer { IfOk result (λ answer. IsTrue answer ↔ Reaches (entries_in graph.now) a.now b.now) }
     ensures fault { IfErr result (λ fault. fault ≡ Memory) }
 {
     let good = reaching(graph, &[*b], end_of(graph, &[*a]))?;
@@ -53,10 +53,10 @@ pub(crate) fn reaches<A: Allocator + Copy>(
 
 // Whether the id reaches one of the goals, by the marks of the places that do.
 fn is_good<A: Allocator + Copy>(graph: &Graph<A>, id: &Oid, goals: &[Oid], good: &[bool]) -> bool
-    requires order { IsInOrder (entries_of graph.now) }
-    requires good { MarksReaching (entries_of graph.now) goals.now (length good.now) good.now }
-    requires inside { (p : ℕ) → IsPlaceOf (entries_of graph.now) (id.now ∷ []) p → p < length good.now }
-    ensures { IsTrue result ↔ Any (Reaches (entries_of graph.now) id.now) goals.now }
+    requires order { IsInOrder (entries_in graph.now) }
+    requires good { MarksReaching (entries_in graph.now) goals.now (length good.now) good.now }
+    requires inside { (p : ℕ) → IsPlaceOf (entries_in graph.now) (id.now ∷ []) p → p < length good.now }
+    ensures { IsTrue result ↔ Any (Reaches (entries_in graph.now) id.now) goals.now }
 {
     match graph.number(id) {
         Some(place) => is_marked(good, place),
@@ -70,9 +70,9 @@ fn reaching<A: Allocator + Copy>(
     goals: &[Oid],
     end: usize,
 ) -> Result<Vec<bool, A>, GraphFault>
-    requires order { IsInOrder (entries_of graph.now) }
-    requires inside { end ≤ length (entries_of graph.now) }
-    ensures marks { IfOk result (λ good. MarksReaching (entries_of graph.now) goals.now end good.items) }
+    requires order { IsInOrder (entries_in graph.now) }
+    requires inside { end ≤ length (entries_in graph.now) }
+    ensures marks { IfOk result (λ good. MarksReaching (entries_in graph.now) goals.now end good.items) }
     ensures long { IfOk result (λ good. length good.items ≡ end) }
     ensures fault { IfErr result (λ fault. fault ≡ Memory) }
 {
@@ -88,7 +88,7 @@ fn reaching<A: Allocator + Copy>(
 
 // Whether the place of one of the ids is marked.
 fn has_marked<A: Allocator + Copy>(graph: &Graph<A>, ids: &[Oid], marks: &[bool]) -> bool
-    ensures { IsTrue result ↔ HasMarked (entries_of graph.now) ids.now marks.now }
+    ensures { IsTrue result ↔ HasMarked (entries_in graph.now) ids.now marks.now }
 {
     for id in ids {
         if let Some(place) = graph.number(id) {

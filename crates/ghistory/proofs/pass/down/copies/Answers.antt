@@ -1,6 +1,6 @@
 use Rattle.std.proofs.Common.{◌∙◌, sym}
 use Rattle.gobject.specs.Objects.{entry_of}
-use Rattle.ghistory.specs.Passes.{entries_of}
+use Rattle.ghistory.specs.Passes.{entries_in}
 use Rattle.ghistory.proofs.PassPlaces.{is_none}
 use Rattle.ghistory.proofs.PassSending.{copies_next, copies_past}
 use Rattle.ghistory.proofs.pass.down.copies.Goals as goal
@@ -8,7 +8,7 @@ use Rattle.ghistory.proofs.pass.down.copies.Goals.{in-Some+in_ok-node+in_ok-push
 
 pub loop-place-preserved : goal.loop-place-preserved
 loop-place-preserved g c =
-    let held = entries_of c.args.graph.now in
+    let held = entries_in c.args.graph.now in
     let places = c.args.places.now in
     elim c.match-at.branch [
       | in-Some+in_ok-node+in_ok-push w ↦

@@ -1,6 +1,6 @@
 use Rattle.std.proofs.Common.{◌≡◌, false, arith}
 use Rattle.std.proofs.lemmas.List.{length-replicate}
-use Rattle.ghistory.specs.Passes.{entries_of, open_below}
+use Rattle.ghistory.specs.Passes.{entries_in, open_below}
 use Rattle.ghistory.proofs.PassPlaces.{parents_first}
 use Rattle.ghistory.proofs.PassCounting.{counted_none}
 use Rattle.ghistory.proofs.PassDown.{starts, ends}
@@ -22,7 +22,7 @@ know_all-requires-clause-below g c =
 
 pub loop-pass-init : goal.loop-pass-init
 loop-pass-init g c =
-    let held = entries_of c.args.graph.now in
+    let held = entries_in c.args.graph.now in
     let end = c.max-end.result in
     let most = c.max-end.ensures in
     let wants = rw c.in_ok-no_marks.ensures.marks at c.want_all.ensures.wanted in
@@ -44,7 +44,7 @@ returns-clause-done g c =
     let pass = c.loop-pass.pass in
     let last = c.loop-pass.invariant in
     let none : open_below pass.wanted.items pass.known.items pass.next ≡ 0 = let count = last.counted.count in let stop = c.loop-pass-test.false in omega arith in
-    ends (entries_of c.args.graph.now) c.args.wants.now c.args.commons.now pass.wanted.items pass.known.items pass.next last.passed (parents_first (entries_of c.args.graph.now) c.requires) none
+    ends (entries_in c.args.graph.now) c.args.wants.now c.args.commons.now pass.wanted.items pass.known.items pass.next last.passed (parents_first (entries_in c.args.graph.now) c.requires) none
 
 pub returns-clause-inside : goal.returns-clause-inside
 returns-clause-inside g c = (c.loop-pass.invariant.counted.inside, c.loop-pass.invariant.fits)

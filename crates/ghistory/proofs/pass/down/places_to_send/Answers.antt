@@ -1,6 +1,6 @@
 use Rattle.std.proofs.Common.{◌∙◌, ◌<◌, ◌≤◌, length, sym, arith}
 use Rattle.std.proofs.lemmas.Bool.{or_cases, or_parts}
-use Rattle.ghistory.specs.Passes.{entries_of, is_marked, is_open}
+use Rattle.ghistory.specs.Passes.{entries_in, is_marked, is_open}
 use Rattle.ghistory.proofs.PassSending.{none_so_far, sends_place, drops_place, all_places}
 use Rattle.ghistory.proofs.pass.down.places_to_send.Goals as goal
 use Rattle.ghistory.proofs.pass.down.places_to_send.Goals.{then-is_sent+in_ok-push, else-is_sent}
@@ -8,13 +8,13 @@ use Rattle.ghistory.proofs.pass.down.places_to_send.Goals.{then-is_sent+in_ok-pu
 pub loop-place-init : goal.loop-place-init
 loop-place-init g c =
     let pass = c.in_ok-pass.pass in
-    let fits : pass.next ≤ length (entries_of c.args.graph.now) = let i = c.in_ok-pass.ensures.inside.0 in let j = c.in_ok-pass.ensures.inside.1 in omega arith in
+    let fits : pass.next ≤ length (entries_in c.args.graph.now) = let i = c.in_ok-pass.ensures.inside.0 in let j = c.in_ok-pass.ensures.inside.1 in omega arith in
     rw c.new-places.ensures.items
-    (none_so_far (entries_of c.args.graph.now) c.args.wants.now c.args.commons.now c.args.tips.now pass.wanted.items pass.known.items pass.next c.in_ok-pass.ensures.done c.requires c.in_ok-tagged.tagged.items c.in_ok-tagged.ensures.marks fits)
+    (none_so_far (entries_in c.args.graph.now) c.args.wants.now c.args.commons.now c.args.tips.now pass.wanted.items pass.known.items pass.next c.in_ok-pass.ensures.done c.requires c.in_ok-tagged.tagged.items c.in_ok-tagged.ensures.marks fits)
 
 pub loop-place-preserved : goal.loop-place-preserved
 loop-place-preserved g c =
-    let held = entries_of c.args.graph.now in
+    let held = entries_in c.args.graph.now in
     let pass = c.in_ok-pass.pass in
     let tagged = c.in_ok-tagged.tagged in
     let most = c.max-place-end.ensures in
@@ -43,7 +43,7 @@ loop-place-preserved g c =
 
 pub returns-clause-answer : goal.returns-clause-answer
 returns-clause-answer g c =
-    let held = entries_of c.args.graph.now in
+    let held = entries_in c.args.graph.now in
     let pass = c.in_ok-pass.pass in
     let tagged = c.in_ok-tagged.tagged in
     let most = c.max-place-end.ensures in

@@ -1,7 +1,7 @@
 use Rattle.std.proofs.Common.{◌∙◌, ◌≤◌, ◌+◌, inl, inr, length, sym, arith}
 use Rattle.std.proofs.lemmas.Option.{none-some}
 use Rattle.std.proofs.lemmas.List.{take_all}
-use Rattle.ghistory.specs.Passes.{entries_of}
+use Rattle.ghistory.specs.Passes.{entries_in}
 use Rattle.ghistory.proofs.Reaching.{place_inside}
 use Rattle.ghistory.proofs.PassPlaces.{is_none, max_is, one_place, place_next}
 use Rattle.ghistory.proofs.pass.marks.end_of.Goals as goal
@@ -9,13 +9,13 @@ use Rattle.ghistory.proofs.pass.marks.end_of.Goals.{in-Some, in_default}
 
 pub overflow_add-place : goal.overflow_add-place
 overflow_add-place g c =
-    let inside = place_inside (entries_of c.args.graph.now) c.id-item.result c.in-Some.place (sym c.in-Some.ensures) in
+    let inside = place_inside (entries_in c.args.graph.now) c.id-item.result c.in-Some.place (sym c.in-Some.ensures) in
     let few = c.requires.few in
     omega arith
 
 pub loop-id-preserved : goal.loop-id-preserved
 loop-id-preserved g c =
-    let held = entries_of c.args.graph.now in
+    let held = entries_in c.args.graph.now in
     let ids = c.args.ids.now in
     let before = c.loop-id.invariant in
     elim c.match-number.branch [

@@ -1,14 +1,14 @@
 use Rattle.std.proofs.Common.{◌∙◌, ◌≤◌, inl, inr, length, sym, arith}
 use Rattle.std.proofs.lemmas.Option.{none-some}
 use Rattle.std.proofs.lemmas.List.{take_all}
-use Rattle.ghistory.specs.Passes.{entries_of}
+use Rattle.ghistory.specs.Passes.{entries_in}
 use Rattle.ghistory.proofs.PassPlaces.{is_none, one_place, place_next}
 use Rattle.ghistory.proofs.pass.marks.first_of.Goals as goal
 use Rattle.ghistory.proofs.pass.marks.first_of.Goals.{in-Some, in_default}
 
 pub loop-id-preserved : goal.loop-id-preserved
 loop-id-preserved g c =
-    let held = entries_of c.args.graph.now in
+    let held = entries_in c.args.graph.now in
     let ids = c.args.ids.now in
     let before = c.loop-id.invariant in
     elim c.match-number.branch [

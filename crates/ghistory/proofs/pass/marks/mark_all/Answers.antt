@@ -1,12 +1,12 @@
 use Rattle.std.proofs.Common.{◌∙◌, sym}
-use Rattle.ghistory.specs.Passes.{entries_of}
+use Rattle.ghistory.specs.Passes.{entries_in}
 use Rattle.ghistory.proofs.PassPlaces.{is_none, marks_next, marks_past}
 use Rattle.ghistory.proofs.pass.marks.mark_all.Goals as goal
 use Rattle.ghistory.proofs.pass.marks.mark_all.Goals.{in-Some, in_default}
 
 pub loop-id-preserved : goal.loop-id-preserved
 loop-id-preserved g c =
-    let held = entries_of c.args.graph.now in
+    let held = entries_in c.args.graph.now in
     let ids = c.args.ids.now in
     elim c.match-number.branch [
       | in-Some w ↦

@@ -1,16 +1,16 @@
 use Rattle.std.proofs.Common.{◌<◌, length, arith}
-use Rattle.ghistory.specs.Passes.{entries_of}
+use Rattle.ghistory.specs.Passes.{entries_in}
 use Rattle.ghistory.proofs.PassTags.{chain_begins, chain_goes_on, chain_done}
 use Rattle.ghistory.proofs.pass.tags.mark_chain.Goals as goal
 
 pub loop-next-init : goal.loop-next-init
-loop-next-init g c = chain_begins (entries_of c.args.graph.now) c.args.start c.args.tagged.now.items c.requires.order c.requires.held
+loop-next-init g c = chain_begins (entries_in c.args.graph.now) c.args.start c.args.tagged.now.items c.requires.order c.requires.held
 
 pub loop-next-preserved : goal.loop-next-preserved
 loop-next-preserved g c =
     let before = c.loop-next.invariant in
     let within : c.loop-next.at < length c.loop-next.tagged.items = let l = before.long in let low = before.low in let h = c.requires.inside in omega arith in
-    chain_goes_on (entries_of c.args.graph.now) c.args.start c.loop-next.at c.args.tagged.now.items c.loop-next.tagged.items before c.in-Some.next c.in-Some.ensures within
+    chain_goes_on (entries_in c.args.graph.now) c.args.start c.loop-next.at c.args.tagged.now.items c.loop-next.tagged.items before c.in-Some.next c.in-Some.ensures within
 
 pub returns : goal.returns
-returns g c = chain_done (entries_of c.args.graph.now) c.args.start c.loop-next.at c.args.tagged.now.items c.loop-next.tagged.items c.loop-next.invariant c.in_default.ensures
+returns g c = chain_done (entries_in c.args.graph.now) c.args.start c.loop-next.at c.args.tagged.now.items c.loop-next.tagged.items c.loop-next.invariant c.in_default.ensures

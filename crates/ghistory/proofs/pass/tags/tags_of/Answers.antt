@@ -1,6 +1,6 @@
 use Rattle.std.proofs.Common.{◌∙◌, false, length, sym, ap, arith}
 use Rattle.std.proofs.lemmas.List.{length-replicate}
-use Rattle.ghistory.specs.Passes.{entries_of}
+use Rattle.ghistory.specs.Passes.{entries_in}
 use Rattle.ghistory.proofs.PassPlaces.{is_none, item_place}
 use Rattle.ghistory.proofs.PassTags.{tip_absent, tip_open, tip_shut}
 use Rattle.ghistory.proofs.pass.tags.tags_of.Goals as goal
@@ -8,7 +8,7 @@ use Rattle.ghistory.proofs.pass.tags.tags_of.Goals.{in-Some+then-sent, in-Some+e
 
 pub mark_chain-requires-clause-inside : goal.mark_chain-requires-clause-inside
 mark_chain-requires-clause-inside g c =
-    let x = item_place (entries_of c.args.graph.now) c.args.tips.now c.loop-tip.tip-index c.tip-item.result c.loop-tip-test.true c.tip-item.is c.in-Some.start (sym c.in-Some.ensures) in
+    let x = item_place (entries_in c.args.graph.now) c.args.tips.now c.loop-tip.tip-index c.tip-item.result c.loop-tip-test.true c.tip-item.is c.in-Some.start (sym c.in-Some.ensures) in
     let h = c.end_of.ensures.below c.in-Some.start x in
     let long = c.loop-tip.invariant.long in
     let first = ap length c.in_ok-tagged.ensures.marks in
@@ -17,7 +17,7 @@ mark_chain-requires-clause-inside g c =
 
 pub loop-tip-preserved : goal.loop-tip-preserved
 loop-tip-preserved g c =
-    let held = entries_of c.args.graph.now in
+    let held = entries_in c.args.graph.now in
     let tips = c.args.tips.now in
     let before = c.loop-tip.invariant in
     let pass = c.args.pass.now in

@@ -1,9 +1,9 @@
 use Rattle.std.proofs.Common.{◌≡◌, length, take}
-use Rattle.ghistory.specs.Passes.{MarksTags, entries_of}
+use Rattle.ghistory.specs.Passes.{MarksTags, entries_in}
 use Rattle.ghistory.proofs.pass.tags.tags_of.Given as goal
 
 abbrev pub invariant-loop-tip : goal.invariant-loop-tip
 invariant-loop-tip g l = record {
-  marks : MarksTags (entries_of l.graph) (take l.tip-index l.tips) l.pass.wanted.items l.pass.known.items l.tagged.items;
+  marks : MarksTags (entries_in l.graph) (take l.tip-index l.tips) l.pass.wanted.items l.pass.known.items l.tagged.items;
   long : length l.tagged.items ≡ length l.initial.tagged.items;
 }

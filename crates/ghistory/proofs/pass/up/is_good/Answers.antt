@@ -1,5 +1,5 @@
 use Rattle.std.proofs.Common.{◌∙◌, length, refl, sym, arith}
-use Rattle.ghistory.specs.Passes.{entries_of}
+use Rattle.ghistory.specs.Passes.{entries_in}
 use Rattle.ghistory.proofs.PassUp.{good_placed, good_absent}
 use Rattle.ghistory.proofs.pass.up.is_good.Goals as goal
 
@@ -7,9 +7,9 @@ pub returns-in-Some : goal.returns-in-Some
 returns-in-Some g c =
     let at = sym c.in-Some.ensures in
     let inside = c.requires.inside c.in-Some.place (record { id = c.args.id.now; among = (0, omega arith, refl); at = at }) in
-    good_placed (entries_of c.args.graph.now) c.args.goals.now c.args.id.now c.in-Some.place (length c.args.good.now) c.args.good.now c.is_marked.result at inside c.requires.good c.is_marked.ensures
+    good_placed (entries_in c.args.graph.now) c.args.goals.now c.args.id.now c.in-Some.place (length c.args.good.now) c.args.good.now c.is_marked.result at inside c.requires.good c.is_marked.ensures
 
 pub returns-in-None : goal.returns-in-None
 returns-in-None g c =
     let absent = sym c.number.ensures ∙ c.in-None.is in
-    good_absent (entries_of c.args.graph.now) c.args.goals.now c.args.id.now c.contains.result absent c.contains.ensures.cases
+    good_absent (entries_in c.args.graph.now) c.args.goals.now c.args.id.now c.contains.result absent c.contains.ensures.cases

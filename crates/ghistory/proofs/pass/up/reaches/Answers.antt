@@ -1,5 +1,5 @@
 use Rattle.std.proofs.Common.{ap, length, arith}
-use Rattle.ghistory.specs.Passes.{entries_of}
+use Rattle.ghistory.specs.Passes.{entries_in}
 use Rattle.ghistory.proofs.PassUp.{any_one}
 use Rattle.ghistory.proofs.pass.up.reaches.Goals as goal
 
@@ -11,5 +11,5 @@ is_good-requires-clause-inside g c =
 
 pub returns-clause-answer : goal.returns-clause-answer
 returns-clause-answer g c =
-    let one = any_one (entries_of c.args.graph.now) c.args.a.now c.args.b.now in
+    let one = any_one (entries_in c.args.graph.now) c.args.a.now c.args.b.now in
     (λ t. one.0 (c.is_good.ensures.0 t), λ way. c.is_good.ensures.1 (one.1 way))

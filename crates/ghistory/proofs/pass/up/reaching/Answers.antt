@@ -1,6 +1,6 @@
 use Rattle.std.proofs.Common.{◌∙◌, sym}
 use Rattle.std.proofs.lemmas.Bool.{false≢true}
-use Rattle.ghistory.specs.Passes.{entries_of}
+use Rattle.ghistory.specs.Passes.{entries_in}
 use Rattle.ghistory.proofs.PassUp.{rising_begins, rising_marks, rising_passes}
 use Rattle.ghistory.proofs.pass.up.reaching.Goals as goal
 use Rattle.ghistory.proofs.pass.up.reaching.Goals.{then-has_marked, else-has_marked}
@@ -8,11 +8,11 @@ use Rattle.ghistory.proofs.pass.up.reaching.Goals.{then-has_marked, else-has_mar
 pub loop-place-init : goal.loop-place-init
 loop-place-init g c =
     let marks = rw c.in_ok-good.ensures.marks at c.mark_all.ensures in
-    rising_begins (entries_of c.args.graph.now) c.args.goals.now c.args.end c.requires.order c.first_of-place.result c.mark_all.new.marks.items marks c.first_of-place.ensures.first
+    rising_begins (entries_in c.args.graph.now) c.args.goals.now c.args.end c.requires.order c.first_of-place.result c.mark_all.new.marks.items marks c.first_of-place.ensures.first
 
 pub loop-place-preserved : goal.loop-place-preserved
 loop-place-preserved g c =
-    let held = entries_of c.args.graph.now in
+    let held = entries_in c.args.graph.now in
     let has = rw c.as_slice.ensures.value at c.has_marked.ensures in
     elim c.if-has_marked.branch [
       | then-has_marked w ↦

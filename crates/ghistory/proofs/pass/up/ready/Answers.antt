@@ -5,13 +5,13 @@ use Rattle.std.proofs.lemmas.List.{take_all}
 use Rattle.std.proofs.lemmas.List.Elements.{All-more}
 use Rattle.ghistory.specs.Reach.{Reaches}
 use Rattle.ghistory.specs.Walks.{IsReady}
-use Rattle.ghistory.specs.Passes.{entries_of}
+use Rattle.ghistory.specs.Passes.{entries_in}
 use Rattle.ghistory.proofs.PassPlaces.{item_place, one_item}
 use Rattle.ghistory.proofs.pass.up.ready.Goals as goal
 
 pub is_good-requires-clause-inside : goal.is_good-requires-clause-inside
 is_good-requires-clause-inside g c =
-    let held = entries_of c.args.graph.now in
+    let held = entries_in c.args.graph.now in
     let long = c.in_ok-good.ensures.long in
     let same = ap length c.as_slice.ensures.value in
     λ p x. (
@@ -22,7 +22,7 @@ is_good-requires-clause-inside g c =
 
 pub returns-then-not-is_good-clause-answer : goal.returns-then-not-is_good-clause-answer
 returns-then-not-is_good-clause-answer g c =
-    let held = entries_of c.args.graph.now in
+    let held = entries_in c.args.graph.now in
     let P : List ℕ → Type 0 = λ want. Any (Reaches held want) c.args.commons.now in
     let one : IsReady held c.args.wants.now c.args.commons.now → P c.want-item.result = λ r. subst P (sym c.want-item.is) (r.each c.loop-want.want-index c.want-item.result c.loop-want-test.true) in (
       λ e. absurd (false≢true e),
@@ -31,7 +31,7 @@ returns-then-not-is_good-clause-answer g c =
 
 pub loop-want-preserved : goal.loop-want-preserved
 loop-want-preserved g c =
-    let P : List ℕ → Type 0 = λ want. Any (Reaches (entries_of c.args.graph.now) want) c.args.commons.now in
+    let P : List ℕ → Type 0 = λ want. Any (Reaches (entries_in c.args.graph.now) want) c.args.commons.now in
     let one : P c.want-item.result = c.is_good.ensures.0 c.if-not-is_good.false in
     All-more P c.args.wants.now c.loop-want.want-index c.want-item.result c.loop-want-test.true c.loop-want.invariant (subst P c.want-item.is one)
 

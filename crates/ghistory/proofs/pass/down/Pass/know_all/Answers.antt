@@ -1,5 +1,5 @@
 use Rattle.std.proofs.Common.{◌∙◌, sym, arith}
-use Rattle.ghistory.specs.Passes.{entries_of}
+use Rattle.ghistory.specs.Passes.{entries_in}
 use Rattle.ghistory.proofs.PassPlaces.{is_none, item_place, marks_next, marks_past}
 use Rattle.ghistory.proofs.pass.down.Pass.know_all.Goals as goal
 use Rattle.ghistory.proofs.pass.down.Pass.know_all.Goals.{in-Some, in_default}
@@ -7,14 +7,14 @@ use Rattle.ghistory.proofs.pass.down.Pass.know_all.Goals.{in-Some, in_default}
 pub know-requires-clause-below : goal.know-requires-clause-below
 know-requires-clause-below g c =
     let place = c.in-Some.place in
-    let x = item_place (entries_of c.args.graph.now) c.args.ids.now c.loop-id.id-index c.id-item.result c.loop-id-test.true c.id-item.is place (sym c.in-Some.ensures) in
+    let x = item_place (entries_in c.args.graph.now) c.args.ids.now c.loop-id.id-index c.id-item.result c.loop-id-test.true c.id-item.is place (sym c.in-Some.ensures) in
     let h = c.requires.below place x in
     let same = c.loop-id.invariant.next in
     omega arith
 
 pub loop-id-preserved : goal.loop-id-preserved
 loop-id-preserved g c =
-    let held = entries_of c.args.graph.now in
+    let held = entries_in c.args.graph.now in
     let ids = c.args.ids.now in
     let before = c.loop-id.invariant in
     elim c.match-number.branch [

@@ -1,5 +1,5 @@
 use Rattle.std.proofs.Common.{◌≡◌, ◌+◌, ◌-◌, ◌<◌, true, false, length, arith}
-use Rattle.ghistory.specs.Passes.{entries_of}
+use Rattle.ghistory.specs.Passes.{entries_in}
 use Rattle.ghistory.proofs.PassPlaces.{parents_below, parents_first, read_mark}
 use Rattle.ghistory.proofs.PassCounting.{some_next, next_open, next_shut, open_if, shut_known, shut_idle}
 use Rattle.ghistory.proofs.PassDown.{knows, wants_more, goes_by}
@@ -31,8 +31,8 @@ know_all-requires-clause-below g c =
     let self = c.args.self.now in
     let place = self.next - 1 in
     let some = some_next self.wanted.items self.known.items self.next self.pending c.requires.counted c.requires.pending in
-    let inside : place < length (entries_of c.args.graph.now) = let h = c.requires.inside in omega arith in
-    parents_below (entries_of c.args.graph.now) place c.parents.result.now c.requires.order inside c.parents.ensures
+    let inside : place < length (entries_in c.args.graph.now) = let h = c.requires.inside in omega arith in
+    parents_below (entries_in c.args.graph.now) place c.parents.result.now c.requires.order inside c.parents.ensures
 
 pub parents-requires-then-is_marked-2 : goal.parents-requires-then-is_marked-2
 parents-requires-then-is_marked-2 g c =
@@ -56,8 +56,8 @@ want_all-requires-clause-below g c =
     let self = c.args.self.now in
     let place = self.next - 1 in
     let some = some_next self.wanted.items self.known.items self.next self.pending c.requires.counted c.requires.pending in
-    let inside : place < length (entries_of c.args.graph.now) = let h = c.requires.inside in omega arith in
-    parents_below (entries_of c.args.graph.now) place c.parents-then-is_marked-2.result.now c.requires.order inside c.parents-then-is_marked-2.ensures
+    let inside : place < length (entries_in c.args.graph.now) = let h = c.requires.inside in omega arith in
+    parents_below (entries_in c.args.graph.now) place c.parents-then-is_marked-2.result.now c.requires.order inside c.parents-then-is_marked-2.ensures
 
 pub returns-then-is_marked-clause-next : goal.returns-then-is_marked-clause-next
 returns-then-is_marked-clause-next g c =
@@ -82,7 +82,7 @@ returns-else-is_marked-2-clause-next g c =
 pub returns-then-is_marked-clause-passed : goal.returns-then-is_marked-clause-passed
 returns-then-is_marked-clause-passed g c =
     let self = c.args.self.now in
-    let held = entries_of c.args.graph.now in
+    let held = entries_in c.args.graph.now in
     let place = self.next - 1 in
     let some = some_next self.wanted.items self.known.items self.next self.pending c.requires.counted c.requires.pending in
     let is : self.next ≡ place + 1 = omega arith in
@@ -96,7 +96,7 @@ returns-then-is_marked-clause-passed g c =
 pub returns-then-is_marked-2-clause-passed : goal.returns-then-is_marked-2-clause-passed
 returns-then-is_marked-2-clause-passed g c =
     let self = c.args.self.now in
-    let held = entries_of c.args.graph.now in
+    let held = entries_in c.args.graph.now in
     let place = self.next - 1 in
     let some = some_next self.wanted.items self.known.items self.next self.pending c.requires.counted c.requires.pending in
     let is : self.next ≡ place + 1 = omega arith in
@@ -120,7 +120,7 @@ returns-else-is_marked-2-clause-counted g c =
 pub returns-else-is_marked-2-clause-passed : goal.returns-else-is_marked-2-clause-passed
 returns-else-is_marked-2-clause-passed g c =
     let self = c.args.self.now in
-    let held = entries_of c.args.graph.now in
+    let held = entries_in c.args.graph.now in
     let place = self.next - 1 in
     let some = some_next self.wanted.items self.known.items self.next self.pending c.requires.counted c.requires.pending in
     let is : self.next ≡ place + 1 = omega arith in
