@@ -1,4 +1,5 @@
 pub mod Faults
+pub mod Formats
 pub mod Graphs
 pub mod Insert
 pub mod Laws
@@ -6,4 +7,6 @@ pub mod Levels
 pub mod Offer
 pub mod Peeling
 pub mod Reach
+pub mod Selecting
+pub mod Sending
 pub mod Walks

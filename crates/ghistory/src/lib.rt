@@ -1,19 +1,45 @@
-//! The graph of a repository's commits and tags, and the walks over it.
+//! The graph of a repository's commits and tags: which objects there are, in the order in which they first
+//! came, and which lead to which.
+//!
+//! # Proved
+//!
+//! - A `Graph` holds each id once, `MAX_NODES` of them at most, all of one object format, each node with
+//!   `MAX_PARENTS` parents at most and a tag with exactly one. Its look-ups, by id and by place, and the map
+//!   that it lends read what it holds, and take no memory.
+//! - It knows exactly whether each object came after all its parents.
+//! - `insert` and `insert_all` add each new object after the others, and nothing else; they refuse an entry
+//!   for its first cause alone, in a fixed order, and then the graph is as it was. Memory is a cause only
+//!   where an object is new and there is room for it.
+//! - `is_closed` answers whether no parent is missing.
+//! - `laws` speak of all graphs and lists: of reaching, of whole ancestries, of graphs that agree, of
+//!   peeling, and that a list to send, once it is inserted, makes the wants whole at the client.
+//!
+//! # Only tested
+//!
+//! That a call does the work at its first try where there is memory: `Memory` may come in place of any
+//! growth.
+//!
+//! # What a body can still get away with
+//!
+//! It may take as long as it likes, and more memory than it needs. It may report out of memory of any new
+//! object.
+//!
+//! # Stands on
+//!
+//! `gname` for ids, `gobject` for nodes and entries, `indexmap` for the map from ids to nodes, and
+//! `thiserror` for the texts of faults.
 #![tactic(auto)]
 
 mod closed;
 mod fault;
+mod formats;
 mod graph;
-mod haves;
 mod insert;
 pub mod laws;
-mod levels;
-mod peel;
-mod walk;
 
 pub use crate::fault::GraphFault;
-pub use crate::graph::{Graph, MAX_NODES};
-pub use crate::walk::Count;
+pub use crate::formats::{Format, format_of};
+pub use crate::graph::{Graph, IdHasher, MAX_NODES};
 
 #[cfg(test)]
-mod walk_tests;
+mod store_tests;
