@@ -7,9 +7,9 @@ use Rattle.std.proofs.lemmas.Bool.{cases_Bool, false≢true}
 use Rattle.std.proofs.lemmas.List.Elements.{All-contains, All-head, All-tail, All-cons, All-nil, Contains-append_left, Contains-append_right, Contains-get_or}
 use Rattle.gobject.specs.declared.node.Node.{Node}
 use Rattle.gobject.specs.declared.node.Entry.{Entry}
-use Rattle.gobject.specs.Objects.{has_id, node_at, entry_of, place_of, IdsDiffer}
+use Rattle.gobject.specs.Objects.{has_id, node_at, entry_of, place_of, IdsDiffer, IsShaped}
 use Rattle.ghistory.specs.declared.formats.Format.{Format}
-use Rattle.ghistory.specs.Graphs.{IsNode, Holds, HasParent}
+use Rattle.ghistory.specs.Graphs.{History, IsNode, IsGraph, Holds, HasIdsOf, HasParent}
 use Rattle.ghistory.specs.Reach.{Reaches, here, onward, SomeReaches, IsFull, IsClosed, Agree, Keeps, Grows}
 use Rattle.ghistory.specs.Insert.{Inserts, ComesIn, Lists, AddsOnly, AddsOnlyParents}
 use Rattle.ghistory.specs.Peeling.{IsTagOf, IsCommit, Tags, PeelsTo}
@@ -18,7 +18,7 @@ use Rattle.ghistory.specs.Sending.{IsNew, IsToSend, IsListToSend}
 use Rattle.ghistory.specs.Laws.{HasAll}
 use Rattle.ghistory.proofs.Reaching.{kept_along, reaches_parent, full_in_closed, place_at, node_at_place}
 use Rattle.ghistory.proofs.PeelLemmas.{peel_ends}
-use Rattle.ghistory.proofs.Holding.{held_node, own_place, has_id_is, id_cases, node_here, node_there}
+use Rattle.ghistory.proofs.Holding.{held_node, own_place, has_id_is, id_cases, node_here, node_there, absent_head, absent_tail}
 use Rattle.ghistory.proofs.Growing.{grows_keeps, inserts_grows, inserts_held, node_in_front, node_behind, reached_before}
 
 -- a node that is there is held
@@ -120,6 +120,41 @@ chosen_all P Q xs ys none all = All-nil Q
 chosen_all P Q xs ys (keep {x = x} {xs = others} {ys = more} p rest) all =
     All-cons Q x more (All-head Q x others all) (chosen_all P Q others more rest (All-tail Q x others all))
 chosen_all P Q xs ys (skip {x = x} {xs = others} left_out rest) all = chosen_all P Q others ys rest (All-tail Q x others all)
+
+-- one list is chosen
+pub one_choice : {X : Type 0} (P : X → Type 0) (xs ys zs : List X) → Selects P xs ys → Selects P xs zs → ys ≡ zs
+one_choice P xs ys zs none none = refl
+one_choice P xs ys zs (keep {x = x} {xs = others} {ys = more} p rest) (keep {ys = less} q last) = ap (λ l. x ∷ l) (one_choice P others more less rest last)
+one_choice P xs ys zs (keep p rest) (skip left_out last) = absurd (left_out p)
+one_choice P xs ys zs (skip left_out rest) (keep p last) = absurd (left_out p)
+one_choice P xs ys zs (skip {xs = others} left_out rest) (skip other last) = one_choice P others ys zs rest last
+
+chosen_few : {X : Type 0} (P : X → Type 0) (xs ys : List X) → Selects P xs ys → length ys ≤ length xs
+chosen_few P xs ys none = omega arith
+chosen_few P xs ys (keep {xs = others} {ys = more} p rest) = let l = chosen_few P others more rest in omega arith
+chosen_few P xs ys (skip {xs = others} left_out rest) = let l = chosen_few P others ys rest in omega arith
+
+-- an id of no entry is none of a chosen one's
+chosen_absent : {A : Type 0} (P : Entry A → Type 0) (g list : List (Entry A)) (a : List ℕ) → Selects P g list → node_at g a ≡ None → node_at list a ≡ None
+chosen_absent P g list a none absent = refl
+chosen_absent P g list a (keep {x = entry} {xs = others} {ys = more} p rest) absent =
+    node_there entry more a (absent_head entry others a absent) ∙ chosen_absent P others more a rest (absent_tail entry others a absent)
+chosen_absent P g list a (skip {x = entry} {xs = others} left_out rest) absent = chosen_absent P others list a rest (absent_tail entry others a absent)
+
+chosen_differ : {A : Type 0} (P : Entry A → Type 0) (g list : List (Entry A)) → Selects P g list → IdsDiffer g → IdsDiffer list
+chosen_differ P g list none differ = tt
+chosen_differ P g list (keep {x = entry} {xs = others} {ys = more} p rest) differ =
+    (chosen_absent P others more entry.id rest differ.0, chosen_differ P others more rest differ.1)
+chosen_differ P g list (skip {xs = others} left_out rest) differ = chosen_differ P others list rest differ.1
+
+-- chosen entries of a graph are a graph's
+pub chosen_graph : {A : Type 0} (P : Entry A → Type 0) (g : History A) (list : List (Entry A)) → IsGraph g → Selects P g.entries list → IsGraph (record { format = g.format; entries = list })
+chosen_graph {A} P g list graph chosen = record {
+  differ = chosen_differ P g.entries list chosen graph.differ;
+  ids = chosen_all P (HasIdsOf g.format) g.entries list chosen graph.ids;
+  shaped = chosen_all P (λ (e : Entry A). IsShaped e.node) g.entries list chosen graph.shaped;
+  few = let l = chosen_few P g.entries list chosen in let f = graph.few in omega arith;
+}
 
 -- where ids differ, each entry is the node of its id
 pub own_node : {A : Type 0} (g : List (Entry A)) (k : ℕ) (entry : Entry A) → IdsDiffer g → slice_get g k ≡ Some entry → IsNode g entry.id entry.node

@@ -3,7 +3,7 @@ use Rattle.std.specs.Prelude.{◌≡◌, ◌<◌, ◌≤◌, ◌⊎◌, ◌↔�
 use Rattle.gobject.specs.declared.node.Entry.{Entry}
 use Rattle.gobject.specs.Objects.{node_at, place_of, IdsDiffer, IsShaped}
 use Rattle.ghistory.specs.declared.formats.Format.{Format}
-use Rattle.ghistory.specs.Graphs.{Holds, IsNode, IsGraph, IsOrdered, HasIdsOf, max_nodes}
+use Rattle.ghistory.specs.Graphs.{History, Holds, IsNode, IsGraph, IsOrdered, HasIdsOf, max_nodes}
 use Rattle.ghistory.specs.Reach.{Reaches, IsFull, IsClosed, Agree, Keeps}
 use Rattle.ghistory.specs.Insert.{Inserts}
 use Rattle.ghistory.specs.Peeling.{IsTagOf, PeelsTo}
@@ -62,6 +62,18 @@ abbrev pub ReachingGoesDown : Type 0 → Type 0
 ReachingGoesDown A =
     (g : List (Entry A)) (a b : List ℕ) (p : ℕ)
     → IdsDiffer g → IsOrdered g → Reaches g a b → place_of g a ≡ Some p → (q : ℕ) × (place_of g b ≡ Some q) × (q ≤ p)
+
+-- there is one list to send
+abbrev pub OneListToSend : Type 0 → Type 0
+OneListToSend A =
+    (g list other : List (Entry A)) (wants commons tips : List (List ℕ))
+    → IsListToSend g wants commons tips list → IsListToSend g wants commons tips other → list ≡ other
+
+-- and its entries are a graph's: their ids differ and are of the format, and each node has its shape
+abbrev pub SentAreEntries : Type 0 → Type 0
+SentAreEntries A =
+    (g : History A) (list : List (Entry A)) (wants commons tips : List (List ℕ))
+    → IsGraph g → IsListToSend g.entries wants commons tips list → IsGraph (record { format = g.format; entries = list })
 
 -- the ids are full, and all that they reach in another graph is held
 abbrev pub HasAll : {A : Type 0} → List (Entry A) → List (List ℕ) → List (Entry A) → Type 0

@@ -1,7 +1,7 @@
 // Laws of graphs. A call does nothing, and gives its caller's proof the law.
 #![tactic(auto)]
 
-ghost use Rattle.ghistory.specs.Laws.{EntriesComeInOrder, ClosedIsFull, ReachingGoesOn, FullStaysFull, PathsAreShared, AgreeingStays, PeelsToOne, PeelsAlongTags, OrderedIsClosed, ReachingGoesDown, SendingIsEnough};
+ghost use Rattle.ghistory.specs.Laws.{EntriesComeInOrder, ClosedIsFull, ReachingGoesOn, FullStaysFull, PathsAreShared, AgreeingStays, PeelsToOne, PeelsAlongTags, OrderedIsClosed, ReachingGoesDown, OneListToSend, SentAreEntries, SendingIsEnough};
 ghost use Rattle.ghistory.specs.Levels.{LevelsAreDistances};
 ghost use Rattle.ghistory.specs.Offer.{OffersAreExact};
 
@@ -76,6 +76,17 @@ pub fn ordered_is_closed<A: Allocator + Copy>()
 /// In a graph in which parents come first an id reaches no id with a higher number.
 pub fn reaching_goes_down<A: Allocator + Copy>()
     ensures { ReachingGoesDown A }
+{}
+
+/// There is one list to send for some wants, common ids and tips.
+pub fn one_list_to_send<A: Allocator + Copy>()
+    ensures { OneListToSend A }
+{}
+
+/// The entries of a list to send are a graph's: their ids differ and are of its format, and each node has its
+/// shape.
+pub fn sent_are_entries<A: Allocator + Copy>()
+    ensures { SentAreEntries A }
 {}
 
 /// What a server sends makes the wants whole at the client. No parent is missing in the server's graph, the
