@@ -48,7 +48,7 @@ abbrev tail_of : List ℕ → List ℕ
 tail_of [] = []
 tail_of (x ∷ xs) = xs
 
--- the first line of some bytes, and what is behind its LF, are one
+-- the first line of some bytes, and what follows its LF, are one
 pub one_line : (a b r s : List ℕ) → IsLine a → IsLine b → a ++ (codes "\n" ++ r) ≡ b ++ (codes "\n" ++ s) → (a ≡ b) × (r ≡ s)
 one_line [] [] r s la lb e = (refl, ap tail_of e)
 one_line [] (y ∷ b) r s la lb e = absurd (lb.0 (sym (ap head_of e)))

@@ -21,11 +21,11 @@ lines_more f old xs x =
 pub ids_more : (old : List ℕ) (ids : List (List ℕ)) (id : List ℕ) → ((old ++ spaced_ids ids) ++ codes " ") ++ id_text id ≡ old ++ spaced_ids (ids ++ id ∷ [])
 ids_more old ids id = rw (spaced-append ids (id ∷ [])) (simp (append_assoc, append-nil))
 
--- the item that a loop is at is the next of those behind it
+-- the item that a loop is at is the next of those after it
 pub next_seen : {X : Type 0} (xs : List X) (i : ℕ) (x : X) → i < length xs → x ≡ get_or xs i x → take i xs ++ x ∷ [] ≡ take (i + 1) xs
 next_seen {X} xs i x lt is = ap (λ (y : X). take i xs ++ y ∷ []) is ∙ sym (take_more xs i x lt)
 
--- the parts of a repository, put one behind the other, are its text
+-- the parts of a repository, put one after the other, are its text
 pub whole_text : {A : Type 0} (g : List (Entry A)) (refs : RefList) (head : Head A) → (((codes "gitv2 1\n" ++ text_of (map node_line g)) ++ text_of (map ref_line refs)) ++ (head_line head ++ codes "\n")) ++ codes "end\n" ≡ repository_text g refs head
 whole_text {A} g refs head =
     let ending = head_line head ++ (codes "\n" ++ codes "end\n") in
@@ -38,6 +38,6 @@ whole_text {A} g refs head =
     ∙ append_assoc (codes "gitv2 1\n") (text_of (map node_line g)) (text_of (map ref_line refs) ++ ending)
     ∙ ap (λ (t : List ℕ). codes "gitv2 1\n" ++ t) (sym parts)
 
--- a piece put behind
+-- a piece put after
 pub put_behind : (new mid old piece more : List ℕ) → new ≡ mid ++ piece → mid ≡ old ++ more → new ≡ (old ++ more) ++ piece
 put_behind new mid old piece more e f = e ∙ ap (λ (t : List ℕ). t ++ piece) f

@@ -14,7 +14,7 @@ use Rattle.ggraph.specs.Reading.{Item, MayCome, TakesRefs, after, begins, ends, 
 use Rattle.ggraph.specs.Loading.{Begins}
 use Rattle.ggraph.proofs.Items.{HasRead, ReadsTo, items_text}
 
--- ---- each element behind those before it
+-- ---- each element after those before it
 
 each_none : {X : Type 0} (P : List X → X → Type 0) → EachBehind P []
 each_none P [] x back e = cc

@@ -3,6 +3,7 @@ pub mod Loading
 pub mod Reading
 pub mod RepositoryText
 pub mod SafeRefs
+pub mod TextLaws
 pub mod TextParts
 pub use Rattle.gobject.specs.Objects
 pub use Rattle.ghistory.specs.Graphs

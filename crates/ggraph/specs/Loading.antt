@@ -1,5 +1,6 @@
 -- Loading a repository text: where it is refused, and for what.
-use Rattle.std.specs.Prelude.{◌≡◌, ◌≢◌, ◌⊎◌, ⊤, ℕ, ◌+◌, ◌<◌, List, [], ◌∷◌, ◌++◌, length, slice_index, codes, Result, MatchResult}
+use Rattle.std.specs.Prelude.{◌≡◌, ◌≢◌, ◌⊎◌, ⊤, ℕ, ◌+◌, ◌<◌, List, [], ◌∷◌, ◌++◌, length, slice_index, codes, Result}
+use Rattle.std.specs.Prelude.{MatchResult}
 use Rattle.gobject.specs.declared.node.Entry.{Entry}
 use Rattle.grefs.specs.declared.head.Head.{Head}
 use Rattle.ggraph.specs.declared.fault.TextFault.{TextFault}
@@ -31,27 +32,28 @@ pub record IsWhole (A : Type 0) (order : Order) (lines : List (List ℕ)) : Type
 abbrev pub HasNoLf : List ℕ → Type 0
 HasNoLf text = (k : ℕ) → k < length text → slice_index text k ≢ 10
 
--- behind the lines the text goes on with this one
+-- after the lines the text goes on with this one
 abbrev pub GoesOn : List ℕ → List (List ℕ) → List ℕ → Type 0
 GoesOn text lines line =
     (behind : List ℕ) × (text ≡ text_of lines ++ (line ++ (codes "\n" ++ behind))) × HasNoLf line
 
--- the next line comes behind these in no order of nodes
+-- the next line comes after these in no order of nodes
 abbrev pub IsWrongLine : (A : Type 0) → List ℕ → List (List ℕ) → Type 0
 IsWrongLine A text lines = (line : List ℕ) × GoesOn text lines line × ¬ (Begins A Any (lines ++ line ∷ []))
 
--- behind the lines the text has no LF: it ends in a line, or before the last line
+-- after the lines the text has no LF: it ends in a line, or before the last line
 abbrev pub EndsEarly : (A : Type 0) → Order → List ℕ → List (List ℕ) → Type 0
 EndsEarly A order text lines =
     (rest : List ℕ) × (text ≡ text_of lines ++ rest) × HasNoLf rest × (rest ≡ [] → ¬ (IsWhole A order lines))
 
--- the next line may come behind these, but for a parent that is on no earlier line
+-- the next line may come after these, but for a parent that is on no earlier line
 abbrev pub NamesLaterParent : (A : Type 0) → List ℕ → List (List ℕ) → Type 0
 NamesLaterParent A text lines =
-    (line : List ℕ) × GoesOn text lines line × ¬ (Begins A ParentsFirst (lines ++ line ∷ [])) × Begins A Any (lines ++ line ∷ [])
+    (line : List ℕ) × GoesOn text lines line
+    × ¬ (Begins A ParentsFirst (lines ++ line ∷ [])) × Begins A Any (lines ++ line ∷ [])
 
 -- why a text is refused: the lines before the one with the number are right, and that one is wrong, or is not there;
--- want of memory may come at any text
+-- out of memory may come at any text
 abbrev pub StopsAt : (A : Type 0) → Order → List ℕ → TextFault → Type 0
 StopsAt A order text Memory = ⊤
 StopsAt A order text (Text number) =

@@ -11,7 +11,8 @@ use Rattle.ggraph.specs.declared.text.reading.Stage.{Stage}
 use Rattle.ggraph.specs.declared.text.reading.Stage.TheVariants.{First, Nodes, Refs, Last, Done}
 use Rattle.ggraph.specs.declared.text.reading.Reading.{Reading}
 use Rattle.grefs.specs.RefLists.{RefList}
-use Rattle.ggraph.specs.RepositoryText.{IsHead, MayFollow, RefMayFollow, first_line, head_line, last_line, node_line, ref_line}
+use Rattle.ggraph.specs.RepositoryText.{IsHead, MayFollow, RefMayFollow, first_line, head_line, last_line, node_line}
+use Rattle.ggraph.specs.RepositoryText.{ref_line}
 
 -- what a line stands for
 pub data Item (A : Type 0) : Type 0 where
@@ -65,13 +66,16 @@ TakesNot {A} order old line = (item : Item A) → line ≡ line_of item → MayC
 abbrev pub Refuses : {A : Type 0} → Order → Reading A → List ℕ → ℕ → TextFault → Type 0
 Refuses order old line number Memory = ⊤
 Refuses order old line number (Text at) = (at ≡ number) × TakesNot Any old line
-Refuses {A} order old line number (ParentLater at) = (at ≡ number) × (order ≡ ParentsFirst) × TakesNot ParentsFirst old line × (item : Item A) × (line ≡ line_of item) × MayCome Any old item
+Refuses {A} order old line number (ParentLater at) =
+    (at ≡ number) × (order ≡ ParentsFirst) × TakesNot ParentsFirst old line
+    × (item : Item A) × (line ≡ line_of item) × MayCome Any old item
 
 -- why an entry is refused
 abbrev pub RefusesEntry : {A : Type 0} → Order → List (Entry A) → Entry A → ℕ → TextFault → Type 0
 RefusesEntry order g entry number Memory = ⊤
 RefusesEntry order g entry number (Text at) = (at ≡ number) × (MayFollow Any g entry → ⊥)
-RefusesEntry order g entry number (ParentLater at) = (at ≡ number) × (order ≡ ParentsFirst) × MayFollow Any g entry × (MayFollow ParentsFirst g entry → ⊥)
+RefusesEntry order g entry number (ParentLater at) =
+    (at ≡ number) × (order ≡ ParentsFirst) × MayFollow Any g entry × (MayFollow ParentsFirst g entry → ⊥)
 
 -- why a ref is refused
 abbrev pub RefusesRef : RefList → List ℕ × List ℕ → ℕ → TextFault → Type 0

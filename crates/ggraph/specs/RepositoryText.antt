@@ -46,7 +46,7 @@ last_line = codes "end"
 
 -- ---- the text
 
--- lines, an LF behind each
+-- lines, an LF after each
 abbrev pub text_of : List (List ℕ) → List ℕ
 text_of [] = []
 text_of (line ∷ lines) = line ++ (codes "\n" ++ text_of lines)

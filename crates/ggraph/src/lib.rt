@@ -1,31 +1,32 @@
-// The graph of a repository's commits and tags, its refs, and the text that keeps them.
-//
-// A graph is the list of its entries in the order in which they first came; refs are names below
-// refs/ with ids, in the byte order of the names.
-//
-// Proved of every input, by the contracts:
-// - A `Graph` holds each id once, no more than `MAX_NODES` of them, each node with `MAX_PARENTS`
-//   parents at most and a tag with exactly one. Its look-ups read that list and take no memory.
-// - `Graph::peel` answers the commit at the end of a chain of tags, and `None` exactly where the
-//   chain leaves the graph or never ends.
-// - `Refs` are in strictly ascending order. `Refs::set` puts one name at an id and leaves all others,
-//   or changes nothing, and answers `Refs` exactly for HEAD and for one name too many.
-// - `load` accepts exactly the texts of repositories: the text of a graph, refs and HEAD whose nodes and refs
-//   may each follow those before it is read as these, or there is no memory. Any other text is refused at the
-//   first line with which it begins no such text, or where it ends early; as a later parent only where the
-//   line is right but for the order. Want of memory may come at any line.
-// - `save` writes the one text of what it is given, which `load` reads back, or answers want of memory.
-// - `Graph::insert_all` adds each new object of a list once, behind the others, or nothing; a refusal comes
-//   for its cause alone, in a fixed order.
-// - `Graph::missing`, `missing_counted`, `reaches`, `ready`, `send_list` and `haves` answer what reachability
-//   along held objects says, each id taken up once. `laws` say what levels and offers are.
-// - `PlainPack` writes one text for a list and reads exactly such texts; a bad text is told at its line.
-//   What a packer and an indexer that lose nothing owe is `Faithful`.
-//
-// Tested, and not proved: that the largest pack is not passed.
-//
-// It stands on `gname` for ids and names, `memchr` for the ends of lines, `itoa` for the count of a pack,
-// and `thiserror`; its proofs cite `hex`.
+//! The text that keeps a repository: its objects, its refs and HEAD. The crate offers what it stands on
+//! under its own name, too: graphs and walks (`ghistory`), objects and packs (`gobject`), refs and HEAD
+//! (`grefs`).
+//!
+//! # Proved
+//!
+//! - [`load`] accepts exactly the texts of repositories: the text of a graph, refs and HEAD whose nodes
+//!   and refs may each follow those before it is read as these, or memory is missing. Any other text is
+//!   refused at the first line with which it begins no such text, or where it ends early; for a later
+//!   parent only where the line is right but for the order. Out of memory may be reported of any text.
+//! - [`save`] writes the one text of what it is given, which `load` reads back, or reports out of
+//!   memory.
+//! - Each fault has the number and the name of its row.
+//! - No call panics, overflows or reads out of bounds, and each returns.
+//!
+//! # Only tested
+//!
+//! The texts of the faults; that the largest repositories are loaded; that memory which is there is
+//! used, and that out of memory is not reported of a text that needs none.
+//!
+//! # What a body can still get away with
+//!
+//! It may report out of memory of any text, as often as it likes. It may take as long as it likes, and
+//! more memory than it needs.
+//!
+//! # Stands on
+//!
+//! `gobject`, `ghistory` and `grefs` for what a repository holds, `gname` for ids and names, `memchr` for
+//! the ends of lines, `thiserror` for the texts of faults; in tests `bumpalo`, for memory that ends.
 #![tactic(auto)]
 
 mod fault;

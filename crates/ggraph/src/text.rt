@@ -1,6 +1,7 @@
 // The text that keeps a repository.
 #![tactic(auto)]
 
+mod laws;
 mod lines;
 mod loading;
 mod parts;

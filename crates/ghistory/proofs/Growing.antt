@@ -12,11 +12,11 @@ use Rattle.gobject.specs.Objects.{has_id, node_at, IdsDiffer, IsShaped}
 use Rattle.ghistory.specs.Graphs.{History, IsNode, Holds, HasParent, HasIdsOf, IsGraph, max_nodes}
 use Rattle.ghistory.specs.Reach.{Reaches, here, onward, IsFull, Grows, Keeps}
 use Rattle.ghistory.specs.Insert.{ComesIn, Inserts, IsRefused, IsCause}
-use Rattle.ghistory.specs.declared.formats.Format.{Format}
+use Rattle.gname.specs.declared.formats.Format.{Format}
 use Rattle.ghistory.proofs.Reaching.{kept_along, reaches_parent}
 use Rattle.ghistory.proofs.Holding.{held_node, has_id_is, is_has_id, id_cases, node_here, node_there, absent_head, absent_tail}
 
--- ---- nodes behind an append
+-- ---- nodes after an append
 
 pub node_in_front : {A : Type 0} (g more : List (Entry A)) (a : List ℕ) (node : Node A) → IsNode g a node → IsNode (g ++ more) a node
 node_in_front [] more a node is = absurd (none-some node is)

@@ -67,7 +67,7 @@ new_ids-old s x xs e = ap (λ b. cond b (new_ids s xs) (x ∷ new_ids (s ++ x �
 pub new_ids-new : (s : List (List ℕ)) (x : List ℕ) (xs : List (List ℕ)) → is_in s x ≡ false → new_ids s (x ∷ xs) ≡ x ∷ new_ids (s ++ x ∷ []) xs
 new_ids-new s x xs e = ap (λ b. cond b (new_ids s xs) (x ∷ new_ids (s ++ x ∷ []) xs)) e
 
--- a list with the ids that are new to it behind
+-- a list with the ids that are new to it after
 abbrev pub with_new : List (List ℕ) → List (List ℕ) → List (List ℕ)
 with_new s xs = s ++ new_ids s xs
 

@@ -8,7 +8,7 @@ use Rattle.ghistory.proofs.IdLists.{with_new, with_new-nil, with_new-append}
 use Rattle.ghistory.proofs.LevelLaws.{all_parents, levels_few}
 
 -- the walk stands in level k, at its place `at` of all ids: the ids of the levels down to there are those taken up
--- and the rest; behind them stand new parents; and with the parents of the rest the next level would be whole
+-- and the rest; after them stand new parents; and with the parents of the rest the next level would be whole
 pub record IsWalked {A : Type 0} (g : List (Entry A)) (tips ids : List (List ℕ)) (at : ℕ) : Type 0 where
   pub k : ℕ
   pub done : List (List ℕ)

@@ -9,7 +9,7 @@ use Rattle.indexmap.proofs.CallerLemmas.{insert_entry-new}
 use Rattle.gobject.specs.declared.node.Node.{Node}
 use Rattle.gobject.specs.declared.node.Entry.{Entry}
 use Rattle.gobject.specs.Objects.{entry_of, node_at, IsShaped}
-use Rattle.ghistory.specs.declared.formats.Format.{Format}
+use Rattle.gname.specs.declared.formats.Format.{Format}
 use Rattle.ghistory.specs.Graphs.{History, IsGraph, IsOrdered, Holds, HasIdsOf, entries_of, max_nodes}
 use Rattle.ghistory.proofs.Growing.{graph_push, graph_take}
 use Rattle.ghistory.proofs.Ordering.{ordered_push, ordered_before, ordered_last}

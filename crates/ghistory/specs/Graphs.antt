@@ -1,7 +1,7 @@
 -- Graphs of commits and tags: which ids a graph holds, with which nodes, and which is a parent of which.
 use Rattle.std.specs.Prelude.{◌≡◌, ℕ, ◌≤◌, List, length, map, take, slice_get, Contains, All, Some, IsSome}
-use Rattle.ghistory.specs.declared.formats.Format.{Format}
-use Rattle.ghistory.specs.Formats.{IsIdOf}
+use Rattle.gname.specs.declared.formats.Format.{Format}
+use Rattle.gname.specs.Ids.{IsIdOf}
 use Rattle.gobject.specs.declared.node.Node.{Node}
 use Rattle.gobject.specs.declared.node.Entry.{Entry}
 use Rattle.gobject.specs.Objects.{node_at, entry_of, IdsDiffer, IsShaped}
@@ -41,7 +41,8 @@ pub record IsGraph {A : Type 0} (g : History A) : Type 0 where
 
 -- parents come first: each parent of an entry is held by the entries before it
 abbrev pub IsOrdered : {A : Type 0} → List (Entry A) → Type 0
-IsOrdered {A} g = (place : ℕ) (entry : Entry A) → slice_get g place ≡ Some entry → All (Holds (take place g)) entry.node.parents
+IsOrdered {A} g =
+    (place : ℕ) (entry : Entry A) → slice_get g place ≡ Some entry → All (Holds (take place g)) entry.node.parents
 
 -- the entries of a map's pairs, and the pairs of entries
 abbrev pub entries_of : {A : Type 0} → List (List ℕ × Node A) → List (Entry A)

@@ -2,7 +2,7 @@
 use Rattle.std.specs.Prelude.{◌≡◌, ◌<◌, ◌≤◌, ◌⊎◌, ◌↔◌, ℕ, List, ◌∷◌, ◌++◌, length, All, None, Some}
 use Rattle.gobject.specs.declared.node.Entry.{Entry}
 use Rattle.gobject.specs.Objects.{node_at, place_of, IdsDiffer, IsShaped}
-use Rattle.ghistory.specs.declared.formats.Format.{Format}
+use Rattle.gname.specs.declared.formats.Format.{Format}
 use Rattle.ghistory.specs.Graphs.{History, Holds, IsNode, IsGraph, IsOrdered, HasIdsOf, max_nodes}
 use Rattle.ghistory.specs.Reach.{Reaches, IsFull, IsClosed, Agree, Keeps}
 use Rattle.ghistory.specs.Insert.{Inserts}
@@ -32,7 +32,9 @@ ReachingGoesOn A = (g : List (Entry A)) (a b c : List ℕ) → Reaches g a b →
 
 -- where a graph keeps what it held, an id that was full is full, and reaches nothing new
 abbrev pub FullStaysFull : Type 0 → Type 0
-FullStaysFull A = (g h : List (Entry A)) (a : List ℕ) → Keeps g h → IsFull g a → IsFull h a × ((b : List ℕ) → Reaches h a b → Reaches g a b)
+FullStaysFull A =
+    (g h : List (Entry A)) (a : List ℕ) → Keeps g h → IsFull g a
+    → IsFull h a × ((b : List ℕ) → Reaches h a b → Reaches g a b)
 
 -- where two graphs agree, a path in the one from an id that is full in the other is a path in the other
 abbrev pub PathsAreShared : Type 0 → Type 0
@@ -51,7 +53,8 @@ PeelsToOne A = (g : List (Entry A)) (a b c : List ℕ) → PeelsTo g a b → Pee
 -- along tags only: the id is the commit, or a tag of an id that peels to it; so it reaches the commit
 abbrev pub PeelsAlongTags : Type 0 → Type 0
 PeelsAlongTags A =
-    (g : List (Entry A)) (a c : List ℕ) → PeelsTo g a c → ((a ≡ c) ⊎ ((b : List ℕ) × IsTagOf g a b × PeelsTo g b c)) × Reaches g a c
+    (g : List (Entry A)) (a c : List ℕ) → PeelsTo g a c
+    → ((a ≡ c) ⊎ ((b : List ℕ) × IsTagOf g a b × PeelsTo g b c)) × Reaches g a c
 
 -- a graph in which parents come first is closed
 abbrev pub OrderedIsClosed : Type 0 → Type 0
@@ -73,7 +76,8 @@ OneListToSend A =
 abbrev pub SentAreEntries : Type 0 → Type 0
 SentAreEntries A =
     (g : History A) (list : List (Entry A)) (wants commons tips : List (List ℕ))
-    → IsGraph g → IsListToSend g.entries wants commons tips list → IsGraph (record { format = g.format; entries = list })
+    → IsGraph g → IsListToSend g.entries wants commons tips list
+    → IsGraph (record { format = g.format; entries = list })
 
 -- the ids are full, and all that they reach in another graph is held
 abbrev pub HasAll : {A : Type 0} → List (Entry A) → List (List ℕ) → List (Entry A) → Type 0

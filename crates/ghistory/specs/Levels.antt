@@ -1,5 +1,6 @@
 -- The ids about some tips, level by level: the tips, then their parents, then the parents of these, and so on.
-use Rattle.std.specs.Prelude.{◌≡◌, ◌↔◌, ℕ, ◌+◌, ◌<◌, ◌≤◌, zero, suc, Bool, cond, List, [], ◌∷◌, ◌++◌, length, Contains, unwrap_or}
+use Rattle.std.specs.Prelude.{◌≡◌, ◌↔◌, ℕ, ◌+◌, ◌<◌, ◌≤◌, zero, suc, Bool, cond, List, [], ◌∷◌, ◌++◌, length}
+use Rattle.std.specs.Prelude.{Contains, unwrap_or}
 use Rattle.std.specs.List.{flat_map, list_any, IsDistinct}
 use Rattle.std.specs.Option.{option_map}
 use Rattle.std.specs.Str.{bytes_eq}
@@ -24,7 +25,7 @@ parents_of g a = unwrap_or (option_map (λ node. node.parents) (node_at g a)) []
 abbrev pub parents_of_each : {A : Type 0} → List (Entry A) → List (List ℕ) → List (List ℕ)
 parents_of_each g ids = flat_map (parents_of g) ids
 
--- a level, behind all ids of the levels before it
+-- a level, after all ids of the levels before it
 pub record Depth : Type 0 where
   pub before : List (List ℕ)
   pub ids : List (List ℕ)
@@ -46,11 +47,11 @@ depth_at g tips (suc k) = next_depth g (depth_at g tips k)
 abbrev pub level : {A : Type 0} → List (Entry A) → List (List ℕ) → ℕ → List (List ℕ)
 level g tips k = (depth_at g tips k).ids
 
--- the ids of the first k levels, one level behind the other
+-- the ids of the first k levels, one level after the other
 abbrev pub levels_below : {A : Type 0} → List (Entry A) → List (List ℕ) → ℕ → List (List ℕ)
 levels_below g tips k = (depth_at g tips k).before
 
--- these are all levels, one behind the other: the next one, and so each further one, is empty
+-- these are all levels, one after the other: the next one, and so each further one, is empty
 pub record AreLevels {A : Type 0} (g : List (Entry A)) (tips ids : List (List ℕ)) : Type 0 where
   pub count : ℕ
   pub joined : ids ≡ levels_below g tips count
@@ -69,7 +70,7 @@ pub record IsAtDistance {A : Type 0} (g : List (Entry A)) (tips : List (List ℕ
   pub least : (j : ℕ) → j < k → ¬ (Steps g tips j a)
 
 -- level k has exactly the ids at that distance; no id comes twice, at one level or at two; all levels together have
--- at most as many ids as there are tips and parents; so some level is empty, and those behind it are
+-- at most as many ids as there are tips and parents; so some level is empty, and those after it are
 pub record LevelsAreDistances {A : Type 0} (g : List (Entry A)) (tips : List (List ℕ)) : Type 0 where
   pub exact : (k : ℕ) (a : List ℕ) → Contains (level g tips k) a ↔ IsAtDistance g tips k a
   pub once : (k : ℕ) → IsDistinct bytes_eq (levels_below g tips k)

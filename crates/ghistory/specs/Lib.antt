@@ -1,5 +1,4 @@
 pub mod Faults
-pub mod Formats
 pub mod Graphs
 pub mod Insert
 pub mod Laws

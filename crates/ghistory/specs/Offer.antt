@@ -16,7 +16,8 @@ pub record IsUntold {A : Type 0} (g : List (Entry A)) (commons sent : List (List
   pub unsent : ¬ (Contains sent a)
 
 -- the offer: of all ids of the levels about the tips, in order, the first n that are untold
-pub record IsOffer {A : Type 0} (g : List (Entry A)) (tips commons sent : List (List ℕ)) (n : ℕ) (list : List (List ℕ)) : Type 0 where
+pub record IsOffer {A : Type 0} (g : List (Entry A)) (tips commons sent : List (List ℕ)) (n : ℕ)
+    (list : List (List ℕ)) : Type 0 where
   pub count : ℕ
   pub last : level g tips count ≡ []
   pub untold : List (List ℕ)
@@ -29,8 +30,10 @@ pub record OffersAreExact {A : Type 0} (g : List (Entry A)) (tips commons sent :
   pub one : (xs ys : List (List ℕ)) → IsOffer g tips commons sent n xs → IsOffer g tips commons sent n ys → xs ≡ ys
   pub few : (xs : List (List ℕ)) → IsOffer g tips commons sent n xs → length xs ≤ n
   pub once : (xs : List (List ℕ)) → IsOffer g tips commons sent n xs → IsDistinct bytes_eq xs
-  pub each : (xs : List (List ℕ)) (a : List ℕ) → IsOffer g tips commons sent n xs → Contains xs a → IsUntold g commons sent a × SomeReaches g tips a
-  pub all : (xs : List (List ℕ)) (a : List ℕ) → IsOffer g tips commons sent n xs → length xs < n → IsUntold g commons sent a → SomeReaches g tips a → Contains xs a
+  pub each : (xs : List (List ℕ)) (a : List ℕ) → IsOffer g tips commons sent n xs → Contains xs a →
+      IsUntold g commons sent a × SomeReaches g tips a
+  pub all : (xs : List (List ℕ)) (a : List ℕ) → IsOffer g tips commons sent n xs → length xs < n →
+      IsUntold g commons sent a → SomeReaches g tips a → Contains xs a
 
 -- the same test by look-ups, where `reached` is all ids that a common id reaches
 abbrev pub is_untold : {A : Type 0} → List (Entry A) → List (List ℕ) → List (List ℕ) → List ℕ → Bool

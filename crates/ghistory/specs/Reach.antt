@@ -30,7 +30,7 @@ HoldsParents g entry = All (Holds g) entry.node.parents
 abbrev pub Agree : {A : Type 0} → List (Entry A) → List (Entry A) → Type 0
 Agree {A} g h = (a : List ℕ) (m n : Node A) → IsNode g a m → IsNode h a n → m ≡ n
 
--- objects only came, behind those that were there
+-- objects only came, after those that were there
 abbrev pub Grows : {A : Type 0} → List (Entry A) → List (Entry A) → Type 0
 Grows {A} g h = (more : List (Entry A)) × (h ≡ g ++ more)
 

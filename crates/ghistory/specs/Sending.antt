@@ -12,7 +12,8 @@ pub record IsNew {A : Type 0} (g : List (Entry A)) (wants commons : List (List �
   pub unknown : ¬ (SomeReaches g commons a)
 
 -- the id is a tag on the chain of tags that leads from a tip to a new commit
-pub record IsTagToSend {A : Type 0} (g : List (Entry A)) (wants commons tips : List (List ℕ)) (a : List ℕ) : Type 0 where
+pub record IsTagToSend {A : Type 0} (g : List (Entry A)) (wants commons tips : List (List ℕ))
+    (a : List ℕ) : Type 0 where
   pub tip : List ℕ
   pub among : Contains tips tip
   pub steps : ℕ
@@ -28,5 +29,6 @@ abbrev pub IsToSend : {A : Type 0} → List (Entry A) → List (List ℕ) → Li
 IsToSend g wants commons tips entry = IsNew g wants commons entry.id ⊎ IsTagToSend g wants commons tips entry.id
 
 -- the objects to send, in store order; without `include-tag` there are no tips
-abbrev pub IsListToSend : {A : Type 0} → List (Entry A) → List (List ℕ) → List (List ℕ) → List (List ℕ) → List (Entry A) → Type 0
+abbrev pub IsListToSend : {A : Type 0} → List (Entry A) → List (List ℕ) → List (List ℕ) → List (List ℕ)
+    → List (Entry A) → Type 0
 IsListToSend g wants commons tips list = Selects (IsToSend g wants commons tips) g list

@@ -1,6 +1,7 @@
 -- What walks over the ancestry of some ids answer.
 pub use Rattle.ghistory.specs.Selecting.{Selects, none, keep, skip}
-use Rattle.std.specs.Prelude.{◌≡◌, ◌≢◌, ◌⊎◌, ℕ, ◌+◌, Bool, true, false, cond, List, [], ◌∷◌, length, slice_index_or, sum_by, All, Contains, Option, None, Some}
+use Rattle.std.specs.Prelude.{◌≡◌, ◌≢◌, ◌⊎◌, ℕ, ◌+◌, Bool, true, false, cond, List, [], ◌∷◌, length, slice_index_or}
+use Rattle.std.specs.Prelude.{sum_by, All, Contains, Option, None, Some}
 use Rattle.std.specs.List.{Any}
 use Rattle.gobject.specs.declared.node.Entry.{Entry}
 use Rattle.gobject.specs.Objects.{node_at, place_of}
@@ -43,7 +44,8 @@ marked_parents (entry ∷ g) (mark ∷ marks) = cond mark (length entry.node.par
 
 -- what a walk from some ids ends with: the marked places are those of the held ids that they reach, and the lost
 -- ids are the others that they reach
-pub record IsWalk {A : Type 0} (g : List (Entry A)) (starts : List (List ℕ)) (marks : List Bool) (lost : List (List ℕ)) : Type 0 where
+pub record IsWalk {A : Type 0} (g : List (Entry A)) (starts : List (List ℕ)) (marks : List Bool)
+    (lost : List (List ℕ)) : Type 0 where
   pub long : length marks ≡ length g
   pub met : (a : List ℕ) → WasMet g marks lost a → SomeReaches g starts a
   pub all : (a : List ℕ) → SomeReaches g starts a → WasMet g marks lost a

@@ -4,13 +4,12 @@
 ghost use Rattle.std.specs.Prelude.{◌≡◌, [], length, IsTrue, ◌↔◌, slice_get, take, MatchOption, OnOk, OnErr, IfOk, IfErr, All, None, Some, ◌≤◌, ◌<◌, ◌++◌, ◌∷◌};
 ghost use Rattle.std.specs.Option.{option_copied, option_map};
 ghost use Rattle.gobject.specs.Objects.{IsShaped, entry_of, node_at, place_of};
-ghost use Rattle.ghistory.specs.declared.formats.Format.TheVariants.{Sha1};
+ghost use Rattle.gname.specs.declared.formats.Format.TheVariants.{Sha1};
 ghost use Rattle.ghistory.specs.declared.fault.GraphFault.TheVariants.{Memory};
 ghost use Rattle.ghistory.specs.Graphs.{IsGraph, IsOrdered, Holds, HasIdsOf, max_nodes, pairs_of};
 
 use crate::fault::GraphFault;
-use crate::formats::Format;
-use gname::Oid;
+use gname::{Format, Oid};
 use gobject::{Entry, Node};
 use indexmap::IndexMap;
 use std::alloc::{AllocError, Allocator, Global};

@@ -3,16 +3,15 @@
 
 ghost use Rattle.std.specs.Prelude.{◌≡◌, ◌<◌, ◌++◌, ◌∷◌, ◌↔◌, ℕ, List, length, None, MatchResult, OnOk, IsTrue, All};
 ghost use Rattle.gobject.specs.Objects.{IsShaped, node_at};
-ghost use Rattle.ghistory.specs.Formats.{IsIdOf};
+ghost use Rattle.gname.specs.Ids.{IsIdOf};
 ghost use Rattle.ghistory.specs.Graphs.{HasIdsOf, IsGraph, IsNode};
 ghost use Rattle.ghistory.specs.Reach.{Reaches, IsFull, Grows, Keeps};
 ghost use Rattle.ghistory.specs.Insert.{IsMisshapen, IsCause, Admits, Adds, AddsCopy, AddsOne, AddsOnly, AddsOnlyParents};
 ghost use Rattle.ghistory.specs.declared.fault.GraphFault.TheVariants.{OtherFormat};
 
 use crate::fault::GraphFault;
-use crate::formats::{Format, format_of};
 use crate::graph::{Graph, MAX_NODES};
-use gname::Oid;
+use gname::{Format, Oid};
 use gobject::{Entry, Kind, MAX_PARENTS, Node};
 use std::alloc::Allocator;
 
@@ -103,7 +102,7 @@ impl<A: Allocator + Copy> Graph<A> {
 fn is_of(format: Format, id: &Oid) -> bool
     ensures { IsTrue result ↔ IsIdOf format id.now }
 {
-    format_of(id) == format
+    id.format() == format
 }
 
 // Whether all ids are of the format.

@@ -32,14 +32,11 @@
 
 mod closed;
 mod fault;
-mod formats;
 mod graph;
 mod insert;
 pub mod laws;
+#[cfg(test)]
+mod tests;
 
 pub use crate::fault::GraphFault;
-pub use crate::formats::{Format, format_of};
 pub use crate::graph::{Graph, IdHasher, MAX_NODES};
-
-#[cfg(test)]
-mod store_tests;

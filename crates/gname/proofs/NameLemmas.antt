@@ -123,78 +123,78 @@ prefix_within text h = (PrefixFacts-of_prefix text h).within
 pub prefix_clean : (text : List ℕ) → IsPrefix text → IsClean text
 prefix_clean text h = (PrefixFacts-of_prefix text h).clean
 
--- ---- no rule tells of memory
+-- ---- no rule finds that memory is missing
 
--- whether a fault is want of memory
+-- whether a fault is out of memory
 abbrev is_memory : NameFault → Bool
 is_memory Memory = true
 is_memory _ = false
 
-abbrev tells_memory : Option NameFault → Bool
-tells_memory None = false
-tells_memory (Some fault) = is_memory fault
+abbrev finds_memory : Option NameFault → Bool
+finds_memory None = false
+finds_memory (Some fault) = is_memory fault
 
-tells_memory-or : (a b : Option NameFault) → tells_memory a ≡ false → tells_memory b ≡ false → tells_memory (option_or a b) ≡ false
-tells_memory-or None b h k = k
-tells_memory-or (Some fault) b h k = h
+finds_memory-or : (a b : Option NameFault) → finds_memory a ≡ false → finds_memory b ≡ false → finds_memory (option_or a b) ≡ false
+finds_memory-or None b h k = k
+finds_memory-or (Some fault) b h k = h
 
-tells_memory-if : (b : Bool) (p q : Option NameFault) → tells_memory p ≡ false → tells_memory q ≡ false → tells_memory (cond b p q) ≡ false
-tells_memory-if true p q h k = h
-tells_memory-if false p q h k = k
+finds_memory-if : (b : Bool) (p q : Option NameFault) → finds_memory p ≡ false → finds_memory q ≡ false → finds_memory (cond b p q) ≡ false
+finds_memory-if true p q h k = h
+finds_memory-if false p q h k = k
 
-tells_memory-map : (f : ℕ → NameFault) (o : Option ℕ) → ((at : ℕ) → is_memory (f at) ≡ false) → tells_memory (option_map f o) ≡ false
-tells_memory-map f None h = refl
-tells_memory-map f (Some at) h = h at
+finds_memory-map : (f : ℕ → NameFault) (o : Option ℕ) → ((at : ℕ) → is_memory (f at) ≡ false) → finds_memory (option_map f o) ≡ false
+finds_memory-map f None h = refl
+finds_memory-map f (Some at) h = h at
 
-never_memory : (o : Option NameFault) → tells_memory o ≡ false → o ≢ Some Memory
-never_memory o h is = cc (sym h ∙ ap tells_memory is)
+never_memory : (o : Option NameFault) → finds_memory o ≡ false → o ≢ Some Memory
+never_memory o h is = cc (sym h ∙ ap finds_memory is)
 
-too_long-told : (text : List ℕ) → tells_memory (too_long text) ≡ false
+too_long-no_memory : (text : List ℕ) → finds_memory (too_long text) ≡ false
 unfolding too_long
-too_long-told text = tells_memory-if (nat_lt max_name (length text)) (Some TooLong) None refl refl
+too_long-no_memory text = finds_memory-if (nat_lt max_name (length text)) (Some TooLong) None refl refl
 
-bad_byte-told : (text : List ℕ) → tells_memory (bad_byte text) ≡ false
+bad_byte-no_memory : (text : List ℕ) → finds_memory (bad_byte text) ≡ false
 unfolding bad_byte
-bad_byte-told text = tells_memory-map BadByte _ (λ at. refl)
+bad_byte-no_memory text = finds_memory-map BadByte _ (λ at. refl)
 
-empty-told : (text : List ℕ) → tells_memory (empty text) ≡ false
+empty-no_memory : (text : List ℕ) → finds_memory (empty text) ≡ false
 unfolding empty
-empty-told text = tells_memory-if (length text == 0) (Some Empty) None refl refl
+empty-no_memory text = finds_memory-if (length text == 0) (Some Empty) None refl refl
 
-not_ref-told : (text : List ℕ) → tells_memory (not_ref text) ≡ false
+not_ref-no_memory : (text : List ℕ) → finds_memory (not_ref text) ≡ false
 unfolding not_ref
-not_ref-told text =
-    tells_memory-if (pointwise nat_eq text head_name || starts_with nat_eq text (codes "refs/")) None (Some NotRef) refl refl
+not_ref-no_memory text =
+    finds_memory-if (pointwise nat_eq text head_name || starts_with nat_eq text (codes "refs/")) None (Some NotRef) refl refl
 
-component-told : (text : List ℕ) → tells_memory (component text) ≡ false
+component-no_memory : (text : List ℕ) → finds_memory (component text) ≡ false
 unfolding component
-component-told text = tells_memory-map Component _ (λ at. refl)
+component-no_memory text = finds_memory-map Component _ (λ at. refl)
 
-double_dot-told : (text : List ℕ) → tells_memory (double_dot text) ≡ false
+double_dot-no_memory : (text : List ℕ) → finds_memory (double_dot text) ≡ false
 unfolding double_dot
-double_dot-told text = tells_memory-map DoubleDot _ (λ at. refl)
+double_dot-no_memory text = finds_memory-map DoubleDot _ (λ at. refl)
 
-at_brace-told : (text : List ℕ) → tells_memory (at_brace text) ≡ false
+at_brace-no_memory : (text : List ℕ) → finds_memory (at_brace text) ≡ false
 unfolding at_brace
-at_brace-told text = tells_memory-map AtBrace _ (λ at. refl)
+at_brace-no_memory text = finds_memory-map AtBrace _ (λ at. refl)
 
-end-told : (text : List ℕ) → tells_memory (end text) ≡ false
+end-no_memory : (text : List ℕ) → finds_memory (end text) ≡ false
 unfolding end
-end-told text = tells_memory-if (ends_with nat_eq text (codes ".")) (Some End) None refl refl
+end-no_memory text = finds_memory-if (ends_with nat_eq text (codes ".")) (Some End) None refl refl
 
 pub name_fault-never_Memory : (text : List ℕ) → name_fault text ≢ Some Memory
 unfolding name_fault
 name_fault-never_Memory text =
-    never_memory _ (tells_memory-or (empty text) _ (empty-told text) (tells_memory-or (too_long text) _ (too_long-told text)
-    (tells_memory-or (not_ref text) _ (not_ref-told text) (tells_memory-or (bad_byte text) _ (bad_byte-told text)
-    (tells_memory-or (component text) _ (component-told text) (tells_memory-or (double_dot text) _ (double_dot-told text)
-    (tells_memory-or (at_brace text) _ (at_brace-told text) (tells_memory-or (end text) None (end-told text) refl))))))))
+    never_memory _ (finds_memory-or (empty text) _ (empty-no_memory text) (finds_memory-or (too_long text) _ (too_long-no_memory text)
+    (finds_memory-or (not_ref text) _ (not_ref-no_memory text) (finds_memory-or (bad_byte text) _ (bad_byte-no_memory text)
+    (finds_memory-or (component text) _ (component-no_memory text) (finds_memory-or (double_dot text) _ (double_dot-no_memory text)
+    (finds_memory-or (at_brace text) _ (at_brace-no_memory text) (finds_memory-or (end text) None (end-no_memory text) refl))))))))
 
 pub prefix_fault-never_Memory : (text : List ℕ) → prefix_fault text ≢ Some Memory
 unfolding prefix_fault
 prefix_fault-never_Memory text =
-    never_memory _ (tells_memory-or (too_long text) _ (too_long-told text)
-    (tells_memory-or (bad_byte text) None (bad_byte-told text) refl))
+    never_memory _ (finds_memory-or (too_long text) _ (too_long-no_memory text)
+    (finds_memory-or (bad_byte text) None (bad_byte-no_memory text) refl))
 
 -- ---- HEAD
 

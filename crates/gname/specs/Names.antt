@@ -1,5 +1,5 @@
--- The names of refs and their prefixes (git-check-ref-format(1)): eight rules, each of which tells what
--- it finds at its first place, and the order in which they are asked.
+-- The names of refs and their prefixes (git-check-ref-format(1)): eight rules, each of which finds a fault
+-- at its first place, and the order in which they judge.
 use Rattle.std.specs.Prelude.{◌≡◌, ◌⊎◌, ℕ, zero, suc, ◌+◌, ◌-◌, ◌==◌, ◌&&◌, ◌||◌, Bool, List, [], ◌∷◌, length, drop, slice_index, codes, nat_eq, nat_lt, Option, Some, None, Result, MatchResult, if◌then◌else◌, position}
 use Rattle.std.specs.Cmp.Lexicographic.{pointwise}
 use Rattle.std.specs.List.{before_first, ends_with, list_any, starts_with}
@@ -7,7 +7,7 @@ use Rattle.std.specs.Option.{option_map, option_or}
 use Rattle.gname.specs.declared.faults.NameFault.{NameFault}
 use Rattle.gname.specs.declared.faults.NameFault.TheVariants.{Empty, TooLong, NotRef, BadByte, Component, DoubleDot, AtBrace, End, Memory}
 
--- a rule looks at a text and tells the fault that it finds there, if it finds one
+-- a rule judges a text: the fault that it finds there, if it finds one
 abbrev pub Rule : Type 0
 Rule = List ℕ → Option NameFault
 
@@ -65,7 +65,7 @@ bad_byte text = option_map BadByte (position is_bad_byte text)
 abbrev pub is_slash : ℕ → Bool
 is_slash b = b == 47
 
--- a component begins at the front of the text and behind each slash
+-- a component begins at the front of the text and after each slash
 abbrev pub begins_component : List ℕ → ℕ → Bool
 begins_component text at = at == 0 || is_slash (slice_index text (at - 1))
 
@@ -123,13 +123,13 @@ prefix_fault text = first_fault prefix_rules text
 abbrev pub IsPrefix : List ℕ → Type 0
 IsPrefix text = prefix_fault text ≡ None
 
--- what making an owned text under a rule answers: of a text without a fault the text, or want of memory; of any
+-- what making an owned text under a rule answers: of a text without a fault the text, or out of memory; of any
 -- other text its fault
 abbrev pub Owns : Rule → List ℕ → Result (List ℕ) NameFault → Type 0
 Owns rule text result =
     MatchResult result (λ owned. (owned ≡ text) × (rule text ≡ None))
     (λ fault. (rule text ≡ Some fault) ⊎ ((fault ≡ Memory) × (rule text ≡ None)))
 
--- what asking a rule answers
-abbrev pub Asks : Rule → List ℕ → Result (Unit {0}) NameFault → Type 0
-Asks rule text result = MatchResult result (λ _. rule text ≡ None) (λ fault. rule text ≡ Some fault)
+-- what judging a text by a rule answers
+abbrev pub Finds : Rule → List ℕ → Result (Unit {0}) NameFault → Type 0
+Finds rule text result = MatchResult result (λ _. rule text ≡ None) (λ fault. rule text ≡ Some fault)

@@ -1,4 +1,4 @@
-// The hexadecimal digits of bytes.
+//! The hexadecimal digits of bytes.
 #![tactic(auto)]
 
 ghost use Rattle.std.specs.Prelude.{◌≡◌, ◌*◌, ◌/◌, ◌%◌, length, slice_index};

@@ -1,4 +1,4 @@
-// The faults of ref names and prefixes.
+//! The faults of ref names and prefixes.
 #![tactic(auto)]
 
 ghost use Rattle.std.specs.Prelude.{◌≡◌};
@@ -9,7 +9,7 @@ use std::alloc::AllocError;
 use thiserror::Error;
 
 /// Why a text is no ref name, or no prefix. A text may have several faults: the first in this order
-/// is told, with its first place in the text.
+/// is reported, with its first place in the text.
 #[derive(Clone, Copy, Debug, PartialEq, Eq, Drop, Error)]
 pub enum NameFault {
     /// It has no byte.
@@ -36,7 +36,7 @@ pub enum NameFault {
     /// The last byte is a dot.
     #[error("a ref name does not end with a dot")]
     End,
-    /// The text is well-formed, and there was no memory to keep it.
+    /// The text is well-formed, and there is no memory to keep it.
     #[error("out of memory")]
     Memory,
 }

@@ -1,23 +1,45 @@
-// Object ids, ref names and ref prefixes: the small types that every layer of a Git protocol v2
-// server and client speaks of.
-//
-// Proved of every input, by the contracts:
-// - `Oid::from_hex` reads exactly the texts of forty hexadecimal digits, in either case, and tells
-//   of each other text what is wrong with it and where; `Oid::to_hex` writes the one text in lower
-//   case, which reads back as the id.
-// - `RefName::new` and `Prefix::new` accept exactly the names and prefixes that the rules of
-//   git-check-ref-format(1) let pass, and tell of each other text the first fault in one fixed
-//   order, with its first place. Want of memory is told of a well-formed text alone.
-// - No call panics, overflows or reads out of bounds, and each returns.
-//
-// Tested, and not proved: that the definitions in `specs/` agree with `git check-ref-format`, by a
-// table of names with that program's answers.
-//
-// It stands on `hex` for digits and on `memchr` for searches in a name.
+//! Object ids in two formats, ref names and prefixes of ref names: the small types that every layer of a Git
+//! protocol v2 server and client speaks of, and the limits that several layers keep.
+//!
+//! # Proved
+//!
+//! - [`Oid::from_hex_in`] reads exactly the texts of forty hexadecimal digits, or sixty-four in
+//!   SHA-256, in either case, and reports of each other text what is wrong with it and where.
+//!   [`Oid::to_hex`] writes the one text in lower case, which reads back as the id. An id has one
+//!   [`Format`].
+//! - [`RefName::new`] and [`Prefix::new`] accept exactly the names and prefixes that the rules of
+//!   git-check-ref-format(1) allow, and report of each other text the first fault in one fixed order,
+//!   with its first place. Out of memory is reported of a well-formed text alone. [`RefName::head`]
+//!   is `HEAD`, where there is memory.
+//! - Ids, names and prefixes are equal by their bytes. Names are ordered by their bytes, and ids by
+//!   their formats and then by their bytes: total orders. Equal ones hash alike, so ids and names may
+//!   be keys of a map.
+//! - A name or a prefix has at most [`MAX_NAME`] bytes, and no control character or space.
+//! - Each fault has the number and the name of its row.
+//! - No call panics, overflows or reads out of bounds, and each returns.
+//!
+//! [`laws`] say more of ids, names and prefixes, for the proofs of other crates.
+//!
+//! # Only tested
+//!
+//! - That the definitions in `specs/` agree with `git check-ref-format`, by a table of names with that
+//!   program's answers.
+//! - What a fault and a value print, [`MAX_PACK`], and that memory which is there is used.
+//!
+//! # What a body can still get away with
+//!
+//! It may report out of memory of any well-formed name or prefix, of `HEAD` and of any copy, as often
+//! as it likes. It may take as long as it likes, and more memory than it needs.
+//!
+//! # Stands on
+//!
+//! `hex` for reading digits, `memchr` for searches in a name, `thiserror` for the texts of faults; in
+//! tests `bumpalo`, for memory that ends.
 #![tactic(auto)]
 
 mod digits;
 mod faults;
+mod formats;
 mod ids;
 pub mod laws;
 mod names;
@@ -27,7 +49,8 @@ mod rules;
 mod tests;
 
 pub use crate::faults::NameFault;
-pub use crate::ids::{ID_LENGTH, ID_TEXT_LENGTH, Oid, OidFault};
+pub use crate::formats::Format;
+pub use crate::ids::{MAX_ID_TEXT, Oid, OidFault};
 pub use crate::names::RefName;
 pub use crate::prefixes::Prefix;
 pub use crate::rules::MAX_NAME;

@@ -1,4 +1,4 @@
-// Prefixes of ref names.
+//! Prefixes of ref names.
 #![tactic(auto)]
 
 ghost use Rattle.std.specs.Prelude.{◌≡◌, ◌≤◌, ℕ, List, length, nat_eq};

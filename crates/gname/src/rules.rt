@@ -1,19 +1,19 @@
-// The rules of ref names, after git-check-ref-format(1): a function for each, and their order.
+//! The rules of git-check-ref-format(1): a function for each, and their order.
 #![tactic(auto)]
 
 ghost use Rattle.std.specs.Prelude.{◌≡◌, ◌≤◌, length, position};
-ghost use Rattle.gname.specs.Names.{Asks, name_fault, prefix_fault, empty, too_long, not_ref, is_bad_byte, bad_byte, is_bad_component, component_at, begins_bad_component, component, double_dot, at_brace, end, max_name};
+ghost use Rattle.gname.specs.Names.{Finds, name_fault, prefix_fault, empty, too_long, not_ref, is_bad_byte, bad_byte, is_bad_component, component_at, begins_bad_component, component, double_dot, at_brace, end, max_name};
 
 use crate::faults::NameFault;
 use memchr::{memchr, memmem};
 
-/// The largest number of bytes of a ref name, and of a prefix.
+/// The most bytes of a ref name, and of a prefix.
 pub const MAX_NAME: usize = 1_000;
 
-/// Tells the first fault of a text as a ref name.
+/// Finds the first fault of a text as a ref name.
 #[tactic(auto, unfolding(crate::specs::Names::name_fault))]
 pub(crate) fn check_name(text: &[u8]) -> Result<(), NameFault>
-    ensures { Asks name_fault text.now result }
+    ensures { Finds name_fault text.now result }
 {
     check_not_empty(text)?;
     check_length(text)?;
@@ -25,10 +25,10 @@ pub(crate) fn check_name(text: &[u8]) -> Result<(), NameFault>
     check_end(text)
 }
 
-/// Tells the first fault of a text as a prefix.
+/// Finds the first fault of a text as a prefix.
 #[tactic(auto, unfolding(crate::specs::Names::prefix_fault))]
 pub(crate) fn check_prefix(text: &[u8]) -> Result<(), NameFault>
-    ensures { Asks prefix_fault text.now result }
+    ensures { Finds prefix_fault text.now result }
 {
     check_length(text)?;
     check_bytes(text)
@@ -36,7 +36,7 @@ pub(crate) fn check_prefix(text: &[u8]) -> Result<(), NameFault>
 
 #[tactic(auto, unfolding(crate::specs::Names::empty))]
 fn check_not_empty(text: &[u8]) -> Result<(), NameFault>
-    ensures { Asks empty text.now result }
+    ensures { Finds empty text.now result }
 {
     if text.is_empty() {
         return Err(NameFault::Empty);
@@ -46,7 +46,7 @@ fn check_not_empty(text: &[u8]) -> Result<(), NameFault>
 
 #[tactic(auto, unfolding(crate::specs::Names::too_long))]
 fn check_length(text: &[u8]) -> Result<(), NameFault>
-    ensures { Asks too_long text.now result }
+    ensures { Finds too_long text.now result }
 {
     if text.len() > MAX_NAME {
         return Err(NameFault::TooLong);
@@ -56,7 +56,7 @@ fn check_length(text: &[u8]) -> Result<(), NameFault>
 
 #[tactic(auto, unfolding(crate::specs::Names::not_ref))]
 fn check_root(text: &[u8]) -> Result<(), NameFault>
-    ensures { Asks not_ref text.now result }
+    ensures { Finds not_ref text.now result }
 {
     if text == b"HEAD".as_slice() || text.starts_with(b"refs/") {
         Ok(())
@@ -80,7 +80,7 @@ fn first_bad_byte(text: &[u8]) -> Option<usize>
 
 #[tactic(auto, unfolding(crate::specs::Names::bad_byte))]
 fn check_bytes(text: &[u8]) -> Result<(), NameFault>
-    ensures { Asks bad_byte text.now result }
+    ensures { Finds bad_byte text.now result }
 {
     match first_bad_byte(text) {
         Some(at) => Err(NameFault::BadByte { at }),
@@ -114,7 +114,7 @@ fn begins_bad_component(text: &[u8], at: usize) -> bool
 }
 
 fn check_components(text: &[u8]) -> Result<(), NameFault>
-    ensures { Asks component text.now result }
+    ensures { Finds component text.now result }
 {
     for at in 0..=text.len() {
         if begins_bad_component(text, at) {
@@ -125,7 +125,7 @@ fn check_components(text: &[u8]) -> Result<(), NameFault>
 }
 
 fn check_dots(text: &[u8]) -> Result<(), NameFault>
-    ensures { Asks double_dot text.now result }
+    ensures { Finds double_dot text.now result }
 {
     match memmem::find(text, b"..") {
         Some(at) => Err(NameFault::DoubleDot { at }),
@@ -134,7 +134,7 @@ fn check_dots(text: &[u8]) -> Result<(), NameFault>
 }
 
 fn check_braces(text: &[u8]) -> Result<(), NameFault>
-    ensures { Asks at_brace text.now result }
+    ensures { Finds at_brace text.now result }
 {
     match memmem::find(text, b"@{") {
         Some(at) => Err(NameFault::AtBrace { at }),
@@ -144,7 +144,7 @@ fn check_braces(text: &[u8]) -> Result<(), NameFault>
 
 #[tactic(auto, unfolding(crate::specs::Names::end))]
 fn check_end(text: &[u8]) -> Result<(), NameFault>
-    ensures { Asks end text.now result }
+    ensures { Finds end text.now result }
 {
     if text.ends_with(b".") {
         return Err(NameFault::End);

@@ -1,4 +1,5 @@
 pub mod PlainPackWriting
 pub mod PlainPackLines
 pub mod PlainPackReading
+pub mod PlainPackFeed
 pub mod PlainPackLaw

@@ -1,13 +1,9 @@
--- A plain pack has one reading, and loses nothing.
-use Rattle.std.proofs.Common.{ap₂, ◌≡◌, ◌≢◌, ◌⊎◌, inl, inr, ℕ, zero, suc, ◌+◌, ◌/◌, ◌%◌, ◌≤◌, Bool, true, false, cond, eqb, ltb, List, [], ◌∷◌, ◌++◌, length, get_or, refl, ap, sym, subst, ◌∙◌, append_assoc, arith}
+-- A plain pack has one reading, a bad line has one place, and nothing is lost.
+use Rattle.std.proofs.Common.{ap₂, ◌≡◌, ◌≢◌, ◌⊎◌, inl, inr, ℕ, zero, suc, ◌+◌, List, [], ◌∷◌, ◌++◌, length, decimal, refl, ap, sym, subst, ◌∙◌, append_assoc, arith}
 use Rattle.std.specs.List.{All}
-use Rattle.std.specs.Fmt.{digit_glyph, digits_onto, digits, decimal}
-use Rattle.std.proofs.Math.Seq.{get_or-append_seam}
-use Rattle.std.proofs.lemmas.Bool.{false≢true, cases_lt}
 use Rattle.std.proofs.lemmas.List.Elements.{All-head, All-tail}
-use Rattle.std.proofs.lemmas.List.{append-nil, append_cancel_left, get_or_past}
-use Rattle.hex.specs.Hex.{is_hex_digit}
-use Rattle.gname.specs.Ids.{IsId, IsIdText, id_text}
+use Rattle.std.proofs.lemmas.List.{append-nil, append_cancel_left}
+use Rattle.gname.specs.Ids.{IsId, id_text}
 use Rattle.gname.specs.Laws.{IdTextsAreDigits, IdsHaveTexts, TextsSpellOneId}
 use Rattle.gobject.specs.declared.node.Kind.{Kind}
 use Rattle.gobject.specs.declared.node.Kind.TheVariants.{Commit, Tag}
@@ -15,102 +11,31 @@ use Rattle.gobject.specs.declared.node.Entry.{Entry}
 use Rattle.gobject.specs.declared.fault.IndexFault.{IndexFault}
 use Rattle.gobject.specs.declared.fault.IndexFault.TheVariants as index_faults
 use Rattle.gobject.specs.Objects.{HasIds, entry_of, node_of}
-use Rattle.gobject.specs.Packs.{max_pack, LosesNothing}
-use Rattle.gobject.specs.PlainPackText.{line, header, letter, ids_of, ids_text, node_text, nodes_text, end_text, pack_text, PackRefuses, IsInLine, IsIdsText, IsNodeText, IsNodesText, IsFront, MayStand, IsPack, IsFollowed, IsBadLine, IndexRefuses}
-use Rattle.gobject.proofs.PlainPackLines.{IsIdsText-one}
-use Rattle.gobject.proofs.PlainPackReading.{HasRead}
+use Rattle.gobject.specs.Packs.{LosesNothing}
+use Rattle.gobject.specs.PlainPackText.{line, header, letter, ids_of, ids_text, node_text, nodes_text, end_text, pack_text, PackRefuses, IsInLine, IsIdsText, IsNodeText, IsNodesText, IsFront, MayStand, IsPack, IsBadLine, IndexRefuses}
+use Rattle.gobject.proofs.PlainPackLines.{IsPart-header, IsPart-letter, IsPart-id, IsPart-decimal, IsInLine-part, IsInLine-cons, IsInLine-append, not_in_line, line_parts, IsIdsText-one}
 
-module _ (texts_law : IdsHaveTexts) (digits_law : IdTextsAreDigits) (one_law : TextsSpellOneId) where
-  -- ---- texts in one line
-
-  -- nothing is in one line
-  IsInLine-nil : IsInLine []
-  IsInLine-nil = λ at is. absurd (omega arith)
-
-  IsInLine-cons : (byte : ℕ) (text : List ℕ) → byte ≢ 10 → IsInLine text → IsInLine (byte ∷ text)
-  IsInLine-cons byte text other h zero is = other is
-  IsInLine-cons byte text other h (suc at) is = h at is
-
-  IsInLine-append : (a b : List ℕ) → IsInLine a → IsInLine b → IsInLine (a ++ b)
-  IsInLine-append [] b h k = k
-  IsInLine-append (byte ∷ a) b h k = IsInLine-cons byte (a ++ b) (h 0) (IsInLine-append a b (λ at. h (suc at)) k)
-
-  -- a digit of an id is no line feed
-  IsInLine-id : (digits id : List ℕ) → IsIdText digits id → IsInLine digits
-  IsInLine-id text id h = λ at is.
-      elim (cases_lt at (length text)) [
-        | inl lt ↦
-            let P : ℕ → Type 0 = λ byte. is_hex_digit byte ≡ true in
-            false≢true (subst P is ((digits_law text id h).digits at 0 lt))
-        | inr le ↦ let past = get_or_past text at 0 le in absurd (omega arith)
-      ]
+module _ (digits_law : IdTextsAreDigits) (one_law : TextsSpellOneId) where
+  -- ---- what a line says
 
   IsInLine-ids : (text : List ℕ) (ids : List (List ℕ)) → IsIdsText text ids → IsInLine text
-  IsInLine-ids text [] h = subst IsInLine (sym h) IsInLine-nil
+  IsInLine-ids text [] h = let none : IsInLine [] = λ at is. absurd (omega arith) in subst IsInLine (sym h) none
   IsInLine-ids text (id ∷ ids) h =
-      let spaced = IsInLine-cons 32 (h.0 ++ h.1) (λ is. omega arith) (IsInLine-append h.0 h.1 (IsInLine-id h.0 id h.3) (IsInLine-ids h.1 ids h.4)) in
+      let digits = IsInLine-part h.0 (IsPart-id digits_law h.0 id h.3) in
+      let spaced = IsInLine-cons 32 (h.0 ++ h.1) (λ is. omega arith) (IsInLine-append h.0 h.1 digits (IsInLine-ids h.1 ids h.4)) in
       subst IsInLine (sym h.2) spaced
 
-  letter_other : (kind : Kind) → letter kind ≢ 10
-  letter_other Commit = λ is. omega arith
-  letter_other Tag = λ is. omega arith
-
-  -- so is the line of an entry
   IsInLine-node : {A : Type 0} (text : List ℕ) (entry : Entry A) → IsNodeText text entry → IsInLine text
   IsInLine-node text entry h =
-      subst IsInLine (sym h.1) (IsInLine-cons (letter entry.node.kind) h.0 (letter_other entry.node.kind) (IsInLine-ids h.0 (ids_of entry) h.2))
+      let word = IsInLine-part (letter entry.node.kind ∷ []) (IsPart-letter entry.node.kind) in
+      subst IsInLine (sym h.1) (IsInLine-cons (letter entry.node.kind) h.0 (word 0) (IsInLine-ids h.0 (ids_of entry) h.2))
 
-  glyph_other : (upper b : Bool) (d : ℕ) → cond b (48 + d) (cond upper (55 + d) (87 + d)) ≢ 10
-  glyph_other upper true d = λ is. omega arith
-  glyph_other true false d = λ is. omega arith
-  glyph_other false false d = λ is. omega arith
-
-  IsInLine-digits : (k base n : ℕ) (text : List ℕ) → IsInLine text → IsInLine (digits_onto k base false n text)
-  IsInLine-digits zero base n text h = h
-  IsInLine-digits (suc k) base n text h =
-      let more = IsInLine-cons (digit_glyph false (n % base)) text (glyph_other false (ltb (n % base) 10) (n % base)) h in
-      elim (eqb (n / base) 0) as (λ b. IsInLine (cond b (digit_glyph false (n % base) ∷ text) (digits_onto k base false (n / base) (digit_glyph false (n % base) ∷ text)))) [
-        | true ↦ more
-        | false ↦ IsInLine-digits k base (n / base) (digit_glyph false (n % base) ∷ text) more
-      ]
-
-  IsInLine-decimal : (n : ℕ) → IsInLine (decimal n)
-  unfolding digits
-  IsInLine-decimal n = IsInLine-digits 64 10 n [] IsInLine-nil
-
-  -- and the end
   IsInLine-end : (n : ℕ) → IsInLine (end_text n)
   IsInLine-end n =
       IsInLine-cons 101 (110 ∷ 100 ∷ 32 ∷ decimal n) (λ is. omega arith)
       (IsInLine-cons 110 (100 ∷ 32 ∷ decimal n) (λ is. omega arith)
       (IsInLine-cons 100 (32 ∷ decimal n) (λ is. omega arith)
-      (IsInLine-cons 32 (decimal n) (λ is. omega arith) (IsInLine-decimal n))))
-
-  IsInLine-header : IsInLine header
-  IsInLine-header =
-      IsInLine-cons 71 (80 ∷ 75 ∷ 49 ∷ []) (λ is. omega arith)
-      (IsInLine-cons 80 (75 ∷ 49 ∷ []) (λ is. omega arith)
-      (IsInLine-cons 75 (49 ∷ []) (λ is. omega arith) (IsInLine-cons 49 [] (λ is. omega arith) IsInLine-nil)))
-
-  -- a line with its line feed is not
-  not_in_line : (a x : List ℕ) → IsInLine (line a ++ x) → ⊥
-  not_in_line a x h =
-      let at_end : get_or (line a ++ x) (length a) 0 ≡ 10 =
-      ap (λ (text : List ℕ). get_or text (length a) 0) (append_assoc a (10 ∷ []) x) ∙ get_or-append_seam a 10 x 0 in
-      h (length a) at_end
-
-  -- two lines at the front of a text are one, and what follows them is the same
-  line_parts : (a b x y : List ℕ) → IsInLine a → IsInLine b → line a ++ x ≡ line b ++ y → (a ≡ b) × (x ≡ y)
-  line_parts [] [] x y h k same = (refl, let rests : x ≡ y = cc in rests)
-  line_parts [] (c ∷ b) x y h k same = let first : c ≡ 10 = cc in absurd (k 0 first)
-  line_parts (c ∷ a) [] x y h k same = let first : c ≡ 10 = cc in absurd (h 0 first)
-  line_parts (c ∷ a) (d ∷ b) x y h k same =
-      let first : c ≡ d = cc in
-      let others : line a ++ x ≡ line b ++ y = cc in
-      let parts = line_parts a b x y (λ at. h (suc at)) (λ at. k (suc at)) others in
-      (ap (λ byte. byte ∷ a) first ∙ ap (λ (text : List ℕ). d ∷ text) parts.0, parts.1)
-
-  -- ---- what a line says
+      (IsInLine-cons 32 (decimal n) (λ is. omega arith) (IsInLine-part (decimal n) (IsPart-decimal n)))))
 
   letter_one : (a b : Kind) → letter a ≡ letter b → a ≡ b
   letter_one Commit Commit h = refl
@@ -124,7 +49,7 @@ module _ (texts_law : IdsHaveTexts) (digits_law : IdTextsAreDigits) (one_law : T
       let whole : letter a.node.kind ∷ h.0 ≡ letter b.node.kind ∷ k.0 = sym h.1 ∙ k.1 in
       let letters : letter a.node.kind ≡ letter b.node.kind = cc in
       let texts : h.0 ≡ k.0 = cc in
-      let lists : ids_of a ≡ ids_of b = IsIdsText-one one_law h.0 (ids_of a) (ids_of b) h.2 (rw texts k.2) in
+      let lists : ids_of a ≡ ids_of b = IsIdsText-one digits_law one_law h.0 k.0 (ids_of a) (ids_of b) [] [] h.2 k.2 (ap (λ (t : List ℕ). t ++ 10 ∷ []) texts) in
       let ids : a.id ≡ b.id = cc in
       let parents : a.node.parents ≡ b.node.parents = cc in
       ap₂ entry_of ids (ap₂ node_of (letter_one a.node.kind b.node.kind letters) parents)
@@ -140,131 +65,250 @@ module _ (texts_law : IdsHaveTexts) (digits_law : IdTextsAreDigits) (one_law : T
       let first : letter entry.node.kind ≡ 101 = cc in
       letter_no_end entry.node.kind first
 
-  -- ---- what follows in a pack
+  -- ---- the lines before
 
-  -- a line of an entry comes
-  record Comes (A : Type 0) (rest : List ℕ) : Type 0 where
-    entry : Entry A
+  -- a right line comes: the header first, then that of an entry
+  abbrev IsRight : (A : Type 0) → ℕ → List ℕ → Type 0
+  IsRight A zero text = text ≡ header
+  IsRight A (suc n) text = (entry : Entry A) × IsNodeText text entry
+
+  record Comes (A : Type 0) (lines : ℕ) (rest : List ℕ) : Type 0 where
     text : List ℕ
     more : List ℕ
     parts : rest ≡ line text ++ more
-    says : IsNodeText text entry
+    in_line : IsInLine text
+    right : IsRight A lines text
 
-  -- all entries are read and the end comes, or the line of an entry
-  abbrev Next : {A : Type 0} → List ℕ → List (Entry A) → List (Entry A) → ℕ → Type 0
-  Next {A} rest read list n = ((read ≡ list) × (rest ≡ line (end_text n))) ⊎ Comes A rest
-
-  next_node : {A : Type 0} (front nodes rest : List ℕ) (read list : List (Entry A)) (n : ℕ) → IsNodesText front read → IsNodesText nodes list
-      → front ++ rest ≡ nodes ++ line (end_text n) → Next rest read list n
-  next_node front nodes rest [] [] n h k same =
-      inl (refl, sym (ap (λ (text : List ℕ). text ++ rest) h) ∙ same ∙ ap (λ (text : List ℕ). text ++ line (end_text n)) k)
-  next_node front nodes rest [] (entry ∷ list) n h k same =
-      inr (record {
-        entry = entry;
+  -- of two texts of nodes at the front of one text, they are one, or the line of an entry follows one of them
+  nodes_meet : {A : Type 0} (front other x y : List ℕ) (a b : List (Entry A)) (m n : ℕ) → IsNodesText front a → IsNodesText other b
+      → front ++ x ≡ other ++ y → ((a ≡ b) × (x ≡ y)) ⊎ Comes A (suc m) x ⊎ Comes A (suc n) y
+  nodes_meet front other x y [] [] m n h k same =
+      inl (refl, sym (ap (λ (t : List ℕ). t ++ x) h) ∙ same ∙ ap (λ (t : List ℕ). t ++ y) k)
+  nodes_meet front other x y [] (entry ∷ b) m n h k same =
+      inr (inl (record {
         text = k.0;
-        more = k.1 ++ line (end_text n);
-        parts =
-            sym (ap (λ (text : List ℕ). text ++ rest) h) ∙ same ∙ ap (λ (text : List ℕ). text ++ line (end_text n)) k.2
-            ∙ append_assoc (line k.0) k.1 (line (end_text n));
-        says = k.3;
-      })
-  next_node front nodes rest (first ∷ read) [] n h k same =
-      let whole : line (end_text n) ++ [] ≡ line h.0 ++ (h.1 ++ rest) =
-      append-nil (line (end_text n)) ∙ sym (ap (λ (text : List ℕ). text ++ line (end_text n)) k) ∙ sym same
-      ∙ ap (λ (text : List ℕ). text ++ rest) h.2 ∙ append_assoc (line h.0) h.1 rest in
-      absurd (no_end n h.0 [] (h.1 ++ rest) first h.3 whole)
-  next_node front nodes rest (first ∷ read) (entry ∷ list) n h k same =
-      let whole : line h.0 ++ (h.1 ++ rest) ≡ line k.0 ++ (k.1 ++ line (end_text n)) =
-      sym (append_assoc (line h.0) h.1 rest) ∙ sym (ap (λ (text : List ℕ). text ++ rest) h.2) ∙ same
-      ∙ ap (λ (text : List ℕ). text ++ line (end_text n)) k.2 ∙ append_assoc (line k.0) k.1 (line (end_text n)) in
-      let parts = line_parts h.0 k.0 (h.1 ++ rest) (k.1 ++ line (end_text n)) (IsInLine-node h.0 first h.3) (IsInLine-node k.0 entry k.3) whole in
-      let one : first ≡ entry = IsNodeText-one h.0 first entry h.3 (rw parts.0 k.3) in
-      elim (next_node h.1 k.1 rest read list n h.4 k.4 parts.1) [
-        | inl ends ↦ inl (ap (λ e. e ∷ read) one ∙ ap (λ es. entry ∷ es) ends.0, ends.1)
+        more = k.1 ++ y;
+        parts = sym (ap (λ (t : List ℕ). t ++ x) h) ∙ same ∙ ap (λ (t : List ℕ). t ++ y) k.2 ∙ append_assoc (line k.0) k.1 y;
+        in_line = IsInLine-node k.0 entry k.3;
+        right = (entry, k.3);
+      }))
+  nodes_meet front other x y (entry ∷ a) [] m n h k same =
+      inr (inr (record {
+        text = h.0;
+        more = h.1 ++ x;
+        parts = sym (ap (λ (t : List ℕ). t ++ y) k) ∙ sym same ∙ ap (λ (t : List ℕ). t ++ x) h.2 ∙ append_assoc (line h.0) h.1 x;
+        in_line = IsInLine-node h.0 entry h.3;
+        right = (entry, h.3);
+      }))
+  nodes_meet front other x y (first ∷ a) (second ∷ b) m n h k same =
+      let whole : line h.0 ++ (h.1 ++ x) ≡ line k.0 ++ (k.1 ++ y) =
+      sym (append_assoc (line h.0) h.1 x) ∙ sym (ap (λ (t : List ℕ). t ++ x) h.2) ∙ same ∙ ap (λ (t : List ℕ). t ++ y) k.2 ∙ append_assoc (line k.0) k.1 y in
+      let parts = line_parts h.0 k.0 (h.1 ++ x) (k.1 ++ y) (IsInLine-node h.0 first h.3) (IsInLine-node k.0 second k.3) whole in
+      let one : first ≡ second = IsNodeText-one h.0 first second h.3 (rw parts.0 k.3) in
+      elim (nodes_meet h.1 k.1 x y a b m n h.4 k.4 parts.1) [
+        | inl both ↦ inl (ap (λ e. e ∷ a) one ∙ ap (λ es. second ∷ es) both.0, both.1)
         | inr comes ↦ inr comes
       ]
 
-  -- what follows in a pack where some entries are read
-  next : {A : Type 0} (bytes rest : List ℕ) (read list : List (Entry A)) → HasRead bytes rest read → IsPack bytes list → Next rest read list (length list)
-  next bytes rest read list h k =
-      let whole : (line header ++ h.nodes) ++ rest ≡ (line header ++ k.nodes) ++ line (end_text (length list)) = sym h.parts ∙ k.whole in
-      let same : h.nodes ++ rest ≡ k.nodes ++ line (end_text (length list)) =
-      append_cancel_left (line header) (h.nodes ++ rest) (k.nodes ++ line (end_text (length list)))
-      (sym (append_assoc (line header) h.nodes rest) ∙ whole ∙ append_assoc (line header) k.nodes (line (end_text (length list)))) in
-      next_node h.nodes k.nodes rest read list (length list) h.each k.each same
+  -- so it is with the lines before
+  fronts_meet : {A : Type 0} (front other x y : List ℕ) (m n : ℕ) → IsFront A front m → IsFront A other n → front ++ x ≡ other ++ y
+      → ((m ≡ n) × (x ≡ y)) ⊎ Comes A m x ⊎ Comes A n y
+  fronts_meet front other x y zero zero h k same =
+      inl (refl, sym (ap (λ (t : List ℕ). t ++ x) h) ∙ same ∙ ap (λ (t : List ℕ). t ++ y) k)
+  fronts_meet front other x y zero (suc n) h k same =
+      inr (inl (record {
+        text = header;
+        more = k.0 ++ y;
+        parts = sym (ap (λ (t : List ℕ). t ++ x) h) ∙ same ∙ ap (λ (t : List ℕ). t ++ y) k.2 ∙ append_assoc (line header) k.0 y;
+        in_line = IsInLine-part header IsPart-header;
+        right = refl;
+      }))
+  fronts_meet front other x y (suc m) zero h k same =
+      inr (inr (record {
+        text = header;
+        more = h.0 ++ x;
+        parts = sym (ap (λ (t : List ℕ). t ++ y) k) ∙ sym same ∙ ap (λ (t : List ℕ). t ++ x) h.2 ∙ append_assoc (line header) h.0 x;
+        in_line = IsInLine-part header IsPart-header;
+        right = refl;
+      }))
+  fronts_meet {A} front other x y (suc m) (suc n) h k same =
+      let whole : line header ++ (h.0 ++ x) ≡ line header ++ (k.0 ++ y) =
+      sym (append_assoc (line header) h.0 x) ∙ sym (ap (λ (t : List ℕ). t ++ x) h.2) ∙ same ∙ ap (λ (t : List ℕ). t ++ y) k.2 ∙ append_assoc (line header) k.0 y in
+      elim (nodes_meet h.0 k.0 x y h.1 k.1 m n h.3 k.3 (append_cancel_left (line header) (h.0 ++ x) (k.0 ++ y) whole)) [
+        | inl both ↦ inl (ap suc (sym h.4 ∙ ap (λ (l : List (Entry A)). length l) both.0 ∙ k.4), both.1)
+        | inr comes ↦ inr comes
+      ]
 
-  -- ---- one reading
+  -- ---- where reading stops
+
+  -- no line that may stand begins the rest
+  abbrev Unfit : (A : Type 0) → ℕ → List ℕ → Type 0
+  Unfit A lines rest = (t more : List ℕ) → MayStand A lines t → rest ≡ line t ++ more → ⊥
+
+  -- the end comes
+  abbrev Over : ℕ → List ℕ → Type 0
+  Over zero rest = ⊥
+  Over (suc n) rest = (more : List ℕ) × (rest ≡ line (end_text n) ++ more)
+
+  IsRight-may : (A : Type 0) (lines : ℕ) (text : List ℕ) → IsRight A lines text → MayStand A lines text
+  IsRight-may A zero text h = h
+  IsRight-may A (suc n) text h = inl h
+
+  IsInLine-may : (A : Type 0) (lines : ℕ) (text : List ℕ) → MayStand A lines text → IsInLine text
+  IsInLine-may A zero text h = subst IsInLine (sym h) (IsInLine-part header IsPart-header)
+  IsInLine-may A (suc n) text (inl h) = IsInLine-node text h.0 h.1
+  IsInLine-may A (suc n) text (inr h) = subst IsInLine (sym h) (IsInLine-end n)
+
+  -- then no right line comes
+  unfit_comes : {A : Type 0} (lines : ℕ) (rest : List ℕ) → Unfit A lines rest → Comes A lines rest → ⊥
+  unfit_comes lines rest h comes = h comes.text comes.more (IsRight-may _ lines comes.text comes.right) comes.parts
+
+  over_comes : {A : Type 0} (lines : ℕ) (rest : List ℕ) → Over lines rest → Comes A lines rest → ⊥
+  over_comes zero rest h comes = h
+  over_comes (suc n) rest h comes = no_end n comes.text h.0 comes.more comes.right.0 comes.right.1 (sym h.1 ∙ comes.parts)
+
+  unfit_over : (A : Type 0) (lines : ℕ) (rest : List ℕ) → Unfit A lines rest → Over lines rest → ⊥
+  unfit_over A zero rest h over = over
+  unfit_over A (suc n) rest h over = h (end_text n) over.0 (inr refl) over.1
+
+  -- reading stops after so many lines, with this rest
+  record Halts (A : Type 0) (bytes : List ℕ) (lines : ℕ) (rest : List ℕ) : Type 0 where
+    front : List ℕ
+    parts : bytes ≡ front ++ rest
+    before : IsFront A front lines
+    halt : Unfit A lines rest ⊎ Over lines rest
+
+  halts_comes : {A : Type 0} (bytes : List ℕ) (lines : ℕ) (rest : List ℕ) → Halts A bytes lines rest → Comes A lines rest → ⊥
+  halts_comes bytes lines rest h comes =
+      elim h.halt [
+        | inl unfit ↦ unfit_comes lines rest unfit comes
+        | inr over ↦ over_comes lines rest over comes
+      ]
+
+  -- it stops in one place
+  halts_one : {A : Type 0} (bytes : List ℕ) (m n : ℕ) (x y : List ℕ) → Halts A bytes m x → Halts A bytes n y → (m ≡ n) × (x ≡ y)
+  halts_one bytes m n x y h k =
+      elim (fronts_meet h.front k.front x y m n h.before k.before (sym h.parts ∙ k.parts)) [
+        | inl both ↦ both
+        | inr (inl comes) ↦ absurd (halts_comes bytes m x h comes)
+        | inr (inr comes) ↦ absurd (halts_comes bytes n y k comes)
+      ]
+
+  -- bytes follow the end
+  abbrev Exceeds : ℕ → List ℕ → Type 0
+  Exceeds zero rest = ⊥
+  Exceeds (suc n) rest = (more : List ℕ) × (rest ≡ line (end_text n) ++ more) × (more ≢ [])
+
+  Exceeds-over : (lines : ℕ) (rest : List ℕ) → Exceeds lines rest → Over lines rest
+  Exceeds-over zero rest h = h
+  Exceeds-over (suc n) rest h = (h.0, h.1)
+
+  -- a bad line is the one where reading stops, or the one after the end
+  record Bad (A : Type 0) (bytes : List ℕ) (at : ℕ) : Type 0 where
+    lines : ℕ
+    rest : List ℕ
+    halts : Halts A bytes lines rest
+    which : ((at ≡ lines + 1) × Unfit A lines rest) ⊎ ((at ≡ lines + 2) × Exceeds lines rest)
+
+  Bad-of : {A : Type 0} (bytes : List ℕ) (at : ℕ) → IsBadLine A bytes at → Bad A bytes at
+  Bad-of {A} bytes at (inl w) =
+      let unfit : Unfit A w.lines (line w.text ++ w.rest) = λ t more may same.
+        let one = line_parts w.text t w.rest more w.in_line (IsInLine-may A w.lines t may) same in
+        let P : List ℕ → Type 0 = λ text. MayStand A w.lines text in
+        w.wrong (subst P (sym one.0) may) in
+      record {
+        lines = w.lines;
+        rest = line w.text ++ w.rest;
+        halts = record { front = w.front; parts = w.parts ∙ append_assoc w.front (line w.text) w.rest; before = w.before; halt = inl unfit };
+        which = inl (w.place, unfit);
+      }
+  Bad-of {A} bytes at (inr (inl w)) =
+      let unfit : Unfit A w.lines w.rest = λ t more may same. not_in_line t more (subst IsInLine same w.in_line) in
+      record {
+        lines = w.lines;
+        rest = w.rest;
+        halts = record { front = w.front; parts = w.parts; before = w.before; halt = inl unfit };
+        which = inl (w.place, unfit);
+      }
+  Bad-of bytes at (inr (inr w)) =
+      let parts : bytes ≡ (line header ++ w.before.nodes) ++ (line (end_text (length w.list)) ++ w.rest) =
+      w.parts ∙ ap (λ (f : List ℕ). f ++ w.rest) w.before.whole ∙ append_assoc (line header ++ w.before.nodes) (line (end_text (length w.list))) w.rest in
+      record {
+        lines = suc (length w.list);
+        rest = line (end_text (length w.list)) ++ w.rest;
+        halts = record { front = line header ++ w.before.nodes; parts = parts; before = (w.before.nodes, w.list, refl, w.before.each, refl); halt = inr (w.rest, refl) };
+        which = inr (omega (arith, w.place), (w.rest, refl, w.more));
+      }
+
+  unfit_exceeds : (A : Type 0) (m n : ℕ) (x y : List ℕ) → m ≡ n → x ≡ y → Unfit A m x → Exceeds n y → ⊥
+  unfit_exceeds A m n x y lines rests h k =
+      let P : ℕ → Type 0 = λ l. Unfit A l x in
+      let Q : List ℕ → Type 0 = λ r. Unfit A n r in
+      unfit_over A n y (subst Q rests (subst P lines h)) (Exceeds-over n y k)
+
+  -- a bad line has one place
+  pub IsBadLine-one : {A : Type 0} (bytes : List ℕ) (a b : ℕ) → IsBadLine A bytes a → IsBadLine A bytes b → a ≡ b
+  IsBadLine-one {A} bytes a b h k =
+      let f : Bad A bytes a = Bad-of bytes a h in
+      let g : Bad A bytes b = Bad-of bytes b k in
+      let one = halts_one bytes f.lines g.lines f.rest g.rest f.halts g.halts in
+      elim (f.which) [
+        | inl u ↦
+            elim (g.which) [
+              | inl v ↦ u.0 ∙ ap (λ n. n + 1) one.0 ∙ sym v.0
+              | inr v ↦ absurd (unfit_exceeds A f.lines g.lines f.rest g.rest one.0 one.1 u.1 v.1)
+            ]
+        | inr u ↦
+            elim (g.which) [
+              | inl v ↦ absurd (unfit_exceeds A g.lines f.lines g.rest f.rest (sym one.0) (sym one.1) v.1 u.1)
+              | inr v ↦ u.0 ∙ ap (λ n. n + 2) one.0 ∙ sym v.0
+            ]
+      ]
+
+  -- a pack is where reading stops too
+  Halts-pack : {A : Type 0} (bytes : List ℕ) (list : List (Entry A)) → IsPack bytes list → Halts A bytes (suc (length list)) (line (end_text (length list)))
+  Halts-pack bytes list h = record {
+    front = line header ++ h.nodes;
+    parts = h.whole;
+    before = (h.nodes, list, refl, h.each, refl);
+    halt = inr ([], sym (append-nil (line (end_text (length list)))));
+  }
+
+  exceeds_end : (n lines : ℕ) (rest : List ℕ) → lines ≡ suc n → rest ≡ line (end_text n) → Exceeds lines rest → ⊥
+  exceeds_end n lines rest is same h =
+      let P : ℕ → Type 0 = λ l. Exceeds l rest in
+      let found : Exceeds (suc n) rest = subst P is h in
+      found.2 (append_cancel_left (line (end_text n)) found.0 [] (sym found.1 ∙ same ∙ sym (append-nil (line (end_text n)))))
+
+  -- no line of a pack is bad
+  pub IsPack-no_bad_line : {A : Type 0} (bytes : List ℕ) (at : ℕ) (list : List (Entry A)) → IsPack bytes list → IsBadLine A bytes at → ⊥
+  IsPack-no_bad_line {A} bytes at list h k =
+      let f : Bad A bytes at = Bad-of bytes at k in
+      let pack = Halts-pack bytes list h in
+      let one = halts_one bytes f.lines (suc (length list)) f.rest (line (end_text (length list))) f.halts pack in
+      elim (f.which) [
+        | inl u ↦ unfit_over A f.lines f.rest u.1 (ended f.lines f.rest one.0 one.1)
+        | inr u ↦ exceeds_end (length list) f.lines f.rest one.0 one.1 u.1
+      ]
+    where
+      ended : (lines : ℕ) (rest : List ℕ) → lines ≡ suc (length list) → rest ≡ line (end_text (length list)) → Over lines rest
+      ended lines rest is same =
+          let P : ℕ → Type 0 = λ l. Over l rest in
+          subst P (sym is) ([], same ∙ sym (append-nil (line (end_text (length list)))))
 
   -- bytes are a pack of one list
   pub IsPack-one : {A : Type 0} (bytes : List ℕ) (a b : List (Entry A)) → IsPack bytes a → IsPack bytes b → a ≡ b
-  IsPack-one bytes a b h k =
-      let read : HasRead bytes (line (end_text (length a))) a = record { nodes = h.nodes; parts = h.whole; each = h.each } in
-      elim (next bytes (line (end_text (length a))) a b read k) [
-        | inl ends ↦ ends.0
-        | inr comes ↦ absurd (no_end (length a) comes.text [] comes.more comes.entry comes.says (append-nil (line (end_text (length a))) ∙ comes.parts))
+  IsPack-one {A} bytes a b h k =
+      let same : h.nodes ++ line (end_text (length a)) ≡ k.nodes ++ line (end_text (length b)) =
+      append_cancel_left (line header) (h.nodes ++ line (end_text (length a))) (k.nodes ++ line (end_text (length b)))
+      (sym (append_assoc (line header) h.nodes (line (end_text (length a)))) ∙ sym h.whole ∙ k.whole ∙ append_assoc (line header) k.nodes (line (end_text (length b)))) in
+      elim (nodes_meet h.nodes k.nodes (line (end_text (length a))) (line (end_text (length b))) a b 0 0 h.each k.each same) [
+        | inl both ↦ both.0
+        | inr (inl comes) ↦ absurd (no_end (length a) comes.text [] comes.more comes.right.0 comes.right.1 (append-nil (line (end_text (length a))) ∙ comes.parts))
+        | inr (inr comes) ↦ absurd (no_end (length b) comes.text [] comes.more comes.right.0 comes.right.1 (append-nil (line (end_text (length b))) ∙ comes.parts))
       ]
 
-  -- the first line of a pack is the header
-  IsPack-first : {A : Type 0} (bytes : List ℕ) (list : List (Entry A)) → (h : IsPack bytes list) → bytes ≡ line header ++ (h.nodes ++ line (end_text (length list)))
-  IsPack-first bytes list h = h.whole ∙ append_assoc (line header) h.nodes (line (end_text (length list)))
-
-  no_wrong_line : {A : Type 0} (bytes front text rest : List ℕ) (lines : ℕ) (list : List (Entry A)) → bytes ≡ front ++ line text ++ rest
-      → IsFront A front lines → IsInLine text → (MayStand A lines text → ⊥) → IsPack bytes list → ⊥
-  no_wrong_line bytes front text rest zero list parts before in_line wrong h =
-      let same : line text ++ rest ≡ line header ++ (h.nodes ++ line (end_text (length list))) =
-      sym (parts ∙ ap (λ (f : List ℕ). f ++ line text ++ rest) before) ∙ IsPack-first bytes list h in
-      wrong (line_parts text header rest _ in_line IsInLine-header same).0
-  no_wrong_line {A} bytes front text rest (suc n) list parts before in_line wrong h =
-      let read : HasRead bytes (line text ++ rest) before.1 = record {
-        nodes = before.0;
-        parts = parts ∙ append_assoc front (line text) rest ∙ ap (λ (f : List ℕ). f ++ (line text ++ rest)) before.2;
-        each = before.3;
-      } in
-      elim (next bytes (line text ++ rest) before.1 list read h) [
-        | inl ends ↦
-            let count : length list ≡ n = sym (ap (λ (l : List (Entry A)). length l) ends.0) ∙ before.4 in
-            let is = (line_parts text (end_text (length list)) rest [] in_line (IsInLine-end (length list)) (ends.1 ∙ sym (append-nil (line (end_text (length list)))))).0 in
-            wrong (inr (is ∙ ap end_text count))
-        | inr comes ↦
-            let is = (line_parts text comes.text rest comes.more in_line (IsInLine-node comes.text comes.entry comes.says) comes.parts).0 in
-            wrong (inl (comes.entry, rw is comes.says))
-      ]
-
-  no_cut : {A : Type 0} (bytes front rest : List ℕ) (lines : ℕ) (list : List (Entry A)) → bytes ≡ front ++ rest → IsFront A front lines
-      → IsInLine rest → IsPack bytes list → ⊥
-  no_cut bytes front rest zero list parts before in_line h =
-      let same : rest ≡ line header ++ (h.nodes ++ line (end_text (length list))) =
-      sym (parts ∙ ap (λ (f : List ℕ). f ++ rest) before) ∙ IsPack-first bytes list h in
-      not_in_line header _ (subst IsInLine same in_line)
-  no_cut bytes front rest (suc n) list parts before in_line h =
-      let read : HasRead bytes rest before.1 = record { nodes = before.0; parts = parts ∙ ap (λ (f : List ℕ). f ++ rest) before.2; each = before.3 } in
-      elim (next bytes rest before.1 list read h) [
-        | inl ends ↦ not_in_line (end_text (length list)) [] (subst IsInLine (ends.1 ∙ sym (append-nil (line (end_text (length list))))) in_line)
-        | inr comes ↦ not_in_line comes.text comes.more (subst IsInLine comes.parts in_line)
-      ]
-
-  no_followed : {A : Type 0} (bytes : List ℕ) (at : ℕ) (list : List (Entry A)) → IsFollowed A bytes at → IsPack bytes list → ⊥
-  no_followed {A} bytes at list k h =
-      let read : HasRead bytes (line (end_text (length k.list)) ++ k.rest) k.list = record {
-        nodes = k.before.nodes;
-        parts = k.parts ∙ ap (λ (f : List ℕ). f ++ k.rest) k.before.whole ∙ append_assoc (line header ++ k.before.nodes) (line (end_text (length k.list))) k.rest;
-        each = k.before.each;
-      } in
-      elim (next bytes (line (end_text (length k.list)) ++ k.rest) k.list list read h) [
-        | inl ends ↦
-            let count : length k.list ≡ length list = ap (λ (l : List (Entry A)). length l) ends.0 in
-            let same : line (end_text (length k.list)) ++ k.rest ≡ line (end_text (length k.list)) ++ [] =
-            ends.1 ∙ ap (λ n. line (end_text n)) (sym count) ∙ sym (append-nil (line (end_text (length k.list)))) in
-            k.more (append_cancel_left (line (end_text (length k.list))) k.rest [] same)
-        | inr comes ↦ no_end (length k.list) comes.text k.rest comes.more comes.entry comes.says comes.parts
-      ]
-
-  -- no line of a pack is wrong
-  pub IsPack-no_bad_line : {A : Type 0} (bytes : List ℕ) (at : ℕ) (list : List (Entry A)) → IsPack bytes list → IsBadLine A bytes at → ⊥
-  IsPack-no_bad_line bytes at list h (inl w) = no_wrong_line bytes w.front w.text w.rest w.lines list w.parts w.before w.in_line w.wrong h
-  IsPack-no_bad_line bytes at list h (inr (inl w)) = no_cut bytes w.front w.rest w.lines list w.parts w.before w.in_line h
-  IsPack-no_bad_line bytes at list h (inr (inr w)) = no_followed bytes at list w h
-
+module _ (texts_law : IdsHaveTexts) (digits_law : IdTextsAreDigits) (one_law : TextsSpellOneId) where
   -- ---- the image
 
   IsIdsText-image : (ids : List (List ℕ)) → All IsId ids → IsIdsText (ids_text ids) ids
@@ -290,17 +334,16 @@ module _ (texts_law : IdsHaveTexts) (digits_law : IdTextsAreDigits) (one_law : T
   no_fault : {A : Type 0} (bytes : List ℕ) (list : List (Entry A)) (fault : IndexFault) → IsPack bytes list → IndexRefuses A bytes fault
       → fault ≡ index_faults.Memory
   no_fault bytes list index_faults.Memory h k = refl
-  no_fault bytes list (index_faults.Bad at) h k = absurd (IsPack-no_bad_line bytes at list h k)
+  no_fault bytes list (index_faults.Bad at) h k = absurd (IsPack-no_bad_line digits_law one_law bytes at list h k)
   no_fault bytes list index_faults.Other h k = absurd k
 
   -- plain packs lose nothing
-  pub LosesNothing-plain : (A : Type 0) → LosesNothing {A = A} (λ list pack. (pack ≡ pack_text list) × (length pack ≤ max_pack))
+  pub LosesNothing-plain : (A : Type 0) → LosesNothing {A = A} (λ list pack. pack ≡ pack_text list)
       (λ list. PackRefuses (pack_text list)) (λ bytes list. IsPack bytes list) (λ bytes. IndexRefuses A bytes) (λ list. pack_text list)
   LosesNothing-plain A = record {
-    packs_image = λ list pack are h. h.0;
-    packs_few = λ list pack are h. h.1;
+    packs_image = λ list pack are h. h;
     too_large = λ list are h. h;
     packs_each = λ list are h. h;
-    reads_image = λ list others are h. IsPack-one (pack_text list) others list h (IsPack-image list are.ids);
+    reads_image = λ list others are h. IsPack-one digits_law one_law (pack_text list) others list h (IsPack-image list are.ids);
     reads_each = λ list fault are h. no_fault (pack_text list) list fault (IsPack-image list are.ids) h;
   }

@@ -7,7 +7,7 @@ use Rattle.gobject.specs.declared.fault.PackFault.{PackFault}
 use Rattle.gobject.specs.declared.fault.PackFault.TheVariants.{Memory, TooLarge, Other}
 use Rattle.gobject.specs.PlainPackText.{PackRefuses}
 
--- what is refused is refused with more behind it
+-- what is refused is refused with more after it
 pub PackRefuses-front : (text more : List ℕ) (fault : PackFault) → PackRefuses text fault → PackRefuses (text ++ more) fault
 PackRefuses-front text more Memory h = h
 PackRefuses-front text more TooLarge h = omega (arith, h, length-append text more)
@@ -19,7 +19,7 @@ pub pieces_more : {X : Type 0} (f : X → List ℕ) (xs : List X) (i : ℕ) (x :
 pieces_more f xs i x old lt is =
     flat_map_more f old (take i xs) x ∙ ap (λ ys. old ++ flat_map f ys) (ap (λ y. take i xs ++ y ∷ []) is ∙ sym (take_more xs i x lt))
 
--- and those behind it
+-- and those after it
 pub pieces_split : {X : Type 0} (f : X → List ℕ) (xs : List X) (i : ℕ) (old : List ℕ)
     → old ++ flat_map f xs ≡ (old ++ flat_map f (take i xs)) ++ flat_map f (drop i xs)
 pieces_split f xs i old =

@@ -1,7 +1,8 @@
 -- The text of a plain pack: lines, each ended by a line feed, whose parts are separated by one space. The first is
 -- `GPK1`; then one for each entry, `c` for a commit or `t` for a tag, its id and those of its parents; at last
 -- `end` and how many entries there are.
-use Rattle.std.specs.Prelude.{◌≡◌, ◌≢◌, ◌⊎◌, ℕ, zero, suc, ◌+◌, ◌<◌, List, [], ◌∷◌, ◌++◌, length, slice_index, codes, decimal}
+use Rattle.std.specs.Prelude.{◌≡◌, ◌≢◌, ◌⊎◌, ℕ, zero, suc, ◌+◌, ◌<◌, List, [], ◌∷◌, ◌++◌, length, slice_index, codes}
+use Rattle.std.specs.Prelude.{decimal}
 use Rattle.std.specs.List.{flat_map}
 use Rattle.gname.specs.Ids.{IsIdText, id_text}
 use Rattle.gobject.specs.declared.node.Kind.{Kind}
@@ -32,7 +33,7 @@ letter Tag = 116
 abbrev pub ids_of : {A : Type 0} → Entry A → List (List ℕ)
 ids_of entry = entry.id ∷ entry.node.parents
 
--- some ids, each behind a space
+-- some ids, each after a space
 abbrev pub ids_text : List (List ℕ) → List ℕ
 ids_text ids = flat_map (λ id. 32 ∷ id_text id) ids
 
@@ -44,7 +45,7 @@ node_text entry = letter entry.node.kind ∷ ids_text (ids_of entry)
 abbrev pub nodes_text : {A : Type 0} → List (Entry A) → List ℕ
 nodes_text list = flat_map (λ entry. line (node_text entry)) list
 
--- the last line, behind so many entries
+-- the last line, after so many entries
 abbrev pub end_text : ℕ → List ℕ
 end_text n = codes "end " ++ decimal n
 
@@ -63,7 +64,8 @@ PackRefuses text pack_faults.Other = ⊥
 -- a space and a text of the id, for each of the ids
 abbrev pub IsIdsText : List ℕ → List (List ℕ) → Type 0
 IsIdsText text [] = text ≡ []
-IsIdsText text (id ∷ ids) = (digits more : List ℕ) × (text ≡ 32 ∷ digits ++ more) × IsIdText digits id × IsIdsText more ids
+IsIdsText text (id ∷ ids) =
+    (digits more : List ℕ) × (text ≡ 32 ∷ digits ++ more) × IsIdText digits id × IsIdsText more ids
 
 -- a line of the entry
 abbrev pub IsNodeText : {A : Type 0} → List ℕ → Entry A → Type 0
@@ -72,7 +74,8 @@ IsNodeText text entry = (ids : List ℕ) × (text ≡ letter entry.node.kind ∷
 -- a line of each of the entries
 abbrev pub IsNodesText : {A : Type 0} → List ℕ → List (Entry A) → Type 0
 IsNodesText text [] = text ≡ []
-IsNodesText text (entry ∷ list) = (node more : List ℕ) × (text ≡ line node ++ more) × IsNodeText node entry × IsNodesText more list
+IsNodesText text (entry ∷ list) =
+    (node more : List ℕ) × (text ≡ line node ++ more) × IsNodeText node entry × IsNodesText more list
 
 -- a pack of the entries
 pub record IsPack {A : Type 0} (bytes : List ℕ) (list : List (Entry A)) : Type 0 where
@@ -89,9 +92,12 @@ IsInLine text = (at : ℕ) → slice_index text at ≢ 10
 -- what may stand before a line, being so many lines: nothing, or the header and a line of each of some entries
 abbrev pub IsFront : (A : Type 0) → List ℕ → ℕ → Type 0
 IsFront A front zero = front ≡ []
-IsFront A front (suc n) = (nodes : List ℕ) × (list : List (Entry A)) × (front ≡ line header ++ nodes) × IsNodesText nodes list × (length list ≡ n)
+IsFront A front (suc n) =
+    (nodes : List ℕ) × (list : List (Entry A)) × (front ≡ line header ++ nodes)
+    × IsNodesText nodes list × (length list ≡ n)
 
--- what may stand in a line behind so many: the header in the first one, then a line of an entry, or the end that counts them
+-- what may stand in a line after so many: the header in the first one, then a line of an entry, or the end that
+-- counts them
 abbrev pub MayStand : (A : Type 0) → ℕ → List ℕ → Type 0
 MayStand A zero text = text ≡ header
 MayStand A (suc n) text = ((entry : Entry A) × IsNodeText text entry) ⊎ (text ≡ end_text n)

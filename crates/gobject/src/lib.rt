@@ -1,8 +1,41 @@
-//! The objects of a repository, commits and tags under their ids, and packs of them.
+//! The objects of a repository that a fetch is about: commits and tags under their ids, and packs,
+//! which carry lists of them from one end to the other.
+//!
+//! # Proved
+//!
+//! - A copy of a node or an entry is the same node or entry. [`Node::is_same`] compares kind and
+//!   parents, in order; [`Node::is_shaped`] holds exactly of nodes with at most [`MAX_PARENTS`]
+//!   parents, and exactly one where it is a tag.
+//! - [`PlainPack`] writes the one text of a list, of at most `gname::MAX_PACK` bytes, and refuses as
+//!   too large exactly the lists whose text is longer. It reads exactly such texts, with ids in either
+//!   case, and reports of any other bytes the first line that is wrong; in pieces, cut anywhere, as whole.
+//! - What an indexer owes of a pack that comes in pieces is in the clauses of [`Indexer`]; `index` of a
+//!   whole pack follows from them.
+//! - Bytes have one bad line at most, and a pack has none: [`laws`].
+//! - What a packer and an indexer that lose nothing must do is [`Faithful`]; a plain pack of a list
+//!   with distinct ids reads back as that list.
+//! - Each fault has the number and the name of its row.
+//! - No call panics, overflows or reads out of bounds, and each returns.
+//!
+//! # Only tested
+//!
+//! The texts of the faults, that memory which is there is used, and that the longest pack is written and
+//! read.
+//!
+//! # What a body can still get away with
+//!
+//! It may report out of memory of any list and of any pack, and of any copy, as often as it likes. It
+//! may take as long as it likes, and more memory than it needs.
+//!
+//! # Stands on
+//!
+//! `gname` for ids, `memchr` for the ends of parts, `arrayvec` for a part that is cut, `itoa` for the count in a pack, `thiserror` for the
+//! texts of faults; the proofs cite `hex`.
 #![tactic(auto)]
 
 mod entry_ids;
 mod fault;
+pub mod laws;
 mod node;
 mod pack;
 mod plain_pack;

@@ -87,7 +87,7 @@ impl<A: Allocator + Copy> Node<A> {
         })
     }
 
-    /// Whether the node has no more than `MAX_PARENTS` parents, and exactly one where it is a tag.
+    /// Whether the node has at most `MAX_PARENTS` parents, and exactly one where it is a tag.
     pub fn is_shaped(&self) -> bool
         ensures { IsTrue result ↔ IsShaped self.now }
     {

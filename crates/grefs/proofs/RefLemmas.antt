@@ -247,7 +247,7 @@ searched name refs sorted (Err place) inside parted =
 pub refs_none : IsRefs []
 refs_none = record { names = All-nil (λ (ref : List ℕ × List ℕ). IsBelowRefs ref.0); ascending = sorted_none; few = omega arith }
 
--- ---- a ref behind all others
+-- ---- a ref after all others
 
 all_push : (P : List ℕ → Type 0) (refs : RefList) (ref : List ℕ × List ℕ) → AllByRecursion P (keys_of refs) → P ref.0 → AllByRecursion P (keys_of (refs ++ ref ∷ []))
 all_push P [] ref all this = (this, tt)

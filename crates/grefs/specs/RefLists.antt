@@ -1,6 +1,7 @@
 -- Refs: names below refs/ with the ids that they stand at, in the byte order of the names
 -- (git-check-ref-format(1), git-show-ref(1)).
-use Rattle.std.specs.Prelude.{◌≡◌, ◌≢◌, ◌⊎◌, ℕ, ◌≤◌, true, Bool, List, length, find, All, codes, nat_eq, Option, Some, None}
+use Rattle.std.specs.Prelude.{◌≡◌, ◌≢◌, ◌⊎◌, ℕ, ◌≤◌, true, Bool, List, length, find, All, codes, nat_eq, Option, Some}
+use Rattle.std.specs.Prelude.{None}
 use Rattle.std.specs.Str.{bytes_eq}
 use Rattle.std.specs.List.{AllByRecursion, starts_with}
 use Rattle.std.specs.declared.cmp.Ordering.TheVariants.{Less}

@@ -91,7 +91,7 @@ impl<A: Allocator + Copy> Refs<A> {
         }
     }
 
-    /// Adds a ref behind the others. Where there is no memory the refs stay as they were.
+    /// Adds a ref after the others. Where there is no memory the refs stay as they were.
     pub fn push(&mut self, name: RefName<A>, id: Oid) -> Result<(), AllocError>
         requires name { IsBelowRefs name }
         requires above { AreBelow self.old name }

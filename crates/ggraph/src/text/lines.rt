@@ -8,6 +8,7 @@ ghost use Rattle.grefs.specs.RefLists.{IsBelowRefs};
 ghost use Rattle.ggraph.specs.TextParts.{IsNoNode, IsNoEntry, IsNoRef, IsNoHead, IsNoIdText, IsHeadAt, IsHeadOn};
 ghost use Rattle.gname.specs.Ids.{IsId};
 
+use crate::text::laws::text_laws;
 use crate::text::parts::{ids_of, name_of, take_id, take_spaced};
 use gname::{Oid, RefName};
 use gobject::{Entry, Kind, Node};
@@ -40,6 +41,7 @@ fn entry_of<A: Allocator + Copy>(
     ensures { IfOk result (λ found. MatchOption found (IsNoEntry A ids.now) (λ entry.
         (ids.now ≡ spaced_ids (entry.id ∷ entry.node.parents)) × (entry.node.kind ≡ kind) × HasIds entry)) }
 {
+    text_laws();
     let Some(first) = take_spaced(ids) else {
         return Ok(None);
     };
@@ -60,6 +62,7 @@ pub(crate) fn ref_of<A: Allocator + Copy>(
     ensures { IfOk result (λ found. MatchOption found (IsNoRef line.now) (λ ref.
         (line.now ≡ ref_line ref) × IsId ref.1 × IsBelowRefs ref.0)) }
 {
+    text_laws();
     let Some(parts) = line.strip_prefix(b"r ") else {
         return Ok(None);
     };
@@ -99,6 +102,7 @@ pub(crate) fn head_of<A: Allocator + Copy>(
 fn head_at<A: Allocator + Copy>(digits: &[u8]) -> Option<Head<A>>
     ensures { MatchOption result (IsNoIdText digits.now) (λ head. IsHeadAt digits.now head) }
 {
+    text_laws();
     match take_id(digits) {
         Some(found) => {
             if found.1.is_empty() {

@@ -6,6 +6,7 @@ ghost use Rattle.ggraph.specs.Loading.{Accepts, HasNoLf, StopsAt};
 ghost use Rattle.ggraph.specs.RepositoryText.{IsLoadable, repository_text};
 
 use crate::fault::TextFault;
+use crate::text::laws::text_laws;
 use crate::text::reading::{Reading, Stage};
 use crate::text::{Order, Repository};
 use ghistory::Graph;
@@ -29,6 +30,7 @@ pub fn load<A: Allocator + Copy>(
     ensures refused { IfErr result (StopsAt A order text.now) }
     ensures accepts { Accepts A order text.now result }
 {
+    text_laws();
     let mut reading = Reading::new(alloc);
     let mut rest = text;
     let mut number = 1;
@@ -47,7 +49,7 @@ pub fn load<A: Allocator + Copy>(
     })
 }
 
-// The first line, without its LF, and what is behind the LF.
+// The first line, without its LF, and what follows the LF.
 fn split_line(text: &[u8]) -> Option<(&[u8], &[u8])>
     ensures { MatchOption result (HasNoLf text.now) (λ pair.
         (text.now ≡ pair.0.now ++ (codes "\n" ++ pair.1.now)) × HasNoLf pair.0.now) }

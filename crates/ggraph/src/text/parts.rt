@@ -7,15 +7,17 @@ ghost use Rattle.grefs.specs.RefLists.{IsBelowRefs};
 ghost use Rattle.ggraph.specs.RepositoryText.{spaced_ids};
 ghost use Rattle.ggraph.specs.TextParts.{BeginsWithNoId, BeginsWithNoSpacedId, IsNoIds};
 
+use crate::text::laws::text_laws;
 use gname::{ID_TEXT_LENGTH, NameFault, Oid, RefName};
 use gobject::Parents;
 use grefs::is_below_refs;
 use std::alloc::{AllocError, Allocator};
 
-/// The id whose forty digits are at the front, and what is behind them.
+/// The id whose forty digits are at the front, and what follows them.
 pub(crate) fn take_id(text: &[u8]) -> Option<(Oid, &[u8])>
     ensures { MatchOption result (BeginsWithNoId text.now) (λ pair. (text.now ≡ id_text pair.0 ++ pair.1.now) × IsId pair.0) }
 {
+    text_laws();
     if text.len() < ID_TEXT_LENGTH {
         return None;
     }
@@ -49,6 +51,7 @@ pub(crate) fn ids_of<A: Allocator + Copy>(
     ensures { IfOk result (λ found. MatchOption found (IsNoIds text.now) (λ ids.
         (text.now ≡ spaced_ids ids) × All IsId ids)) }
 {
+    text_laws();
     let mut ids = Parents::new(alloc);
     let mut rest = text;
     while !rest.is_empty() {
@@ -61,7 +64,7 @@ pub(crate) fn ids_of<A: Allocator + Copy>(
     Ok(Some(ids))
 }
 
-/// The id at the front behind a space, and what is behind it.
+/// The id at the front after a space, and what follows it.
 pub(crate) fn take_spaced(text: &[u8]) -> Option<(Oid, &[u8])>
     ensures { MatchOption result (BeginsWithNoSpacedId text.now) (λ pair.
         (text.now ≡ codes " " ++ (id_text pair.0 ++ pair.1.now)) × IsId pair.0) }

@@ -11,6 +11,7 @@ ghost use Rattle.ggraph.specs.Reading.{RefusesEntry, RefusesRef};
 
 use crate::fault::TextFault;
 use crate::text::Order;
+use crate::text::laws::text_laws;
 use crate::text::lines::{head_of, node_of, ref_of};
 use ghistory::{Graph, MAX_NODES};
 use gname::{Oid, RefName};
@@ -101,6 +102,7 @@ impl<A: Allocator + Copy> Reading<A> {
         ensures ok { OnOk result (Takes order self.old line.now self.new) }
         ensures refused { IfErr result (Refuses order self.old line.now number) }
     {
+        text_laws();
         match node_of(alloc, line)? {
             Some(entry) => add_node(&mut self.graph, entry, order, number),
             None => self.take_ref(alloc, order, line, number),
@@ -119,6 +121,7 @@ impl<A: Allocator + Copy> Reading<A> {
         ensures ok { OnOk result (Takes order self.old line.now self.new) }
         ensures refused { IfErr result (Refuses order self.old line.now number) }
     {
+        text_laws();
         match ref_of(alloc, line)? {
             Some(pair) => {
                 self.stage = Stage::Refs;

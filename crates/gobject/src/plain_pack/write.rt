@@ -8,7 +8,7 @@ ghost use Rattle.gobject.specs.PlainPackWriting.{Writes};
 
 use crate::fault::PackFault;
 use crate::node::{Entry, Kind};
-use gname::{ID_TEXT_LENGTH, MAX_PACK, Oid};
+use gname::{MAX_ID_TEXT, MAX_PACK, Oid};
 use itoa::Buffer;
 use std::alloc::Allocator;
 use std::marker::Model;
@@ -51,17 +51,17 @@ impl<A: Allocator + Copy> Writer<A> {
         Ok(())
     }
 
-    /// Writes an id behind a space.
+    /// Writes an id after a space.
     fn put_id(&mut self, id: &Oid) -> Result<(), PackFault>
         ensures { Writes self.old self.new result (ids_text (id.now ∷ [])) }
     {
-        let mut text = [0; ID_TEXT_LENGTH];
-        id.to_hex(&mut text);
+        let mut text = [0; MAX_ID_TEXT];
+        let length = id.to_hex(&mut text);
         self.put(b" ")?;
-        self.put(&text)
+        self.put(&text[..length])
     }
 
-    /// Writes ids, each behind a space.
+    /// Writes ids, each after a space.
     fn put_ids(&mut self, ids: &[Oid]) -> Result<(), PackFault>
         ensures { Writes self.old self.new result (ids_text ids.now) }
     {

@@ -30,18 +30,18 @@ returns-clause-accepts g c =
     let done : c.loop-pair.reading.stage ≡ Done = same_true the_type (search rules) _ _ (not_false _ c.if-ne.ensures) in
     let read = progress_done c.args.order c.args.text.now c.loop-pair.rest.now c.loop-pair.reading c.loop-pair.number c.loop-pair.invariant c.if-not-is_empty.ensures done in
     let whole = whole_read c.args.order c.args.text.now read.0 c.loop-pair.reading.graph c.loop-pair.reading.refs c.loop-pair.reading.head read.1 in
-    accepts_ok c.args.order c.args.text.now (record { graph = c.loop-pair.reading.graph; refs = c.loop-pair.reading.refs; head = c.loop-pair.reading.head }) whole.0 whole.1
+    accepts_ok c.text_laws.ensures c.args.order c.args.text.now (record { graph = c.loop-pair.reading.graph; refs = c.loop-pair.reading.refs; head = c.loop-pair.reading.head }) whole.0 whole.1
 
 pub returns-in_err-take-clause-refused : goal.returns-in_err-take-clause-refused
 returns-in_err-take-clause-refused g c =
     let p = err_from_is_err_and c.from_residual.result c.from_residual.ensures.1 in
-    rw (p.1, p.2) (stops_refused c.args.order c.args.text.now c.loop-pair.rest.now c.in-Some.pair.0.now c.in-Some.pair.1.now c.loop-pair.reading c.loop-pair.number c.in_err-take.field-0.0 c.loop-pair.invariant c.in-Some.ensures.0 c.in-Some.ensures.1 c.in_err-take.ensures.refused)
+    rw (p.1, p.2) (stops_refused c.text_laws.ensures c.args.order c.args.text.now c.loop-pair.rest.now c.in-Some.pair.0.now c.in-Some.pair.1.now c.loop-pair.reading c.loop-pair.number c.in_err-take.field-0.0 c.loop-pair.invariant c.in-Some.ensures.0 c.in-Some.ensures.1 c.in_err-take.ensures.refused)
 
 pub returns-in_err-take-clause-accepts : goal.returns-in_err-take-clause-accepts
 returns-in_err-take-clause-accepts g c =
     let p = err_from_is_err_and c.from_residual.result c.from_residual.ensures.1 in
-    let stops = stops_refused c.args.order c.args.text.now c.loop-pair.rest.now c.in-Some.pair.0.now c.in-Some.pair.1.now c.loop-pair.reading c.loop-pair.number c.in_err-take.field-0.0 c.loop-pair.invariant c.in-Some.ensures.0 c.in-Some.ensures.1 c.in_err-take.ensures.refused in
-    rw (p.1, p.2) (accepts_err c.args.order c.args.text.now c.in_err-take.field-0.0 stops)
+    let stops = stops_refused c.text_laws.ensures c.args.order c.args.text.now c.loop-pair.rest.now c.in-Some.pair.0.now c.in-Some.pair.1.now c.loop-pair.reading c.loop-pair.number c.in_err-take.field-0.0 c.loop-pair.invariant c.in-Some.ensures.0 c.in-Some.ensures.1 c.in_err-take.ensures.refused in
+    rw (p.1, p.2) (accepts_err c.text_laws.ensures c.args.order c.args.text.now c.in_err-take.field-0.0 stops)
 
 early : (g : Over) (c : goal.Joined-reading-2 g) → c.loop-pair.rest.now ≡ [] → c.loop-pair.reading.stage ≡ Done → ⊥
 early g c none done =
@@ -49,9 +49,9 @@ early g c none done =
 
 pub returns-then-not-is_empty-clause-refused : goal.returns-then-not-is_empty-clause-refused
 returns-then-not-is_empty-clause-refused g c =
-    stops_early c.args.order c.args.text.now c.loop-pair.rest.now c.loop-pair.reading c.loop-pair.number c.loop-pair.invariant c.in_default.ensures (early g c)
+    stops_early c.text_laws.ensures c.args.order c.args.text.now c.loop-pair.rest.now c.loop-pair.reading c.loop-pair.number c.loop-pair.invariant c.in_default.ensures (early g c)
 
 pub returns-then-not-is_empty-clause-accepts : goal.returns-then-not-is_empty-clause-accepts
 returns-then-not-is_empty-clause-accepts g c =
-    accepts_err c.args.order c.args.text.now (Text c.loop-pair.number)
-    (stops_early c.args.order c.args.text.now c.loop-pair.rest.now c.loop-pair.reading c.loop-pair.number c.loop-pair.invariant c.in_default.ensures (early g c))
+    accepts_err c.text_laws.ensures c.args.order c.args.text.now (Text c.loop-pair.number)
+    (stops_early c.text_laws.ensures c.args.order c.args.text.now c.loop-pair.rest.now c.loop-pair.reading c.loop-pair.number c.loop-pair.invariant c.in_default.ensures (early g c))

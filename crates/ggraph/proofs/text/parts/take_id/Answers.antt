@@ -2,11 +2,11 @@ use Rattle.ggraph.proofs.TextLemmas.{no_id_short, no_id_fault, no_id_upper}
 use Rattle.ggraph.proofs.text.parts.take_id.Goals as goal
 
 pub returns-then-text-lt-ID_TEXT_LENGTH : goal.returns-then-text-lt-ID_TEXT_LENGTH
-returns-then-text-lt-ID_TEXT_LENGTH c = no_id_short c.args.text.now c.if-text-lt-ID_TEXT_LENGTH.true
+returns-then-text-lt-ID_TEXT_LENGTH c = no_id_short c.text_laws.ensures c.args.text.now c.if-text-lt-ID_TEXT_LENGTH.true
 
 pub returns-else-is_lower : goal.returns-else-is_lower
 returns-else-is_lower c =
-    no_id_upper c.args.text.now c.split_at.result.0.now c.in-Ok.id c.split_at.ensures.front c.in-Ok.ensures (λ same. (let lower = c.is_lower.ensures.1 same in cc))
+    no_id_upper c.text_laws.ensures c.args.text.now c.split_at.result.0.now c.in-Ok.id c.split_at.ensures.front c.in-Ok.ensures (λ same. (let lower = c.is_lower.ensures.1 same in cc))
 
 pub returns-in-Err : goal.returns-in-Err
-returns-in-Err c = no_id_fault c.args.text.now c.split_at.result.0.now c.in-Err.field-0 c.split_at.ensures.front c.in-Err.ensures
+returns-in-Err c = no_id_fault c.text_laws.ensures c.args.text.now c.split_at.result.0.now c.in-Err.field-0 c.split_at.ensures.front c.in-Err.ensures

@@ -1,7 +1,7 @@
 use Rattle.std.proofs.Common.{◌≡◌, ◌∙◌, ◌↔◌, inl, ℕ, List, [], length, ◌≤◌, take, IsTrue, sym, ap, subst, arith}
 use Rattle.std.proofs.lemmas.List.{append-nil, take_all}
 use Rattle.gobject.specs.declared.node.Entry.{Entry}
-use Rattle.ghistory.specs.declared.formats.Format.{Format}
+use Rattle.gname.specs.declared.formats.Format.{Format}
 use Rattle.ghistory.specs.Graphs.{History, IsGraph, IsOrdered}
 use Rattle.ghistory.specs.Reach.{Reaches, IsFull, Grows, Keeps}
 use Rattle.ghistory.specs.Insert.{ComesIn, IsCause, Inserts, AddsOnly, AddsOnlyParents}

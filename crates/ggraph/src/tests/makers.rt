@@ -1,0 +1,65 @@
+//! Texts, ids and names for tests.
+use crate::{Order, Repository, TextFault, load};
+use gname::{Oid, RefName};
+use std::process::Abort;
+
+// A letter from A to F stands for an id of forty such digits in lower case, T for one of forty 1,
+// `!` for forty A, and `$` for HEAD.
+pub(super) fn spelled(rt: &(impl Abort + AllocGlobal), short: &str) -> Vec<u8> {
+    let mut text = Vec::new(rt.alloc());
+    for b in short.as_bytes() {
+        match *b {
+            b'A'..=b'F' | b'T' | b'!' => {
+                let id = [id_digit(*b); 40];
+                text.extend_from_slice(&id).expect(rt, "memory");
+            }
+            b'$' => text.extend_from_slice(b"HEAD").expect(rt, "memory"),
+            other => text.push(other).expect(rt, "memory"),
+        }
+    }
+    text
+}
+
+// The digit of a letter's id; any other byte is its own.
+fn id_digit(letter: u8) -> u8 {
+    match letter {
+        b'A'..=b'F' => letter.to_ascii_lowercase(),
+        b'T' => b'1',
+        b'!' => b'A',
+        other => other,
+    }
+}
+
+pub(super) fn read(
+    rt: &(impl Abort + AllocGlobal),
+    short: &str,
+    order: Order,
+) -> Result<Repository, TextFault> {
+    let text = spelled(rt, short);
+    load(rt.alloc(), text.as_slice(), order)
+}
+
+// The number and the line of the fault that a text is refused with.
+pub(super) fn fault_of(
+    rt: &(impl Abort + AllocGlobal),
+    short: &str,
+    order: Order,
+) -> Option<(u32, usize)> {
+    let fault = read(rt, short, order).err()?;
+    Some((fault.code(), line_of(&fault)))
+}
+
+fn line_of(fault: &TextFault) -> usize {
+    match fault {
+        TextFault::Text { line } | TextFault::ParentLater { line } => *line,
+        TextFault::Memory => 0,
+    }
+}
+
+pub(super) fn id(rt: &impl Abort, digit: u8) -> Oid {
+    Oid::from_hex(&[digit; 40]).expect(rt, "an id")
+}
+
+pub(super) fn name(rt: &(impl Abort + AllocGlobal), text: &str) -> RefName {
+    RefName::new(rt.alloc(), text.as_bytes()).expect(rt, "a name")
+}

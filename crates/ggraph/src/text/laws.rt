@@ -1,0 +1,17 @@
+//! The laws that reading a repository text rests on.
+#![tactic(auto)]
+
+ghost use Rattle.ggraph.specs.TextLaws.{TextLaws};
+
+use gname::laws;
+
+/// The laws of ids and names. The call does nothing: its contract gives them to its callers.
+pub(crate) fn text_laws()
+    ensures { TextLaws }
+{
+    laws::ids_have_texts();
+    laws::id_texts_are_digits();
+    laws::texts_spell_one_id();
+    laws::texts_have_one_reading();
+    laws::names_are_clean();
+}

@@ -1,0 +1,4 @@
+//! What no clause says, and examples from outside the proofs.
+mod faults;
+mod makers;
+mod store;

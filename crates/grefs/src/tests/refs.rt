@@ -1,0 +1,143 @@
+//! Every call of refs, on 0 to 5 names set in many orders, and at the limit.
+use super::makers::{id, name};
+use crate::{MAX_REFS, Refs, RefsFault, Target, is_below_refs, laws};
+use gname::RefName;
+use std::process::Abort;
+
+const NAMES: [&str; 5] = ["refs/a", "refs/a/b", "refs/ab", "refs/b", "refs/c"];
+
+const DIGITS: [u8; 5] = *b"12345";
+
+// The names that are set, one after the other, each at the id of its turn.
+const ORDERS: [&[usize]; 12] = [
+    &[],
+    &[0],
+    &[4],
+    &[0, 1],
+    &[1, 0],
+    &[2, 2],
+    &[2, 0, 1],
+    &[3, 1, 3],
+    &[0, 1, 2, 3, 4],
+    &[4, 3, 2, 1, 0],
+    &[1, 3, 0, 4, 2],
+    &[2, 1, 2, 1, 2],
+];
+
+#[test]
+fn refs_are_set_in_any_order(rt: HostRuntime) {
+    for order in ORDERS {
+        let mut refs = Refs::new(rt.alloc());
+        for (turn, place) in order.iter().enumerate() {
+            let set = refs.set(nth_name(&rt, *place), id(&rt, nth_digit(turn)));
+            assert_eq!(rt; set, Ok(()));
+        }
+        check_refs(&rt, &refs, order);
+    }
+}
+
+fn nth_name(rt: &(impl Abort + AllocGlobal), place: usize) -> RefName {
+    name(rt, NAMES.get(place).copied().unwrap_or("refs/other"))
+}
+
+fn nth_digit(turn: usize) -> u8 {
+    DIGITS.get(turn).copied().unwrap_or(b'0')
+}
+
+// Each name stands at the id of its last turn, and the others nowhere.
+fn check_refs(rt: &(impl Abort + AllocGlobal), refs: &Refs, order: &[usize]) {
+    let mut count = 0;
+    for place in 0..NAMES.len() {
+        let wanted = nth_name(rt, place);
+        let turn = order.iter().rposition(|set| *set == place);
+        assert_eq!(rt; refs.get(&wanted), turn.map(|turn| id(rt, nth_digit(turn))));
+        if turn.is_some() {
+            assert!(rt; is_name_at(refs, count, &wanted), "{count} of {order:?}");
+            count += 1;
+        }
+    }
+    assert_eq!(rt; refs.len(), count);
+    assert_eq!(rt; refs.as_slice().len(), count);
+    assert_eq!(rt; refs.is_empty(), order.is_empty());
+    assert!(rt; refs.at(count).is_none());
+}
+
+#[test]
+fn refs_are_pushed_in_order(rt: HostRuntime) {
+    let mut refs = Refs::new(rt.alloc());
+    for place in 0..NAMES.len() {
+        let next = nth_name(&rt, place);
+        assert!(rt; is_below_refs(&next) && refs.are_below(&next));
+        if is_below_refs(&next) && refs.are_below(&next) && refs.len() < MAX_REFS {
+            assert!(rt; refs.push(next, id(&rt, nth_digit(place))).is_ok());
+        }
+        assert!(rt; !refs.are_below(&nth_name(&rt, place)));
+    }
+    check_refs(&rt, &refs, &[0, 1, 2, 3, 4]);
+}
+
+#[test]
+fn head_is_no_ref_and_no_target(rt: HostRuntime) {
+    let mut refs = Refs::new(rt.alloc());
+    let set = refs.set(name(&rt, "HEAD"), id(&rt, b'1'));
+    assert_eq!(rt; set, Err(RefsFault::Refs));
+    assert!(rt; refs.is_empty());
+    assert!(rt; !is_below_refs(&name(&rt, "HEAD")));
+    assert!(rt; Target::new(name(&rt, "HEAD")).is_none());
+    for text in NAMES {
+        match Target::new(name(&rt, text)) {
+            Some(target) => assert!(rt; *target.name() == name(&rt, text)),
+            None => assert!(rt; false, "a target {text}"),
+        }
+    }
+}
+
+#[test]
+fn laws_can_be_called() {
+    laws::refs_come_in_order();
+}
+
+// Whether the name is at the place.
+fn is_name_at(refs: &Refs, place: usize, wanted: &RefName) -> bool {
+    match refs.at(place) {
+        Some((name, _)) => name == wanted,
+        None => false,
+    }
+}
+
+// The name with this number.
+fn numbered(rt: &(impl Abort + AllocGlobal), number: usize) -> RefName {
+    let text = format!(in rt.alloc(); "refs/{number:05}").expect(rt, "memory");
+    name(rt, text.as_str())
+}
+
+// As many refs as there can be, at the id of forty 1.
+fn most_refs(rt: &(impl Abort + AllocGlobal)) -> Refs {
+    let mut refs = Refs::new(rt.alloc());
+    for number in 0..MAX_REFS {
+        let set = refs.set(numbered(rt, number), id(rt, b'1'));
+        assert!(rt; set == Ok(()), "ref {number}");
+    }
+    refs
+}
+
+// There are as many refs, and at a place that with its number.
+fn check_most_refs(rt: &(impl Abort + AllocGlobal), refs: &Refs) {
+    assert_eq!(rt; refs.len(), 65_536);
+    for place in [0, 1, 40_000, 65_535] {
+        assert!(rt; is_name_at(refs, place, &numbered(rt, place)), "at {place}");
+    }
+}
+
+#[test]
+fn sets_65536_refs_and_no_more(rt: HostRuntime) {
+    let mut refs = most_refs(&rt);
+    for text in ["refs/65536", "refs/0", "refs/a"] {
+        let set = refs.set(name(&rt, text), id(&rt, b'2'));
+        assert!(rt; set == Err(RefsFault::Refs), "{text}");
+    }
+    check_most_refs(&rt, &refs);
+    assert!(rt; refs.set(numbered(&rt, 7), id(&rt, b'2')) == Ok(()));
+    assert!(rt; refs.get(&numbered(&rt, 7)) == Some(id(&rt, b'2')));
+    assert!(rt; refs.get(&numbered(&rt, 8)) == Some(id(&rt, b'1')));
+}
