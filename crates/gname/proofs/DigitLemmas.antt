@@ -1,5 +1,6 @@
 -- The table of digit pairs.
-use Rattle.std.proofs.Common.{◌≡◌, ℕ, ◌*◌, ◌+◌, ◌/◌, ◌%◌, ◌<◌, ◌==◌, ◌&&◌, Bool, true, false, refl, ◌∙◌, List, slice_index, arith}
+use Rattle.std.proofs.Common.{◌≡◌, ℕ, ◌*◌, ◌+◌, ◌/◌, ◌%◌, ◌<◌, ◌==◌, ◌&&◌, Bool, true, ◌∙◌, List, slice_index, arith}
+use Rattle.std.specs.Cmp.{first_so, second_so}
 use Rattle.std.specs.List.{list_all, range_with_len}
 use Rattle.std.proofs.lemmas.List.FromFn.{get_or-range_with_len, length-range_with_len}
 use Rattle.std.proofs.lemmas.List.Sums.{AllPass-from_list_all}
@@ -12,10 +13,6 @@ has_pair table byte =
     slice_index table (2 * byte) == slice_index lower_digits (byte / 16)
     && slice_index table (2 * byte + 1) == slice_index lower_digits (byte % 16)
 
-both_true : (a b : Bool) → (a && b) ≡ true → (a ≡ true) × (b ≡ true)
-both_true true b h = (refl, h)
-both_true false b h = cc h
-
 -- it has those of every byte
 abbrev pub has_pairs : List ℕ → Bool
 has_pairs table = list_all (has_pair table) (range_with_len 0 256)
@@ -27,5 +24,5 @@ pair_at table whole byte low =
     let long = length-range_with_len 0 256 in
     let here = AllPass-from_list_all (has_pair table) (range_with_len 0 256) whole byte 0 (omega (arith, long)) in
     let place : slice_index (range_with_len 0 256) byte ≡ byte = get_or-range_with_len 0 256 byte 0 low ∙ omega arith in
-    let both = both_true _ _ (rw place at here) in
-    (eqb-true _ _ both.0, eqb-true _ _ both.1)
+    let both : has_pair table byte ≡ true = rw place at here in
+    (eqb-true _ _ (first_so _ _ both), eqb-true _ _ (second_so _ _ both))

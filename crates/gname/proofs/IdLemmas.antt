@@ -6,24 +6,35 @@ use Rattle.std.proofs.Math.ListN.{length-take}
 use Rattle.std.proofs.lemmas.Bool.{cases_eq, cases_lt}
 use Rattle.std.proofs.lemmas.Bool.Decides.{nat_tests}
 use Rattle.std.proofs.lemmas.List.{get_or-take}
-use Rattle.hex.specs.Hex.{decode_sized, is_hex_digit, lower_digits, upper_digits}
+use Rattle.hex.specs.Hex.{decode_of, decode_sized, is_hex_digit, lower_digits, upper_digits}
 use Rattle.hex.specs.declared.error.FromHexError.{FromHexError}
 use Rattle.hex.specs.declared.error.FromHexError.TheVariants.{InvalidStringLength, OddLength}
 use Rattle.hex.proofs.HexLemmas.{decode_of-ok, decode_of-err, decode_of-encode_lower, decode_of-encode_upper, decode_sized-twice, decode_sized-other, decode_sized-odd, decode_sized-ok, length-encode_with}
-use Rattle.gname.specs.Ids.{id_length, id_text_length, IsId, IsIdText, IsFirstBadDigit, ReadsId, id_text, upper_id_text, id_fault_of}
-use Rattle.gname.specs.Laws.{IdTextFacts, IsClean}
+use Rattle.gname.specs.declared.formats.Format.{Format}
+use Rattle.gname.specs.declared.formats.Format.TheVariants.{Sha1, Sha256}
+use Rattle.gname.specs.Formats.{id_length, id_text_length}
+use Rattle.gname.specs.Ids.{IsId, IsIdOf, IsIdText, IsIdTextOf, IsFirstBadDigit, ReadsId, format_of, id_text, upper_id_text, id_fault_of}
+use Rattle.gname.specs.Laws.{IdTextFacts}
 use Rattle.gname.specs.declared.ids.OidFault.{OidFault}
 use Rattle.gname.specs.declared.ids.OidFault.TheVariants.{Length, Digit}
 
+-- an id of a format has that format
+pub format_of-id : (format : Format) (id : List ℕ) → IsIdOf format id → format_of id ≡ format
+format_of-id Sha1 id h = rw h.long refl
+format_of-id Sha256 id h = rw h.long refl
+
+pub IsId-of_format : (format : Format) (id : List ℕ) → IsIdOf format id → IsId id
+IsId-of_format format id h = rw (format_of-id format id h) h
+
 -- what a text spells is an id
-pub IsId-of_text : (text id : List ℕ) → IsIdText text id → IsId id
-IsId-of_text text id h =
+pub IsIdOf-of_text : (format : Format) (text id : List ℕ) → IsIdTextOf format text id → IsIdOf format id
+IsIdOf-of_text format text id h =
     let parts = decode_of-ok text id h.spells in
     record { long = omega (arith, parts.2, h.long); bytes = parts.3 }
 
 -- each byte of an id's text is a hexadecimal digit
-pub AllPass-of_id_text : (text id : List ℕ) → IsIdText text id → AllPass is_hex_digit text
-AllPass-of_id_text text id h = (decode_of-ok text id h.spells).1
+AllPass-of_id_text : (text id : List ℕ) → decode_of text ≡ Ok id → AllPass is_hex_digit text
+AllPass-of_id_text text id h = (decode_of-ok text id h).1
 
 -- the text of an id in lower case reads back
 pub IsIdText-id_text : (id : List ℕ) → IsId id → IsIdText (id_text id) id
@@ -40,32 +51,37 @@ IsIdText-upper_id_text id h = record {
 }
 
 -- a text spells one id
+one_decoding : (text a b : List ℕ) → decode_of text ≡ Ok a → decode_of text ≡ Ok b → a ≡ b
+one_decoding text a b h k = ap (λ (r : Result (List ℕ) FromHexError). result_unwrap_or r a) (sym h ∙ k)
+
 pub IsIdText-one : (text a b : List ℕ) → IsIdText text a → IsIdText text b → a ≡ b
-IsIdText-one text a b h k = ap (λ (r : Result (List ℕ) FromHexError). result_unwrap_or r a) (sym h.spells ∙ k.spells)
+IsIdText-one text a b h k = one_decoding text a b h.spells k.spells
 
 -- a text that decodes into room for an id's bytes spells that id
-pub ReadsId-ok : (text id : List ℕ) → decode_sized text id_length ≡ Ok id → ReadsId text (Ok id)
-ReadsId-ok text id h =
-    let long = decode_sized-ok text id_length id h in
-    let spelt : IsIdText text id = record { long = long; spells = sym (decode_sized-twice text id_length long) ∙ h } in
-    (spelt, IsId-of_text text id spelt)
+pub ReadsId-ok : (format : Format) (text id : List ℕ) → decode_sized text (id_length format) ≡ Ok id
+    → ReadsId format text (Ok id)
+ReadsId-ok format text id h =
+    let long = decode_sized-ok text (id_length format) id h in
+    let spelt : IsIdTextOf format text id =
+    record { long = long; spells = sym (decode_sized-twice text (id_length format) long) ∙ h } in
+    (spelt, IsIdOf-of_text format text id spelt)
 
 -- the error of a result, or d
 abbrev err_or : FromHexError → Result (List ℕ) FromHexError → FromHexError
 err_or d (Ok x) = d
 err_or d (Err e) = e
 
-wrong_length : (text : List ℕ) (e found : FromHexError) → length text ≢ id_text_length → id_fault_of found ≡ Length → e ≡ found
-    → ReadsId text (Err (id_fault_of e))
-wrong_length text e found other is same = rw (same, is) other
+wrong_length : (format : Format) (text : List ℕ) (e found : FromHexError) → length text ≢ id_text_length format
+    → id_fault_of found ≡ Length → e ≡ found → ReadsId format text (Err (id_fault_of e))
+wrong_length format text e found other is same = rw (same, is) other
 
 -- of any other text the fault is its length, or its first bad digit
-pub ReadsId-err : (text : List ℕ) (e : FromHexError) → decode_sized text id_length ≡ Err e
-    → ReadsId text (Err (id_fault_of e))
-ReadsId-err text e h =
-    elim (cases_eq (length text) id_text_length) [
+pub ReadsId-err : (format : Format) (text : List ℕ) (e : FromHexError) → decode_sized text (id_length format) ≡ Err e
+    → ReadsId format text (Err (id_fault_of e))
+ReadsId-err format text e h =
+    elim (cases_eq (length text) (id_text_length format)) [
       | inl long ↦
-          elim (decode_of-err text e (sym (decode_sized-twice text id_length long) ∙ h)) [
+          elim (decode_of-err text e (sym (decode_sized-twice text (id_length format) long) ∙ h)) [
             | inl odd ↦ absurd (omega (arith, odd.0))
             | inr bad ↦
                 let place : 0 + bad.0 ≡ bad.0 = omega arith in
@@ -73,18 +89,18 @@ ReadsId-err text e h =
           ]
       | inr other ↦
           elim (cases_eq (length text % 2) 1) [
-            | inl odd ↦ wrong_length text e OddLength other refl (ap (err_or e) (sym h ∙ decode_sized-odd text id_length odd))
+            | inl odd ↦ wrong_length format text e OddLength other refl (ap (err_or e) (sym h ∙ decode_sized-odd text (id_length format) odd))
             | inr even ↦
-                wrong_length text e InvalidStringLength other refl (ap (err_or e)
-                (sym h ∙ decode_sized-other text id_length (omega arith) (λ half. other (omega arith))))
+                wrong_length format text e InvalidStringLength other refl (ap (err_or e)
+                (sym h ∙ decode_sized-other text (id_length format) (omega arith) (λ half. other (omega arith))))
           ]
     ]
 
 -- the same, of the reading's error as `?` passes it on
-pub ReadsId-is_err : (text : List ℕ) (e : FromHexError) (r : Result (List ℕ) OidFault) → Err e ≡ decode_sized text id_length
-    → IsErrAnd r (λ fault. fault ≡ id_fault_of e) → ReadsId text r
-ReadsId-is_err text e (Ok id) h is = absurd is
-ReadsId-is_err text e (Err fault) h is = rw is (ReadsId-err text e (sym h))
+pub ReadsId-is_err : (format : Format) (text : List ℕ) (e : FromHexError) (r : Result (List ℕ) OidFault)
+    → Err e ≡ decode_sized text (id_length format) → IsErrAnd r (λ fault. fault ≡ id_fault_of e) → ReadsId format text r
+ReadsId-is_err format text e (Ok id) h is = absurd is
+ReadsId-is_err format text e (Err fault) h is = rw is (ReadsId-err format text e (sym h))
 
 -- ---- one reading
 
@@ -111,32 +127,30 @@ one_place text a b first other =
     ]
 
 -- each text has one reading
-pub ReadsId-one : (text : List ℕ) (a b : Result (List ℕ) OidFault) → ReadsId text a → ReadsId text b → a ≡ b
-ReadsId-one text (Ok a) (Ok b) h k = ap Ok (IsIdText-one text a b h.0 k.0)
-ReadsId-one text (Ok a) (Err Length) h k = absurd (k h.0.long)
-ReadsId-one text (Ok a) (Err (Digit at)) h k = absurd (no_bad_digit text at (AllPass-of_id_text text a h.0) k.1)
-ReadsId-one text (Err Length) (Ok b) h k = absurd (h k.0.long)
-ReadsId-one text (Err Length) (Err Length) h k = refl
-ReadsId-one text (Err Length) (Err (Digit at)) h k = absurd (h k.0)
-ReadsId-one text (Err (Digit at)) (Ok b) h k = absurd (no_bad_digit text at (AllPass-of_id_text text b k.0) h.1)
-ReadsId-one text (Err (Digit at)) (Err Length) h k = absurd (k h.0)
-ReadsId-one text (Err (Digit at)) (Err (Digit other)) h k = ap (λ n. Err (Digit n)) (one_place text at other h.1 k.1)
+pub ReadsId-one : (format : Format) (text : List ℕ) (a b : Result (List ℕ) OidFault)
+    → ReadsId format text a → ReadsId format text b → a ≡ b
+ReadsId-one format text (Ok a) (Ok b) h k = ap Ok (one_decoding text a b h.0.spells k.0.spells)
+ReadsId-one format text (Ok a) (Err Length) h k = absurd (k h.0.long)
+ReadsId-one format text (Ok a) (Err (Digit at)) h k =
+    absurd (no_bad_digit text at (AllPass-of_id_text text a h.0.spells) k.1)
+ReadsId-one format text (Err Length) (Ok b) h k = absurd (h k.0.long)
+ReadsId-one format text (Err Length) (Err Length) h k = refl
+ReadsId-one format text (Err Length) (Err (Digit at)) h k = absurd (h k.0)
+ReadsId-one format text (Err (Digit at)) (Ok b) h k =
+    absurd (no_bad_digit text at (AllPass-of_id_text text b k.0.spells) h.1)
+ReadsId-one format text (Err (Digit at)) (Err Length) h k = absurd (k h.0)
+ReadsId-one format text (Err (Digit at)) (Err (Digit other)) h k =
+    ap (λ n. Err (Digit n)) (one_place text at other h.1 k.1)
 
 -- a text that spells an id is read as that id
-pub ReadsId-of_text : (text id : List ℕ) → IsIdText text id → ReadsId text (Ok id)
-ReadsId-of_text text id h = (h, IsId-of_text text id h)
+pub ReadsId-of_text : (format : Format) (text id : List ℕ) → IsIdTextOf format text id → ReadsId format text (Ok id)
+ReadsId-of_text format text id h = (h, IsIdOf-of_text format text id h)
 
 -- a hexadecimal digit is above the space
 hex_digit_clean : (b : ℕ) → is_hex_digit b ≡ true → 32 < b
 hex_digit_clean b h = grind (arith, nat_tests)
 
--- an id's text has its number of bytes, and no control character, space or LF
-pub clean-of_id_text : (text id : List ℕ) → IsIdText text id → IsClean text
-clean-of_id_text text id h k d low = hex_digit_clean _ (AllPass-of_id_text text id h k d low)
-
 pub IdTextFacts-of_text : (text id : List ℕ) → IsIdText text id → IdTextFacts text id
-IdTextFacts-of_text text id h = record {
-  spelt = IsId-of_text text id h;
-  digits = AllPass-of_id_text text id h;
-  clean = clean-of_id_text text id h;
-}
+IdTextFacts-of_text text id h =
+    let digits = AllPass-of_id_text text id h.spells in
+    record { spelt = IsIdOf-of_text (format_of id) text id h; digits = digits; clean = λ k d low. hex_digit_clean _ (digits k d low) }

@@ -1,29 +1,42 @@
 -- Object ids, and the texts that spell them (gitprotocol-common(5), "ABNF Notation": `obj-id`).
-use Rattle.std.specs.Prelude.{◌≡◌, ◌≢◌, ℕ, ◌*◌, ◌<◌, false, List, length, take, slice_index, Result, Ok, Err}
+use Rattle.std.specs.Prelude.{◌≡◌, ◌≢◌, ℕ, ◌<◌, ◌==◌, false, if◌then◌else◌, List, length, take, slice_index, Result, Ok, Err}
 use Rattle.std.specs.List.{AllPass}
+use Rattle.std.specs.Ordering.{nat_cmp, on, then_cmp}
+use Rattle.std.specs.declared.cmp.Ordering.{Ordering}
+use Rattle.std.specs.Cmp.Lexicographic.{slice_cmp}
 use Rattle.hex.specs.Hex.{IsBytes, decode_of, encode_lower, encode_upper, is_hex_digit}
 use Rattle.hex.specs.declared.error.FromHexError.{FromHexError}
 use Rattle.hex.specs.declared.error.FromHexError.TheVariants.{InvalidHexCharacter}
+use Rattle.gname.specs.Formats.{id_length, id_text_length}
+use Rattle.gname.specs.declared.formats.Format.{Format}
+use Rattle.gname.specs.declared.formats.Format.TheVariants.{Sha1, Sha256}
 use Rattle.gname.specs.declared.ids.OidFault.{OidFault}
 use Rattle.gname.specs.declared.ids.OidFault.TheVariants.{Length, Digit}
 
--- how many bytes an object id has
-abbrev pub id_length : ℕ
-id_length = 20
-
--- how many digits its text has
-abbrev pub id_text_length : ℕ
-id_text_length = 2 * id_length
-
--- an object id: so many bytes
-pub record IsId (id : List ℕ) : Type 0 where
-  pub long : length id ≡ id_length
+-- an object id of a format: so many bytes
+pub record IsIdOf (format : Format) (id : List ℕ) : Type 0 where
+  pub long : length id ≡ id_length format
   pub bytes : IsBytes id
 
+-- the format of an object id, which its length tells
+abbrev pub format_of : List ℕ → Format
+format_of id = if length id == id_length Sha1 then Sha1 else Sha256
+
+-- an object id: one of its format
+abbrev pub IsId : List ℕ → Type 0
+IsId id = IsIdOf (format_of id) id
+
+-- ids are ordered by their formats, the one with the shorter ids first, and then by their bytes
+abbrev pub id_cmp : List ℕ → List ℕ → Ordering
+id_cmp = then_cmp (on (λ id. id_length (format_of id)) nat_cmp) (slice_cmp nat_cmp)
+
 -- the text is two hexadecimal digits for each byte of the id, each in either case
-pub record IsIdText (text id : List ℕ) : Type 0 where
-  pub long : length text ≡ id_text_length
+pub record IsIdTextOf (format : Format) (text id : List ℕ) : Type 0 where
+  pub long : length text ≡ id_text_length format
   pub spells : decode_of text ≡ Ok id
+
+abbrev pub IsIdText : List ℕ → List ℕ → Type 0
+IsIdText text id = IsIdTextOf (format_of id) text id
 
 -- the text of an id, in lower case and in upper case
 abbrev pub id_text : List ℕ → List ℕ
@@ -38,12 +51,12 @@ pub record IsFirstBadDigit (text : List ℕ) (at : ℕ) : Type 0 where
   pub before : AllPass is_hex_digit (take at text)
   pub bad : is_hex_digit (slice_index text at) ≡ false
 
--- what reading a text as an object id answers: an id that it spells; that its length is wrong; or, of a
--- text of the right length, the first byte that is no digit
-abbrev pub ReadsId : List ℕ → Result (List ℕ) OidFault → Type 0
-ReadsId text (Ok id) = IsIdText text id × IsId id
-ReadsId text (Err Length) = length text ≢ id_text_length
-ReadsId text (Err (Digit at)) = (length text ≡ id_text_length) × IsFirstBadDigit text at
+-- what reading a text as an object id of a format answers: an id that it spells; that its length is wrong; or, of
+-- a text of the right length, the first byte that is no digit
+abbrev pub ReadsId : Format → List ℕ → Result (List ℕ) OidFault → Type 0
+ReadsId format text (Ok id) = IsIdTextOf format text id × IsIdOf format id
+ReadsId format text (Err Length) = length text ≢ id_text_length format
+ReadsId format text (Err (Digit at)) = (length text ≡ id_text_length format) × IsFirstBadDigit text at
 
 -- the fault of an id for each fault of hexadecimal text
 abbrev pub id_fault_of : FromHexError → OidFault

@@ -3,7 +3,8 @@ use Rattle.std.specs.Prelude.{◌≡◌, ◌≢◌, ℕ, ◌<◌, ◌≤◌, Boo
 use Rattle.std.specs.Prelude.{MatchOption, Result, Ok}
 use Rattle.std.specs.List.{AllPass, starts_with}
 use Rattle.hex.specs.Hex.{is_hex_digit}
-use Rattle.gname.specs.Ids.{IsId, IsIdText, ReadsId, id_text, upper_id_text}
+use Rattle.gname.specs.Ids.{IsId, IsIdOf, IsIdText, IsIdTextOf, ReadsId, format_of, id_text, upper_id_text}
+use Rattle.gname.specs.declared.formats.Format.{Format}
 use Rattle.gname.specs.Names.{IsPrefix, IsRefName, first_place, head_name, is_bad_byte, max_name, name_fault, prefix_fault}
 use Rattle.gname.specs.declared.ids.OidFault.{OidFault}
 use Rattle.gname.specs.declared.faults.NameFault.TheVariants.{Memory}
@@ -29,11 +30,15 @@ IdTextsAreDigits = (text id : List ℕ) → IsIdText text id → IdTextFacts tex
 abbrev pub TextsSpellOneId : Type 0
 TextsSpellOneId = (text a b : List ℕ) → IsIdText text a → IsIdText text b → a ≡ b
 
--- each text has one reading: the id that it spells, where it spells one
+-- in each format a text has one reading: the id that it spells, where it spells one
 abbrev pub TextsHaveOneReading : Type 0
-TextsHaveOneReading =
-    ((text id : List ℕ) → IsIdText text id → ReadsId text (Ok id))
-    × ((text : List ℕ) (a b : Result (List ℕ) OidFault) → ReadsId text a → ReadsId text b → a ≡ b)
+TextsHaveOneReading = (format : Format) (text : List ℕ) →
+    ((id : List ℕ) → IsIdTextOf format text id → ReadsId format text (Ok id))
+    × ((a b : Result (List ℕ) OidFault) → ReadsId format text a → ReadsId format text b → a ≡ b)
+
+-- an id of a format is an id, and has that format alone
+abbrev pub IdsHaveOneFormat : Type 0
+IdsHaveOneFormat = (format : Format) (id : List ℕ) → IsIdOf format id → IsId id × (format_of id ≡ format)
 
 -- a ref name has a byte, is within the limit and clean, and has no byte that no name has; it is HEAD or begins with
 -- refs/; it is a prefix, too

@@ -1,5 +1,7 @@
 pub use Rattle.hex.specs.Hex
+pub mod Digests
 pub mod Faults
+pub mod Formats
 pub mod Ids
 pub mod Names
 pub mod Laws

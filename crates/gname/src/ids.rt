@@ -1,69 +1,115 @@
 //! Object ids.
 #![tactic(auto)]
 
-ghost use Rattle.std.specs.Prelude.{◌≡◌, ℕ, List, Some, nat_eq, refl};
-ghost use Rattle.std.specs.Ordering.{nat_cmp};
+ghost use Rattle.std.specs.Prelude.{◌≡◌, ℕ, [], ◌∷◌, List, take, drop, nat_eq};
+ghost use Rattle.std.proofs.Common.{rules};
+ghost use Rattle.std.specs.Ordering.{as_partial_cmp};
 ghost use Rattle.std.specs.Cmp as Cmp;
-ghost use Rattle.std.specs.Cmp.Lexicographic.{pointwise, slice_cmp, nat_list_eq_equiv, nat_list_cmp_total, texts_ties, texts_po};
-ghost use Rattle.gname.specs.Ids.{IsId, IsIdText, ReadsId, id_text, id_fault_of};
+ghost use Rattle.std.specs.Cmp.{partial_order_from_own_ties};
+ghost use Rattle.std.specs.Cmp.Rules.{comparing, hashing};
+ghost use Rattle.std.specs.Cmp.Lexicographic.{pointwise, nat_list_eq_equiv};
+ghost use Rattle.gname.specs.declared.formats.Format.TheVariants.{Sha1};
+ghost use Rattle.gname.specs.Formats.{id_text_length};
+ghost use Rattle.gname.specs.Ids.{IsId, IsIdOf, IsIdText, ReadsId, format_of, id_cmp, id_fault_of, id_text};
 ghost use Rattle.gname.specs.Faults.{id_fault_row};
 
 use crate::digits::write_digits;
+use crate::formats::Format;
 use hex::{FromHex, FromHexError};
 use std::cmp::Ordering;
+use std::hash::{Hash, Hasher};
 use std::marker::Model;
 use thiserror::Error;
 
-/// The number of bytes of an object id.
-pub const ID_LENGTH: usize = 20;
+/// The most digits of an object id's text.
+pub const MAX_ID_TEXT: usize = 64;
 
-/// The number of digits of an object id's text.
-pub const ID_TEXT_LENGTH: usize = 2 * ID_LENGTH;
-
-/// An object id: the twenty bytes of a SHA-1 name of an object. Ids are ordered by their bytes, the
-/// first byte first.
-#[derive(Clone, Copy, Debug, Hash, Drop)]
+/// An object id: the bytes of a SHA-1 or SHA-256 name of an object. Ids are ordered by their formats,
+/// and then by their bytes, the first byte first.
+#[derive(Clone, Copy, Debug, Drop)]
 pub struct Oid {
-    bytes: [u8; ID_LENGTH],
+    digest: Digest,
+}
+
+#[derive(Clone, Copy, Debug, Drop)]
+enum Digest {
+    Sha1([u8; 20]),
+    Sha256([u8; 32]),
 }
 
 impl Model for Oid {
+    ghost use Rattle.std.specs.Prelude.{ℕ, List};
+    ghost use Rattle.std.proofs.Common.{ap};
+    ghost use Rattle.gname.specs.Digests.{IsDigest, digest_bytes, digest_of, digest_of-bytes};
+
     ghost Value = { List ℕ };
 
-    ghost view = { λ id. id.bytes };
+    ghost view = { λ id. digest_bytes id.digest };
 
-    ghost invariant = { λ id. IsId id.bytes };
+    ghost invariant = { λ id. IsDigest id.digest };
 
-    ghost inverse = { λ bytes. record { bytes = bytes } };
+    ghost inverse = { λ bytes. record { digest = digest_of bytes } };
+
+    ghost inverse_ok = { λ id h. ap (λ d. record { digest = d }) (digest_of-bytes id.digest h) };
 }
 
 impl Oid {
-    /// Reads the forty hexadecimal digits of an id, in either case.
+    /// Reads the forty hexadecimal digits of a SHA-1 id, in either case, as `from_hex_in` does.
+    pub fn from_hex(text: &[u8]) -> Result<Oid, OidFault>
+        ensures { ReadsId Sha1 text.now result }
+    {
+        Oid::from_hex_in(Format::Sha1, text)
+    }
+
+    /// Reads the hexadecimal digits of an id of the format, in either case: forty, or sixty-four.
     ///
     /// It fails with `Length` where the text has another length, and else with `Digit` at its first
     /// byte that is no hexadecimal digit.
-    pub fn from_hex(text: &[u8]) -> Result<Oid, OidFault>
-        ensures { ReadsId text.now result }
+    pub fn from_hex_in(format: Format, text: &[u8]) -> Result<Oid, OidFault>
+        ensures { ReadsId format text.now result }
     {
-        let bytes = <[u8; ID_LENGTH]>::from_hex(text)?;
-        Ok(Oid { bytes })
+        let digest = match format {
+            Format::Sha1 => Digest::Sha1(FromHex::from_hex(text)?),
+            Format::Sha256 => Digest::Sha256(FromHex::from_hex(text)?),
+        };
+        Ok(Oid { digest })
     }
 
-    /// Writes the forty digits of the id, in lower case.
-    pub fn to_hex(&self, out: &mut [u8; ID_TEXT_LENGTH])
-        ensures text { out.new ≡ id_text self.now }
-        ensures reads_back { IsIdText out.new self.now }
+    /// Writes the digits of the id, in lower case, into the first forty or sixty-four bytes, and
+    /// answers their number. The other bytes stay.
+    pub fn to_hex(&self, out: &mut [u8; MAX_ID_TEXT]) -> usize
+        ensures number { result ≡ id_text_length (format_of self.now) }
+        ensures text { take result out.new ≡ id_text self.now }
+        ensures rest { drop result out.new ≡ drop result out.old }
+        ensures reads_back { IsIdText (take result out.new) self.now }
         ensures id { IsId self.now }
     {
-        write_digits(self.as_bytes(), out);
+        let bytes = self.as_bytes();
+        let len = 2 * bytes.len();
+        write_digits(bytes, &mut out[..len]);
+        len
     }
 
-    /// The bytes of the id.
-    pub fn as_bytes(&self) -> &[u8; ID_LENGTH]
+    /// The format of the id.
+    pub fn format(&self) -> Format
+        ensures format { result ≡ format_of self.now }
+        ensures id { IsIdOf result self.now }
+    {
+        match self.digest {
+            Digest::Sha1(_) => Format::Sha1,
+            Digest::Sha256(_) => Format::Sha256,
+        }
+    }
+
+    /// The bytes of the id: 20 or 32.
+    pub fn as_bytes(&self) -> &[u8]
         ensures bytes { result.now ≡ self.now }
         ensures id { IsId self.now }
     {
-        &self.bytes
+        match &self.digest {
+            Digest::Sha1(bytes) => bytes,
+            Digest::Sha256(bytes) => bytes,
+        }
     }
 }
 
@@ -73,7 +119,7 @@ impl PartialEq for Oid {
     ghost laws = { Cmp.partial_equiv_from_equiv nat_list_eq_equiv };
 
     fn eq(&self, other: &Oid) -> bool {
-        self.bytes == other.bytes
+        self.as_bytes() == other.as_bytes()
     }
 }
 
@@ -82,9 +128,9 @@ impl Eq for Oid {
 }
 
 impl PartialOrd for Oid {
-    ghost partial_cmp = { λ a b. Some (slice_cmp nat_cmp a b) };
+    ghost partial_cmp = { as_partial_cmp id_cmp };
 
-    ghost laws = { texts_po };
+    ghost laws = { partial_order_from_own_ties (Prim.search (comparing, rules)) (Prim.search (comparing, rules)) };
 
     fn partial_cmp(&self, other: &Oid) -> Option<Ordering> {
         Some(self.cmp(other))
@@ -92,24 +138,35 @@ impl PartialOrd for Oid {
 }
 
 impl Ord for Oid {
-    ghost cmp = { slice_cmp nat_cmp };
+    ghost cmp = { id_cmp };
 
-    ghost total = { nat_list_cmp_total };
+    ghost total = { Prim.search (comparing, rules) };
 
-    ghost matches_partial_cmp = { λ a b. refl };
+    ghost matches_partial_cmp = { Prim.search (comparing, rules) };
 
-    ghost matches_eq = { λ a b. texts_ties a b };
+    ghost matches_eq = { Prim.search (comparing, rules) };
 
     fn cmp(&self, other: &Oid) -> Ordering {
-        self.bytes.cmp(&other.bytes)
+        let lengths = self.as_bytes().len().cmp(&other.as_bytes().len());
+        lengths.then_with(|| self.as_bytes().cmp(other.as_bytes()))
+    }
+}
+
+impl Hash for Oid {
+    ghost hash_input = { λ id. id ∷ [] };
+
+    ghost respects_eq = { Prim.search (hashing, rules) };
+
+    fn hash<H: Hasher>(&self, state: &mut H) {
+        state.write(self.as_bytes());
     }
 }
 
 /// Why a text is no object id.
 #[derive(Clone, Copy, Debug, PartialEq, Eq, Drop, Error)]
 pub enum OidFault {
-    /// The text does not have forty bytes.
-    #[error("an object id has 40 hexadecimal digits")]
+    /// The text does not have forty bytes, or sixty-four in SHA-256.
+    #[error("an object id has 40 hexadecimal digits, or 64 in SHA-256")]
     Length,
     /// The byte at this place is the first that is no hexadecimal digit.
     #[error("byte {at} of the object id is no hexadecimal digit")]

@@ -3,7 +3,7 @@
 #![tactic(auto)]
 
 ghost use Rattle.gname.specs.Names.{IsRefName, head_name};
-ghost use Rattle.gname.specs.Laws.{FirstPlacesAreFirst, IdsHaveTexts, IdTextsAreDigits, NamesAreClean, PrefixesAreClean, RulesNeverReportMemory, TextsHaveOneReading, TextsSpellOneId};
+ghost use Rattle.gname.specs.Laws.{FirstPlacesAreFirst, IdsHaveOneFormat, IdsHaveTexts, IdTextsAreDigits, NamesAreClean, PrefixesAreClean, RulesNeverReportMemory, TextsHaveOneReading, TextsSpellOneId};
 
 /// Each id has a text in lower case and one in upper case, which read back as the id.
 pub fn ids_have_texts()
@@ -21,7 +21,12 @@ pub fn texts_spell_one_id()
     ensures { TextsSpellOneId }
 {}
 
-/// Each text has one reading, and a text that spells an id is read as that id.
+/// An id of a format is an id, and has that format alone: its length tells.
+pub fn ids_have_one_format()
+    ensures { IdsHaveOneFormat }
+{}
+
+/// Each text has one reading in each format, and a text that spells an id is read as that id.
 pub fn texts_have_one_reading()
     ensures { TextsHaveOneReading }
 {}

@@ -1,17 +1,19 @@
-//! Object ids, ref names and prefixes of ref names: the small types that every layer of a Git
+//! Object ids in two formats, ref names and prefixes of ref names: the small types that every layer of a Git
 //! protocol v2 server and client speaks of, and the limits that several layers keep.
 //!
 //! # Proved
 //!
-//! - [`Oid::from_hex`] reads exactly the texts of forty hexadecimal digits, in either case, and
-//!   reports of each other text what is wrong with it and where. [`Oid::to_hex`] writes the one text
-//!   in lower case, which reads back as the id.
+//! - [`Oid::from_hex_in`] reads exactly the texts of forty hexadecimal digits, or sixty-four in
+//!   SHA-256, in either case, and reports of each other text what is wrong with it and where.
+//!   [`Oid::to_hex`] writes the one text in lower case, which reads back as the id. An id has one
+//!   [`Format`].
 //! - [`RefName::new`] and [`Prefix::new`] accept exactly the names and prefixes that the rules of
 //!   git-check-ref-format(1) allow, and report of each other text the first fault in one fixed order,
 //!   with its first place. Out of memory is reported of a well-formed text alone. [`RefName::head`]
 //!   is `HEAD`, where there is memory.
-//! - Ids, names and prefixes are equal, and ids and names ordered, by their bytes alone, in a total
-//!   order. Equal ones hash alike, so ids and names may be keys of a map.
+//! - Ids, names and prefixes are equal by their bytes. Names are ordered by their bytes, and ids by
+//!   their formats and then by their bytes: total orders. Equal ones hash alike, so ids and names may
+//!   be keys of a map.
 //! - A name or a prefix has at most [`MAX_NAME`] bytes, and no control character or space.
 //! - Each fault has the number and the name of its row.
 //! - No call panics, overflows or reads out of bounds, and each returns.
@@ -37,6 +39,7 @@
 
 mod digits;
 mod faults;
+mod formats;
 mod ids;
 pub mod laws;
 mod names;
@@ -46,7 +49,8 @@ mod rules;
 mod tests;
 
 pub use crate::faults::NameFault;
-pub use crate::ids::{ID_LENGTH, ID_TEXT_LENGTH, Oid, OidFault};
+pub use crate::formats::Format;
+pub use crate::ids::{MAX_ID_TEXT, Oid, OidFault};
 pub use crate::names::RefName;
 pub use crate::prefixes::Prefix;
 pub use crate::rules::MAX_NAME;

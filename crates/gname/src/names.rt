@@ -1,7 +1,7 @@
 //! Ref names.
 #![tactic(auto)]
 
-ghost use Rattle.std.specs.Prelude.{◌≡◌, ◌≤◌, ◌↔◌, ℕ, List, IfOk, IsTrue, Some, length, nat_eq, refl};
+ghost use Rattle.std.specs.Prelude.{◌≡◌, ◌≤◌, ◌↔◌, ◌++◌, [], ◌∷◌, ℕ, List, IfOk, IsTrue, Some, length, nat_eq, refl};
 ghost use Rattle.std.proofs.Common.{rules};
 ghost use Rattle.std.specs.Cmp.Rules.{hashing};
 ghost use Rattle.std.specs.Hash as fed;
@@ -135,12 +135,13 @@ impl<A: Allocator + Copy> Ord for RefName<A> {
 }
 
 impl<A: Allocator + Copy> Hash for RefName<A> {
-    ghost hash_input = { fed.slice fed.u8 };
+    ghost hash_input = { λ name. fed.usize (length name) ++ name ∷ [] };
 
     ghost respects_eq = { Prim.search (hashing, rules) };
 
     fn hash<H: Hasher>(&self, state: &mut H) {
-        self.as_bytes().hash(state);
+        state.write_usize(self.as_bytes().len());
+        state.write(self.as_bytes());
     }
 }
 

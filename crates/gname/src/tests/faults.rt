@@ -8,7 +8,7 @@ const ID_FAULTS: [(OidFault, u32, &str, &str, &str); 2] = [
         OidFault::Length,
         1,
         "Length",
-        "an object id has 40 hexadecimal digits",
+        "an object id has 40 hexadecimal digits, or 64 in SHA-256",
         "Length",
     ),
     (
@@ -109,7 +109,7 @@ fn types_print_their_bytes(rt: HostRuntime) -> Result<(), Fail> {
     let prefix = Prefix::new(rt.alloc(), b"H")?;
     assert_eq!(rt;
         format!(in rt.alloc(); "{id:?}")?.as_str(),
-        "Oid { bytes: [0, 1, 2, 3, 4, 5, 6, 7, 8, 9, 10, 11, 12, 13, 14, 15, 16, 17, 18, 19] }"
+        "Oid { digest: Sha1([0, 1, 2, 3, 4, 5, 6, 7, 8, 9, 10, 11, 12, 13, 14, 15, 16, 17, 18, 19]) }"
     );
     assert_eq!(rt;
         format!(in rt.alloc(); "{head:?}")?.as_str(),

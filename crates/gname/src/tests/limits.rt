@@ -1,12 +1,11 @@
 //! Each limit met, and passed by one.
-use crate::{ID_LENGTH, ID_TEXT_LENGTH, MAX_NAME, MAX_PACK, NameFault, Prefix, RefName};
+use crate::{MAX_ID_TEXT, MAX_NAME, MAX_PACK, NameFault, Prefix, RefName};
 use std::alloc::Global;
 use std::test::Fail;
 
 #[test]
 fn limits_are_those_of_the_protocol_page(rt: HostRuntime) {
-    assert_eq!(rt; ID_LENGTH, 20);
-    assert_eq!(rt; ID_TEXT_LENGTH, 40);
+    assert_eq!(rt; MAX_ID_TEXT, 64);
     assert_eq!(rt; MAX_NAME, 1_000);
     assert_eq!(rt; MAX_PACK, 67_108_864);
 }

@@ -1,17 +1,29 @@
 //! How ids, names and prefixes compare, and that equal ones hash alike.
-use crate::{Oid, Prefix, RefName};
+use crate::{Format, Oid, Prefix, RefName};
 use std::cmp::Ordering;
 use std::hash::{DefaultHasher, Hash, Hasher};
 use std::process::Abort;
 use std::test::Fail;
 
-// Ids in their order.
-const IDS: [&[u8; 40]; 5] = [
-    b"0000000000000000000000000000000000000000",
-    b"00000000000000000000000000000000000000ff",
-    b"0100000000000000000000000000000000000000",
-    b"7fffffffffffffffffffffffffffffffffffffff",
-    b"8000000000000000000000000000000000000000",
+// Ids in their order: every SHA-1 id before every SHA-256 id, and then byte by byte.
+const IDS: [(Format, &[u8]); 8] = [
+    (Format::Sha1, b"0000000000000000000000000000000000000000"),
+    (Format::Sha1, b"00000000000000000000000000000000000000ff"),
+    (Format::Sha1, b"0100000000000000000000000000000000000000"),
+    (Format::Sha1, b"7fffffffffffffffffffffffffffffffffffffff"),
+    (Format::Sha1, b"8000000000000000000000000000000000000000"),
+    (
+        Format::Sha256,
+        b"0000000000000000000000000000000000000000000000000000000000000000",
+    ),
+    (
+        Format::Sha256,
+        b"0000000000000000000000000000000000000000000000000000000000000001",
+    ),
+    (
+        Format::Sha256,
+        b"0100000000000000000000000000000000000000000000000000000000000000",
+    ),
 ];
 
 // Names in their order: byte by byte, whatever their lengths.
@@ -46,8 +58,8 @@ fn check_order<T: Ord + Hash>(rt: &impl Abort, values: &[T]) {
 #[test]
 fn ids_are_ordered(rt: HostRuntime) -> Result<(), Fail> {
     let mut ids = Vec::new(rt.alloc());
-    for text in IDS {
-        ids.push(Oid::from_hex(text)?)?;
+    for (format, text) in IDS {
+        ids.push(Oid::from_hex_in(format, text)?)?;
     }
     check_order(&rt, ids.as_slice());
     Ok(())

@@ -1,0 +1,25 @@
+-- How an object id is kept.
+use Rattle.std.specs.Prelude.{◌≡◌, ℕ, ◌==◌, if◌then◌else◌, List, length, refl}
+use Rattle.gname.specs.declared.formats.Format.TheVariants as format
+use Rattle.gname.specs.declared.ids.Digest.{Digest}
+use Rattle.gname.specs.declared.ids.Digest.TheVariants.{Sha1, Sha256}
+use Rattle.gname.specs.Formats.{id_length}
+use Rattle.gname.specs.Ids.{IsIdOf}
+
+-- the bytes of a digest, and the digest of some bytes
+abbrev pub digest_bytes : Digest → List ℕ
+digest_bytes (Sha1 bytes) = bytes
+digest_bytes (Sha256 bytes) = bytes
+
+abbrev pub digest_of : List ℕ → Digest
+digest_of bytes = if length bytes == id_length format.Sha1 then Sha1 bytes else Sha256 bytes
+
+-- a digest has as many bytes as its format says
+abbrev pub IsDigest : Digest → Type 0
+IsDigest (Sha1 bytes) = IsIdOf format.Sha1 bytes
+IsDigest (Sha256 bytes) = IsIdOf format.Sha256 bytes
+
+-- it is that of its bytes
+pub digest_of-bytes : (digest : Digest) → IsDigest digest → digest_of (digest_bytes digest) ≡ digest
+digest_of-bytes (Sha1 bytes) h = rw h.long refl
+digest_of-bytes (Sha256 bytes) h = rw h.long refl

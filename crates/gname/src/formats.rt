@@ -1,0 +1,44 @@
+//! The formats of object ids.
+#![tactic(auto)]
+
+ghost use Rattle.std.specs.Prelude.{◌≡◌};
+ghost use Rattle.gname.specs.Formats.{format_name, id_length, id_text_length};
+
+/// The object format of a repository: the hash that names its objects (gitprotocol-v2(5),
+/// "object-format"). `Sha1` comes before `Sha256`.
+#[derive(Clone, Copy, Debug, PartialEq, Eq, PartialOrd, Ord, Hash, Drop)]
+pub enum Format {
+    /// Ids of 20 bytes.
+    Sha1,
+    /// Ids of 32 bytes.
+    Sha256,
+}
+
+impl Format {
+    /// The number of bytes of an id.
+    pub fn id_length(self) -> usize
+        ensures { result ≡ id_length self }
+    {
+        match self {
+            Format::Sha1 => 20,
+            Format::Sha256 => 32,
+        }
+    }
+
+    /// The number of digits of an id's text.
+    pub fn id_text_length(self) -> usize
+        ensures { result ≡ id_text_length self }
+    {
+        2 * self.id_length()
+    }
+
+    /// The name of the format, as `object-format` gives it.
+    pub fn name(self) -> &'static str
+        ensures { result.now ≡ format_name self }
+    {
+        match self {
+            Format::Sha1 => "sha1",
+            Format::Sha256 => "sha256",
+        }
+    }
+}
