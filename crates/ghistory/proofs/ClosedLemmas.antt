@@ -1,7 +1,9 @@
 -- A graph is closed where each entry's parents are held.
-use Rattle.std.proofs.Common.{inl, inr, ℕ, List, [], ◌∷◌, refl, sym, ap, ◌∙◌, subst, All}
-use Rattle.std.proofs.lemmas.Option.{none-some, same_Some}
-use Rattle.std.proofs.lemmas.List.Elements.{All-nil, All-cons, All-head, All-tail, All-contains, All-contains_itself}
+use Rattle.std.proofs.Common.{◌≡◌, inl, inr, ℕ, ◌+◌, ◌<◌, take, Option, List, [], ◌∷◌, Some, None, refl, sym, ap, ◌∙◌, subst, All}
+use Rattle.std.specs.List.{slice_get}
+use Rattle.std.specs.Option.{option_map}
+use Rattle.std.proofs.lemmas.Option.{none-some, same_Some, get_or_from_slice_get, slice_get_within}
+use Rattle.std.proofs.lemmas.List.Elements.{All-nil, All-cons, All-head, All-tail, All-contains, All-contains_itself, All-more}
 use Rattle.gobject.specs.declared.node.Node.{Node}
 use Rattle.gobject.specs.declared.node.Entry.{Entry}
 use Rattle.gobject.specs.Objects.{node_at, IdsDiffer}
@@ -39,3 +41,28 @@ pub each_from_closed : {A : Type 0} (g : List (Entry A)) → IdsDiffer g → IsC
 unfolding HoldsParents
 each_from_closed {A} g differ closed =
     holds_of_each (λ (node : Node A). All (Holds g) node.parents) g differ (λ a node is k d inside. closed a _ (node, is, All-contains_itself node.parents k d inside))
+
+-- ---- the parents of the entry at a place
+
+parents_entry : {A : Type 0} (g : List (Entry A)) (p : ℕ) (parents : List (List ℕ)) → option_map (λ entry. entry.node.parents) (slice_get g p) ≡ Some parents → (entry : Entry A) × (slice_get g p ≡ Some entry) × (entry.node.parents ≡ parents)
+parents_entry {A} g p parents at = by (slice_get g p) refl
+  where
+    by : (o : Option (Entry A)) → slice_get g p ≡ o → (entry : Entry A) × (slice_get g p ≡ Some entry) × (entry.node.parents ≡ parents)
+    by None none = absurd (none-some parents (ap (option_map (λ (entry : Entry A). entry.node.parents)) (sym none) ∙ at))
+    by (Some entry) here = (entry, here, same_Some entry.node.parents parents (ap (option_map (λ (entry : Entry A). entry.node.parents)) (sym here) ∙ at))
+
+-- where each entry's parents are held, those at a place are
+pub holds_at : {A : Type 0} (g : List (Entry A)) (p : ℕ) (parents : List (List ℕ)) → option_map (λ entry. entry.node.parents) (slice_get g p) ≡ Some parents → All (HoldsParents g) g → All (Holds g) parents
+unfolding HoldsParents
+holds_at {A} g p parents at each =
+    let e = parents_entry g p parents at in
+    let P : Entry A → Type 0 = λ entry. All (Holds g) entry.node.parents in
+    subst (All (Holds g)) e.2 (subst P (get_or_from_slice_get g p e.0 e.0 e.1) (each p e.0 (slice_get_within g p e.0 e.1)))
+
+-- and one place more
+pub holds_more : {A : Type 0} (g : List (Entry A)) (p : ℕ) (parents : List (List ℕ)) → option_map (λ entry. entry.node.parents) (slice_get g p) ≡ Some parents → All (HoldsParents g) (take p g) → All (Holds g) parents → All (HoldsParents g) (take (p + 1) g)
+unfolding HoldsParents
+holds_more {A} g p parents at each here =
+    let e = parents_entry g p parents at in
+    let P : Entry A → Type 0 = λ entry. All (Holds g) entry.node.parents in
+    All-more P g p e.0 (slice_get_within g p e.0 e.1) each (subst P (sym (get_or_from_slice_get g p e.0 e.0 e.1)) (subst (All (Holds g)) (sym e.2) here))

@@ -1,12 +1,14 @@
 -- Which node stands under an id, entry by entry.
-use Rattle.std.proofs.Common.{◌≡◌, ◌⊎◌, inl, inr, ℕ, zero, suc, ◌<◌, true, false, List, [], ◌∷◌, length, Some, None, refl, sym, ap, ◌∙◌, arith}
+use Rattle.std.proofs.Common.{◌≡◌, ◌⊎◌, inl, inr, ℕ, zero, suc, ◌<◌, true, false, List, [], ◌∷◌, length, IsSome, Option, Some, None, refl, sym, ap, ◌∙◌, arith}
 use Rattle.std.specs.List.{position_or_len, slice_get}
 use Rattle.std.proofs.lemmas.Slice.Eq.{bytes_eq-Decides}
 use Rattle.std.proofs.lemmas.Option.{none-some, same_Some}
 use Rattle.std.proofs.lemmas.Bool.{cases_Bool, false≢true}
 use Rattle.std.proofs.lemmas.Bool.Decides.{nat_tests}
+use Rattle.gobject.specs.declared.node.Node.{Node}
 use Rattle.gobject.specs.declared.node.Entry.{Entry}
 use Rattle.gobject.specs.Objects.{has_id, node_at, place_of, IdsDiffer}
+use Rattle.ghistory.specs.Graphs.{IsNode, Holds}
 
 pub has_id_is : {A : Type 0} (a : List ℕ) (entry : Entry A) → has_id a entry ≡ true → entry.id ≡ a
 has_id_is a entry e = (bytes_eq-Decides entry.id a).0 e
@@ -60,3 +62,11 @@ own_place g k entry differ at =
     let h = own_place_from g k entry differ at in
     let same = h.0 in let inside = h.1 in
     rw same (grind (arith, nat_tests))
+
+some_is : {X : Type 0} (o : Option X) → IsSome o → (x : X) × (o ≡ Some x)
+some_is None is = absurd (false≢true is)
+some_is (Some x) is = (x, refl)
+
+-- an id that is held has a node
+pub held_node : {A : Type 0} (g : List (Entry A)) (a : List ℕ) → Holds g a → (node : Node A) × IsNode g a node
+held_node g a held = some_is (node_at g a) held

@@ -1,5 +1,4 @@
 pub mod ClosedLemmas
-pub mod Counting
 pub mod Growing
 pub mod Holding
 pub mod IdLists
@@ -8,7 +7,9 @@ pub mod LevelWalk
 pub mod OfferLaws
 pub mod OfferLemmas
 pub mod OrderLemmas
+pub mod Ordering
+pub mod Pairs
 pub mod PeelLemmas
 pub mod Reaching
-pub mod Selecting
-pub mod Walking
+pub mod Sharing
+pub mod Storing

@@ -1,9 +1,10 @@
 -- Each entry of a graph could come next after those before it.
-use Rattle.std.proofs.Common.{◌≡◌, ℕ, List, [], ◌∷◌, ◌++◌, All, None, refl, ◌∙◌, arith, false}
+use Rattle.std.proofs.Common.{◌≡◌, ℕ, ◌<◌, List, [], ◌∷◌, ◌++◌, length, All, None, refl, ◌∙◌, arith, false}
 use Rattle.std.proofs.lemmas.List.{length-append}
 use Rattle.std.proofs.lemmas.List.Elements.{All-head, All-tail}
 use Rattle.gobject.specs.declared.node.Entry.{Entry}
 use Rattle.gobject.specs.Objects.{IdsDiffer, IsShaped, has_id, node_at}
+use Rattle.ghistory.specs.Graphs.{HasIdsOf, IsGraph}
 use Rattle.ghistory.specs.Laws.{EntriesComeInOrder}
 use Rattle.ghistory.proofs.Growing.{other_id}
 use Rattle.ghistory.proofs.Holding.{absent_head, absent_tail, node_there}
@@ -22,8 +23,9 @@ new_after_front (y ∷ front) x back differ =
     node_there y front x.id (other_id x y (other_than_absent front x back y.id differ.0)) ∙ new_after_front front x back differ.1
 
 pub entries_come_in_order : (A : Type 0) → EntriesComeInOrder A
-entries_come_in_order A front entry back graph = record {
+entries_come_in_order A format front entry back graph = record {
   new = new_after_front front entry back graph.differ;
+  ids = all_at (HasIdsOf format) front entry back graph.ids;
   shaped = all_at (λ (e : Entry A). IsShaped e.node) front entry back graph.shaped;
   room = let few = graph.few in omega (arith, length-append front (entry ∷ back), few);
 }

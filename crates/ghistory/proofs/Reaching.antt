@@ -1,16 +1,18 @@
 -- Reachability, and places of ids.
-use Rattle.std.proofs.Common.{◌≡◌, ℕ, ◌<◌, ◌≤◌, List, [], ◌∷◌, length, get_or, Some, None, refl, sym, ap, ◌∙◌, arith}
+use Rattle.std.proofs.Common.{◌≡◌, ℕ, ◌<◌, ◌≤◌, true, List, [], ◌∷◌, length, get_or, Option, Some, None, refl, sym, ap, ◌∙◌, arith}
 use Rattle.std.specs.List.{position_or_len, slice_get}
 use Rattle.std.specs.Option.{option_map}
 use Rattle.std.proofs.lemmas.List.Quantifiers.{position-Some}
 use Rattle.std.proofs.lemmas.List.Folds.{find_at}
 use Rattle.std.proofs.lemmas.Option.{slice_get-get_or, slice_get_past, cond_some, none-some}
+use Rattle.std.proofs.lemmas.Bool.{false≢true}
 use Rattle.std.proofs.lemmas.Bool.Decides.{nat_tests}
+use Rattle.gobject.specs.declared.node.Node.{Node}
 use Rattle.gobject.specs.declared.node.Entry.{Entry}
 use Rattle.gobject.specs.Objects.{has_id, node_at, place_of}
-use Rattle.ghistory.specs.Graphs.{Holds, HasParent}
+use Rattle.ghistory.specs.Graphs.{IsNode, Holds, HasParent}
 use Rattle.ghistory.specs.Reach.{Reaches, here, onward, SomeReaches, IsFull, IsClosed}
-use Rattle.ghistory.proofs.Holding.{has_id_is}
+use Rattle.ghistory.proofs.Holding.{has_id_is, held_node}
 
 -- ---- reaching
 
@@ -68,3 +70,21 @@ held_at_place [] a p e = absurd (none-some p e)
 held_at_place {A} (entry ∷ g) a p e =
     let at = slice_get-get_or (entry ∷ g) p entry (place_inside (entry ∷ g) a p e) in
     rw (node_at_place (entry ∷ g) a p e, at) refl
+
+-- an id that is held has a place
+pub place_of_node : {A : Type 0} (g : List (Entry A)) (a : List ℕ) (node : Node A) → IsNode g a node → (p : ℕ) × (place_of g a ≡ Some p)
+place_of_node {A} g a node is = by (place_of g a) refl
+  where
+    by : (o : Option ℕ) → place_of g a ≡ o → (p : ℕ) × (place_of g a ≡ Some p)
+    by None none = absurd (none-some node (sym (node_at_none g a none) ∙ is))
+    by (Some p) at = (p, at)
+
+-- its entry is there
+pub place_at : {A : Type 0} (g : List (Entry A)) (a : List ℕ) → Holds g a → (p : ℕ) × (entry : Entry A) × (slice_get g p ≡ Some entry) × (entry.id ≡ a)
+place_at [] a held = absurd (false≢true held)
+place_at {A} (first ∷ g) a held =
+    let node = held_node (first ∷ g) a held in
+    let place = place_of_node (first ∷ g) a node.0 node.1 in
+    let inside = place_inside (first ∷ g) a place.0 place.1 in
+    let entry = get_or (first ∷ g) place.0 first in
+    (place.0, entry, slice_get-get_or (first ∷ g) place.0 first inside, has_id_is a entry (position-Some (has_id a) (first ∷ g) place.0 first place.1).1)

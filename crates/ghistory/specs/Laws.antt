@@ -1,16 +1,93 @@
--- What follows from the definition of graphs.
-use Rattle.std.specs.Prelude.{◌≡◌, ◌<◌, List, ◌∷◌, ◌++◌, length, None}
+-- Laws of graphs, over all graphs and lists.
+use Rattle.std.specs.Prelude.{◌≡◌, ◌<◌, ◌≤◌, ◌⊎◌, ◌↔◌, ℕ, List, ◌∷◌, ◌++◌, length, All, None, Some}
 use Rattle.gobject.specs.declared.node.Entry.{Entry}
-use Rattle.gobject.specs.Objects.{node_at, IsShaped}
-use Rattle.ghistory.specs.Graphs.{IsGraph, max_nodes}
+use Rattle.gobject.specs.Objects.{node_at, place_of, IdsDiffer, IsShaped}
+use Rattle.gname.specs.declared.formats.Format.{Format}
+use Rattle.ghistory.specs.Graphs.{History, Holds, IsNode, IsGraph, IsOrdered, HasIdsOf, max_nodes}
+use Rattle.ghistory.specs.Reach.{Reaches, IsFull, IsClosed, Agree, Keeps}
+use Rattle.ghistory.specs.Insert.{Inserts}
+use Rattle.ghistory.specs.Peeling.{IsTagOf, PeelsTo}
+use Rattle.ghistory.specs.Sending.{IsListToSend}
 
--- an entry may come next: its id is new, its node has its shape, and there is room
-pub record MayComeNext {A : Type 0} (g : List (Entry A)) (entry : Entry A) : Type 0 where
+-- an entry may come next: its id is new, its ids are of the format, its node has its shape, and there is room
+pub record MayComeNext {A : Type 0} (format : Format) (g : List (Entry A)) (entry : Entry A) : Type 0 where
   pub new : node_at g entry.id ≡ None
+  pub ids : HasIdsOf format entry
   pub shaped : IsShaped entry.node
   pub room : length g < max_nodes
 
 -- each entry of a graph could come next after those before it
 abbrev pub EntriesComeInOrder : Type 0 → Type 0
-EntriesComeInOrder A = (front : List (Entry A)) (entry : Entry A) (back : List (Entry A)) →
-    IsGraph (front ++ entry ∷ back) → MayComeNext front entry
+EntriesComeInOrder A =
+    (format : Format) (front : List (Entry A)) (entry : Entry A) (back : List (Entry A))
+    → IsGraph (record { format = format; entries = front ++ entry ∷ back }) → MayComeNext format front entry
+
+-- a graph is closed exactly where the whole ancestry of each id that it holds is held
+abbrev pub ClosedIsFull : Type 0 → Type 0
+ClosedIsFull A = (g : List (Entry A)) → IsClosed g ↔ ((a : List ℕ) → Holds g a → IsFull g a)
+
+-- what is reached from what is reached is reached
+abbrev pub ReachingGoesOn : Type 0 → Type 0
+ReachingGoesOn A = (g : List (Entry A)) (a b c : List ℕ) → Reaches g a b → Reaches g b c → Reaches g a c
+
+-- where a graph keeps what it held, an id that was full is full, and reaches nothing new
+abbrev pub FullStaysFull : Type 0 → Type 0
+FullStaysFull A =
+    (g h : List (Entry A)) (a : List ℕ) → Keeps g h → IsFull g a
+    → IsFull h a × ((b : List ℕ) → Reaches h a b → Reaches g a b)
+
+-- where two graphs agree, a path in the one from an id that is full in the other is a path in the other
+abbrev pub PathsAreShared : Type 0 → Type 0
+PathsAreShared A = (g h : List (Entry A)) (a b : List ℕ) → Agree g h → IsFull h a → Reaches g a b → Reaches h a b
+
+-- two graphs that agree still do once entries of the one are inserted into the other
+abbrev pub AgreeingStays : Type 0 → Type 0
+AgreeingStays A =
+    (g h entries new : List (Entry A)) (format : Format)
+    → Agree g h → All (λ entry. IsNode g entry.id entry.node) entries → Inserts format h entries new → Agree g new
+
+-- an id peels to one commit at most
+abbrev pub PeelsToOne : Type 0 → Type 0
+PeelsToOne A = (g : List (Entry A)) (a b c : List ℕ) → PeelsTo g a b → PeelsTo g a c → b ≡ c
+
+-- along tags only: the id is the commit, or a tag of an id that peels to it; so it reaches the commit
+abbrev pub PeelsAlongTags : Type 0 → Type 0
+PeelsAlongTags A =
+    (g : List (Entry A)) (a c : List ℕ) → PeelsTo g a c
+    → ((a ≡ c) ⊎ ((b : List ℕ) × IsTagOf g a b × PeelsTo g b c)) × Reaches g a c
+
+-- a graph in which parents come first is closed
+abbrev pub OrderedIsClosed : Type 0 → Type 0
+OrderedIsClosed A = (g : List (Entry A)) → IdsDiffer g → IsOrdered g → IsClosed g
+
+-- and what an id of such a graph reaches is not after it
+abbrev pub ReachingGoesDown : Type 0 → Type 0
+ReachingGoesDown A =
+    (g : List (Entry A)) (a b : List ℕ) (p : ℕ)
+    → IdsDiffer g → IsOrdered g → Reaches g a b → place_of g a ≡ Some p → (q : ℕ) × (place_of g b ≡ Some q) × (q ≤ p)
+
+-- there is one list to send
+abbrev pub OneListToSend : Type 0 → Type 0
+OneListToSend A =
+    (g list other : List (Entry A)) (wants commons tips : List (List ℕ))
+    → IsListToSend g wants commons tips list → IsListToSend g wants commons tips other → list ≡ other
+
+-- and its entries are a graph's: their ids differ and are of the format, and each node has its shape
+abbrev pub SentAreEntries : Type 0 → Type 0
+SentAreEntries A =
+    (g : History A) (list : List (Entry A)) (wants commons tips : List (List ℕ))
+    → IsGraph g → IsListToSend g.entries wants commons tips list
+    → IsGraph (record { format = g.format; entries = list })
+
+-- the ids are full, and all that they reach in another graph is held
+abbrev pub HasAll : {A : Type 0} → List (Entry A) → List (List ℕ) → List (Entry A) → Type 0
+HasAll s wants h = All (λ want. IsFull h want × ((a : List ℕ) → Reaches s want a → Holds h a)) wants
+
+-- what a server's graph `s` sends to a client's graph `c` makes the wants whole there. No parent is missing in `s`, the
+-- two agree, `s` holds the wants, and the common ids are full in `c`: once a list to send comes in, the wants are full,
+-- and all that they reach in `s` is held
+abbrev pub SendingIsEnough : Type 0 → Type 0
+SendingIsEnough A =
+    (s c list new : List (Entry A)) (wants commons tips : List (List ℕ)) (format : Format)
+    → IdsDiffer s → IsClosed s → Agree s c → All (Holds s) wants → All (IsFull c) commons
+    → IsListToSend s wants commons tips list → Inserts format c list new → HasAll s wants new

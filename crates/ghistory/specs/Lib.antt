@@ -6,4 +6,6 @@ pub mod Levels
 pub mod Offer
 pub mod Peeling
 pub mod Reach
+pub mod Selecting
+pub mod Sending
 pub mod Walks

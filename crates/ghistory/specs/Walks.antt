@@ -1,4 +1,5 @@
 -- What walks over the ancestry of some ids answer.
+pub use Rattle.ghistory.specs.Selecting.{Selects, none, keep, skip}
 use Rattle.std.specs.Prelude.{◌≡◌, ◌≢◌, ◌⊎◌, ℕ, ◌+◌, Bool, true, false, cond, List, [], ◌∷◌, length, slice_index_or}
 use Rattle.std.specs.Prelude.{sum_by, All, Contains, Option, None, Some}
 use Rattle.std.specs.List.{Any}
@@ -12,12 +13,6 @@ abbrev pub Misses : {A : Type 0} → List (Entry A) → List (List ℕ) → Opti
 Misses g ids None = All (IsFull g) ids
 Misses g ids (Some b) = SomeReaches g ids b × (node_at g b ≡ None)
 
--- the second list is those of the first with P, in their order
-pub data Selects {X : Type 0} (P : X → Type 0) : List X → List X → Type 0 where
-  none : Selects P [] []
-  keep : {x : X} {xs ys : List X} → P x → Selects P xs ys → Selects P (x ∷ xs) (x ∷ ys)
-  skip : {x : X} {xs ys : List X} → ¬ (P x) → Selects P xs ys → Selects P (x ∷ xs) ys
-
 -- so many held ids do some ids reach, and so many parents do their nodes have
 pub record CountsReached {A : Type 0} (g : List (Entry A)) (ids : List (List ℕ)) (held parents : ℕ) : Type 0 where
   pub list : List (Entry A)
@@ -30,14 +25,6 @@ pub record CountsReached {A : Type 0} (g : List (Entry A)) (ids : List (List ℕ
 pub record IsReady {A : Type 0} (g : List (Entry A)) (wants commons : List (List ℕ)) : Type 0 where
   pub some : commons ≢ []
   pub each : All (λ want. Any (Reaches g want) commons) wants
-
--- an object to send: some want reaches it, and no common id does
-abbrev pub IsToSend : {A : Type 0} → List (Entry A) → List (List ℕ) → List (List ℕ) → Entry A → Type 0
-IsToSend g wants commons entry = SomeReaches g wants entry.id × ¬ (SomeReaches g commons entry.id)
-
--- the objects to send, in store order
-abbrev pub IsSendList : {A : Type 0} → List (Entry A) → List (List ℕ) → List (List ℕ) → List (Entry A) → Type 0
-IsSendList g wants commons list = Selects (IsToSend g wants commons) g list
 
 -- ---- the walk itself
 

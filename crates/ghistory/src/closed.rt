@@ -2,41 +2,33 @@
 #![tactic(auto)]
 
 ghost use Rattle.std.specs.Prelude.{◌↔◌, All, IsTrue};
-ghost use Rattle.ghistory.specs.Graphs.{Holds};
+ghost use Rattle.ghistory.specs.Graphs.{IsGraph};
 ghost use Rattle.ghistory.specs.Reach.{HoldsParents, IsClosed};
 
 use crate::graph::Graph;
-use gname::Oid;
-use gobject::Entry;
 use std::alloc::Allocator;
 
 impl<A: Allocator + Copy> Graph<A> {
-    /// Whether the graph holds each of the ids. It takes no memory.
-    pub fn contains_all(&self, ids: &[Oid]) -> bool
-        ensures { IsTrue result ↔ All (Holds self.now) ids.now }
-    {
-        ids.iter().all(|id| self.contains(id))
-    }
-
     /// Whether each parent of an object that the graph holds is held, too. It takes no memory.
     pub fn is_closed(&self) -> bool
-        ensures { IsTrue result ↔ IsClosed self.now }
+        ensures { IsTrue result ↔ IsClosed self.now.entries }
     {
-        self.hold_parents(self.entries())
+        if self.is_ordered() {
+            return true;
+        }
+        self.holds_parents()
     }
 
-    // Whether the graph holds the parents of each of the entries.
-    fn hold_parents(&self, entries: &[Entry<A>]) -> bool
-        ensures { IsTrue result ↔ All (HoldsParents self.now) entries.now }
+    // Whether the graph holds the parents of each of its nodes.
+    fn holds_parents(&self) -> bool
+        ensures graph { IsGraph self.now }
+        ensures answer { IsTrue result ↔ All (HoldsParents self.now.entries) self.now.entries }
     {
-        entries.iter().all(|entry| self.holds_parents(entry))
-    }
-
-    // Whether the graph holds each parent of the entry.
-    #[tactic(auto, unfolding(crate::specs::Reach::HoldsParents))]
-    fn holds_parents(&self, entry: &Entry<A>) -> bool
-        ensures { IsTrue result ↔ HoldsParents self.now entry.now }
-    {
-        self.contains_all(entry.node.parents.as_slice())
+        for place in 0..self.len() {
+            if !self.contains_all(self.parents(place)) {
+                return false;
+            }
+        }
+        true
     }
 }

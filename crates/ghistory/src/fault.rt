@@ -12,6 +12,9 @@ use thiserror::Error;
 /// Why a call on a graph was refused.
 #[derive(Clone, Copy, Debug, PartialEq, Eq, Drop, Error)]
 pub enum GraphFault {
+    /// The entry under this id, or one of its parents, is of another object format than the graph.
+    #[error("an id is of another object format")]
+    OtherFormat { id: Oid },
     /// The id stands for another node already, in the graph or earlier in the list.
     #[error("another object has this id")]
     Conflict { id: Oid },
@@ -54,6 +57,7 @@ impl GraphFault {
             GraphFault::TooManyParents => (62, "TooManyParents"),
             GraphFault::TagShape => (63, "TagShape"),
             GraphFault::Memory => (64, "Memory"),
+            GraphFault::OtherFormat { .. } => (75, "OtherFormat"),
         }
     }
 }

@@ -1,121 +1,205 @@
-// The graph in the order in which its objects first came.
+// The graph: a map from ids to nodes, in the order in which they first came.
 #![tactic(auto)]
 
-ghost use Rattle.std.specs.Prelude.{◌≡◌, [], length, is_some, IsTrue, ◌↔◌, slice_get, MatchOption, OnOk, OnErr, None, ◌≤◌, ◌<◌, ◌++◌, ◌∷◌};
+ghost use Rattle.std.specs.Prelude.{◌≡◌, [], length, IsTrue, ◌↔◌, slice_get, take, MatchOption, OnOk, OnErr, IfOk, IfErr, All, None, Some, ◌≤◌, ◌<◌, ◌++◌, ◌∷◌};
 ghost use Rattle.std.specs.Option.{option_copied, option_map};
 ghost use Rattle.gobject.specs.Objects.{IsShaped, entry_of, node_at, place_of};
-ghost use Rattle.ghistory.specs.Graphs.{IsGraph, Holds, max_nodes};
+ghost use Rattle.gname.specs.declared.formats.Format.TheVariants.{Sha1};
+ghost use Rattle.ghistory.specs.declared.fault.GraphFault.TheVariants.{Memory};
+ghost use Rattle.ghistory.specs.Graphs.{IsGraph, IsOrdered, Holds, HasIdsOf, max_nodes, pairs_of};
 
-use gname::Oid;
+use crate::fault::GraphFault;
+use gname::{Format, Oid};
 use gobject::{Entry, Node};
+use indexmap::IndexMap;
 use std::alloc::{AllocError, Allocator, Global};
+use std::hash::{BuildHasherDefault, DefaultHasher};
 use std::marker::Model;
 
 /// The most nodes that a graph has.
 pub const MAX_NODES: usize = 1_048_576;
 
-/// The commits and tags of a repository, each id once, in the order in which they first came.
+/// How the ids of a graph are hashed. Ids come from peers, who may choose them: for `DefaultHasher` ids that
+/// collide have to be searched for one by one, where for std's fast hasher they can be written down.
+pub type IdHasher = BuildHasherDefault<DefaultHasher>;
+
+/// The commits and tags of a repository, each id once, in the order in which they first came. All ids
+/// are of one format.
 #[derive(Debug, Drop)]
 pub struct Graph<A: Allocator + Copy = Global> {
-    pub(crate) entries: Vec<Entry<A>, A>,
+    format: Format,
+    nodes: IndexMap<Oid, Node<A>, IdHasher, A>,
+    // Whether each node came after all its parents.
+    ordered: bool,
 }
 
 impl<A: Allocator + Copy> Model for Graph<A> {
-    ghost use Rattle.std.specs.Prelude.{List};
-    ghost use Rattle.gobject.specs.declared.node.Entry.{Entry};
-    ghost use Rattle.ghistory.specs.Graphs.{IsGraph};
+    ghost use Rattle.std.specs.Prelude.{IsTrue, ◌↔◌};
+    ghost use Rattle.ghistory.specs.Graphs.{History, IsGraph, IsOrdered, entries_of};
 
-    ghost Value = { List (Entry A) };
+    ghost Value = { History A };
 
-    ghost view = { λ graph. graph.entries.items };
+    ghost view = { λ graph. record { format = graph.format; entries = entries_of graph.nodes.entries } };
 
-    ghost invariant = { λ graph. IsGraph graph.entries.items };
+    ghost invariant = { λ graph. IsGraph (record { format = graph.format; entries = entries_of graph.nodes.entries }) × (IsTrue graph.ordered ↔ IsOrdered (entries_of graph.nodes.entries)) };
 }
 
 impl<A: Allocator + Copy> Graph<A> {
-    /// A graph without nodes. It takes no memory.
-    pub fn new(alloc: A) -> Graph<A>
-        ensures { result ≡ [] }
+    /// A graph without nodes, for ids of the format. It takes no memory.
+    pub fn new_in(alloc: A, format: Format) -> Graph<A>
+        ensures { result ≡ record { format = format; entries = [] } }
     {
         Graph {
-            entries: Vec::new(alloc),
+            format,
+            nodes: IndexMap::with_hasher(alloc, BuildHasherDefault::new()),
+            ordered: true,
         }
     }
 
-    /// Adds an entry after the others. Where there is no memory the graph stays as it was.
-    pub fn push(&mut self, entry: Entry<A>) -> Result<(), AllocError>
-        requires new { node_at self.old entry.id ≡ None }
-        requires shaped { IsShaped entry.node }
-        requires room { length self.old < max_nodes }
-        ensures ok { OnOk result (self.new ≡ self.old ++ entry ∷ []) }
-        ensures err { OnErr result (self.new ≡ self.old) }
+    /// A graph without nodes, for SHA-1 ids. It takes no memory.
+    pub fn new(alloc: A) -> Graph<A>
+        ensures { result ≡ record { format = Sha1; entries = [] } }
     {
-        self.entries.push(entry)?;
-        Ok(())
+        Graph::new_in(alloc, Format::Sha1)
     }
 
-    /// The entries in store order.
-    pub fn entries(&self) -> &[Entry<A>]
-        ensures entries { result.now ≡ self.now }
-        ensures graph { IsGraph self.now }
+    /// The format of the graph's ids.
+    pub fn format(&self) -> Format
+        ensures { result ≡ self.now.format }
     {
-        self.entries.as_slice()
-    }
-
-    // The allocator that its memory comes from.
-    pub(crate) fn allocator(&self) -> A {
-        *self.entries.allocator()
+        self.format
     }
 
     /// How many nodes there are.
     pub fn len(&self) -> usize
-        ensures { result ≡ length self.now }
+        ensures len { result ≡ length self.now.entries }
+        ensures graph { IsGraph self.now }
     {
-        self.entries.len()
+        self.nodes.len()
     }
 
     /// Whether the graph has no node.
     pub fn is_empty(&self) -> bool
-        ensures { IsTrue result ↔ (self.now ≡ []) }
+        ensures { IsTrue result ↔ (self.now.entries ≡ []) }
     {
-        self.entries.is_empty()
+        self.nodes.is_empty()
+    }
+
+    /// Whether each node came after all its parents.
+    pub(crate) fn is_ordered(&self) -> bool
+        ensures graph { IsGraph self.now }
+        ensures ordered { IsTrue result ↔ IsOrdered self.now.entries }
+    {
+        self.ordered
     }
 
     /// Whether the id is one of the graph's.
     pub fn contains(&self, id: &Oid) -> bool
-        ensures { IsTrue result ↔ Holds self.now id.now }
+        ensures { IsTrue result ↔ Holds self.now.entries id.now }
     {
-        node_of(self.entries.as_slice(), id).is_some()
+        self.nodes.contains_key(id)
+    }
+
+    /// Whether the graph holds each of the ids. It takes no memory.
+    pub fn contains_all(&self, ids: &[Oid]) -> bool
+        ensures { IsTrue result ↔ All (Holds self.now.entries) ids.now }
+    {
+        ids.iter().all(|id| self.contains(id))
     }
 
     /// The node under the id.
     pub fn node(&self, id: &Oid) -> Option<&Node<A>>
-        ensures { option_copied result ≡ node_at self.now id.now }
+        ensures { option_copied result ≡ node_at self.now.entries id.now }
     {
-        node_of(self.entries.as_slice(), id)
+        self.nodes.get(id)
+    }
+
+    /// The number of the id: its place in store order, which counts from 0.
+    pub fn number(&self, id: &Oid) -> Option<usize>
+        ensures { result ≡ place_of self.now.entries id.now }
+    {
+        self.nodes.get_index_of(id)
     }
 
     /// The id and the node at a place of the store order, which counts from 0.
     pub fn at(&self, place: usize) -> Option<(&Oid, &Node<A>)>
-        ensures { MatchOption result (length self.now ≤ place) (λ pair.
-            slice_get self.now place ≡ Some (entry_of pair.0.now pair.1.now)) }
+        ensures at { MatchOption result (length self.now.entries ≤ place) (λ pair.
+            slice_get self.now.entries place ≡ Some (entry_of pair.0.now pair.1.now)) }
+        ensures graph { IsGraph self.now }
     {
-        let entry = self.entries.get(place)?;
-        Some((&entry.id, &entry.node))
+        self.nodes.get_index(place)
     }
-}
 
-/// The place of the entry with the id.
-pub fn place_of<A: Allocator + Copy>(entries: &[Entry<A>], id: &Oid) -> Option<usize>
-    ensures { result ≡ place_of entries.now id.now }
-{
-    entries.iter().position(|entry| entry.id == *id)
-}
+    /// The map from ids to nodes. Its pairs are the graph's in store order.
+    pub fn as_map(&self) -> &IndexMap<Oid, Node<A>, IdHasher, A>
+        ensures { result.now.entries ≡ pairs_of self.now.entries }
+    {
+        &self.nodes
+    }
 
-/// The node of the entry with the id.
-pub fn node_of<'a, A: Allocator + Copy>(entries: &'a [Entry<A>], id: &Oid) -> Option<&'a Node<A>>
-    ensures { option_copied result ≡ node_at entries.now id.now }
-{
-    let entry = entries.iter().find(|entry| entry.id == *id)?;
-    Some(&entry.node)
+    /// The allocator that the graph's memory comes from.
+    pub(crate) fn allocator(&self) -> A {
+        *self.nodes.allocator()
+    }
+
+    /// The parents of the node at a place.
+    pub(crate) fn parents(&self, place: usize) -> &[Oid]
+        requires { place < length self.now.entries }
+        ensures { option_map (λ entry. entry.node.parents) (slice_get self.now.entries place) ≡ Some result.now }
+    {
+        self.nodes[place].parents.as_slice()
+    }
+
+    /// The id at a place.
+    pub(crate) fn id_at(&self, place: usize) -> &Oid
+        requires { place < length self.now.entries }
+        ensures { option_map (λ entry. entry.id) (slice_get self.now.entries place) ≡ Some result.now }
+    {
+        self.at(place).unwrap().0
+    }
+
+    /// A copy of the entry at a place. It fails where there is no memory.
+    pub(crate) fn entry_in(&self, place: usize, alloc: A) -> Result<Entry<A>, AllocError>
+        requires { place < length self.now.entries }
+        ensures { IfOk result (λ entry. slice_get self.now.entries place ≡ Some entry) }
+    {
+        let (id, node) = self.at(place).unwrap();
+        let node = node.copy_in(alloc)?;
+        Ok(Entry { id: *id, node })
+    }
+
+    /// Whether each node, one with the parents after the others too, came after all its parents.
+    fn stays_ordered(&self, parents: &[Oid]) -> bool
+        ensures { IsTrue result ↔ (IsOrdered self.now.entries × All (Holds self.now.entries) parents.now) }
+    {
+        self.is_ordered() && self.contains_all(parents)
+    }
+
+    /// Adds an entry after the others. Where there is no memory the graph stays as it was.
+    ///
+    /// It fails with `Memory` alone.
+    pub fn push(&mut self, entry: Entry<A>) -> Result<(), GraphFault>
+        requires new { node_at self.old.entries entry.id ≡ None }
+        requires ids { HasIdsOf self.old.format entry }
+        requires shaped { IsShaped entry.node }
+        requires room { length self.old.entries < max_nodes }
+        ensures ok { OnOk result (self.new ≡ record { format = self.old.format; entries = self.old.entries ++ entry ∷ [] }) }
+        ensures err { OnErr result (self.new ≡ self.old) }
+        ensures graph { IsGraph self.new }
+        ensures fault { IfErr result (λ fault. fault ≡ Memory) }
+    {
+        let ordered = self.stays_ordered(entry.node.parents.as_slice());
+        self.nodes.insert(entry.id, entry.node)?;
+        self.ordered = ordered;
+        Ok(())
+    }
+
+    /// Keeps the first entries, as many as `count`, which came with their parents first as `ordered` says.
+    pub(crate) fn cut_back(&mut self, count: usize, ordered: bool)
+        requires { IsTrue ordered ↔ IsOrdered (take count self.old.entries) }
+        ensures { self.new ≡ record { format = self.old.format; entries = take count self.old.entries } }
+    {
+        self.nodes.truncate(count);
+        self.ordered = ordered;
+    }
 }

@@ -1,85 +1,127 @@
 // Adding entries to a graph, all or none.
 #![tactic(auto)]
 
-ghost use Rattle.std.specs.Prelude.{◌≡◌, ◌<◌, ℕ, List, MatchResult, OnOk, IfErr, All};
-ghost use Rattle.gobject.specs.Objects.{IsShaped};
-ghost use Rattle.ghistory.specs.Graphs.{IsGraph, IsNode};
+ghost use Rattle.std.specs.Prelude.{◌≡◌, ◌<◌, ◌++◌, ◌∷◌, ◌↔◌, ℕ, List, length, None, MatchResult, OnOk, IsTrue, All};
+ghost use Rattle.gobject.specs.Objects.{IsShaped, node_at};
+ghost use Rattle.gname.specs.Ids.{IsIdOf};
+ghost use Rattle.ghistory.specs.Graphs.{HasIdsOf, IsGraph, IsNode};
 ghost use Rattle.ghistory.specs.Reach.{Reaches, IsFull, Grows, Keeps};
-ghost use Rattle.ghistory.specs.Insert.{ComesIn, Inserts, IsMisshapen, IsCause, IsRefused, Adds};
+ghost use Rattle.ghistory.specs.Insert.{IsMisshapen, IsCause, Admits, Adds, AddsCopy, AddsOne, AddsOnly, AddsOnlyParents};
+ghost use Rattle.ghistory.specs.declared.fault.GraphFault.TheVariants.{OtherFormat};
 
 use crate::fault::GraphFault;
-use crate::graph::{Graph, MAX_NODES, node_of};
+use crate::graph::{Graph, MAX_NODES};
+use gname::{Format, Oid};
 use gobject::{Entry, Kind, MAX_PARENTS, Node};
 use std::alloc::Allocator;
 
 impl<A: Allocator + Copy> Graph<A> {
-    /// Adds the entries, all or none, and answers how many ids are new. An id that comes again with the
-    /// same node adds nothing; new ones come at the end of the store order, in the order of the list.
+    /// Adds an entry at the end of the store order, and answers whether its id is new. Where it is there
+    /// with the same node nothing changes.
     ///
-    /// Entries are judged in order. The first that can't be added is refused, and then the graph is as it
-    /// was: with `TooManyParents`, else with `TagShape` where it is a tag whose parents are not exactly one,
-    /// else with `Conflict` where its id stands for another node in the graph or earlier in the list, else
-    /// with `TooMany` where its id would be one more than a graph holds, else with `Memory`.
-    pub fn insert_all(&mut self, entries: &[Entry<A>]) -> Result<usize, GraphFault>
-        ensures adds { Adds self.old entries.now self.new result }
-        ensures held { OnOk result (All (λ entry. IsNode self.new entry.id entry.node) entries.now) }
-        ensures grows { Grows self.old self.new }
-        ensures keeps { Keeps self.old self.new }
-        ensures reaches { (a b : List ℕ) → Reaches self.old a b → Reaches self.new a b }
-        ensures full { (a : List ℕ) → IsFull self.old a → IsFull self.new a }
+    /// It is refused as `insert_all` refuses the entries of a list, and then the graph is as it was.
+    pub fn insert(&mut self, entry: Entry<A>) -> Result<bool, GraphFault>
+        ensures adds { AddsOne self.old entry self.new result }
+        ensures held { OnOk result (IsNode self.new.entries entry.id entry.node) }
+        ensures grows { Grows self.old.entries self.new.entries }
         ensures graph { IsGraph self.new }
     {
-        let before = self.entries.len();
-        insert_each(&mut self.entries, entries)?;
-        Ok(self.entries.len() - before)
+        let is_new = self.admits(&entry)?;
+        if is_new {
+            self.push(entry)?;
+        }
+        Ok(is_new)
+    }
+
+    /// Adds copies of the entries, all or none, and answers how many ids are new. An id that comes again
+    /// with the same node adds nothing; new ones come at the end of the store order, in the order of the
+    /// list.
+    ///
+    /// Entries are judged in order. The first that can't be added is refused, and then the graph is as it
+    /// was: with `OtherFormat` where its id or a parent is of another format than the graph's, else with
+    /// `TooManyParents`, else with `TagShape` where it is a tag whose parents are not exactly one, else
+    /// with `Conflict` where its id stands for another node in the graph or earlier in the list, else with
+    /// `TooMany` where its id would be one more than a graph holds, else with `Memory`.
+    pub fn insert_all(&mut self, entries: &[Entry<A>]) -> Result<usize, GraphFault>
+        ensures adds { Adds self.old entries.now self.new result }
+        ensures only { AddsOnly self.old.entries entries.now self.new.entries }
+        ensures only_parents { AddsOnlyParents self.old.entries entries.now self.new.entries }
+        ensures held { OnOk result (All (λ entry. IsNode self.new.entries entry.id entry.node) entries.now) }
+        ensures grows { Grows self.old.entries self.new.entries }
+        ensures keeps { Keeps self.old.entries self.new.entries }
+        ensures reaches { (a b : List ℕ) → Reaches self.old.entries a b → Reaches self.new.entries a b }
+        ensures full { (a : List ℕ) → IsFull self.old.entries a → IsFull self.new.entries a }
+        ensures graph { IsGraph self.new }
+    {
+        let before = self.len();
+        let was_ordered = self.is_ordered();
+        for entry in entries {
+            if let Err(fault) = self.insert_copy(entry) {
+                self.cut_back(before, was_ordered);
+                return Err(fault);
+            }
+        }
+        Ok(self.len() - before)
+    }
+
+    // Adds a copy of the entry.
+    fn insert_copy(&mut self, entry: &Entry<A>) -> Result<(), GraphFault>
+        ensures adds { AddsCopy self.old entry.now self.new result }
+    {
+        if self.admits(entry)? {
+            let copy = entry.copy_in(self.allocator())?;
+            self.push(copy)?;
+        }
+        Ok(())
+    }
+
+    // Whether the entry is to be pushed: its id is new. It is not where the graph has it with the same node.
+    fn admits(&self, entry: &Entry<A>) -> Result<bool, GraphFault>
+        ensures graph { IsGraph self.now }
+        ensures admits { MatchResult result
+            (Admits self.now.format self.now.entries entry.now)
+            (IsCause self.now.format self.now.entries entry.now) }
+    {
+        let count = self.len();
+        check_ids(self.format(), entry)?;
+        check_shape(&entry.node)?;
+        if let Some(node) = self.node(&entry.id) {
+            if node.is_same(&entry.node) {
+                return Ok(false);
+            }
+            return Err(GraphFault::Conflict { id: entry.id });
+        }
+        if count == MAX_NODES {
+            return Err(GraphFault::TooMany);
+        }
+        Ok(true)
     }
 }
 
-// Adds the entries to a graph's, all or none.
-fn insert_each<A: Allocator + Copy>(
-    held: &mut Vec<Entry<A>, A>,
-    entries: &[Entry<A>],
-) -> Result<(), GraphFault>
-    requires { IsGraph held.old.items }
-    ensures adds { MatchResult result
-        (λ _. Inserts held.old.items entries.now held.new.items)
-        (λ fault. (held.new.items ≡ held.old.items) × IsRefused held.old.items entries.now fault) }
-    ensures graph { IsGraph held.new.items }
+// Whether the id is of the format.
+fn is_of(format: Format, id: &Oid) -> bool
+    ensures { IsTrue result ↔ IsIdOf format id.now }
 {
-    let before = held.len();
-    for entry in entries {
-        if let Err(fault) = insert(held, entry) {
-            held.truncate(before);
-            return Err(fault);
-        }
-    }
-    Ok(())
+    id.format() == format
 }
 
-// Adds one entry to a graph's.
-fn insert<A: Allocator + Copy>(
-    held: &mut Vec<Entry<A>, A>,
-    entry: &Entry<A>,
-) -> Result<(), GraphFault>
-    requires { IsGraph held.old.items }
-    ensures adds { MatchResult result
-        (λ _. ComesIn held.old.items entry.now held.new.items)
-        (λ fault. (held.new.items ≡ held.old.items) × IsCause held.old.items entry.now fault) }
-    ensures graph { IsGraph held.new.items }
+// Whether all ids are of the format.
+fn are_of(format: Format, ids: &[Oid]) -> bool
+    ensures { IsTrue result ↔ All (IsIdOf format) ids.now }
 {
-    check_shape(&entry.node)?;
-    if let Some(node) = node_of(held.as_slice(), &entry.id) {
-        if node.is_same(&entry.node) {
-            return Ok(());
-        }
-        return Err(GraphFault::Conflict { id: entry.id });
+    ids.iter().all(|id| is_of(format, id))
+}
+
+// Whether an entry's ids are of the format.
+fn check_ids<A: Allocator + Copy>(format: Format, entry: &Entry<A>) -> Result<(), GraphFault>
+    ensures { MatchResult result
+        (λ _. HasIdsOf format entry.now)
+        (λ fault. (fault ≡ OtherFormat entry.now.id) × ¬ (HasIdsOf format entry.now)) }
+{
+    if is_of(format, &entry.id) && are_of(format, entry.node.parents.as_slice()) {
+        return Ok(());
     }
-    if held.len() == MAX_NODES {
-        return Err(GraphFault::TooMany);
-    }
-    let entry = entry.copy_in(*held.allocator())?;
-    held.push(entry)?;
-    Ok(())
+    Err(GraphFault::OtherFormat { id: entry.id })
 }
 
 // Whether a node has the shape of a graph's.

@@ -1,7 +1,7 @@
-// Laws of the graph. A call does nothing, and gives its caller's proof the law.
+// Laws of graphs. A call does nothing, and gives its caller's proof the law.
 #![tactic(auto)]
 
-ghost use Rattle.ghistory.specs.Laws.{EntriesComeInOrder};
+ghost use Rattle.ghistory.specs.Laws.{EntriesComeInOrder, ClosedIsFull, ReachingGoesOn, FullStaysFull, PathsAreShared, AgreeingStays, PeelsToOne, PeelsAlongTags, OrderedIsClosed, ReachingGoesDown, OneListToSend, SentAreEntries, SendingIsEnough};
 ghost use Rattle.ghistory.specs.Levels.{LevelsAreDistances};
 ghost use Rattle.ghistory.specs.Offer.{OffersAreExact};
 
@@ -31,4 +31,68 @@ pub fn offers_are_exact<A: Allocator + Copy>(
 /// Each entry of a graph could have been added after those before it.
 pub fn entries_come_in_order<A: Allocator + Copy>()
     ensures { EntriesComeInOrder A }
+{}
+
+/// No parent is missing exactly where the whole ancestry of each id that is held is held.
+pub fn closed_is_full<A: Allocator + Copy>()
+    ensures { ClosedIsFull A }
+{}
+
+/// What is reached from what is reached is reached.
+pub fn reaching_goes_on<A: Allocator + Copy>()
+    ensures { ReachingGoesOn A }
+{}
+
+/// Where a graph keeps what it held, an id whose whole ancestry was held keeps it, and reaches nothing new.
+pub fn full_stays_full<A: Allocator + Copy>()
+    ensures { FullStaysFull A }
+{}
+
+/// Where two graphs agree, a path in the one from an id whose whole ancestry the other holds is a path there.
+pub fn paths_are_shared<A: Allocator + Copy>()
+    ensures { PathsAreShared A }
+{}
+
+/// Two graphs that agree still do once entries of the one are inserted into the other.
+pub fn agreeing_stays<A: Allocator + Copy>()
+    ensures { AgreeingStays A }
+{}
+
+/// An id peels to one commit at most.
+pub fn peels_to_one<A: Allocator + Copy>()
+    ensures { PeelsToOne A }
+{}
+
+/// An id peels along tags alone, and reaches the commit.
+pub fn peels_along_tags<A: Allocator + Copy>()
+    ensures { PeelsAlongTags A }
+{}
+
+/// A graph in which parents come first misses none.
+pub fn ordered_is_closed<A: Allocator + Copy>()
+    ensures { OrderedIsClosed A }
+{}
+
+/// In a graph in which parents come first an id reaches no id with a higher number.
+pub fn reaching_goes_down<A: Allocator + Copy>()
+    ensures { ReachingGoesDown A }
+{}
+
+/// There is one list to send for some wants, common ids and tips.
+pub fn one_list_to_send<A: Allocator + Copy>()
+    ensures { OneListToSend A }
+{}
+
+/// The entries of a list to send are a graph's: their ids differ and are of its format, and each node has its
+/// shape.
+pub fn sent_are_entries<A: Allocator + Copy>()
+    ensures { SentAreEntries A }
+{}
+
+/// What a server sends makes the wants whole at the client. No parent is missing in the server's graph, the
+/// graphs agree, the server's holds the wants, and the client's holds the whole ancestries of the common
+/// ids. Once a list to send is inserted into the client's graph, it holds the whole ancestries of the
+/// wants, and all that they reach in the server's.
+pub fn sending_is_enough<A: Allocator + Copy>()
+    ensures { SendingIsEnough A }
 {}

@@ -1,13 +1,9 @@
--- A plain pack has one reading, and loses nothing.
-use Rattle.std.proofs.Common.{ap₂, ◌≡◌, ◌≢◌, ◌⊎◌, inl, inr, ℕ, zero, suc, ◌+◌, ◌/◌, ◌%◌, ◌≤◌, Bool, true, false, cond, eqb, ltb, List, [], ◌∷◌, ◌++◌, length, map, get_or, refl, ap, sym, subst, ◌∙◌, append_assoc, arith}
+-- A plain pack has one reading, a bad line has one place, and nothing is lost.
+use Rattle.std.proofs.Common.{ap₂, ◌≡◌, ◌≢◌, ◌⊎◌, inl, inr, ℕ, suc, ◌+◌, List, [], ◌∷◌, ◌++◌, length, decimal, map, refl, ap, sym, subst, ◌∙◌, append_assoc, arith}
 use Rattle.std.specs.List.{All}
-use Rattle.std.specs.Fmt.{digit_glyph, digits_onto, digits, decimal}
-use Rattle.std.proofs.Math.Seq.{get_or-append_seam}
-use Rattle.std.proofs.lemmas.Bool.{false≢true, cases_lt}
 use Rattle.std.proofs.lemmas.List.Elements.{All-append, All-cons, All-head, All-nil, All-tail}
-use Rattle.std.proofs.lemmas.List.{append-nil, get_or_past}
-use Rattle.hex.specs.Hex.{is_hex_digit}
-use Rattle.gname.specs.Ids.{IsId, IsIdText, id_text}
+use Rattle.std.proofs.lemmas.List.{append-nil}
+use Rattle.gname.specs.Ids.{IsId, id_text}
 use Rattle.gname.specs.Laws.{IdTextsAreDigits, IdsHaveTexts, TextsSpellOneId}
 use Rattle.gobject.specs.declared.node.Kind.{Kind}
 use Rattle.gobject.specs.declared.node.Kind.TheVariants.{Commit, Tag}
@@ -15,68 +11,24 @@ use Rattle.gobject.specs.declared.node.Entry.{Entry}
 use Rattle.gobject.specs.declared.fault.IndexFault.{IndexFault}
 use Rattle.gobject.specs.declared.fault.IndexFault.TheVariants as index_faults
 use Rattle.gobject.specs.Objects.{HasIds, entry_of, node_of}
-use Rattle.gobject.specs.Packs.{max_pack, LosesNothing}
+use Rattle.gobject.specs.Packs.{LosesNothing}
 use Rattle.gobject.specs.PlainPackText.{line, text_of, header, letter, ids_of, ids_text, node_text, end_text, pack_lines, pack_text, PackRefuses, IsInLine, IsIdsText, IsNodeText, AreNodeTexts, IsFront, MayCome, ArePackLines, IsPack, IsWrong, IsCut, IsFollowed, IsBadLine, IndexRefuses}
-use Rattle.gobject.proofs.PlainPackLines.{IsIdsText-one}
+use Rattle.gobject.proofs.PlainPackLines.{IsPart-nil, IsPart-id, IsPart-letter, letter_no_end, IsPart-decimal, IsPart-header, IsInLine-part, IsInLine-cons, IsInLine-append, not_in_line, line_parts, IsIdsText-one}
 use Rattle.gobject.proofs.PlainPackReading.{AreNodeTexts-length}
 
-module _ (texts_law : IdsHaveTexts) (digits_law : IdTextsAreDigits) (one_law : TextsSpellOneId) where
-  -- ---- texts in one line
-
-  -- nothing is in one line
-  IsInLine-nil : IsInLine []
-  IsInLine-nil = λ at is. absurd (omega arith)
-
-  IsInLine-cons : (byte : ℕ) (text : List ℕ) → byte ≢ 10 → IsInLine text → IsInLine (byte ∷ text)
-  IsInLine-cons byte text other h zero is = other is
-  IsInLine-cons byte text other h (suc at) is = h at is
-
-  IsInLine-append : (a b : List ℕ) → IsInLine a → IsInLine b → IsInLine (a ++ b)
-  IsInLine-append [] b h k = k
-  IsInLine-append (byte ∷ a) b h k = IsInLine-cons byte (a ++ b) (h 0) (IsInLine-append a b (λ at. h (suc at)) k)
-
-  -- a digit of an id is no line feed
-  IsInLine-id : (digits id : List ℕ) → IsIdText digits id → IsInLine digits
-  IsInLine-id text id h = λ at is.
-      elim (cases_lt at (length text)) [
-        | inl lt ↦
-            let P : ℕ → Type 0 = λ byte. is_hex_digit byte ≡ true in
-            false≢true (subst P is ((digits_law text id h).digits at 0 lt))
-        | inr le ↦ let past = get_or_past text at 0 le in absurd (omega arith)
-      ]
+module _ (digits_law : IdTextsAreDigits) (one_law : TextsSpellOneId) where
+  -- ---- what a line says
 
   IsInLine-ids : (text : List ℕ) (ids : List (List ℕ)) → IsIdsText text ids → IsInLine text
-  IsInLine-ids text [] h = subst IsInLine (sym h) IsInLine-nil
+  IsInLine-ids text [] h = subst IsInLine (sym h) (IsInLine-part [] IsPart-nil)
   IsInLine-ids text (id ∷ ids) h =
-      let spaced = IsInLine-cons 32 (h.0 ++ h.1) (λ is. omega arith) (IsInLine-append h.0 h.1 (IsInLine-id h.0 id h.3) (IsInLine-ids h.1 ids h.4)) in
+      let spaced = IsInLine-cons 32 (h.0 ++ h.1) (λ is. omega arith) (IsInLine-append h.0 h.1 (IsInLine-part h.0 (IsPart-id digits_law h.0 id h.3)) (IsInLine-ids h.1 ids h.4)) in
       subst IsInLine (sym h.2) spaced
-
-  letter_other : (kind : Kind) → letter kind ≢ 10
-  letter_other Commit = λ is. omega arith
-  letter_other Tag = λ is. omega arith
 
   -- so is the line of an entry
   IsInLine-node : {A : Type 0} (text : List ℕ) (entry : Entry A) → IsNodeText text entry → IsInLine text
   IsInLine-node text entry h =
-      subst IsInLine (sym h.1) (IsInLine-cons (letter entry.node.kind) h.0 (letter_other entry.node.kind) (IsInLine-ids h.0 (ids_of entry) h.2))
-
-  glyph_other : (upper b : Bool) (d : ℕ) → cond b (48 + d) (cond upper (55 + d) (87 + d)) ≢ 10
-  glyph_other upper true d = λ is. omega arith
-  glyph_other true false d = λ is. omega arith
-  glyph_other false false d = λ is. omega arith
-
-  IsInLine-digits : (k base n : ℕ) (text : List ℕ) → IsInLine text → IsInLine (digits_onto k base false n text)
-  IsInLine-digits zero base n text h = h
-  IsInLine-digits (suc k) base n text h =
-      let more = IsInLine-cons (digit_glyph false (n % base)) text (glyph_other false (ltb (n % base) 10) (n % base)) h in
-      elim (eqb (n / base) 0) as (λ b. IsInLine (cond b (digit_glyph false (n % base) ∷ text) (digits_onto k base false (n / base) (digit_glyph false (n % base) ∷ text)))) [
-        | true ↦ more
-        | false ↦ IsInLine-digits k base (n / base) (digit_glyph false (n % base) ∷ text) more
-      ]
-
-  IsInLine-decimal : (n : ℕ) → IsInLine (decimal n)
-  unfolding digits
-  IsInLine-decimal n = IsInLine-digits 64 10 n [] IsInLine-nil
+      subst IsInLine (sym h.1) (IsInLine-cons (letter entry.node.kind) h.0 ((IsPart-letter entry.node.kind 0).1) (IsInLine-ids h.0 (ids_of entry) h.2))
 
   -- and the end
   IsInLine-end : (n : ℕ) → IsInLine (end_text n)
@@ -84,33 +36,7 @@ module _ (texts_law : IdsHaveTexts) (digits_law : IdTextsAreDigits) (one_law : T
       IsInLine-cons 101 (110 ∷ 100 ∷ 32 ∷ decimal n) (λ is. omega arith)
       (IsInLine-cons 110 (100 ∷ 32 ∷ decimal n) (λ is. omega arith)
       (IsInLine-cons 100 (32 ∷ decimal n) (λ is. omega arith)
-      (IsInLine-cons 32 (decimal n) (λ is. omega arith) (IsInLine-decimal n))))
-
-  IsInLine-header : IsInLine header
-  IsInLine-header =
-      IsInLine-cons 71 (80 ∷ 75 ∷ 49 ∷ []) (λ is. omega arith)
-      (IsInLine-cons 80 (75 ∷ 49 ∷ []) (λ is. omega arith)
-      (IsInLine-cons 75 (49 ∷ []) (λ is. omega arith) (IsInLine-cons 49 [] (λ is. omega arith) IsInLine-nil)))
-
-  -- a line with its line feed is not
-  not_in_line : (a x : List ℕ) → IsInLine (line a ++ x) → ⊥
-  not_in_line a x h =
-      let at_end : get_or (line a ++ x) (length a) 0 ≡ 10 =
-      ap (λ (text : List ℕ). get_or text (length a) 0) (append_assoc a (10 ∷ []) x) ∙ get_or-append_seam a 10 x 0 in
-      h (length a) at_end
-
-  -- two lines at the front of a text are one, and what follows them is the same
-  line_parts : (a b x y : List ℕ) → IsInLine a → IsInLine b → line a ++ x ≡ line b ++ y → (a ≡ b) × (x ≡ y)
-  line_parts [] [] x y h k same = (refl, let rests : x ≡ y = cc in rests)
-  line_parts [] (c ∷ b) x y h k same = let first : c ≡ 10 = cc in absurd (k 0 first)
-  line_parts (c ∷ a) [] x y h k same = let first : c ≡ 10 = cc in absurd (h 0 first)
-  line_parts (c ∷ a) (d ∷ b) x y h k same =
-      let first : c ≡ d = cc in
-      let others : line a ++ x ≡ line b ++ y = cc in
-      let parts = line_parts a b x y (λ at. h (suc at)) (λ at. k (suc at)) others in
-      (ap (λ byte. byte ∷ a) first ∙ ap (λ (text : List ℕ). d ∷ text) parts.0, parts.1)
-
-  -- ---- what a line says
+      (IsInLine-cons 32 (decimal n) (λ is. omega arith) (IsInLine-part (decimal n) (IsPart-decimal n)))))
 
   letter_one : (a b : Kind) → letter a ≡ letter b → a ≡ b
   letter_one Commit Commit h = refl
@@ -124,14 +50,10 @@ module _ (texts_law : IdsHaveTexts) (digits_law : IdTextsAreDigits) (one_law : T
       let whole : letter a.node.kind ∷ h.0 ≡ letter b.node.kind ∷ k.0 = sym h.1 ∙ k.1 in
       let letters : letter a.node.kind ≡ letter b.node.kind = cc in
       let texts : h.0 ≡ k.0 = cc in
-      let lists : ids_of a ≡ ids_of b = IsIdsText-one one_law h.0 (ids_of a) (ids_of b) h.2 (rw texts k.2) in
+      let lists : ids_of a ≡ ids_of b = IsIdsText-one digits_law one_law h.0 k.0 (ids_of a) (ids_of b) [] [] h.2 k.2 (ap (λ (t : List ℕ). t ++ 10 ∷ []) texts) in
       let ids : a.id ≡ b.id = cc in
       let parents : a.node.parents ≡ b.node.parents = cc in
       ap₂ entry_of ids (ap₂ node_of (letter_one a.node.kind b.node.kind letters) parents)
-
-  letter_no_end : (kind : Kind) → letter kind ≢ 101
-  letter_no_end Commit = λ is. omega arith
-  letter_no_end Tag = λ is. omega arith
 
   -- ---- lines that are read
 
@@ -148,14 +70,14 @@ module _ (texts_law : IdsHaveTexts) (digits_law : IdTextsAreDigits) (one_law : T
   pack_in_line : {A : Type 0} (lines : List (List ℕ)) (list : List (Entry A)) → ArePackLines lines list → All IsInLine lines
   pack_in_line lines list h =
       subst (All IsInLine) (sym h.are)
-      (All-cons IsInLine header (h.nodes ++ end_text (length list) ∷ []) IsInLine-header
+      (All-cons IsInLine header (h.nodes ++ end_text (length list) ∷ []) (IsInLine-part header IsPart-header)
       (All-append IsInLine h.nodes (end_text (length list) ∷ []) (nodes_in_line h.nodes list h.each)
       (All-cons IsInLine (end_text (length list)) [] (IsInLine-end (length list)) (All-nil IsInLine))))
 
   front_in_line : (A : Type 0) (lines : List (List ℕ)) → IsFront A lines → All IsInLine lines
   front_in_line A [] h = All-nil IsInLine
   front_in_line A (first ∷ nodes) h =
-      All-cons IsInLine first nodes (subst IsInLine (sym h.0) IsInLine-header) (nodes_in_line nodes h.1.0 h.1.1)
+      All-cons IsInLine first nodes (subst IsInLine (sym h.0) (IsInLine-part header IsPart-header)) (nodes_in_line nodes h.1.0 h.1.1)
 
   -- where some lines are at the front of a text, they are the first of its lines
   more_lines : (lines whole : List (List ℕ)) (rest : List ℕ) → All IsInLine lines → All IsInLine whole → text_of whole ≡ text_of lines ++ rest
@@ -163,7 +85,7 @@ module _ (texts_law : IdsHaveTexts) (digits_law : IdTextsAreDigits) (one_law : T
   more_lines [] whole rest here there same = (whole, refl, sym same)
   more_lines (first ∷ lines) [] rest here there same =
       let whole : [] ≡ line first ++ (text_of lines ++ rest) = same ∙ append_assoc (line first) (text_of lines) rest in
-      absurd (not_in_line first (text_of lines ++ rest) (subst IsInLine whole IsInLine-nil))
+      absurd (not_in_line first (text_of lines ++ rest) (subst IsInLine whole (IsInLine-part [] IsPart-nil)))
   more_lines (first ∷ lines) (other ∷ whole) rest here there same =
       let parts = line_parts other first (text_of whole) (text_of lines ++ rest) (All-head IsInLine other whole there) (All-head IsInLine first lines here)
       (same ∙ append_assoc (line first) (text_of lines) rest) in
@@ -252,7 +174,7 @@ module _ (texts_law : IdsHaveTexts) (digits_law : IdTextsAreDigits) (one_law : T
   -- ---- one reading
 
   -- bytes are a pack of one list
-  IsPack-one : {A : Type 0} (bytes : List ℕ) (a b : List (Entry A)) → IsPack bytes a → IsPack bytes b → a ≡ b
+  pub IsPack-one : {A : Type 0} (bytes : List ℕ) (a b : List (Entry A)) → IsPack bytes a → IsPack bytes b → a ≡ b
   IsPack-one bytes a b h k =
       let left = more_lines k.lines h.lines [] (pack_in_line k.lines b k.are) (pack_in_line h.lines a h.are) (sym h.whole ∙ k.whole ∙ sym (append-nil (text_of k.lines))) in
       (same_packs h.lines k.lines left.0 a b h.are k.are left.1).0
@@ -263,7 +185,7 @@ module _ (texts_law : IdsHaveTexts) (digits_law : IdTextsAreDigits) (one_law : T
       stands left.0 left.1 left.2
     where
       stands : (more : List (List ℕ)) → h.lines ≡ w.front ++ more → line w.text ++ w.rest ≡ text_of more → ⊥
-      stands [] whole same = not_in_line w.text w.rest (subst IsInLine (sym same) IsInLine-nil)
+      stands [] whole same = not_in_line w.text w.rest (subst IsInLine (sym same) (IsInLine-part [] IsPart-nil))
       stands (first ∷ more) whole same =
           let each = subst (All IsInLine) whole (pack_in_line h.lines list h.are) in
           let first_in_line = All-head IsInLine first more (All-back w.front (first ∷ more) each) in
@@ -286,11 +208,109 @@ module _ (texts_law : IdsHaveTexts) (digits_law : IdTextsAreDigits) (one_law : T
       k.more (left.2 ∙ ap text_of nothing)
 
   -- no line of a pack is wrong
-  IsPack-no_bad_line : {A : Type 0} (bytes : List ℕ) (at : ℕ) (list : List (Entry A)) → IsPack bytes list → IsBadLine A bytes at → ⊥
+  pub IsPack-no_bad_line : {A : Type 0} (bytes : List ℕ) (at : ℕ) (list : List (Entry A)) → IsPack bytes list → IsBadLine A bytes at → ⊥
   IsPack-no_bad_line bytes at list h (inl w) = no_wrong_line bytes at list w h
   IsPack-no_bad_line bytes at list h (inr (inl w)) = no_cut bytes at list w h
   IsPack-no_bad_line bytes at list h (inr (inr w)) = no_followed bytes at list w h
 
+  -- ---- a bad line
+
+  -- the line after some lines that go on in the other
+  abbrev Extends : List (List ℕ) → List ℕ → List (List ℕ) → Type 0
+  Extends front rest lines = (text : List ℕ) × (more : List (List ℕ)) × (after : List ℕ) × (lines ≡ front ++ text ∷ more) × (rest ≡ line text ++ after)
+
+  -- of two lists of lines at the front of a text, they are one, or one goes on with the line that follows the other
+  lines_meet : (lines others : List (List ℕ)) (x y : List ℕ) → All IsInLine lines → All IsInLine others
+      → text_of lines ++ x ≡ text_of others ++ y → (lines ≡ others) ⊎ Extends lines x others ⊎ Extends others y lines
+  lines_meet [] [] x y here there same = inl refl
+  lines_meet [] (second ∷ others) x y here there same =
+      inr (inl (second, others, text_of others ++ y, refl, same ∙ append_assoc (line second) (text_of others) y))
+  lines_meet (first ∷ lines) [] x y here there same =
+      inr (inr (first, lines, text_of lines ++ x, refl, sym same ∙ append_assoc (line first) (text_of lines) x))
+  lines_meet (first ∷ lines) (second ∷ others) x y here there same =
+      let whole : line first ++ (text_of lines ++ x) ≡ line second ++ (text_of others ++ y) =
+      sym (append_assoc (line first) (text_of lines) x) ∙ same ∙ append_assoc (line second) (text_of others) y in
+      let parts = line_parts first second (text_of lines ++ x) (text_of others ++ y) (All-head IsInLine first lines here) (All-head IsInLine second others there) whole in
+      elim (lines_meet lines others x y (All-tail IsInLine first lines here) (All-tail IsInLine second others there) parts.1) [
+        | inl is ↦ inl (ap (λ (l : List ℕ). l ∷ lines) parts.0 ∙ ap (λ (ls : List (List ℕ)). second ∷ ls) is)
+        | inr (inl h) ↦ inr (inl (h.0, h.1, h.2, sym (ap (λ (l : List ℕ). l ∷ others) parts.0) ∙ ap (λ (ls : List (List ℕ)). first ∷ ls) h.3, h.4))
+        | inr (inr h) ↦ inr (inr (h.0, h.1, h.2, ap (λ (l : List ℕ). l ∷ lines) parts.0 ∙ ap (λ (ls : List (List ℕ)). second ∷ ls) h.3, h.4))
+      ]
+
+  -- no line that may come follows
+  abbrev Unfit : (A : Type 0) → List (List ℕ) → List ℕ → Type 0
+  Unfit A lines rest = (text more : List ℕ) → MayCome A lines text → rest ≡ line text ++ more → ⊥
+
+  -- reading stops after these lines: they are right, but no line that may come follows; or they are a pack
+  abbrev Halts : (A : Type 0) → List (List ℕ) → List ℕ → Type 0
+  Halts A lines rest = (IsFront A lines × Unfit A lines rest) ⊎ ((list : List (Entry A)) × ArePackLines lines list)
+
+  -- a line of an entry among others
+  middle_node : {A : Type 0} (nodes : List (List ℕ)) (text : List ℕ) (more : List (List ℕ)) (list : List (Entry A)) → AreNodeTexts (nodes ++ text ∷ more) list
+      → ((front : List (Entry A)) × AreNodeTexts nodes front) × ((entry : Entry A) × IsNodeText text entry)
+  middle_node [] text more [] h = absurd h
+  middle_node [] text more (entry ∷ list) h = (([], tt), (entry, h.0))
+  middle_node (node ∷ nodes) text more [] h = absurd h
+  middle_node (node ∷ nodes) text more (entry ∷ list) h =
+      let further = middle_node nodes text more list h.1 in ((entry ∷ further.0.0, (h.0, further.0.1)), further.1)
+
+  -- the line after a front of right lines may come there
+  front_next : (A : Type 0) (front : List (List ℕ)) (text : List ℕ) (more : List (List ℕ)) → IsFront A (front ++ text ∷ more) → IsFront A front × MayCome A front text
+  front_next A [] text more h = (tt, h.0)
+  front_next A (first ∷ nodes) text more h =
+      let node = middle_node nodes text more h.1.0 h.1.1 in ((h.0, (node.0.0, node.0.1)), inl node.1)
+
+  -- where reading stops, no other reading goes on
+  halts_here : {A : Type 0} (lines : List (List ℕ)) (rest : List ℕ) (others : List (List ℕ)) (more : List ℕ) → Halts A lines rest → Halts A others more
+      → Extends lines rest others → ⊥
+  halts_here {A} lines rest others more (inl h) (inl k) on =
+      let P : List (List ℕ) → Type 0 = λ ls. IsFront A ls in
+      h.1 on.0 on.2 (front_next A lines on.0 on.1 (subst P on.3 k.0)).1 on.4
+  halts_here lines rest others more (inl h) (inr k) on = h.1 on.0 on.2 (comes_next lines on.0 on.1 others k.0 h.0 k.1 on.3) on.4
+  halts_here {A} lines rest others more (inr h) (inl k) on =
+      let P : List (List ℕ) → Type 0 = λ ls. IsFront A ls in
+      whole_no_front lines h.0 h.1 (front_next A lines on.0 on.1 (subst P on.3 k.0)).0
+  halts_here lines rest others more (inr h) (inr k) on =
+      let nothing = (same_packs others lines (on.0 ∷ on.1) k.0 h.0 k.1 h.1 on.3).1 in cc
+
+  may_in_line : (A : Type 0) (lines : List (List ℕ)) (text : List ℕ) → MayCome A lines text → IsInLine text
+  may_in_line A [] text h = subst IsInLine (sym h) (IsInLine-part header IsPart-header)
+  may_in_line A (first ∷ nodes) text (inl h) = IsInLine-node text h.0 h.1
+  may_in_line A (first ∷ nodes) text (inr h) = subst IsInLine (sym h) (IsInLine-end (length nodes))
+
+  -- a bad line is the one after those where reading stops
+  record Bad (A : Type 0) (bytes : List ℕ) (at : ℕ) : Type 0 where
+    lines : List (List ℕ)
+    rest : List ℕ
+    parts : bytes ≡ text_of lines ++ rest
+    each : All IsInLine lines
+    halts : Halts A lines rest
+    place : at ≡ length lines + 1
+
+  Bad-of : {A : Type 0} (bytes : List ℕ) (at : ℕ) → IsBadLine A bytes at → Bad A bytes at
+  Bad-of {A} bytes at (inl w) =
+      let unfit : Unfit A w.front (line w.text ++ w.rest) = λ text more may same.
+      let P : List ℕ → Type 0 = λ t. MayCome A w.front t in
+      w.wrong (subst P (sym (line_parts w.text text w.rest more w.in_line (may_in_line A w.front text may) same).0) may) in
+      record { lines = w.front; rest = line w.text ++ w.rest; parts = w.parts; each = front_in_line A w.front w.before; halts = inl (w.before, unfit); place = w.place }
+  Bad-of {A} bytes at (inr (inl w)) =
+      let unfit : Unfit A w.front w.rest = λ text more may same. not_in_line text more (subst IsInLine same w.in_line) in
+      record { lines = w.front; rest = w.rest; parts = w.parts; each = front_in_line A w.front w.before; halts = inl (w.before, unfit); place = w.place }
+  Bad-of bytes at (inr (inr w)) =
+      record { lines = w.lines; rest = w.rest; parts = w.parts; each = pack_in_line w.lines w.list w.before; halts = inr (w.list, w.before); place = w.place }
+
+  -- a bad line has one place
+  pub IsBadLine-one : {A : Type 0} (bytes : List ℕ) (a b : ℕ) → IsBadLine A bytes a → IsBadLine A bytes b → a ≡ b
+  IsBadLine-one {A} bytes a b h k =
+      let f : Bad A bytes a = Bad-of bytes a h in
+      let g : Bad A bytes b = Bad-of bytes b k in
+      elim (lines_meet f.lines g.lines f.rest g.rest f.each g.each (sym f.parts ∙ g.parts)) [
+        | inl is ↦ f.place ∙ ap (λ (ls : List (List ℕ)). length ls + 1) is ∙ sym g.place
+        | inr (inl on) ↦ absurd (halts_here f.lines f.rest g.lines g.rest f.halts g.halts on)
+        | inr (inr on) ↦ absurd (halts_here g.lines g.rest f.lines f.rest g.halts f.halts on)
+      ]
+
+module _ (texts_law : IdsHaveTexts) (digits_law : IdTextsAreDigits) (one_law : TextsSpellOneId) where
   -- ---- the image
 
   IsIdsText-image : (ids : List (List ℕ)) → All IsId ids → IsIdsText (ids_text ids) ids
@@ -316,17 +336,16 @@ module _ (texts_law : IdsHaveTexts) (digits_law : IdTextsAreDigits) (one_law : T
   no_fault : {A : Type 0} (bytes : List ℕ) (list : List (Entry A)) (fault : IndexFault) → IsPack bytes list → IndexRefuses A bytes fault
       → fault ≡ index_faults.Memory
   no_fault bytes list index_faults.Memory h k = refl
-  no_fault bytes list (index_faults.Bad at) h k = absurd (IsPack-no_bad_line bytes at list h k)
+  no_fault bytes list (index_faults.Bad at) h k = absurd (IsPack-no_bad_line digits_law one_law bytes at list h k)
   no_fault bytes list index_faults.Other h k = absurd k
 
   -- plain packs lose nothing
-  pub LosesNothing-plain : (A : Type 0) → LosesNothing {A = A} (λ list pack. (pack ≡ pack_text list) × (length pack ≤ max_pack))
+  pub LosesNothing-plain : (A : Type 0) → LosesNothing {A = A} (λ list pack. pack ≡ pack_text list)
       (λ list. PackRefuses (pack_text list)) (λ bytes list. IsPack bytes list) (λ bytes. IndexRefuses A bytes) (λ list. pack_text list)
   LosesNothing-plain A = record {
-    packs_image = λ list pack are h. h.0;
-    packs_few = λ list pack are h. h.1;
+    packs_image = λ list pack are h. h;
     too_large = λ list are h. h;
     packs_each = λ list are h. h;
-    reads_image = λ list others are h. IsPack-one (pack_text list) others list h (IsPack-image list are.ids);
+    reads_image = λ list others are h. IsPack-one digits_law one_law (pack_text list) others list h (IsPack-image list are.ids);
     reads_each = λ list fault are h. no_fault (pack_text list) list fault (IsPack-image list are.ids) h;
   }

@@ -1,26 +1,32 @@
--- Reading a plain pack line by line.
-use Rattle.std.proofs.Common.{◌≡◌, ◌≢◌, inl, inr, ⊎_elim, ℕ, suc, ◌+◌, List, [], ◌∷◌, ◌++◌, length, refl, ap, sym, ◌∙◌, append_assoc, length-append, arith}
+-- Reading a plain pack part by part: what is read stays right, and what is refused is a bad line.
+use Rattle.std.proofs.Common.{ap₂, ◌≡◌, ◌⊎◌, ⊎_elim, inl, inr, ℕ, suc, ◌+◌, ◌≤◌, ◌<◌, List, [], ◌∷◌, ◌++◌, length, length-append, codes, decimal, Option, None, Some, MatchOption, refl, ap, sym, subst, ◌∙◌, append_assoc, arith}
 use Rattle.std.proofs.lemmas.List.{append-nil}
+use Rattle.gname.specs.Ids.{IsIdText}
+use Rattle.gname.specs.Laws.{IdTextsAreDigits}
+use Rattle.gobject.specs.declared.node.Kind.{Kind}
+use Rattle.gobject.specs.declared.node.Kind.TheVariants.{Commit, Tag}
 use Rattle.gobject.specs.declared.node.Entry.{Entry}
-use Rattle.gobject.specs.PlainPackText.{line, text_of, header, end_text, IsInLine, IsNodeText, AreNodeTexts, IsFront, MayCome, ArePackLines, IsPack, IsBadLine}
-use Rattle.gobject.specs.PlainPackReading.{SplitsLine, NoNodeText, NoHeader}
+use Rattle.gobject.specs.declared.plain_pack.read.Separator.{Separator}
+use Rattle.gobject.specs.declared.plain_pack.read.Separator.TheVariants.{Space, LineFeed}
+use Rattle.gobject.specs.declared.plain_pack.read.Next.{Next}
+use Rattle.gobject.specs.declared.plain_pack.read.Next.TheVariants.{Header, Word, Id, Parent, Count, Nothing}
+use Rattle.gobject.specs.Objects.{entry_of, node_of}
+use Rattle.gobject.specs.PlainPackText.{line, text_of, header, letter, ids_of, end_text, IsNodeText, AreNodeTexts, IsFront, MayCome, IsPack, IsBadLine}
+use Rattle.gobject.specs.PlainPackReading.{IsPart, separator_byte, with_parent, EndsId, Leads, NeverLeads, line_number, HasRead}
+use Rattle.gobject.proofs.PlainPackLines.{IsPart-id, IsPart-letter, letter_no_end, IsPart-end, IsPart-decimal, IsPart-header, length-decimal-most, length-id-most, part_one, part_long, part_none, first_line, text_of-push, id_follows, ids_rest, IsIdsText-push}
 
-pub text_of-append : (lines more : List (List ℕ)) → text_of (lines ++ more) ≡ text_of lines ++ text_of more
-text_of-append [] more = refl
-text_of-append (first ∷ lines) more =
-    ap (λ (text : List ℕ). line first ++ text) (text_of-append lines more) ∙ sym (append_assoc (line first) (text_of lines) (text_of more))
+-- ---- one part more
 
--- some lines, one more, and what follows
-pub text_of-push : (lines : List (List ℕ)) (text rest : List ℕ) → text_of (lines ++ text ∷ []) ++ rest ≡ text_of lines ++ (line text ++ rest)
-text_of-push lines text rest =
-    ap (λ (front : List ℕ). front ++ rest) (text_of-append lines (text ∷ []) ∙ ap (λ (last : List ℕ). text_of lines ++ last) (append-nil (line text)))
-    ∙ append_assoc (text_of lines) (line text) rest
+-- a part in a line
+goes_on : (before front opening part : List ℕ) → before ≡ front ++ opening → before ++ (part ++ 32 ∷ []) ≡ front ++ ((opening ++ part) ++ 32 ∷ [])
+goes_on before front opening part h = ap (λ (b : List ℕ). b ++ (part ++ 32 ∷ [])) h ∙ simp append_assoc
 
--- what is read of a pack: the header and a line of each entry
-pub record HasRead {A : Type 0} (bytes rest : List ℕ) (list : List (Entry A)) : Type 0 where
-  pub nodes : List (List ℕ)
-  pub parts : bytes ≡ text_of (header ∷ nodes) ++ rest
-  pub each : AreNodeTexts nodes list
+-- a part at the end of a line
+ends : (before : List ℕ) (front : List (List ℕ)) (opening part : List ℕ) → before ≡ text_of front ++ opening
+    → before ++ (part ++ 10 ∷ []) ≡ text_of (front ++ (opening ++ part) ∷ []) ++ []
+ends before front opening part h =
+    let moved : (text : List ℕ) → (text ++ opening) ++ (part ++ 10 ∷ []) ≡ text ++ (line (opening ++ part) ++ []) = λ text. simp (append_assoc, append-nil) in
+    ap (λ (b : List ℕ). b ++ (part ++ 10 ∷ [])) h ∙ moved (text_of front) ∙ sym (text_of-push front (opening ++ part) [])
 
 pub AreNodeTexts-length : {A : Type 0} (nodes : List (List ℕ)) (list : List (Entry A)) → AreNodeTexts nodes list → length nodes ≡ length list
 AreNodeTexts-length [] [] h = refl
@@ -28,7 +34,7 @@ AreNodeTexts-length (text ∷ nodes) (entry ∷ list) h = ap suc (AreNodeTexts-l
 AreNodeTexts-length [] (entry ∷ list) h = absurd h
 AreNodeTexts-length (text ∷ nodes) [] h = absurd h
 
--- one more line
+-- one more line of an entry
 AreNodeTexts-push : {A : Type 0} (nodes : List (List ℕ)) (text : List ℕ) (list : List (Entry A)) (entry : Entry A) → AreNodeTexts nodes list
     → IsNodeText text entry → AreNodeTexts (nodes ++ text ∷ []) (list ++ entry ∷ [])
 AreNodeTexts-push [] text [] entry h one = (one, tt)
@@ -36,95 +42,312 @@ AreNodeTexts-push (first ∷ nodes) text (other ∷ list) entry h one = (h.0, Ar
 AreNodeTexts-push [] text (other ∷ list) entry h one = absurd h
 AreNodeTexts-push (first ∷ nodes) text [] entry h one = absurd h
 
--- the header is read
-pub HasRead-header : {A : Type 0} (bytes rest : List ℕ) → bytes ≡ line header ++ rest → HasRead {A = A} bytes rest []
-HasRead-header bytes rest parts =
-    record { nodes = []; parts = parts ∙ ap (λ (front : List ℕ). front ++ rest) (sym (append-nil (line header))); each = tt }
+-- the line of an entry up to its own id
+IsNodeText-first : (A : Type 0) (opening part id : List ℕ) (kind : Kind) → opening ≡ letter kind ∷ 32 ∷ [] → IsIdText part id
+    → IsNodeText (opening ++ part) (entry_of {A = A} id (node_of kind []))
+IsNodeText-first A opening part id kind opens spelt =
+    let whole : opening ++ part ≡ letter kind ∷ (32 ∷ part ++ []) =
+    ap (λ (o : List ℕ). o ++ part) opens ∙ ap (λ (p : List ℕ). letter kind ∷ 32 ∷ p) (sym (append-nil part)) in
+    (32 ∷ part ++ [], whole, (part, [], refl, spelt, refl))
 
--- what is read, a line and what follows it
-HasRead-line : {A : Type 0} (bytes rest text after : List ℕ) (list : List (Entry A)) → (kept : HasRead bytes rest list)
-    → SplitsLine rest text after → bytes ≡ text_of (header ∷ kept.nodes) ++ (line text ++ after)
-HasRead-line bytes rest text after list kept next =
-    kept.parts ∙ ap (λ (more : List ℕ). text_of (header ∷ kept.nodes) ++ more) next.whole
+-- and with one more parent
+IsNodeText-parent : {A : Type 0} (opening node part id : List ℕ) (entry : Entry A) → opening ≡ node ++ 32 ∷ [] → IsNodeText node entry
+    → IsIdText part id → IsNodeText (opening ++ part) (with_parent entry id)
+IsNodeText-parent opening node part id entry opens h spelt =
+    let whole : opening ++ part ≡ letter entry.node.kind ∷ (h.0 ++ 32 ∷ part) =
+    ap (λ (o : List ℕ). o ++ part) opens ∙ append_assoc node (32 ∷ []) part ∙ ap (λ (n : List ℕ). n ++ 32 ∷ part) h.1 in
+    (h.0 ++ 32 ∷ part, whole, IsIdsText-push h.0 part id (ids_of entry) h.2 spelt)
 
--- a line of an entry is read
-pub HasRead-turn : {A : Type 0} (bytes rest text after : List ℕ) (list new : List (Entry A)) (entry : Entry A)
-    → HasRead bytes rest list → SplitsLine rest text after → IsNodeText text entry → new ≡ list ++ entry ∷ []
-    → HasRead bytes after new
-HasRead-turn bytes rest text after list new entry kept next one is = record {
-  nodes = kept.nodes ++ text ∷ [];
-  parts = HasRead-line bytes rest text after list kept next ∙ sym (text_of-push (header ∷ kept.nodes) text after);
-  each = rw is (AreNodeTexts-push kept.nodes text list entry kept.each one);
-}
+-- an id of an entry is read
+HasRead-id : {A : Type 0} (list new : List (Entry A)) (entry : Entry A) (after : Next A) (end : Separator) (before : List ℕ) (front : List (List ℕ)) (opening part : List ℕ)
+    → before ≡ text_of front ++ opening → (nodes : List (List ℕ)) → front ≡ header ∷ nodes → AreNodeTexts nodes list
+    → IsNodeText (opening ++ part) entry → EndsId list entry end after new
+    → HasRead after new (before ++ (part ++ separator_byte end ∷ []))
+HasRead-id list new entry after Space before front opening part parts nodes begins each node h =
+    rw (h.0, h.1) (record {
+      front = front;
+      opening = (opening ++ part) ++ 32 ∷ [];
+      parts = goes_on before (text_of front) opening part parts;
+      lines = (nodes, begins, each);
+      opens = (opening ++ part, refl, node);
+    })
+HasRead-id list new entry after LineFeed before front opening part parts nodes begins each node h =
+    rw (h.0, h.1) (record {
+      front = front ++ (opening ++ part) ∷ [];
+      opening = [];
+      parts = ends before front opening part parts;
+      lines = (
+        nodes ++ (opening ++ part) ∷ [],
+        ap (λ (f : List (List ℕ)). f ++ (opening ++ part) ∷ []) begins,
+        AreNodeTexts-push nodes (opening ++ part) list entry each node,
+      );
+      opens = refl;
+    })
 
--- what is read stands before the next line
-HasRead-front : {A : Type 0} (bytes rest : List ℕ) (list : List (Entry A)) → (kept : HasRead bytes rest list) → IsFront A (header ∷ kept.nodes)
-HasRead-front bytes rest list kept = (refl, (list, kept.each))
+-- a part that may come next is read
+pub HasRead-part : {A : Type 0} (next after : Next A) (list new : List (Entry A)) (before part : List ℕ) (end : Separator) → HasRead next list before
+    → Leads next list part end after new → HasRead after new (before ++ (part ++ separator_byte end ∷ []))
+HasRead-part {A} Header after list new before part LineFeed h l =
+    let P : List (Entry A) → Type 0 = λ entries. AreNodeTexts [] entries in
+    rw (l.1, l.2) (record {
+      front = header ∷ [];
+      opening = [];
+      parts = ap₂ (λ (b p : List ℕ). b ++ (p ++ 10 ∷ [])) (h.parts ∙ ap₂ (λ (f : List (List ℕ)) (o : List ℕ). text_of f ++ o) h.lines.0 h.opens) l.0;
+      lines = ([], refl, subst P (sym h.lines.1) tt);
+      opens = refl;
+    })
+HasRead-part Word (Id kind) list new before part Space h l =
+    rw (l.1) (record {
+      front = h.front;
+      opening = (h.opening ++ part) ++ 32 ∷ [];
+      parts = goes_on before (text_of h.front) h.opening part h.parts;
+      lines = h.lines;
+      opens = ap₂ (λ (o p : List ℕ). (o ++ p) ++ 32 ∷ []) h.opens l.0;
+    })
+HasRead-part Word Count list new before part Space h l =
+    rw (l.1) (record {
+      front = h.front;
+      opening = (h.opening ++ part) ++ 32 ∷ [];
+      parts = goes_on before (text_of h.front) h.opening part h.parts;
+      lines = h.lines;
+      opens = ap₂ (λ (o p : List ℕ). (o ++ p) ++ 32 ∷ []) h.opens l.0;
+    })
+HasRead-part {A} (Id kind) after list new before part end h l =
+    HasRead-id list new (entry_of l.0 (node_of kind [])) after end before h.front h.opening part h.parts h.lines.0 h.lines.1 h.lines.2 (IsNodeText-first A h.opening part l.0 kind h.opens l.1) l.2
+HasRead-part (Parent entry) after list new before part end h l =
+    HasRead-id list new (with_parent entry l.0) after end before h.front h.opening part h.parts h.lines.0 h.lines.1 h.lines.2 (IsNodeText-parent h.opening h.opens.0 part l.0 entry h.opens.1 h.opens.2 l.1) l.2
+HasRead-part Count after list new before part LineFeed h l =
+    rw (l.1, l.2) (record {
+      front = h.front ++ (h.opening ++ part) ∷ [];
+      opening = [];
+      parts = ends before h.front h.opening part h.parts;
+      lines = record {
+        nodes = h.lines.0;
+        are = ap₂ (λ (f : List (List ℕ)) (t : List ℕ). f ++ t ∷ []) h.lines.1 (ap₂ (λ (o p : List ℕ). o ++ p) h.opens l.0);
+        each = h.lines.2;
+      };
+      opens = refl;
+    })
+HasRead-part Word Header list new before part Space h l = absurd l.0
+HasRead-part Word Word list new before part Space h l = absurd l.0
+HasRead-part Word (Parent entry) list new before part Space h l = absurd l.0
+HasRead-part Word Nothing list new before part Space h l = absurd l.0
+HasRead-part Header after list new before part Space h l = absurd l
+HasRead-part Word after list new before part LineFeed h l = absurd l
+HasRead-part Count after list new before part Space h l = absurd l
+HasRead-part Nothing after list new before part end h l = absurd l
 
-HasRead-place : {A : Type 0} (bytes rest : List ℕ) (list : List (Entry A)) → (kept : HasRead bytes rest list) → length (header ∷ kept.nodes) ≡ length list + 1
-HasRead-place bytes rest list kept = let count = AreNodeTexts-length kept.nodes list kept.each in omega (arith, count)
+-- a pack that has ended is read
+pub IsPack-read : {A : Type 0} (next : Next A) (list : List (Entry A)) (before part : List ℕ) → HasRead next list before → next ≡ Nothing → part ≡ []
+    → IsPack (before ++ part) list
+IsPack-read {A} next list before part h is none =
+    let P : Next A → Type 0 = λ n. HasRead n list before in
+    let read : HasRead Nothing list before = subst P is h in
+    let front = text_of read.front in
+    let whole : before ++ part ≡ front =
+    ap₂ (λ (b p : List ℕ). b ++ p) (read.parts ∙ ap (λ (o : List ℕ). front ++ o) read.opens ∙ append-nil front) none ∙ append-nil front in
+    record { lines = read.front; whole = whole; are = read.lines }
 
--- without the header the first line is wrong
-pub IsBadLine-header : (A : Type 0) (bytes : List ℕ) → NoHeader bytes → IsBadLine A bytes 1
-IsBadLine-header A bytes (inl one) =
-    inr (inl (record { front = []; rest = bytes; parts = refl; before = tt; in_line = one; place = refl }))
-IsBadLine-header A bytes (inr other) =
-    inl (record { front = []; text = other.0; rest = other.1; parts = other.2.whole; before = tt; in_line = other.2.in_line; wrong = other.3; place = refl })
+-- what an answer says of a part that may come next, and of one that may not
+pub leads_at : {A : Type 0} (found : Option (Next A)) (after next same : Next A) (list new : List (Entry A)) (part : List ℕ) (end : Separator)
+    → found ≡ Some after → next ≡ same → MatchOption found (NeverLeads next list part end) (λ after. Leads next list part end after new)
+    → Leads same list part end after new
+leads_at {A} found after next same list new part end is one h =
+    let P : Option (Next A) → Type 0 = λ o. MatchOption o (NeverLeads next list part end) (λ after. Leads next list part end after new) in
+    let Q : Next A → Type 0 = λ n. Leads n list part end after new in
+    subst Q one (subst P is h)
 
--- where the rest has no line, the input is cut
-pub IsBadLine-cut : {A : Type 0} (bytes rest : List ℕ) (list : List (Entry A)) (at : ℕ) → at ≡ length list + 2
-    → HasRead bytes rest list → IsInLine rest → IsBadLine A bytes at
-IsBadLine-cut bytes rest list at is kept one =
-    let place = HasRead-place bytes rest list kept in
-    inr (inl (record { front = header ∷ kept.nodes; rest = rest; parts = kept.parts; before = HasRead-front bytes rest list kept; in_line = one; place = omega (arith, place, is) }))
+pub never_leads_at : {A : Type 0} (found : Option (Next A)) (next same : Next A) (list new : List (Entry A)) (part : List ℕ) (end : Separator)
+    → found ≡ None → next ≡ same → MatchOption found (NeverLeads next list part end) (λ after. Leads next list part end after new)
+    → NeverLeads same list part end
+never_leads_at {A} found next same list new part end is one h =
+    let P : Option (Next A) → Type 0 = λ o. MatchOption o (NeverLeads next list part end) (λ after. Leads next list part end after new) in
+    let Q : Next A → Type 0 = λ n. NeverLeads n list part end in
+    subst Q one (subst P is h)
 
--- a line that is that of no entry, nor the end
-pub IsBadLine-wrong : {A : Type 0} (bytes rest text after : List ℕ) (list : List (Entry A)) (n : ℕ) → n ≡ length list
-    → HasRead bytes rest list → SplitsLine rest text after → NoNodeText A text → text ≢ end_text n → IsBadLine A bytes (n + 2)
-IsBadLine-wrong {A} bytes rest text after list n is kept next none other =
-    let place = HasRead-place bytes rest list kept in
-    let count : length kept.nodes ≡ n = AreNodeTexts-length kept.nodes list kept.each ∙ sym is in
-    let wrong : MayCome A (header ∷ kept.nodes) text → ⊥ = ⊎_elim (λ found. none found.0 found.1) (λ end. other (end ∙ ap end_text count)) in
-    inl (record { front = header ∷ kept.nodes; text = text; rest = after; parts = HasRead-line bytes rest text after list kept next; before = HasRead-front bytes rest list kept; in_line = next.in_line; wrong = wrong; place = omega (arith, place, is) })
+-- ---- what may follow
 
--- the lines of what is read, and the end
-ArePackLines-end : {A : Type 0} (bytes rest : List ℕ) (list : List (Entry A)) → (kept : HasRead bytes rest list)
-    → ArePackLines (header ∷ (kept.nodes ++ end_text (length list) ∷ [])) list
-ArePackLines-end bytes rest list kept = record { nodes = kept.nodes; are = refl; each = kept.each }
+module _ (digits_law : IdTextsAreDigits) where
+  -- a text begins with a part that may come next
+  record Follows {A : Type 0} (next : Next A) (list : List (Entry A)) (text : List ℕ) : Type 0 where
+    part : List ℕ
+    end : Separator
+    rest : List ℕ
+    after : Next A
+    new : List (Entry A)
+    parts : text ≡ part ++ separator_byte end ∷ rest
+    is : IsPart part
+    few : length part ≤ 64
+    leads : Leads next list part end after new
 
--- what is read, the end and what follows it
-HasRead-end : {A : Type 0} (bytes rest text after : List ℕ) (list : List (Entry A)) → (kept : HasRead bytes rest list)
-    → SplitsLine rest text after → text ≡ end_text (length list) → bytes ≡ text_of (header ∷ (kept.nodes ++ end_text (length list) ∷ [])) ++ after
-HasRead-end bytes rest text after list kept next is =
-    HasRead-line bytes rest text after list kept next
-    ∙ ap (λ (t : List ℕ). text_of (header ∷ kept.nodes) ++ (line t ++ after)) is
-    ∙ sym (text_of-push (header ∷ kept.nodes) (end_text (length list)) after)
+  -- either separator may end an id
+  ends_id : {A : Type 0} (list : List (Entry A)) (entry : Entry A) (end : Separator) → (after : Next A) × (new : List (Entry A)) × EndsId list entry end after new
+  ends_id list entry Space = (Parent entry, list, (refl, refl))
+  ends_id list entry LineFeed = (Word, list ++ entry ∷ [], (refl, refl))
 
--- bytes after the end
-pub IsBadLine-followed : {A : Type 0} (bytes rest text after : List ℕ) (list : List (Entry A)) (n at : ℕ) → n ≡ length list → at ≡ n + 3
-    → HasRead bytes rest list → SplitsLine rest text after → text ≡ end_text n → after ≢ [] → IsBadLine A bytes at
-IsBadLine-followed bytes rest text after list n at same place kept next end more =
-    let count = AreNodeTexts-length kept.nodes list kept.each in
-    let long = length-append kept.nodes (end_text (length list) ∷ []) in
-    inr (inr (record {
-      lines = header ∷ (kept.nodes ++ end_text (length list) ∷ []);
-      list = list;
-      rest = after;
-      parts = HasRead-end bytes rest text after list kept next (end ∙ ap end_text same);
-      before = ArePackLines-end bytes rest list kept;
-      more = more;
-      place = omega (arith, count, long, same, place);
-    }))
+  -- what may stand in a line after those of so many entries
+  abbrev MayStand : Type 0 → ℕ → List ℕ → Type 0
+  MayStand A n text = ((entry : Entry A) × IsNodeText text entry) ⊎ (text ≡ end_text n)
 
--- a pack
-pub IsPack-whole : {A : Type 0} (bytes rest text after : List ℕ) (list : List (Entry A)) → HasRead bytes rest list
-    → SplitsLine rest text after → text ≡ end_text (length list) → after ≡ [] → IsPack bytes list
-IsPack-whole bytes rest text after list kept next is nothing =
-    let lines = header ∷ (kept.nodes ++ end_text (length list) ∷ []) in
-    record {
-      lines = lines;
-      whole =
-          HasRead-end bytes rest text after list kept next is ∙ ap (λ (more : List ℕ). text_of lines ++ more) nothing
-          ∙ append-nil (text_of lines);
-      are = ArePackLines-end bytes rest list kept;
-    }
+  -- the first part of a pack
+  may_begin : {A : Type 0} (list : List (Entry A)) (text x t more : List ℕ) → text ≡ [] → t ≡ header → text ++ x ≡ line t ++ more → Follows Header list x
+  may_begin list text x t more opens is same =
+      let parts : x ≡ header ++ 10 ∷ more = sym (ap (λ (o : List ℕ). o ++ x) opens) ∙ same ∙ ap (λ (l : List ℕ). line l ++ more) is in
+      record { part = header; end = LineFeed; rest = more; after = Word; new = list; parts = parts; is = IsPart-header; few = omega arith; leads = (refl, refl, refl) }
+
+  -- the first part of a line
+  may_word : {A : Type 0} (list : List (Entry A)) (text x t more : List ℕ) (n : ℕ) → text ≡ [] → MayStand A n t → text ++ x ≡ line t ++ more
+      → Follows Word list x
+  may_word list text x t more n opens (inl h) same =
+      let node = h.1 in
+      let parts : x ≡ (letter h.0.node.kind ∷ []) ++ 32 ∷ (((node.2.0 ++ node.2.1) ++ 10 ∷ []) ++ more) =
+      sym (ap (λ (o : List ℕ). o ++ x) opens) ∙ same ∙ ap (λ (l : List ℕ). line l ++ more) (node.1 ∙ ap (λ (i : List ℕ). letter h.0.node.kind ∷ i) node.2.2) in
+      record { part = letter h.0.node.kind ∷ []; end = Space; rest = ((node.2.0 ++ node.2.1) ++ 10 ∷ []) ++ more; after = Id h.0.node.kind; new = list; parts = parts; is = IsPart-letter h.0.node.kind; few = omega arith; leads = (refl, refl) }
+  may_word list text x t more n opens (inr is) same =
+      let parts : x ≡ codes "end" ++ 32 ∷ ((decimal n ++ 10 ∷ []) ++ more) =
+      sym (ap (λ (o : List ℕ). o ++ x) opens) ∙ same ∙ ap (λ (l : List ℕ). line l ++ more) is in
+      record { part = codes "end"; end = Space; rest = (decimal n ++ 10 ∷ []) ++ more; after = Count; new = list; parts = parts; is = IsPart-end; few = omega arith; leads = (refl, refl) }
+
+  -- the id of an entry
+  may_id : {A : Type 0} (kind : Kind) (list : List (Entry A)) (text x t more : List ℕ) (n : ℕ) → text ≡ letter kind ∷ 32 ∷ [] → MayStand A n t
+      → text ++ x ≡ line t ++ more → Follows (Id kind) list x
+  may_id {A} kind list text x t more n opens (inl h) same =
+      let node = h.1 in
+      let others = node.2 in
+      let whole : letter kind ∷ 32 ∷ x ≡ letter h.0.node.kind ∷ 32 ∷ (((others.0 ++ others.1) ++ 10 ∷ []) ++ more) =
+      sym (ap (λ (o : List ℕ). o ++ x) opens) ∙ same ∙ ap (λ (l : List ℕ). line l ++ more) (node.1 ∙ ap (λ (i : List ℕ). letter h.0.node.kind ∷ i) others.2) in
+      let rests : x ≡ ((others.0 ++ others.1) ++ 10 ∷ []) ++ more = cc in
+      let f = id_follows others.0 others.1 h.0.node.parents LineFeed more others.4 in
+      let after = ends_id list (entry_of {A = A} h.0.id (node_of kind [])) f.0 in
+      record { part = others.0; end = f.0; rest = f.1; after = after.0; new = after.1; parts = rests ∙ append_assoc (others.0 ++ others.1) (10 ∷ []) more ∙ f.2; is = IsPart-id digits_law others.0 h.0.id others.3; few = length-id-most others.0 h.0.id others.3; leads = (h.0.id, others.3, after.2) }
+  may_id kind list text x t more n opens (inr is) same =
+      let whole : letter kind ∷ 32 ∷ x ≡ line (end_text n) ++ more =
+      sym (ap (λ (o : List ℕ). o ++ x) opens) ∙ same ∙ ap (λ (l : List ℕ). line l ++ more) is in
+      let first : letter kind ≡ 101 = cc in
+      absurd (letter_no_end kind first)
+
+  -- one more parent
+  may_parent : {A : Type 0} (entry : Entry A) (list : List (Entry A)) (text node x t more : List ℕ) (n : ℕ) → text ≡ node ++ 32 ∷ []
+      → IsNodeText node entry → MayStand A n t → text ++ x ≡ line t ++ more → Follows (Parent entry) list x
+  may_parent entry list text node x t more n opens own (inl h) same =
+      let whole : ((letter entry.node.kind ∷ own.0) ++ 32 ∷ []) ++ x ≡ line (letter h.0.node.kind ∷ h.1.0) ++ more =
+      sym (ap (λ (o : List ℕ). o ++ x) (opens ∙ ap (λ (l : List ℕ). l ++ 32 ∷ []) own.1)) ∙ same ∙ ap (λ (l : List ℕ). line l ++ more) h.1.1 in
+      let rests : (own.0 ++ 32 ∷ []) ++ x ≡ (h.1.0 ++ 10 ∷ []) ++ more = cc in
+      let f = ids_rest digits_law own.0 h.1.0 (ids_of entry) (ids_of h.0) x more own.2 h.1.2 (sym (append_assoc own.0 (32 ∷ []) x) ∙ rests ∙ append_assoc h.1.0 (10 ∷ []) more) in
+      let after = ends_id list (with_parent entry f.1) f.3 in
+      record { part = f.0; end = f.3; rest = f.4; after = after.0; new = after.1; parts = f.5; is = IsPart-id digits_law f.0 f.1 f.2; few = length-id-most f.0 f.1 f.2; leads = (f.1, f.2, after.2) }
+  may_parent entry list text node x t more n opens own (inr is) same =
+      let whole : ((letter entry.node.kind ∷ own.0) ++ 32 ∷ []) ++ x ≡ line (end_text n) ++ more =
+      sym (ap (λ (o : List ℕ). o ++ x) (opens ∙ ap (λ (l : List ℕ). l ++ 32 ∷ []) own.1)) ∙ same ∙ ap (λ (l : List ℕ). line l ++ more) is in
+      let first : letter entry.node.kind ≡ 101 = cc in
+      absurd (letter_no_end entry.node.kind first)
+
+  -- the number of entries
+  may_count : {A : Type 0} (list : List (Entry A)) (text x t more : List ℕ) → text ≡ codes "end " → MayStand A (length list) t
+      → text ++ x ≡ line t ++ more → Follows Count list x
+  may_count list text x t more opens (inl h) same =
+      let whole : codes "end " ++ x ≡ line (letter h.0.node.kind ∷ h.1.0) ++ more =
+      sym (ap (λ (o : List ℕ). o ++ x) opens) ∙ same ∙ ap (λ (l : List ℕ). line l ++ more) h.1.1 in
+      let first : letter h.0.node.kind ≡ 101 = cc in
+      absurd (letter_no_end h.0.node.kind first)
+  may_count list text x t more opens (inr is) same =
+      let whole : codes "end " ++ x ≡ codes "end " ++ ((decimal (length list) ++ 10 ∷ []) ++ more) =
+      sym (ap (λ (o : List ℕ). o ++ x) opens) ∙ same ∙ ap (λ (l : List ℕ). line l ++ more) is in
+      let rests : x ≡ (decimal (length list) ++ 10 ∷ []) ++ more = cc in
+      record { part = decimal (length list); end = LineFeed; rest = more; after = Nothing; new = list; parts = rests ∙ append_assoc (decimal (length list)) (10 ∷ []) more; is = IsPart-decimal (length list); few = length-decimal-most (length list); leads = (refl, refl, refl) }
+
+  -- ---- bad lines
+
+  rest_of : (before x front opening : List ℕ) → before ≡ front ++ opening → before ++ x ≡ front ++ (opening ++ x)
+  rest_of before x front opening h = ap (λ (b : List ℕ). b ++ x) h ∙ append_assoc front opening x
+
+  -- where no line that may come begins the rest, the line is bad
+  bad_line : {A : Type 0} (whole : List ℕ) (front : List (List ℕ)) (rest : List ℕ) (at : ℕ) → whole ≡ text_of front ++ rest → IsFront A front
+      → ((t more : List ℕ) → MayCome A front t → rest ≡ line t ++ more → ⊥) → at ≡ length front + 1 → IsBadLine A whole at
+  bad_line whole front rest at parts before none place =
+      elim (first_line rest) [
+        | inl one ↦ inr (inl (record { front = front; rest = rest; parts = parts; before = before; in_line = one; place = place }))
+        | inr found ↦
+            let split : whole ≡ text_of front ++ (line found.0 ++ found.1) = parts ∙ ap (λ (r : List ℕ). text_of front ++ r) found.2 in
+            inl (record { front = front; text = found.0; rest = found.1; parts = split; before = before; in_line = found.3; wrong = λ may. none found.0 found.1 may found.2; place = place })
+      ]
+
+  -- in the first line
+  bad_first : {A : Type 0} (whole : List ℕ) (front : List (List ℕ)) (rest : List ℕ) → whole ≡ text_of front ++ rest → front ≡ []
+      → ((t more : List ℕ) → t ≡ header → rest ≡ line t ++ more → ⊥) → IsBadLine A whole 1
+  bad_first {A} whole front rest parts is none =
+      let P : List (List ℕ) → Type 0 = λ f. IsFront A f in
+      let count = ap (λ (f : List (List ℕ)). length f) is in
+      bad_line whole front rest 1 parts (subst P (sym is) tt) (λ t more may same. let Q : List (List ℕ) → Type 0 = λ f. MayCome A f t in none t more (subst Q is may) same) (omega (arith, count))
+
+  -- in a line after those of some entries
+  bad_next : {A : Type 0} (whole : List ℕ) (front nodes : List (List ℕ)) (list : List (Entry A)) (rest : List ℕ) → whole ≡ text_of front ++ rest
+      → front ≡ header ∷ nodes → AreNodeTexts nodes list → ((t more : List ℕ) → MayStand A (length list) t → rest ≡ line t ++ more → ⊥)
+      → IsBadLine A whole (length list + 2)
+  bad_next {A} whole front nodes list rest parts is each none =
+      let P : List (List ℕ) → Type 0 = λ f. IsFront A f in
+      let count = ap (λ (f : List (List ℕ)). length f) is in
+      let long = AreNodeTexts-length nodes list each in
+      let stands : (t : List ℕ) → MayCome A (header ∷ nodes) t → MayStand A (length list) t = λ t. ⊎_elim (λ node. inl node) (λ end. inr (end ∙ ap end_text long)) in
+      bad_line whole front rest (length list + 2) parts (subst P (sym is) (refl, (list, each)))
+      (λ t more may same. let Q : List (List ℕ) → Type 0 = λ f. MayCome A f t in none t more (stands t (subst Q is may)) same) (omega (arith, count, long))
+
+  -- where no part that may come next begins the rest, the line is bad
+  bad_part : {A : Type 0} (next : Next A) (list : List (Entry A)) (before x whole : List ℕ) → HasRead next list before → whole ≡ before ++ x
+      → (next ≡ Nothing → x ≡ [] → ⊥) → (Follows next list x → ⊥) → IsBadLine A whole (line_number next (length list))
+  bad_part Header list before x whole h is goes none =
+      bad_first whole h.front (h.opening ++ x) (is ∙ rest_of before x (text_of h.front) h.opening h.parts) h.lines.0
+      (λ t more may same. none (may_begin list h.opening x t more h.opens may same))
+  bad_part Word list before x whole h is goes none =
+      bad_next whole h.front h.lines.0 list (h.opening ++ x) (is ∙ rest_of before x (text_of h.front) h.opening h.parts) h.lines.1 h.lines.2
+      (λ t more may same. none (may_word list h.opening x t more (length list) h.opens may same))
+  bad_part (Id kind) list before x whole h is goes none =
+      bad_next whole h.front h.lines.0 list (h.opening ++ x) (is ∙ rest_of before x (text_of h.front) h.opening h.parts) h.lines.1 h.lines.2
+      (λ t more may same. none (may_id kind list h.opening x t more (length list) h.opens may same))
+  bad_part (Parent entry) list before x whole h is goes none =
+      bad_next whole h.front h.lines.0 list (h.opening ++ x) (is ∙ rest_of before x (text_of h.front) h.opening h.parts) h.lines.1 h.lines.2
+      (λ t more may same. none (may_parent entry list h.opening h.opens.0 x t more (length list) h.opens.1 h.opens.2 may same))
+  bad_part Count list before x whole h is goes none =
+      bad_next whole h.front h.lines.0 list (h.opening ++ x) (is ∙ rest_of before x (text_of h.front) h.opening h.parts) h.lines.1 h.lines.2
+      (λ t more may same. none (may_count list h.opening x t more h.opens may same))
+  bad_part Nothing list before x whole h is goes none =
+      let parts : whole ≡ text_of h.front ++ x = is ∙ ap (λ (b : List ℕ). b ++ x) (h.parts ∙ ap (λ (o : List ℕ). text_of h.front ++ o) h.opens ∙ append-nil (text_of h.front)) in
+      let count = ap (λ (f : List (List ℕ)). length f) h.lines.are in
+      let long = AreNodeTexts-length h.lines.nodes list h.lines.each in
+      let last = length-append h.lines.nodes (end_text (length list) ∷ []) in
+      inr (inr (record { lines = h.front; list = list; rest = x; parts = parts; before = h.lines; more = goes refl; place = omega (arith, count, long, last) }))
+
+  not_nil : (a : List ℕ) (byte : ℕ) (x : List ℕ) → a ++ byte ∷ x ≡ [] → ⊥
+  not_nil [] byte x h = cc
+  not_nil (c ∷ a) byte x h = cc
+
+  -- a part that may not come next makes its line bad, whatever follows
+  pub IsBadLine-part : {A : Type 0} (next : Next A) (list : List (Entry A)) (before part : List ℕ) (end : Separator) (more : List ℕ)
+      → HasRead next list before → IsPart part → NeverLeads next list part end
+      → IsBadLine A ((before ++ (part ++ separator_byte end ∷ [])) ++ more) (line_number next (length list))
+  IsBadLine-part {A} next list before part end more h is never =
+      let text = part ++ separator_byte end ∷ more in
+      bad_part next list before text _ h (simp append_assoc) (λ _ none. not_nil part (separator_byte end) more none) (λ f.
+      let one = part_one part f.part end f.end more f.rest is f.is f.parts in
+      let P : List ℕ → Type 0 = λ p. Leads next list p f.end f.after f.new in
+      let Q : Separator → Type 0 = λ e. Leads next list part e f.after f.new in
+      never f.after f.new (subst Q (sym one.1) (subst P (sym one.0) f.leads)))
+
+  -- so does one that is too long
+  pub IsBadLine-long : {A : Type 0} (next : Next A) (list : List (Entry A)) (before part more : List ℕ) → HasRead next list before → IsPart part
+      → 64 < length part → IsBadLine A ((before ++ part) ++ more) (line_number next (length list))
+  IsBadLine-long next list before part more h is long =
+      bad_part next list before (part ++ more) _ h (append_assoc before part more) (λ _ none. some part long none) (λ f.
+      let most = part_long part f.part f.end more f.rest is f.parts in
+      let few = f.few in
+      absurd (omega arith))
+    where
+      some : (p : List ℕ) → 64 < length p → p ++ more ≡ [] → ⊥
+      some [] lt none = absurd (omega arith)
+      some (byte ∷ p) lt none = cc
+
+  -- and so does the end of the input, but where the pack has ended
+  pub IsBadLine-end : {A : Type 0} (next : Next A) (list : List (Entry A)) (before part : List ℕ) → HasRead next list before → IsPart part
+      → (next ≡ Nothing → part ≡ [] → ⊥) → IsBadLine A (before ++ part) (line_number next (length list))
+  IsBadLine-end next list before part h is goes =
+      bad_part next list before part _ h refl goes (λ f. part_none part f.part f.end f.rest is f.parts)

@@ -8,7 +8,7 @@ use Rattle.gobject.specs.declared.fault.PackFault.TheVariants.{Memory, TooLarge,
 use Rattle.gobject.specs.declared.node.Entry.{Entry}
 use Rattle.gobject.specs.PlainPackText.{PackRefuses, line, text_of, header, node_text, end_text, pack_text}
 use Rattle.gobject.specs.PlainPackWriting.{nodes_text}
-use Rattle.gobject.proofs.PlainPackReading.{text_of-push}
+use Rattle.gobject.proofs.PlainPackLines.{text_of-push}
 
 -- what is refused is refused with more after it
 pub PackRefuses-front : (text more : List ℕ) (fault : PackFault) → PackRefuses text fault → PackRefuses (text ++ more) fault

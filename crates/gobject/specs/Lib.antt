@@ -4,3 +4,5 @@ pub mod Packs
 pub mod PlainPackText
 pub mod PlainPackWriting
 pub mod PlainPackReading
+pub mod PlainPackFeed
+pub mod Laws

@@ -32,12 +32,16 @@ Indexes A = List ℕ → List (Entry A) → Type 0
 abbrev pub IndexFails : Type 1
 IndexFails = List ℕ → IndexFault → Type 0
 
--- Of each list there is one image. The packer writes the image, or tells that it has too many bytes; the indexer
+-- what a packer may answer for some entries: a pack of them, of at most so many bytes
+pub record MayPack {A : Type 0} (packs : Packs A) (list : List (Entry A)) (pack : List ℕ) : Type 0 where
+  pub packed : packs list pack
+  pub few : length pack ≤ max_pack
+
+-- Of each list there is one image. The packer writes the image, or reports that it has too many bytes; the indexer
 -- reads the image as the list; and both may report out of memory.
 pub record LosesNothing {A : Type 0} (packs : Packs A) (pack_fails : PackFails A) (indexes : Indexes A)
     (index_fails : IndexFails) (image : List (Entry A) → List ℕ) : Type 0 where
   pub packs_image : (list : List (Entry A)) (pack : List ℕ) → AreEntries list → packs list pack → pack ≡ image list
-  pub packs_few : (list : List (Entry A)) (pack : List ℕ) → AreEntries list → packs list pack → length pack ≤ max_pack
   pub too_large : (list : List (Entry A)) → AreEntries list → pack_fails list TooLarge → max_pack < length (image list)
   pub packs_each : (list : List (Entry A)) → AreEntries list → pack_fails list pack_faults.Other → ⊥
   pub reads_image : (list others : List (Entry A)) → AreEntries list → indexes (image list) others → others ≡ list

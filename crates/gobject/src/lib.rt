@@ -8,7 +8,10 @@
 //!   parents, and exactly one where it is a tag.
 //! - [`PlainPack`] writes the one text of a list, of at most `gname::MAX_PACK` bytes, and refuses as
 //!   too large exactly the lists whose text is longer. It reads exactly such texts, with ids in either
-//!   case, and reports of any other bytes the first line that is wrong.
+//!   case, and reports of any other bytes the first line that is wrong; in pieces, cut anywhere, as whole.
+//! - What an indexer owes of a pack that comes in pieces is in the clauses of [`Indexer`]; `index` of a
+//!   whole pack follows from them.
+//! - Bytes have one bad line at most, and a pack has none: [`laws`].
 //! - What a packer and an indexer that lose nothing must do is [`Faithful`]; a plain pack of a list
 //!   with distinct ids reads back as that list.
 //! - Each fault has the number and the name of its row.
@@ -16,7 +19,8 @@
 //!
 //! # Only tested
 //!
-//! The texts of the faults, that memory which is there is used, and that the longest pack is written.
+//! The texts of the faults, that memory which is there is used, and that the longest pack is written and
+//! read.
 //!
 //! # What a body can still get away with
 //!
@@ -25,12 +29,13 @@
 //!
 //! # Stands on
 //!
-//! `gname` for ids, `memchr` for the ends of lines, `itoa` for the count in a pack, `thiserror` for the
-//! texts of faults; the proofs cite `hex`.
+//! `gname` for ids, `memchr` for the ends of parts, `arrayvec` for a part that is cut, `itoa` for the
+//! count in a pack, `thiserror` for the texts of faults; the proofs cite `hex`.
 #![tactic(auto)]
 
 mod entry_ids;
 mod fault;
+pub mod laws;
 mod node;
 mod pack;
 mod plain_pack;

@@ -1,8 +1,8 @@
 // Packers, which write entries as bytes, and indexers, which read them.
 #![tactic(auto)]
 
-ghost use Rattle.std.specs.Prelude.{◌≡◌, ◌≤◌, ℕ, List, IfOk, MatchResult, vec_len};
-ghost use Rattle.gobject.specs.Packs.{LosesNothing, max_pack};
+ghost use Rattle.std.specs.Prelude.{◌≡◌, ◌++◌, [], ℕ, List, MatchResult};
+ghost use Rattle.gobject.specs.Packs.{LosesNothing, MayPack};
 ghost use Rattle.gobject.specs.declared.node.Entry.{Entry};
 ghost use Rattle.gobject.specs.declared.fault.PackFault.{PackFault};
 ghost use Rattle.gobject.specs.declared.fault.IndexFault.{IndexFault};
@@ -21,23 +21,54 @@ pub trait Packer<A: Allocator + Copy> {
 
     /// The pack of the entries, of at most `gname::MAX_PACK` bytes.
     fn pack(&self, alloc: A, entries: &[Entry<A>]) -> Result<Vec<u8, A>, PackFault>
-        ensures answers { MatchResult result (λ pack. packs self.now entries.now pack.items)
-            (λ fault. pack_fails self.now entries.now fault) }
-        ensures bounded { IfOk result (λ pack. vec_len pack ≤ max_pack) };
+        ensures { MatchResult result
+            (λ pack. MayPack (packs self.now) entries.now pack.items)
+            (λ fault. pack_fails self.now entries.now fault) };
 }
 
-/// What reads entries from a pack.
+/// What reads entries from a pack, which it is given in pieces.
 ///
-/// `indexes` says which entries it may answer for some bytes, and `index_fails` which faults.
+/// `indexes` says which entries it may answer for the bytes of a whole pack, `index_fails` which
+/// faults, and `fed` which bytes a feed was fed.
 pub trait Indexer<A: Allocator + Copy> {
+    /// What the indexer keeps of a pack that it was given a part of.
+    type Feed: Drop;
+
     ghost indexes: { Self → List ℕ → List (Entry A) → Type 0 };
 
     ghost index_fails: { Self → List ℕ → IndexFault → Type 0 };
 
-    /// The entries of the pack, in its order.
+    ghost fed: { Self → Self.Feed → List ℕ → Type 0 };
+
+    /// A feed that was fed nothing. A fault here may be answered for any pack.
+    fn start(&self, alloc: A) -> Result<Self::Feed, IndexFault>
+        ensures { MatchResult result
+            (λ feed. fed self.now feed [])
+            (λ fault. ((bytes : List ℕ) → index_fails self.now bytes fault)) };
+
+    /// Feeds the next piece of a pack. A fault here may be answered for any pack that begins with
+    /// the pieces fed, this one included. The feed is of no use after a fault: drop it.
+    fn feed(&self, feed: &mut Self::Feed, piece: &[u8]) -> Result<(), IndexFault>
+        ensures { MatchResult result
+            (λ _. ((given : List ℕ) → fed self.now feed.old given → fed self.now feed.new (given ++ piece.now)))
+            (λ fault. ((given more : List ℕ) → fed self.now feed.old given
+            → index_fails self.now ((given ++ piece.now) ++ more) fault)) };
+
+    /// The entries of the pack whose pieces were fed, in its order.
+    fn finish(&self, feed: Self::Feed) -> Result<Vec<Entry<A>, A>, IndexFault>
+        ensures { MatchResult result
+            (λ entries. ((given : List ℕ) → fed self.now feed given → indexes self.now given entries.items))
+            (λ fault. ((given : List ℕ) → fed self.now feed given → index_fails self.now given fault)) };
+
+    /// The entries of a pack that is given whole, in its order.
     fn index(&self, alloc: A, bytes: &[u8]) -> Result<Vec<Entry<A>, A>, IndexFault>
         ensures { MatchResult result (λ entries. indexes self.now bytes.now entries.items)
-            (λ fault. index_fails self.now bytes.now fault) };
+            (λ fault. index_fails self.now bytes.now fault) }
+    {
+        let mut feed = self.start(alloc)?;
+        self.feed(&mut feed, bytes)?;
+        self.finish(feed)
+    }
 }
 
 /// A packer that is an indexer too, and reads back what it writes.

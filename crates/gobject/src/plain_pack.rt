@@ -1,16 +1,18 @@
 // A pack in plain text: a line for each entry.
 #![tactic(auto)]
 
+mod feed;
 mod read;
 mod write;
 
-ghost use Rattle.std.specs.Prelude.{◌≡◌, ◌≤◌, length};
-ghost use Rattle.gobject.specs.Packs.{max_pack};
+ghost use Rattle.std.specs.Prelude.{◌≡◌};
 ghost use Rattle.gobject.specs.PlainPackText.{pack_text, PackRefuses, IsPack, IndexRefuses};
+ghost use Rattle.gobject.specs.PlainPackFeed.{Fed};
 
 use crate::fault::{IndexFault, PackFault};
 use crate::node::Entry;
 use crate::pack::{Faithful, Indexer, Packer};
+use crate::plain_pack::feed::PlainFeed;
 use gname::laws::{id_texts_are_digits, ids_have_texts, texts_spell_one_id};
 use std::alloc::Allocator;
 
@@ -34,7 +36,7 @@ use std::alloc::Allocator;
 pub struct PlainPack;
 
 impl<A: Allocator + Copy> Packer<A> for PlainPack {
-    ghost packs = { λ _ list pack. (pack ≡ pack_text list) × (length pack ≤ max_pack) };
+    ghost packs = { λ _ list pack. pack ≡ pack_text list };
 
     ghost pack_fails = { λ _ list. PackRefuses (pack_text list) };
 
@@ -44,12 +46,24 @@ impl<A: Allocator + Copy> Packer<A> for PlainPack {
 }
 
 impl<A: Allocator + Copy> Indexer<A> for PlainPack {
+    type Feed = PlainFeed<A>;
+
     ghost indexes = { λ _ bytes list. IsPack bytes list };
 
     ghost index_fails = { λ _ bytes. IndexRefuses A bytes };
 
-    fn index(&self, alloc: A, bytes: &[u8]) -> Result<Vec<Entry<A>, A>, IndexFault> {
-        read::read(alloc, bytes)
+    ghost fed = { λ _ feed bytes. Fed feed bytes };
+
+    fn start(&self, alloc: A) -> Result<PlainFeed<A>, IndexFault> {
+        Ok(PlainFeed::new(alloc))
+    }
+
+    fn feed(&self, feed: &mut PlainFeed<A>, piece: &[u8]) -> Result<(), IndexFault> {
+        feed.feed(piece)
+    }
+
+    fn finish(&self, feed: PlainFeed<A>) -> Result<Vec<Entry<A>, A>, IndexFault> {
+        feed.finish()
     }
 }
 

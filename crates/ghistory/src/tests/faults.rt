@@ -22,6 +22,12 @@ fn faults_have_numbers_names_and_texts(rt: HostRuntime) -> Result<(), Fail> {
         ),
         (GraphFault::TagShape, 63, "TagShape", "a tag has one parent"),
         (GraphFault::Memory, 64, "Memory", "out of memory"),
+        (
+            GraphFault::OtherFormat { id },
+            75,
+            "OtherFormat",
+            "an id is of another object format",
+        ),
     ];
     for (fault, code, name, text) in faults {
         assert_eq!(rt; (fault.code(), fault.name()), (code, name));

@@ -1,6 +1,6 @@
-//! Graphs for tests. An id is a number below 256, as forty digits.
+//! Graphs for tests. An id is a number below 256, as forty or sixty-four digits.
 use crate::{Graph, GraphFault};
-use gname::Oid;
+use gname::{Format, Oid};
 use gobject::{Entry, Kind, Node, Parents};
 use std::process::Abort;
 
@@ -9,11 +9,19 @@ const DIGITS: [u8; 16] = *b"0123456789abcdef";
 // A node: what it is, its id and its parents.
 pub(super) type Row = (Kind, usize, &'static [usize]);
 
+pub(super) fn id_in(rt: &impl Abort, format: Format, number: usize) -> Oid {
+    let mut text = [b'0'; 64];
+    text[0] = DIGITS[number / 16 % 16];
+    text[1] = DIGITS[number % 16];
+    let text = match format {
+        Format::Sha1 => &text[..40],
+        Format::Sha256 => &text[..],
+    };
+    Oid::from_hex_in(format, text).expect(rt, "an id")
+}
+
 pub(super) fn id(rt: &impl Abort, number: usize) -> Oid {
-    let mut text = [b'0'; 40];
-    text[38] = DIGITS[number / 16 % 16];
-    text[39] = DIGITS[number % 16];
-    Oid::from_hex(&text).expect(rt, "an id")
+    id_in(rt, Format::Sha1, number)
 }
 
 pub(super) fn ids_of(rt: &(impl Abort + AllocGlobal), numbers: &[usize]) -> Vec<Oid> {

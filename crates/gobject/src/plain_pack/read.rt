@@ -1,141 +1,268 @@
-// Reading a plain pack.
+// Reading a plain pack part by part.
 #![tactic(auto)]
 
-ghost use Rattle.std.specs.Prelude.{◌≡◌, ◌≤◌, ◌++◌, ◌∷◌, [], ℕ, List, length, MatchOption, MatchResult, IfOk, IsTrue, ◌↔◌};
+ghost use Rattle.std.specs.Prelude.{◌≡◌, [], ℕ, ◌+◌, List, length, decimal, MatchOption, IfOk, IsTrue, ◌↔◌};
 ghost use Rattle.gname.specs.Ids.{IsIdText};
-ghost use Rattle.gobject.specs.PlainPackText.{line, header, letter, end_text, IsInLine, IsIdsText, IsNodeText, IsPack, IndexRefuses};
-ghost use Rattle.gobject.specs.PlainPackReading.{SplitsLine, SplitsId, NoIdText, NoIdsText, NoNodeText, NoHeader};
+ghost use Rattle.gobject.specs.Objects.{entry_of, node_of};
+ghost use Rattle.gobject.specs.PlainPackReading.{IsPart, SplitsPart, format_of_digits, NoId, Leads, NeverLeads, EndsId, with_parent, line_number, Reads, Finishes};
 
 use crate::fault::IndexFault;
 use crate::node::{Entry, Kind, Node, Parents};
-use gname::laws::{id_texts_are_digits, texts_spell_one_id};
-use gname::{ID_TEXT_LENGTH, Oid};
+use gname::laws::{id_texts_are_digits, ids_have_one_format};
+use gname::{Format, Oid};
 use itoa::Buffer;
-use memchr::memchr;
+use memchr::memchr2;
 use std::alloc::{AllocError, Allocator};
+use std::mem;
 
-/// The first line of a text, without its line feed, and what follows it.
-fn split_line(text: &[u8]) -> Option<(&[u8], &[u8])>
-    ensures { MatchOption result (IsInLine text.now)
-        (λ parts. SplitsLine text.now parts.0.now parts.1.now) }
-{
-    let end = memchr(b'\n', text)?;
-    Some((&text[..end], &text[end + 1..]))
+/// What ends a part.
+#[derive(Clone, Copy)]
+pub enum Separator {
+    Space,
+    LineFeed,
 }
 
-/// The kind of a letter.
-fn kind_of(byte: u8) -> Option<Kind>
-    ensures { MatchOption result ((kind : _) → letter kind ≡ byte → ⊥) (λ kind. letter kind ≡ byte) }
+/// The part that comes next.
+#[derive(Drop)]
+pub enum Next<A: Allocator + Copy> {
+    /// The header.
+    Header,
+    /// The first word of a line.
+    Word,
+    /// The id of an entry of this kind.
+    Id(Kind),
+    /// One more parent of this entry.
+    Parent(Entry<A>),
+    /// The number of entries.
+    Count,
+    /// No part: the pack has ended.
+    Nothing,
+}
+
+/// The first part of a text, what ends it, and what follows.
+pub fn split_part(text: &[u8]) -> Option<(&[u8], Separator, &[u8])>
+    ensures { MatchOption result (IsPart text.now)
+        (λ parts. SplitsPart text.now parts.0.now parts.1 parts.2.now) }
 {
-    match byte {
-        b'c' => Some(Kind::Commit),
-        b't' => Some(Kind::Tag),
-        _ => None,
+    let end = memchr2(b' ', b'\n', text)?;
+    let separator = if text[end] == b' ' {
+        Separator::Space
+    } else {
+        Separator::LineFeed
+    };
+    Some((&text[..end], separator, &text[end + 1..]))
+}
+
+/// The format of an id with as many digits as the part.
+fn format_of(part: &[u8]) -> Format
+    ensures { result ≡ format_of_digits (length part.now) }
+{
+    if part.len() == Format::Sha256.id_text_length() {
+        Format::Sha256
+    } else {
+        Format::Sha1
     }
 }
 
-/// The id at the front of a text, which begins with a space, and what follows it.
-fn split_id(text: &[u8]) -> Option<(Oid, &[u8])>
-    ensures { MatchOption result (NoIdText text.now)
-        (λ parts. SplitsId text.now parts.0 parts.1.now) }
+/// The id of a part.
+fn id_of(part: &[u8]) -> Option<Oid>
+    ensures { MatchOption result (NoId part.now) (IsIdText part.now) }
 {
     id_texts_are_digits();
-    let (space, text) = text.split_first()?;
-    if *space != b' ' || text.len() < ID_TEXT_LENGTH {
-        return None;
-    }
-    let (digits, rest) = text.split_at(ID_TEXT_LENGTH);
-    match Oid::from_hex(digits) {
-        Ok(id) => Some((id, rest)),
+    ids_have_one_format();
+    match Oid::from_hex_in(format_of(part), part) {
+        Ok(id) => Some(id),
         Err(_) => None,
     }
 }
 
-/// The ids of a text, each after a space, if it is nothing else.
-fn parents_of<A: Allocator + Copy>(alloc: A, text: &[u8]) -> Result<Option<Parents<A>>, AllocError>
-    ensures { IfOk result (λ found. MatchOption found (NoIdsText text.now) (IsIdsText text.now)) }
+/// What follows the header.
+fn after_header<A: Allocator + Copy>(part: &[u8], separator: Separator) -> Option<Next<A>>
+    ensures { ((list : List (Entry A)) → MatchOption result
+        (NeverLeads {A = A} Next.Header list part.now separator)
+        (λ next. Leads Next.Header list part.now separator next list)) }
 {
-    let mut parents = Parents::new(alloc);
-    let mut rest = text;
-    while !rest.is_empty() {
-        let Some((id, behind)) = split_id(rest) else {
-            return Ok(None);
-        };
-        parents.push(id)?;
-        rest = behind;
-    }
-    Ok(Some(parents))
-}
-
-/// The entry of a line, if it is the line of one.
-fn node_of<A: Allocator + Copy>(alloc: A, text: &[u8]) -> Result<Option<Entry<A>>, AllocError>
-    ensures { IfOk result (λ found. MatchOption found (NoNodeText A text.now) (IsNodeText text.now)) }
-{
-    texts_spell_one_id();
-    let Some((first, ids)) = text.split_first() else {
-        return Ok(None);
-    };
-    let Some(kind) = kind_of(*first) else {
-        return Ok(None);
-    };
-    let Some((id, rest)) = split_id(ids) else {
-        return Ok(None);
-    };
-    match parents_of(alloc, rest)? {
-        Some(parents) => Ok(Some(Entry {
-            id,
-            node: Node { kind, parents },
-        })),
-        None => Ok(None),
+    match separator {
+        Separator::LineFeed if part == b"GPK1".as_slice() => Some(Next::Word),
+        _ => None,
     }
 }
 
-/// Whether the line is the end of a pack of so many entries.
-fn is_end(text: &[u8], count: usize) -> bool
-    ensures { IsTrue result ↔ (text.now ≡ end_text count) }
+/// What follows the first word of a line.
+fn after_word<A: Allocator + Copy>(part: &[u8], separator: Separator) -> Option<Next<A>>
+    ensures { ((list : List (Entry A)) → MatchOption result
+        (NeverLeads {A = A} Next.Word list part.now separator)
+        (λ next. Leads Next.Word list part.now separator next list)) }
+{
+    match separator {
+        Separator::LineFeed => None,
+        Separator::Space => {
+            if part == b"c".as_slice() {
+                Some(Next::Id(Kind::Commit))
+            } else if part == b"t".as_slice() {
+                Some(Next::Id(Kind::Tag))
+            } else if part == b"end".as_slice() {
+                Some(Next::Count)
+            } else {
+                None
+            }
+        }
+    }
+}
+
+/// Whether a part is the number of entries.
+fn is_count(part: &[u8], count: usize) -> bool
+    ensures { IsTrue result ↔ (part.now ≡ decimal count) }
 {
     let mut digits = Buffer::new();
-    match text.strip_prefix(b"end ") {
-        Some(number) => number == digits.format(count).as_bytes(),
-        None => false,
+    part == digits.format(count).as_bytes()
+}
+
+/// An entry without parents. It takes no memory.
+fn new_entry<A: Allocator + Copy>(alloc: A, kind: Kind, id: Oid) -> Entry<A>
+    ensures { result ≡ entry_of id (node_of kind []) }
+{
+    let parents = Parents::new(alloc);
+    Entry {
+        id,
+        node: Node { kind, parents },
     }
 }
 
-/// What follows the header, if a text begins with it.
-fn after_header(text: &[u8]) -> Option<&[u8]>
-    ensures { MatchOption result (NoHeader text.now) (λ rest. text.now ≡ line header ++ rest.now) }
+/// The entry with one more parent.
+fn push_parent<A: Allocator + Copy>(mut entry: Entry<A>, id: Oid) -> Result<Entry<A>, AllocError>
+    ensures { IfOk result (λ longer. longer ≡ with_parent entry id) }
 {
-    let (first, rest) = split_line(text)?;
-    if first == b"GPK1".as_slice() {
-        Some(rest)
-    } else {
-        None
+    entry.node.parents.push(id)?;
+    Ok(entry)
+}
+
+/// What follows an id of an entry: one more parent, or, at the end of its line, another line.
+fn after_id<A: Allocator + Copy>(
+    entries: &mut Vec<Entry<A>, A>,
+    entry: Entry<A>,
+    separator: Separator,
+) -> Result<Next<A>, AllocError>
+    ensures { IfOk result (λ next. EndsId entries.old.items entry separator next entries.new.items) }
+{
+    match separator {
+        Separator::Space => Ok(Next::Parent(entry)),
+        Separator::LineFeed => {
+            entries.push(entry)?;
+            Ok(Next::Word)
+        }
     }
 }
 
-/// Reads a pack.
-pub fn read<A: Allocator + Copy>(alloc: A, bytes: &[u8]) -> Result<Vec<Entry<A>, A>, IndexFault>
-    ensures { MatchResult result (λ entries. IsPack bytes.now entries.items) (IndexRefuses A bytes.now) }
+/// What follows a part, `None` where the part may not stand there.
+fn after_part<A: Allocator + Copy>(
+    alloc: A,
+    entries: &mut Vec<Entry<A>, A>,
+    next: Next<A>,
+    part: &[u8],
+    separator: Separator,
+) -> Result<Option<Next<A>>, AllocError>
+    ensures { IfOk result (λ found. MatchOption found
+        (NeverLeads next entries.old.items part.now separator)
+        (λ after. Leads next entries.old.items part.now separator after entries.new.items)) }
 {
-    let Some(mut rest) = after_header(bytes) else {
-        return Err(IndexFault::Bad { line: 1 });
-    };
-    let mut entries = Vec::new(alloc);
-    loop {
-        let number = entries.len() + 2;
-        let Some((line, behind)) = split_line(rest) else {
-            return Err(IndexFault::Bad { line: number });
-        };
-        let Some(entry) = node_of(alloc, line)? else {
-            if !is_end(line, entries.len()) {
-                return Err(IndexFault::Bad { line: number });
+    match next {
+        Next::Header => Ok(after_header(part, separator)),
+        Next::Word => Ok(after_word(part, separator)),
+        Next::Id(kind) => {
+            let Some(id) = id_of(part) else {
+                return Ok(None);
+            };
+            let entry = new_entry(alloc, kind, id);
+            let after = after_id(entries, entry, separator)?;
+            Ok(Some(after))
+        }
+        Next::Parent(entry) => {
+            let Some(id) = id_of(part) else {
+                return Ok(None);
+            };
+            let entry = push_parent(entry, id)?;
+            let after = after_id(entries, entry, separator)?;
+            Ok(Some(after))
+        }
+        Next::Count => match separator {
+            Separator::LineFeed if is_count(part, entries.len()) => Ok(Some(Next::Nothing)),
+            _ => Ok(None),
+        },
+        Next::Nothing => Ok(None),
+    }
+}
+
+/// The lines read so far, and the part that comes next.
+#[derive(Drop)]
+pub struct Lines<A: Allocator + Copy> {
+    alloc: A,
+    entries: Vec<Entry<A>, A>,
+    next: Next<A>,
+}
+
+impl<A: Allocator + Copy> Lines<A> {
+    /// Nothing is read. It takes no memory.
+    pub fn new(alloc: A) -> Lines<A>
+        ensures next { result.next ≡ Next.Header }
+        ensures entries { result.entries.items ≡ [] }
+    {
+        Lines {
+            alloc,
+            entries: Vec::new(alloc),
+            next: Next::Header,
+        }
+    }
+
+    /// The number of the line that the next part stands in, counted from 1.
+    fn line(&self) -> usize
+        ensures { result ≡ line_number self.now.next (length self.now.entries.items) }
+    {
+        match self.next {
+            Next::Header => 1,
+            Next::Nothing => self.entries.len() + 3,
+            _ => self.entries.len() + 2,
+        }
+    }
+
+    /// The fault of a part that may not come next.
+    pub fn bad_line(&self) -> IndexFault
+        ensures { result ≡ IndexFault.Bad (line_number self.now.next (length self.now.entries.items)) }
+    {
+        IndexFault::Bad { line: self.line() }
+    }
+
+    /// Reads a part and what ends it.
+    pub fn take(&mut self, part: &[u8], separator: Separator) -> Result<(), IndexFault>
+        ensures { Reads self.old self.new result part.now separator }
+    {
+        id_texts_are_digits();
+        let fault = self.bad_line();
+        let next = mem::replace(&mut self.next, Next::Nothing);
+        match after_part(self.alloc, &mut self.entries, next, part, separator)? {
+            Some(next) => {
+                self.next = next;
+                Ok(())
             }
-            if !behind.is_empty() {
-                return Err(IndexFault::Bad { line: number + 1 });
-            }
-            return Ok(entries);
-        };
-        entries.push(entry)?;
-        rest = behind;
+            None => Err(fault),
+        }
+    }
+
+    /// Whether the pack has ended, and this part has no byte.
+    fn has_ended(&self, part: &[u8]) -> bool
+        ensures { IsTrue result ↔ ((self.now.next ≡ Next.Nothing) × (part.now ≡ [])) }
+    {
+        matches!(self.next, Next::Nothing) && part.is_empty()
+    }
+
+    /// The entries, if the pack has ended, and no byte of a part comes after.
+    pub fn finish(self, part: &[u8]) -> Result<Vec<Entry<A>, A>, IndexFault>
+        ensures { Finishes self result part.now }
+    {
+        id_texts_are_digits();
+        if !self.has_ended(part) {
+            return Err(self.bad_line());
+        }
+        Ok(self.entries)
     }
 }

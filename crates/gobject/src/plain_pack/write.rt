@@ -8,7 +8,7 @@ ghost use Rattle.gobject.specs.PlainPackWriting.{Writes, nodes_text};
 
 use crate::fault::PackFault;
 use crate::node::{Entry, Kind};
-use gname::{ID_TEXT_LENGTH, MAX_PACK, Oid};
+use gname::{MAX_ID_TEXT, MAX_PACK, Oid};
 use itoa::Buffer;
 use std::alloc::Allocator;
 use std::marker::Model;
@@ -55,10 +55,10 @@ impl<A: Allocator + Copy> Writer<A> {
     fn put_id(&mut self, id: &Oid) -> Result<(), PackFault>
         ensures { Writes self.old self.new result (ids_text (id.now ∷ [])) }
     {
-        let mut text = [0; ID_TEXT_LENGTH];
-        id.to_hex(&mut text);
+        let mut text = [0; MAX_ID_TEXT];
+        let length = id.to_hex(&mut text);
         self.put(b" ")?;
-        self.put(&text)
+        self.put(&text[..length])
     }
 
     /// Writes ids, each after a space.

@@ -7,18 +7,18 @@ use std::alloc::Global;
 use std::process::Abort;
 
 // Three commits, each the parent of the next.
-const THREE: &[u8; 222] =
+pub(super) const THREE: &[u8; 222] =
     b"GPK1\nc aaaaaaaaaaaaaaaaaaaaaaaaaaaaaaaaaaaaaaaa\nc bbbbbbbbbbbbbbbbbbbbbbbbbbbbbbbbbbbbbbbb aaaaaaaaaaaaaaaaaaaaaaaaaaaaaaaaaaaaaaaa\nc cccccccccccccccccccccccccccccccccccccccc bbbbbbbbbbbbbbbbbbbbbbbbbbbbbbbbbbbbbbbb\nend 3\n";
 
 // The last two of them.
-const TWO: &[u8; 179] =
+pub(super) const TWO: &[u8; 179] =
     b"GPK1\nc bbbbbbbbbbbbbbbbbbbbbbbbbbbbbbbbbbbbbbbb aaaaaaaaaaaaaaaaaaaaaaaaaaaaaaaaaaaaaaaa\nc cccccccccccccccccccccccccccccccccccccccc bbbbbbbbbbbbbbbbbbbbbbbbbbbbbbbbbbbbbbbb\nend 2\n";
 
 // A tag.
-const ONE: &[u8; 95] =
+pub(super) const ONE: &[u8; 95] =
     b"GPK1\nt dddddddddddddddddddddddddddddddddddddddd cccccccccccccccccccccccccccccccccccccccc\nend 1\n";
 
-const NONE: &[u8; 11] = b"GPK1\nend 0\n";
+pub(super) const NONE: &[u8; 11] = b"GPK1\nend 0\n";
 
 // The three again, with some digits in upper case.
 const UPPER: &[u8; 222] =
@@ -38,7 +38,7 @@ fn read(rt: &(impl Abort + AllocGlobal), bytes: &[u8]) -> Vec<Entry> {
 }
 
 // The entries are written as the bytes.
-fn check_written(rt: &(impl Abort + AllocGlobal), entries: &[Entry], bytes: &[u8]) {
+pub(super) fn check_written(rt: &(impl Abort + AllocGlobal), entries: &[Entry], bytes: &[u8]) {
     let pack = PlainPack.pack(rt.alloc(), entries).expect(rt, "memory");
     assert_eq!(rt; pack.as_slice(), bytes);
 }
@@ -89,7 +89,7 @@ fn check_bad(rt: &(impl Abort + AllocGlobal), bytes: &[u8], line: usize) {
 }
 
 // Bytes that are no pack, and the line at which they are not.
-const BAD: &[(&[u8], usize)] = &[
+pub(super) const BAD: &[(&[u8], usize)] = &[
     (b"", 1),
     (b"GPK1", 1),
     (b"GPK2\nend 0\n", 1),
@@ -246,11 +246,37 @@ const LIMITS: [(usize, usize, Option<usize>); 2] = [
 fn packs_67108864_bytes_and_no_more(rt: HostRuntime) {
     for (count, parents, length) in LIMITS {
         let list = entries_of(&rt, count, parents);
-        match (PlainPack.pack(rt.alloc(), list.as_slice()), length) {
-            (Ok(pack), Some(length)) => assert_eq!(rt; pack.len(), length),
-            (Err(fault), None) => assert_eq!(rt; fault, PackFault::TooLarge),
-            _ => assert!(rt; false, "a pack of {count} entries"),
+        check_length(&rt, list.as_slice(), length);
+    }
+}
+
+// The pack has this length, or it is too large.
+fn check_length(rt: &(impl Abort + AllocGlobal), list: &[Entry], length: Option<usize>) {
+    match (PlainPack.pack(rt.alloc(), list), length) {
+        (Ok(pack), Some(length)) => assert_eq!(rt; pack.len(), length),
+        (Err(fault), None) => assert_eq!(rt; fault, PackFault::TooLarge),
+        _ => assert!(rt; false, "a pack of {} entries", list.len()),
+    }
+}
+
+// Numbers of entries with 1,000 parents, and how long the pack is: the most, and one more.
+const ENTRY_LIMITS: [(usize, Option<usize>); 2] = [(1_635, Some(67_105_319)), (1_636, None)];
+
+#[test]
+fn packs_the_most_entries_and_none_more(rt: HostRuntime) {
+    let ids = [id(&rt, b'2'); 1_000];
+    let parents = Parents::from_slice(rt.alloc(), &ids).expect(&rt, "memory");
+    let kind = Kind::Commit;
+    let node = Node { kind, parents };
+    let id = id(&rt, b'1');
+    let entry = Entry { id, node };
+    for (count, length) in ENTRY_LIMITS {
+        let mut list = Vec::new(rt.alloc());
+        for _ in 0..count {
+            list.push(entry.copy_in(rt.alloc()).expect(&rt, "memory"))
+                .expect(&rt, "memory");
         }
+        check_length(&rt, list.as_slice(), length);
     }
 }
 

@@ -1,11 +1,14 @@
-use Rattle.std.proofs.Common.{List, All, IsTrue, ◌↔◌, subst}
-use Rattle.gobject.specs.declared.node.Entry.{Entry}
-use Rattle.ghistory.specs.Reach.{HoldsParents}
+use Rattle.std.proofs.Common.{refl}
 use Rattle.ghistory.proofs.ClosedLemmas.{closed_from_each, each_from_closed}
+use Rattle.ghistory.proofs.Ordering.{ordered_is_closed}
 use Rattle.ghistory.proofs.graph.Graph.is_closed.Goals as goal
 
+pub returns-then-is_ordered : goal.returns-then-is_ordered
+returns-then-is_ordered g c =
+    (λ t. ordered_is_closed c.args.self.now.entries c.is_ordered.ensures.graph.differ (c.is_ordered.ensures.ordered.0 c.if-is_ordered.true), λ closed. refl)
+
 pub returns : goal.returns
-returns g c =
-    let graph = c.args.self.now in
-    let each = subst (λ (entries : List (Entry g.row.A.Denot)). IsTrue c.hold_parents.result ↔ All (HoldsParents graph) entries) c.entries.ensures.entries c.hold_parents.ensures in
-    (λ yes. closed_from_each graph (each.0 yes), λ closed. each.1 (each_from_closed graph c.entries.ensures.graph.differ closed))
+returns g c = (
+  λ t. closed_from_each c.args.self.now.entries (c.holds_parents.ensures.answer.0 t),
+  λ closed. c.holds_parents.ensures.answer.1 (each_from_closed c.args.self.now.entries c.holds_parents.ensures.graph.differ closed),
+)

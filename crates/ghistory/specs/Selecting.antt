@@ -1,0 +1,8 @@
+-- Choosing from a list.
+use Rattle.std.specs.Prelude.{List, [], ◌∷◌}
+
+-- the second list is those of the first with P, in their order
+pub data Selects {X : Type 0} (P : X → Type 0) : List X → List X → Type 0 where
+  none : Selects P [] []
+  keep : {x : X} {xs ys : List X} → P x → Selects P xs ys → Selects P (x ∷ xs) (x ∷ ys)
+  skip : {x : X} {xs ys : List X} → ¬ (P x) → Selects P xs ys → Selects P (x ∷ xs) ys

@@ -1,0 +1,32 @@
+//! What follows from the definitions of plain packs, of all of them. Each call does nothing: its
+//! contract gives the law to callers.
+#![tactic(auto)]
+
+ghost use Rattle.gobject.specs.Laws.{BadLinesHaveOnePlace, PacksHaveNoBadLine, PacksHaveOneReading};
+
+use gname::laws::{id_texts_are_digits, texts_spell_one_id};
+use std::alloc::Allocator;
+
+/// Bytes are the plain pack of one list.
+pub fn packs_have_one_reading<A: Allocator + Copy>()
+    ensures { PacksHaveOneReading A }
+{
+    id_texts_are_digits();
+    texts_spell_one_id();
+}
+
+/// No line of a plain pack is bad.
+pub fn packs_have_no_bad_line<A: Allocator + Copy>()
+    ensures { PacksHaveNoBadLine A }
+{
+    id_texts_are_digits();
+    texts_spell_one_id();
+}
+
+/// Bytes have one bad line at most: the same is reported in whichever pieces they are fed.
+pub fn bad_lines_have_one_place<A: Allocator + Copy>()
+    ensures { BadLinesHaveOnePlace A }
+{
+    id_texts_are_digits();
+    texts_spell_one_id();
+}

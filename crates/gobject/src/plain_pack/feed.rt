@@ -1,0 +1,83 @@
+// A plain pack that is read in pieces.
+#![tactic(auto)]
+
+ghost use Rattle.std.specs.Prelude.{[], ◌++◌, ◌∷◌, ℕ, List, MatchResult};
+ghost use Rattle.gobject.specs.PlainPackText.{IsPack, IndexRefuses};
+ghost use Rattle.gobject.specs.PlainPackReading.{IsPart, separator_byte};
+ghost use Rattle.gobject.specs.PlainPackFeed.{Fed, Feeds};
+
+use crate::fault::IndexFault;
+use crate::node::Entry;
+use crate::plain_pack::read::{Lines, Separator, split_part};
+use arrayvec::ArrayVec;
+use gname::MAX_ID_TEXT;
+use gname::laws::id_texts_are_digits;
+use std::alloc::Allocator;
+use std::mem;
+
+/// What is kept of a plain pack that is read in pieces: the entries so far, and the bytes of a part
+/// that has not ended.
+#[derive(Drop)]
+pub struct PlainFeed<A: Allocator + Copy> {
+    lines: Lines<A>,
+    part: ArrayVec<u8, MAX_ID_TEXT>,
+}
+
+impl<A: Allocator + Copy> PlainFeed<A> {
+    /// Nothing was fed yet. It takes no memory.
+    pub fn new(alloc: A) -> PlainFeed<A>
+        ensures { Fed result [] }
+    {
+        PlainFeed {
+            lines: Lines::new(alloc),
+            part: ArrayVec::new(),
+        }
+    }
+
+    /// Keeps some bytes of a part that does not end with them.
+    fn keep(&mut self, text: &[u8]) -> Result<(), IndexFault>
+        requires { IsPart text.now }
+        ensures { Feeds self.old self.new result text.now }
+    {
+        id_texts_are_digits();
+        match self.part.try_extend_from_slice(text) {
+            Ok(()) => Ok(()),
+            Err(_) => Err(self.lines.bad_line()),
+        }
+    }
+
+    /// Reads the part that ends with some bytes and a separator.
+    fn end_part(&mut self, text: &[u8], separator: Separator) -> Result<(), IndexFault>
+        requires { IsPart text.now }
+        ensures { Feeds self.old self.new result (text.now ++ separator_byte separator ∷ []) }
+    {
+        if self.part.is_empty() {
+            return self.lines.take(text, separator);
+        }
+        self.keep(text)?;
+        let part = mem::replace(&mut self.part, ArrayVec::new());
+        self.lines.take(part.as_slice(), separator)
+    }
+
+    /// Reads the next piece.
+    pub fn feed(&mut self, piece: &[u8]) -> Result<(), IndexFault>
+        ensures { Feeds self.old self.new result piece.now }
+    {
+        let mut rest = piece;
+        while let Some((text, separator, after)) = split_part(rest) {
+            self.end_part(text, separator)?;
+            rest = after;
+        }
+        self.keep(rest)
+    }
+
+    /// The entries, if what was fed is a whole pack.
+    pub fn finish(self) -> Result<Vec<Entry<A>, A>, IndexFault>
+        ensures { MatchResult result
+            (λ entries. ((given : List ℕ) → Fed self given → IsPack given entries.items))
+            (λ fault. ((given : List ℕ) → Fed self given → IndexRefuses A given fault)) }
+    {
+        let PlainFeed { lines, part } = self;
+        lines.finish(part.as_slice())
+    }
+}
