@@ -85,8 +85,9 @@ impl<A: Allocator + Copy> Graph<A> {
         self.nodes.is_empty()
     }
 
-    /// Whether each node came after all its parents.
-    pub(crate) fn is_ordered(&self) -> bool
+    /// Whether each node came after all its parents. Then no parent is missing, and an id reaches only ids with
+    /// lower numbers. It takes no memory.
+    pub fn is_ordered(&self) -> bool
         ensures graph { IsGraph self.now }
         ensures ordered { IsTrue result ↔ IsOrdered self.now.entries }
     {
@@ -138,28 +139,28 @@ impl<A: Allocator + Copy> Graph<A> {
     }
 
     /// The allocator that the graph's memory comes from.
-    pub(crate) fn allocator(&self) -> A {
+    pub fn allocator(&self) -> A {
         *self.nodes.allocator()
     }
 
-    /// The parents of the node at a place.
-    pub(crate) fn parents(&self, place: usize) -> &[Oid]
+    /// The parents of the node at a place of the store order, in the order of the object.
+    pub fn parents(&self, place: usize) -> &[Oid]
         requires { place < length self.now.entries }
         ensures { option_map (λ entry. entry.node.parents) (slice_get self.now.entries place) ≡ Some result.now }
     {
         self.nodes[place].parents.as_slice()
     }
 
-    /// The id at a place.
-    pub(crate) fn id_at(&self, place: usize) -> &Oid
+    /// The id at a place of the store order.
+    pub fn id_at(&self, place: usize) -> &Oid
         requires { place < length self.now.entries }
         ensures { option_map (λ entry. entry.id) (slice_get self.now.entries place) ≡ Some result.now }
     {
         self.at(place).unwrap().0
     }
 
-    /// A copy of the entry at a place. It fails where there is no memory.
-    pub(crate) fn entry_in(&self, place: usize, alloc: A) -> Result<Entry<A>, AllocError>
+    /// A copy of the entry at a place of the store order. It fails where there is no memory.
+    pub fn entry_in(&self, place: usize, alloc: A) -> Result<Entry<A>, AllocError>
         requires { place < length self.now.entries }
         ensures { IfOk result (λ entry. slice_get self.now.entries place ≡ Some entry) }
     {
