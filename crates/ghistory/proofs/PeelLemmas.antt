@@ -12,20 +12,18 @@ use Rattle.gobject.specs.declared.node.Node.{Node}
 use Rattle.gobject.specs.declared.node.Entry.{Entry}
 use Rattle.gobject.specs.Objects.{has_id}
 use Rattle.ghistory.specs.Graphs.{IsNode}
+use Rattle.ghistory.proofs.Holding.{one_node}
 use Rattle.ghistory.specs.Peeling.{IsTagOf, IsCommit, Tags, PeelsTo}
 
 module _ {A : Type 0} (g : List (Entry A)) where
-  one_node : (a : List ℕ) (m n : Node A) → IsNode g a m → IsNode g a n → m ≡ n
-  one_node a m n hm hn = let both : Some m ≡ Some n = sym hm ∙ hn in cc
-
   no_tag : (a b : List ℕ) → IsCommit g a → IsTagOf g a b → ⊥
   no_tag a b commit tag =
-      let same = one_node a commit.node tag.node commit.held tag.held in
+      let same = one_node g a commit.node tag.node commit.held tag.held in
       let kinds = sym commit.commit ∙ ap (λ (n : Node A). n.kind) same ∙ tag.tag in cc
 
   one_next : (a b c : List ℕ) → IsTagOf g a b → IsTagOf g a c → b ≡ c
   one_next a b c tb tc =
-      let same = one_node a tb.node tc.node tb.held tc.held in
+      let same = one_node g a tb.node tc.node tb.held tc.held in
       let both : Some b ≡ Some c = sym tb.names ∙ ap (λ (n : Node A). slice_get n.parents 0) same ∙ tc.names in cc
 
   -- a chain that ends at a commit goes through each object to which fewer tags lead
@@ -60,10 +58,10 @@ module _ {A : Type 0} (g : List (Entry A)) where
       ends : (j : ℕ) × (m ≡ i + j) × Tags g j b c → ⊥
       ends (zero, e, end) =
           let at_b = subst (λ (x : List ℕ). IsNode g x commit.node) (sym end) commit.held in
-          let same = one_node b commit.node node at_b held in
+          let same = one_node g b commit.node node at_b held in
           let kinds = sym commit.commit ∙ ap (λ (n : Node A). n.kind) same ∙ tag in cc
       ends (suc j, e, (next, one, rest)) =
-          let same = one_node b one.node node one.held held in
+          let same = one_node g b one.node node one.held held in
           let clash = sym one.names ∙ ap (λ (n : Node A). slice_get n.parents 0) same ∙ none in cc
 
   tags_more : (m : ℕ) (a b c : List ℕ) → Tags g m a b → IsTagOf g b c → Tags g (suc m) a c

@@ -18,16 +18,13 @@ use Rattle.ghistory.specs.Sending.{IsToSend, IsListToSend}
 use Rattle.ghistory.specs.Laws.{HasAll}
 use Rattle.ghistory.proofs.Reaching.{kept_along, reaches_parent, full_in_closed, place_at, node_at_place}
 use Rattle.ghistory.proofs.PeelLemmas.{peel_ends}
-use Rattle.ghistory.proofs.Holding.{held_node, own_place, has_id_is, id_cases, node_here, node_there, absent_head, absent_tail}
+use Rattle.ghistory.proofs.Holding.{one_node, held_node, own_place, has_id_is, id_cases, node_here, node_there, absent_head, absent_tail}
 use Rattle.ghistory.proofs.Choosing.{chosen_or_not, chosen_all, chosen_few}
 use Rattle.ghistory.proofs.Growing.{grows_keeps, inserts_grows, inserts_held, node_in_front, node_after, reached_before}
 
 -- a node that is there is held
 pub holds_node : {A : Type 0} (g : List (Entry A)) (a : List ℕ) (node : Node A) → IsNode g a node → Holds g a
 holds_node g a node is = ap is_some is
-
-pub one_node : {A : Type 0} (g : List (Entry A)) (a : List ℕ) (m n : Node A) → IsNode g a m → IsNode g a n → m ≡ n
-one_node g a m n left right = same_Some m n (sym left ∙ right)
 
 -- ---- closed, full, reached before
 

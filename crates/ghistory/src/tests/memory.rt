@@ -41,7 +41,9 @@ fn check_holds<'a>(rt: &impl Abort, graph: &Graph<&'a Bump>, rows: &[Row], order
     assert_eq!(rt; graph.len(), rows.len());
     for (place, (_kind, number, parents)) in rows.iter().enumerate() {
         assert_eq!(rt; graph.number(&id(rt, *number)), Some(place));
-        let count = graph.at(place).map(|(_id, node)| node.parents.as_slice().len());
+        let count = graph
+            .at(place)
+            .map(|(_id, node)| node.parents.as_slice().len());
         assert_eq!(rt; count, Some(parents.len()));
     }
     assert_eq!(rt; graph.is_ordered(), ordered);
@@ -74,7 +76,10 @@ fn each_allocation_is_refused_in_turn(rt: HostRuntime) -> Result<(), Fail> {
     let mut met = 0usize;
     for count in 0..500usize {
         let came = run(&rt, rt.alloc(), 8 * count)?;
-        assert!(rt; came == met || came == met.saturating_add(1), "{came} at {count}");
+        assert!(rt;
+            came == met || came == met.saturating_add(1),
+            "{came} at {count}"
+        );
         met = came;
     }
     assert_eq!(rt; met, 2);
@@ -91,7 +96,11 @@ fn an_entry_needs_memory_where_it_is_new(rt: HostRuntime) -> Result<(), Fail> {
         let mut graph = Graph::new(&arena);
         let answer = graph.insert(entry_in(&rt, &rows, Kind::Commit, 1, &[2]));
         done = done || answer == Ok(true);
-        let wanted = if done { Ok(true) } else { Err(GraphFault::Memory) };
+        let wanted = if done {
+            Ok(true)
+        } else {
+            Err(GraphFault::Memory)
+        };
         assert_eq!(rt; answer, wanted, "at {count}");
         assert_eq!(rt; graph.len(), usize::from(done));
         let again = graph.insert(entry_in(&rt, &rows, Kind::Commit, 1, &[2]));

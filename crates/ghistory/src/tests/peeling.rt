@@ -2,6 +2,7 @@
 use super::makers::{Row, entry, graph_of, id};
 use crate::Graph;
 use gobject::Kind;
+use std::process::Abort;
 use std::test::Fail;
 
 const TAGS: &[Row] = &[
@@ -67,7 +68,11 @@ fn cycles_of_any_length_have_no_commit(rt: HostRuntime) -> Result<(), Fail> {
         for back in 1..count {
             let graph = chain(&rt, count, back)?;
             for number in 1..count {
-                assert_eq!(rt; graph.peel(&id(&rt, number)), None, "{count} {back} {number}");
+                assert_eq!(rt;
+                    graph.peel(&id(&rt, number)),
+                    None,
+                    "{count} {back} {number}"
+                );
             }
         }
     }

@@ -43,11 +43,13 @@ pub loop-steps-preserved : goal.loop-steps-preserved
 loop-steps-preserved g c =
     let more = one_tag_more c.args.self.now.entries c.loop-steps.steps c.args.id.now c.loop-steps.at c.in_ok-at-in-Tag.field-0.now c.in_ok-node.node.now c.loop-steps.invariant.0 (sym c.in_ok-node.ensures) c.in-Tag.is (rw c.as_slice.ensures at (sym c.in_ok-at-in-Tag.ensures.value)) in
     let before = c.loop-steps.invariant.1 in
-    let less = before.1 in
-    (rw add-one more, elim c.if-is_power_of_two.branch [
-      | then-is_power_of_two w ↦ (c.loop-steps.steps + 1, omega arith, rw add-one (subst (Tags c.args.self.now.entries (suc c.loop-steps.steps) c.args.id.now) (sym w.kept-is) more))
-      | else-is_power_of_two w ↦ (before.0, omega (arith, less), subst (Tags c.args.self.now.entries before.0 c.args.id.now) (sym w.kept-is) before.2)
-    ])
+    let less = before.1 in (
+      rw add-one more,
+      elim c.if-is_power_of_two.branch [
+        | then-is_power_of_two w ↦ (c.loop-steps.steps + 1, omega arith, rw add-one (subst (Tags c.args.self.now.entries (suc c.loop-steps.steps) c.args.id.now) (sym w.kept-is) more))
+        | else-is_power_of_two w ↦ (before.0, omega (arith, less), subst (Tags c.args.self.now.entries before.0 c.args.id.now) (sym w.kept-is) before.2)
+      ],
+    )
 
 -- more tags than entries
 pub returns-clause-only : goal.returns-clause-only
