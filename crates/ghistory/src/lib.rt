@@ -18,7 +18,8 @@
 //!
 //! # Only tested
 //!
-//! That memory, where there is some, is found.
+//! That memory, where there is some, is found. No test fills a graph: that takes too long where tests are run
+//! step by step.
 //!
 //! # What a body can still get away with
 //!

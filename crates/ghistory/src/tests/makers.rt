@@ -17,11 +17,11 @@ pub(super) fn id_in(rt: &impl Abort, format: Format, number: usize) -> Oid {
         text[place] = DIGITS[rest % 16];
         rest /= 16;
     }
-    let text = match format {
-        Format::Sha1 => &text[..40],
-        Format::Sha256 => &text[..],
+    let digits = match format {
+        Format::Sha1 => 40,
+        Format::Sha256 => 64,
     };
-    Oid::from_hex_in(format, text).expect(rt, "an id")
+    Oid::from_hex_in(format, &text[..digits]).expect(rt, "an id")
 }
 
 pub(super) fn id(rt: &impl Abort, number: usize) -> Oid {

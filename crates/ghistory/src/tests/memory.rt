@@ -27,13 +27,12 @@ const MORE: &[Row] = &[
     (Kind::Commit, 10, &[9]),
 ];
 
-// An arena with room for so many bytes more.
-fn arena(alloc: Global, room: usize) -> Result<Bump, Fail> {
-    let arena = Bump::try_with_capacity(alloc, 9_000)?;
+// Leaves room in an arena for so many bytes.
+fn leave_room(alloc: Global, arena: &Bump, room: usize) -> Result<(), Fail> {
     arena.set_allocation_limit(Some(arena.allocated_bytes()));
     let filler = vec![in alloc; 0u8; arena.chunk_capacity().saturating_sub(room)]?;
     arena.try_alloc_slice_copy(filler.as_slice())?;
-    Ok(arena)
+    Ok(())
 }
 
 // The graph holds the rows in order and nothing else, and knows its order.
@@ -51,10 +50,10 @@ fn check_holds<'a>(rt: &impl Abort, graph: &Graph<&'a Bump>, rows: &[Row], order
 
 // Adds the first rows and then more; answers how many of the two lists came in.
 fn run(rt: &impl Abort, alloc: Global, room: usize) -> Result<usize, Fail> {
-    let rows = Bump::new(alloc);
-    let held = entries_in(rt, &rows, HELD);
-    let more = entries_in(rt, &rows, MORE);
-    let arena = arena(alloc, room)?;
+    let arena = Bump::try_with_capacity(alloc, 9_000)?;
+    let held = entries_in(rt, &arena, HELD);
+    let more = entries_in(rt, &arena, MORE);
+    leave_room(alloc, &arena, room)?;
     let mut graph = Graph::new(&arena);
     if let Err(fault) = graph.insert_all(held.as_slice()) {
         assert_eq!(rt; fault, GraphFault::Memory);
@@ -89,12 +88,14 @@ fn each_allocation_is_refused_in_turn(rt: HostRuntime) -> Result<(), Fail> {
 // An entry by value: refused until there is room, and then it is new.
 #[test]
 fn an_entry_needs_memory_where_it_is_new(rt: HostRuntime) -> Result<(), Fail> {
-    let rows = Bump::new(rt.alloc());
     let mut done = false;
     for count in 0..100usize {
-        let arena = arena(rt.alloc(), 8 * count)?;
+        let arena = Bump::try_with_capacity(rt.alloc(), 9_000)?;
+        let first = entry_in(&rt, &arena, Kind::Commit, 1, &[2]);
+        let again = entry_in(&rt, &arena, Kind::Commit, 1, &[2]);
+        leave_room(rt.alloc(), &arena, 8 * count)?;
         let mut graph = Graph::new(&arena);
-        let answer = graph.insert(entry_in(&rt, &rows, Kind::Commit, 1, &[2]));
+        let answer = graph.insert(first);
         done = done || answer == Ok(true);
         let wanted = if done {
             Ok(true)
@@ -102,27 +103,26 @@ fn an_entry_needs_memory_where_it_is_new(rt: HostRuntime) -> Result<(), Fail> {
             Err(GraphFault::Memory)
         };
         assert_eq!(rt; answer, wanted, "at {count}");
-        assert_eq!(rt; graph.len(), usize::from(done));
-        let again = graph.insert(entry_in(&rt, &rows, Kind::Commit, 1, &[2]));
-        assert_eq!(rt; again.is_ok(), done, "at {count}");
+        assert_eq!(rt; graph.is_empty(), !done);
+        assert_eq!(rt; graph.insert(again).is_ok(), done, "at {count}");
     }
     assert!(rt; done);
     Ok(())
 }
 
-// Without any memory: faults of an entry come before `Memory`, and what is held needs none.
+// Without any memory: faults of an entry come before `Memory`.
 #[test]
-fn memory_is_the_last_cause(rt: HostRuntime) {
-    let rows = Bump::new(rt.alloc());
-    let arena = Bump::new(rt.alloc());
-    arena.set_allocation_limit(Some(0));
+fn memory_is_the_last_cause(rt: HostRuntime) -> Result<(), Fail> {
+    let arena = Bump::try_with_capacity(rt.alloc(), 9_000)?;
+    let wide = entry_in(&rt, &arena, Kind::Commit, 1, &[2; 65]);
+    let bare = entry_in(&rt, &arena, Kind::Tag, 1, &[]);
+    let good = entry_in(&rt, &arena, Kind::Commit, 1, &[]);
+    leave_room(rt.alloc(), &arena, 0)?;
     let mut graph = Graph::new(&arena);
-    let wide = entry_in(&rt, &rows, Kind::Commit, 1, &[2; 65]);
     assert_eq!(rt; graph.insert(wide), Err(GraphFault::TooManyParents));
-    let bare = entry_in(&rt, &rows, Kind::Tag, 1, &[]);
     assert_eq!(rt; graph.insert(bare), Err(GraphFault::TagShape));
-    let good = entry_in(&rt, &rows, Kind::Commit, 1, &[]);
     assert_eq!(rt; graph.insert(good), Err(GraphFault::Memory));
     assert!(rt; graph.is_empty());
     assert!(rt; graph.is_ordered());
+    Ok(())
 }
