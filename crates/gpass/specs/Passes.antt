@@ -1,4 +1,5 @@
--- Passes over a graph whose entries come after their parents.
+-- Passes over a graph in which parents come first: places of objects in store order, marks at places, and what the
+-- marks say while a pass goes on and at its end.
 use Rattle.std.specs.Prelude.{◌≡◌, ◌⊎◌, ℕ, zero, suc, ◌+◌, ◌<◌, ◌≤◌, Bool, true, false, not, ◌&&◌, Some}
 use Rattle.std.specs.Prelude.{List, length, slice_index_or, All, Contains}
 use Rattle.std.specs.List.{Any}
@@ -9,6 +10,7 @@ use Rattle.ghistory.specs.Peeling.{IsTagOf, IsCommit, Tags}
 use Rattle.ghistory.specs.Reach.{Reaches, SomeReaches}
 use Rattle.ghistory.specs.Sending.{IsNew}
 
+-- ids, one after the other
 abbrev pub IdList : Type 0
 IdList = List (List ℕ)
 
@@ -53,14 +55,14 @@ pub record IsNewAt {A : Type 0} (g : List (Entry A)) (wants commons : IdList) (p
 
 -- ---- marks by place
 
+-- whether the place is marked; none is past the end
 abbrev pub is_marked : List Bool → ℕ → Bool
 is_marked marks p = slice_index_or marks p false
 
--- the place is marked; none is past the end
 abbrev pub IsMarked : List Bool → ℕ → Type 0
 IsMarked marks p = is_marked marks p ≡ true
 
--- the places of the ids are marked too
+-- the places of the ids are marked too, those that the marks go to
 pub record MarksAll {A : Type 0} (g : List (Entry A)) (ids : IdList) (old new : List Bool) : Type 0 where
   pub long : length new ≡ length old
   pub kept : (p : ℕ) → IsMarked old p → IsMarked new p
@@ -89,7 +91,8 @@ pub record IsCounted (wanted known : List Bool) (next pending : ℕ) : Type 0 wh
 
 -- ---- the pass down
 
--- the pass has been at the places from `next` on
+-- the pass has been at the places from `next` on: the wants and the common ids are marked; a marked object is one that
+-- they reach; and the parents of a passed object are marked as it is, or are known
 pub record IsPassed {A : Type 0} (g : List (Entry A)) (wants commons : IdList)
     (wanted known : List Bool) (next : ℕ) : Type 0 where
   pub wants_in : (p : ℕ) → IsPlaceOf g wants p → IsMarked wanted p

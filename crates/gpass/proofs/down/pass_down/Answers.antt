@@ -13,8 +13,8 @@ prove-unreachable-requires g c = false≢true (sym c.if-prove.true ∙ c.is_orde
 pub end_of-requires : goal.end_of-requires
 end_of-requires g c = in_order c.args.graph.now c.is_ordered.ensures.graph c.requires
 
-pub end_of-2-requires : goal.end_of-2-requires
-end_of-2-requires g c = in_order c.args.graph.now c.is_ordered.ensures.graph c.requires
+pub end_of-requires-2 : goal.end_of-requires-2
+end_of-requires-2 g c = in_order c.args.graph.now c.is_ordered.ensures.graph c.requires
 
 pub step-requires-clause-order : goal.step-requires-clause-order
 step-requires-clause-order g c = in_order c.args.graph.now c.is_ordered.ensures.graph c.requires
