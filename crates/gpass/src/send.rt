@@ -22,8 +22,8 @@ use std::alloc::Allocator;
 /// store from the last of the wants and common ids, and stops where nothing is left that is wanted and not known
 /// to be common.
 ///
-/// It fails with `Memory` alone. Its memory is the graph's allocator's: the list, and three bytes at most for each
-/// object down from the last of the ids.
+/// It fails with `Memory` alone. It takes memory from the graph's allocator for the list, and for up to three bytes
+/// an object, as far as the last of the ids.
 pub fn send_list<A: Allocator + Copy>(
     graph: &Graph<A>,
     wants: &[Oid],

@@ -22,7 +22,7 @@ use std::alloc::Allocator;
 /// Each object of the graph must have come after its parents, as `Graph::is_ordered` says. The call goes up the
 /// store from the first common id to the last want.
 ///
-/// It fails with `Memory` alone: a byte for each object up to the last want.
+/// It fails with `Memory` alone. It takes memory for a byte an object, as far as the last want.
 pub fn ready<A: Allocator + Copy>(
     graph: &Graph<A>,
     wants: &[Oid],
@@ -52,7 +52,7 @@ pub fn ready<A: Allocator + Copy>(
 /// Each object of the graph must have come after its parents, as `Graph::is_ordered` says. The call goes up the
 /// store from the second id to the first.
 ///
-/// It fails with `Memory` alone: a byte for each object up to the first id.
+/// It fails with `Memory` alone. It takes memory for a byte an object, as far as the first id.
 pub fn reaches<A: Allocator + Copy>(graph: &Graph<A>, a: &Oid, b: &Oid) -> Result<bool, GraphFault>
     requires { IsOrdered graph.now.entries }
     ensures answer { IfOk result (λ answer. IsTrue answer ↔ Reaches graph.now.entries a.now b.now) }
