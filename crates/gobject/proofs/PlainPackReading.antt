@@ -306,9 +306,13 @@ module _ (digits_law : IdTextsAreDigits) where
       elim (first_line rest) [
         | inl one ↦ inr (rest, parts, one, λ nothing all. whole_no_front front all.0 all.1 before)
         | inr found ↦
-            inl (found.0, (found.1, next_parts whole front found.0 rest found.1 parts found.2, found.3), λ begins.
-            none found.0 found.1
-            (comes_next front found.0 begins.more _ begins.list before begins.are (append_assoc front (found.0 ∷ []) begins.more)) found.2)
+            inl (
+              found.0,
+              (found.1, next_parts whole front found.0 rest found.1 parts found.2, found.3),
+              λ begins.
+                  none found.0 found.1
+                  (comes_next front found.0 begins.more _ begins.list before begins.are (append_assoc front (found.0 ∷ []) begins.more)) found.2,
+            )
       ] in
       (front, place, BeginsPack-front A front before, why)
 
@@ -361,9 +365,13 @@ module _ (digits_law : IdTextsAreDigits) where
       elim (first_line x) [
         | inl one ↦ inr (x, parts, one, λ nothing all. goes refl nothing)
         | inr found ↦
-            inl (found.0, (found.1, next_parts whole h.front found.0 x found.1 parts found.2, found.3), λ more.
-            whole_no_front h.front list h.lines
-            (IsFront-pack h.front found.0 more.more _ more.list more.are (append_assoc h.front (found.0 ∷ []) more.more)))
+            inl (
+              found.0,
+              (found.1, next_parts whole h.front found.0 x found.1 parts found.2, found.3),
+              λ more.
+                  whole_no_front h.front list h.lines
+                  (IsFront-pack h.front found.0 more.more _ more.list more.are (append_assoc h.front (found.0 ∷ []) more.more)),
+            )
       ] in
       (h.front, (let place : line_number {A = A} Nothing (length list) ≡ length h.front + 1 = omega (arith, count, long, last) in place), begins, why)
 

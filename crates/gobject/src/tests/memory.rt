@@ -70,7 +70,10 @@ fn bad_lines_are_reported_where_there_is_memory(rt: HostRuntime) -> Result<(), F
         let arena = arena(rt.alloc(), steps)?;
         let fault = PlainPack.index(&arena, NOT_EIGHT).err();
         let is_refused = fault == Some(IndexFault::Memory);
-        assert!(rt; is_refused || fault == Some(IndexFault::Bad { line: 9 }), "at {steps}");
+        assert!(rt;
+            is_refused || fault == Some(IndexFault::Bad { line: 9 }),
+            "at {steps}"
+        );
         refused.push(is_refused)?;
     }
     check_steps(&rt, refused.as_slice());

@@ -128,7 +128,9 @@ fn a_name_that_is_there_takes_no_memory(rt: HostRuntime) -> Result<(), Fail> {
     let mut refs = set_all(&rt, &arena, id(&rt, b'1')).expect(&rt, "memory");
     let again = RefName::new(&arena, b"refs/heads/c")?;
     let head = RefName::new(&arena, b"HEAD")?;
-    let target = Head::Symref(Target::new(RefName::new(&arena, b"refs/heads/c")?).expect(&rt, "a target"));
+    let target = Head::Symref(Target::new(RefName::new(&arena, b"refs/heads/c")?).expect(
+        &rt, "a target",
+    ));
     let names = new_names(&rt, &arena);
     arena.set_allocation_limit(Some(arena.allocated_bytes()));
     fill(rt.alloc(), &arena, 0)?;

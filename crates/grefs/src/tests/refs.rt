@@ -103,7 +103,11 @@ fn laws_can_be_called() {
 fn ids_are_of_either_format(rt: HostRuntime) -> Result<(), Fail> {
     let long = Oid::from_hex_in(Format::Sha256, &[b'a'; 64])?;
     let mut refs = Refs::new(rt.alloc());
-    for (text, id) in [("refs/a", id(&rt, b'a')), ("refs/b", long), ("refs/a", long)] {
+    for (text, id) in [
+        ("refs/a", id(&rt, b'a')),
+        ("refs/b", long),
+        ("refs/a", long),
+    ] {
         assert_eq!(rt; refs.set(name(&rt, text), id), Ok(()));
         assert_eq!(rt; refs.get(&name(&rt, text)), Some(id));
     }
