@@ -7,8 +7,7 @@ use Rattle.gobject.specs.declared.node.Entry.{Entry}
 use Rattle.gobject.specs.Objects.{place_of}
 use Rattle.ghistory.specs.Graphs.{HasParent}
 use Rattle.ghistory.specs.Reach.{Reaches, here, onward, SomeReaches}
-use Rattle.gpass.specs.Passes.{MarksAll, IsPassed, IsDone, is_marked, is_open, open_below}
-use Rattle.gpass.specs.Places.{IsEdge, IsPlaceOf, IsReachedAt, IsNewAt}
+use Rattle.gpass.specs.Passes.{IsEdge, IsPlaceOf, IsReachedAt, IsNewAt, MarksAll, IsPassed, IsDone, is_marked, is_open, open_below}
 use Rattle.gpass.proofs.Ids.{place_same, held_place}
 use Rattle.gpass.proofs.Places.{HasParentsFirst, edge_place, place_edge, edge_down, marked_inside, none_marked}
 use Rattle.gpass.proofs.Counting.{open_least, open_if}

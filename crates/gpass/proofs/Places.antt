@@ -13,8 +13,7 @@ use Rattle.gobject.specs.declared.node.Node.{Node}
 use Rattle.gobject.specs.declared.node.Entry.{Entry}
 use Rattle.gobject.specs.Objects.{has_id, node_at, place_of, IdsDiffer}
 use Rattle.ghistory.specs.Graphs.{History, Holds, HasParent, IsNode, IsGraph, IsOrdered}
-use Rattle.gpass.specs.Passes.{MarksAll, is_marked}
-use Rattle.gpass.specs.Places.{IsEdge, IsInOrder, IsPlaceOf}
+use Rattle.gpass.specs.Passes.{IsEdge, IsInOrder, IsPlaceOf, MarksAll, is_marked}
 use Rattle.gpass.proofs.Ids.{has_id_is, own_place, place_inside, node_at_place, held_place, entry_there, one_place}
 
 pub contains_none : {X : Type 0} (x : X) → Contains [] x → ⊥

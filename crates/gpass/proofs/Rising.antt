@@ -11,8 +11,7 @@ use Rattle.std.proofs.lemmas.Bool.{cases_eq}
 use Rattle.gobject.specs.declared.node.Entry.{Entry}
 use Rattle.gobject.specs.Objects.{place_of}
 use Rattle.ghistory.specs.Reach.{Reaches, here, onward}
-use Rattle.gpass.specs.Passes.{MarksAll, HasMarked, MarksReaching, is_marked}
-use Rattle.gpass.specs.Places.{IsEdge, IsInOrder, IsPlaceOf, IsReachingAt}
+use Rattle.gpass.specs.Passes.{IsEdge, IsInOrder, IsPlaceOf, IsReachingAt, MarksAll, HasMarked, MarksReaching, is_marked}
 use Rattle.gpass.proofs.Ids.{own_place, place_same, held_place, entry_there}
 use Rattle.gpass.proofs.Places.{HasParentsFirst, parents_first, edge_place, place_edge, edge_down, only_one, set_cases, set_there, set_kept, none_marked}
 

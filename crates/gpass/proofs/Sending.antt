@@ -9,9 +9,7 @@ use Rattle.gobject.specs.Objects.{place_of}
 use Rattle.ghistory.specs.Peeling.{IsTagOf, Tags}
 use Rattle.ghistory.specs.Selecting.{Selects, none, keep, skip}
 use Rattle.ghistory.specs.Sending.{IsNew, IsTagToSend, IsToSend, IsListToSend}
-use Rattle.gpass.specs.Passes.{IsDone, is_marked, is_open}
-use Rattle.gpass.specs.Places.{IsInOrder}
-use Rattle.gpass.specs.TagPlaces.{IsOpenTag, MarksTags}
+use Rattle.gpass.specs.Passes.{IsInOrder, IsDone, IsOpenTag, MarksTags, is_marked, is_open}
 use Rattle.gpass.proofs.Ids.{own_place, place_same, held_place, entry_there}
 use Rattle.gpass.proofs.Places.{parents_first, marked_inside}
 use Rattle.gpass.proofs.TagChains.{tags_on, chain_peels, commit_below}

@@ -12,9 +12,7 @@ use Rattle.gobject.specs.declared.node.Entry.{Entry}
 use Rattle.gobject.specs.Objects.{place_of, IsShaped}
 use Rattle.ghistory.specs.Graphs.{HasParent, IsNode}
 use Rattle.ghistory.specs.Peeling.{IsTagOf, IsCommit, Tags, PeelsTo}
-use Rattle.gpass.specs.Passes.{is_marked, is_open}
-use Rattle.gpass.specs.Places.{IsInOrder, IsPlaceOf}
-use Rattle.gpass.specs.TagPlaces.{IsCommitAt, IsTagAt, IsLedTo, IsPeeledAt, IsOnChain, MarksChain, IsOpenTag, MarksTags}
+use Rattle.gpass.specs.Passes.{IsInOrder, IsPlaceOf, IsCommitAt, IsTagAt, IsLedTo, IsPeeledAt, IsOnChain, MarksChain, IsOpenTag, MarksTags, is_marked, is_open}
 use Rattle.gpass.proofs.Ids.{own_place, place_same, node_at_place, one_place, entry_there}
 use Rattle.gpass.proofs.Places.{HasParentsFirst, parents_first, contains_none, set_cases, set_there, set_kept, none_marked, place_next, one_more}
 

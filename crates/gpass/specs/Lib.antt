@@ -1,3 +1,1 @@
 pub mod Passes
-pub mod Places
-pub mod TagPlaces

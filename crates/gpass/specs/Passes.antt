@@ -1,9 +1,57 @@
--- Passes over a graph in which parents come first: marks at the places of objects, and what they say while a pass
--- goes on and at its end.
-use Rattle.std.specs.Prelude.{◌≡◌, ◌⊎◌, ℕ, zero, suc, ◌+◌, ◌<◌, ◌≤◌, Bool, true, false, not, ◌&&◌}
-use Rattle.std.specs.Prelude.{List, length, slice_index_or}
+-- Passes over a graph in which parents come first: places of objects in store order, marks at places, and what the
+-- marks say while a pass goes on and at its end.
+use Rattle.std.specs.Prelude.{◌≡◌, ◌⊎◌, ℕ, zero, suc, ◌+◌, ◌<◌, ◌≤◌, Bool, true, false, not, ◌&&◌, Some}
+use Rattle.std.specs.Prelude.{List, length, slice_index_or, All, Contains}
+use Rattle.std.specs.List.{Any}
 use Rattle.gobject.specs.declared.node.Entry.{Entry}
-use Rattle.gpass.specs.Places.{IdList, IsEdge, IsNewAt, IsPlaceOf, IsReachedAt, IsReachingAt}
+use Rattle.gobject.specs.Objects.{place_of, IdsDiffer, IsShaped}
+use Rattle.ghistory.specs.Graphs.{HasParent, IsOrdered, max_nodes}
+use Rattle.ghistory.specs.Peeling.{IsTagOf, IsCommit, Tags}
+use Rattle.ghistory.specs.Reach.{Reaches, SomeReaches}
+use Rattle.ghistory.specs.Sending.{IsNew}
+
+-- ids, one after the other
+abbrev pub IdList : Type 0
+IdList = List (List ℕ)
+
+-- `b` is a parent of `a`, and they stand at these places
+pub record IsEdge {A : Type 0} (g : List (Entry A)) (p q : ℕ) : Type 0 where
+  pub child : List ℕ
+  pub parent : List ℕ
+  pub edge : HasParent g child parent
+  pub child_at : place_of g child ≡ Some p
+  pub parent_at : place_of g parent ≡ Some q
+
+-- the entries of a graph in which parents come first
+pub record IsInOrder {A : Type 0} (g : List (Entry A)) : Type 0 where
+  pub differ : IdsDiffer g
+  pub shaped : All (λ entry. IsShaped entry.node) g
+  pub few : length g ≤ max_nodes
+  pub ordered : IsOrdered g
+
+-- one of the ids stands at this place
+pub record IsPlaceOf {A : Type 0} (g : List (Entry A)) (ids : IdList) (p : ℕ) : Type 0 where
+  pub id : List ℕ
+  pub among : Contains ids id
+  pub at : place_of g id ≡ Some p
+
+-- one of the ids reaches the object at this place
+pub record IsReachedAt {A : Type 0} (g : List (Entry A)) (ids : IdList) (p : ℕ) : Type 0 where
+  pub id : List ℕ
+  pub at : place_of g id ≡ Some p
+  pub reached : SomeReaches g ids id
+
+-- the object at this place reaches one of the ids
+pub record IsReachingAt {A : Type 0} (g : List (Entry A)) (ids : IdList) (p : ℕ) : Type 0 where
+  pub id : List ℕ
+  pub at : place_of g id ≡ Some p
+  pub reaching : Any (Reaches g id) ids
+
+-- the object at this place is new
+pub record IsNewAt {A : Type 0} (g : List (Entry A)) (wants commons : IdList) (p : ℕ) : Type 0 where
+  pub id : List ℕ
+  pub at : place_of g id ≡ Some p
+  pub new : IsNew g wants commons id
 
 -- ---- marks by place
 
@@ -73,3 +121,61 @@ pub record HasMarked {A : Type 0} (g : List (Entry A)) (ids : IdList) (marks : L
 pub record MarksReaching {A : Type 0} (g : List (Entry A)) (goals : IdList) (n : ℕ) (marks : List Bool) : Type 0 where
   pub sound : (p : ℕ) → IsMarked marks p → IsReachingAt g goals p
   pub all : (p : ℕ) → p < n → IsReachingAt g goals p → IsMarked marks p
+
+-- ---- tags
+
+-- the object at this place is a commit
+pub record IsCommitAt {A : Type 0} (g : List (Entry A)) (p : ℕ) : Type 0 where
+  pub id : List ℕ
+  pub at : place_of g id ≡ Some p
+  pub commit : IsCommit g id
+
+-- the object at the first place is a tag, and names the one at the second, an earlier one
+pub record IsTagAt {A : Type 0} (g : List (Entry A)) (p q : ℕ) : Type 0 where
+  pub id : List ℕ
+  pub at : place_of g id ≡ Some p
+  pub named : List ℕ
+  pub named_at : place_of g named ≡ Some q
+  pub tag : IsTagOf g id named
+  pub below : q < p
+
+-- tags lead from the object at the first place to the one at the second
+pub record IsLedTo {A : Type 0} (g : List (Entry A)) (p q : ℕ) : Type 0 where
+  pub id : List ℕ
+  pub at : place_of g id ≡ Some p
+  pub end : List ℕ
+  pub end_at : place_of g end ≡ Some q
+  pub steps : ℕ
+  pub leads : Tags g steps id end
+
+-- the chain of tags from the first place ends at the commit at the second
+pub record IsPeeledAt {A : Type 0} (g : List (Entry A)) (p q : ℕ) : Type 0 where
+  pub led : IsLedTo g p q
+  pub commit : IsCommitAt g q
+
+-- a tag on the chain from the first place stands at the second
+pub record IsOnChain {A : Type 0} (g : List (Entry A)) (p q : ℕ) : Type 0 where
+  pub led : IsLedTo g p q
+  pub next : List ℕ
+  pub tag : IsTagOf g led.end next
+
+-- the tags on the chain from the place are marked too
+pub record MarksChain {A : Type 0} (g : List (Entry A)) (start : ℕ) (old new : List Bool) : Type 0 where
+  pub long : length new ≡ length old
+  pub kept : (p : ℕ) → IsMarked old p → IsMarked new p
+  pub marked : (p : ℕ) → IsOnChain g start p → IsMarked new p
+  pub only : (p : ℕ) → IsMarked new p → IsMarked old p ⊎ IsOnChain g start p
+
+-- a tag on the chain of one of the tips whose commit is open stands at this place
+pub record IsOpenTag {A : Type 0} (g : List (Entry A)) (tips : IdList) (wanted known : List Bool) (p : ℕ) : Type 0 where
+  pub start : ℕ
+  pub tip : IsPlaceOf g tips start
+  pub chain : IsOnChain g start p
+  pub commit : ℕ
+  pub peeled : IsPeeledAt g start commit
+  pub open_there : is_open wanted known commit ≡ true
+
+-- the marks are at the tags of the tips' chains whose commit is open
+pub record MarksTags {A : Type 0} (g : List (Entry A)) (tips : IdList) (wanted known tagged : List Bool) : Type 0 where
+  pub marked : (p : ℕ) → IsOpenTag g tips wanted known p → IsMarked tagged p
+  pub only : (p : ℕ) → IsMarked tagged p → IsOpenTag g tips wanted known p

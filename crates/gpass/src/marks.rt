@@ -2,8 +2,7 @@
 #![tactic(auto)]
 
 ghost use Rattle.std.specs.Prelude.{◌≡◌, ◌≤◌, ◌<◌, ℕ, IfErr, IfOk, false, length, replicate, slice_set, true};
-ghost use Rattle.gpass.specs.Passes.{MarksAll, is_marked};
-ghost use Rattle.gpass.specs.Places.{IsInOrder, IsPlaceOf};
+ghost use Rattle.gpass.specs.Passes.{IsInOrder, IsPlaceOf, MarksAll, is_marked};
 ghost use Rattle.ghistory.specs.declared.fault.GraphFault.TheVariants.{Memory};
 
 use ghistory::{Graph, GraphFault};
