@@ -35,6 +35,7 @@ mod fault;
 mod graph;
 mod insert;
 pub mod laws;
+mod peel;
 #[cfg(test)]
 mod tests;
 
