@@ -2,11 +2,17 @@
 #![tactic(auto)]
 
 mod ancestry;
+mod common;
+mod haves;
 pub mod laws;
 mod marks;
+mod sending;
 #[cfg(test)]
 mod tests;
 mod walk;
 
 pub use crate::ancestry::{Count, missing, missing_counted, missing_known};
+pub use crate::common::{common_ids, reaches, ready};
+pub use crate::haves::haves;
 pub use crate::marks::{FullMarks, mark_full};
+pub use crate::sending::{send_list, send_list_tags};

@@ -15,7 +15,7 @@ use crate::marks::is_marked;
 use crate::walk::walk_from;
 use ghistory::laws::sent_are_entries;
 use ghistory::{Graph, GraphFault};
-use gname::Oid;
+use gname::{Oid, RefName};
 use gobject::{Entry, Kind};
 use grefs::Refs;
 use std::alloc::{AllocError, Allocator};
@@ -57,19 +57,18 @@ pub fn send_list_tags<A: Allocator + Copy>(
     ensures fault { IfErr result (λ fault. fault ≡ Memory) }
 {
     sent_are_entries::<A>();
-    let tips = tips_of(graph.allocator(), refs)?;
+    let tips = tips_of(graph.allocator(), refs.as_slice())?;
     Ok(list_to_send(graph, wants, commons, tips.as_slice())?)
 }
 
 // The ids of the refs.
-fn tips_of<A: Allocator + Copy>(alloc: A, refs: &Refs<A>) -> Result<Vec<Oid, A>, AllocError>
+fn tips_of<A: Allocator + Copy>(
+    alloc: A,
+    refs: &[(RefName<A>, Oid)],
+) -> Result<Vec<Oid, A>, AllocError>
     ensures { IfOk result (λ tips. tips.items ≡ values_of refs.now) }
 {
-    let mut tips = Vec::new(alloc);
-    for (_name, tip) in refs.as_slice() {
-        tips.push(*tip)?;
-    }
-    Ok(tips)
+    refs.iter().map(|reference| reference.1).collect(alloc)
 }
 
 // The list to send, with the tags that lead from the tips.
@@ -85,7 +84,7 @@ fn list_to_send<A: Allocator + Copy>(
 {
     let new = new_marks(graph, wants, commons)?;
     let marks = with_tags(graph, new.as_slice(), tips)?;
-    entries_at(graph, marks.as_slice())
+    Ok(entries_at(graph, marks.as_slice())?)
 }
 
 // The marks, and one for each tag on a chain of tags from a tip to a marked commit.

@@ -1,1 +1,5 @@
 //! What no clause says, and examples from outside the proofs.
+mod makers;
+mod offers;
+mod readiness;
+mod sending;
