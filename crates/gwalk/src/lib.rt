@@ -3,9 +3,9 @@
 
 mod ancestry;
 mod common;
-mod haves;
 pub mod laws;
 mod marks;
+mod offer;
 mod sending;
 #[cfg(test)]
 mod tests;
@@ -13,6 +13,6 @@ mod walk;
 
 pub use crate::ancestry::{Count, missing, missing_counted, missing_known};
 pub use crate::common::{common_ids, reaches, ready};
-pub use crate::haves::haves;
 pub use crate::marks::{FullMarks, mark_full};
+pub use crate::offer::haves;
 pub use crate::sending::{send_list, send_list_tags};

@@ -1,5 +1,5 @@
 use Rattle.std.proofs.Common.{◌≡◌, ◌++◌, ◌∷◌, [], List, ℕ, sym, ap, ◌∙◌}
-use Rattle.gwalk.proofs.Sending.{ids_more}
+use Rattle.gwalk.proofs.SentMarks.{ids_more}
 use Rattle.gwalk.proofs.common.ids_at.Goals as goal
 
 pub loop-number-preserved : goal.loop-number-preserved

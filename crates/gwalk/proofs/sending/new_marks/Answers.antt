@@ -1,6 +1,6 @@
 use Rattle.std.proofs.Common.{◌≡◌, ◌<◌, ◌≤◌, ◌+◌, List, Bool, true, false, length, refl, sym, ◌∙◌, subst, arith}
 use Rattle.std.proofs.lemmas.List.{get_or_read}
-use Rattle.gwalk.proofs.Sending.{IsLess, less_begins, less_known, less_other, less_ends}
+use Rattle.gwalk.proofs.SentMarks.{IsLess, less_begins, less_known, less_other, less_ends}
 use Rattle.gwalk.proofs.Reached.{marks_reached}
 use Rattle.gwalk.proofs.sending.new_marks.Goals as goal
 use Rattle.gwalk.proofs.sending.new_marks.Goals.{then-index, else-index}

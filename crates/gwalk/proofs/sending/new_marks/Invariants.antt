@@ -1,4 +1,4 @@
-use Rattle.gwalk.proofs.Sending.{IsLess}
+use Rattle.gwalk.proofs.SentMarks.{IsLess}
 use Rattle.gwalk.proofs.sending.new_marks.Given as goal
 
 abbrev pub invariant-loop-place : goal.invariant-loop-place

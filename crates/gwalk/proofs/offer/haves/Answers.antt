@@ -1,4 +1,4 @@
-use Rattle.gwalk.proofs.haves.haves.Goals as goal
+use Rattle.gwalk.proofs.offer.haves.Goals as goal
 
 pub first_untold-requires-clause-known : goal.first_untold-requires-clause-known
 first_untold-requires-clause-known g c = (c.in_ok-known.ensures.walk.ids, c.in_ok-known.ensures.walk.has_met)

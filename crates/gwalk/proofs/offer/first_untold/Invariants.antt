@@ -3,7 +3,7 @@ use Rattle.ghistory.specs.Levels.{AreLevels, new_ids}
 use Rattle.ghistory.specs.Offer.{is_untold}
 use Rattle.gwalk.specs.Walks.{HasMet}
 use Rattle.gwalk.proofs.Walking.{IsUnderway}
-use Rattle.gwalk.proofs.haves.first_untold.Given as goal
+use Rattle.gwalk.proofs.offer.first_untold.Given as goal
 
 abbrev pub invariant-loop-at : goal.invariant-loop-at
 invariant-loop-at g l =

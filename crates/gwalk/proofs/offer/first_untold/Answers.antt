@@ -4,8 +4,8 @@ use Rattle.gwalk.proofs.IdLists.{with_new}
 use Rattle.gwalk.proofs.Offering.{offers_enough, offers_all, offers_next, skips_next, untold_is, id_taken}
 use Rattle.gwalk.proofs.Reaching.{place_inside}
 use Rattle.gwalk.proofs.Walking.{underway, met_few, next, goes, lent_parents, mark_inside}
-use Rattle.gwalk.proofs.haves.first_untold.Goals as goal
-use Rattle.gwalk.proofs.haves.first_untold.Goals.{then-is_untold+in_ok-push, else-is_untold}
+use Rattle.gwalk.proofs.offer.first_untold.Goals as goal
+use Rattle.gwalk.proofs.offer.first_untold.Goals.{then-is_untold+in_ok-push, else-is_untold}
 
 pub meet_all-requires-clause-has : goal.meet_all-requires-clause-has
 meet_all-requires-clause-has g c = ([], c.in_ok-walk.ensures.met [])
