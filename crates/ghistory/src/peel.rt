@@ -16,8 +16,7 @@ impl<A: Allocator + Copy> Graph<A> {
         ensures found { IfSome result (PeelsTo self.now.entries id.now) }
         ensures only { (c : List ℕ) → PeelsTo self.now.entries id.now c → result ≡ Some c }
     {
-        // An id of the chain is kept, a further one at each power of two. Where the chain comes to
-        // it again, it goes round.
+        // An id of the chain is kept, a later one at each power of two. A chain that comes back to it never ends.
         let mut at = *id;
         let mut kept = *id;
         for steps in 0..self.len() {
