@@ -1,7 +1,12 @@
 pub mod Counting
 pub mod Holding
 pub mod IdLists
+pub mod LevelReach
 pub mod LevelWalk
+pub mod Marking
+pub mod Misses
+pub mod Reached
 pub mod Reaching
+pub mod Staying
 pub mod Stopping
 pub mod Walking
