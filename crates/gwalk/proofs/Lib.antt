@@ -1,7 +1,6 @@
 pub mod Counting
 pub mod Holding
 pub mod IdLists
-pub mod LevelEnds
 pub mod LevelReach
 pub mod LevelWalk
 pub mod Looking

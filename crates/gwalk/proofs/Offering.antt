@@ -8,13 +8,13 @@ use Rattle.gobject.specs.declared.node.Entry.{Entry}
 use Rattle.gobject.specs.Objects.{node_at, place_of}
 use Rattle.ghistory.specs.Graphs.{Holds}
 use Rattle.ghistory.specs.Levels.{is_in, new_ids, parents_of_each, level, levels_below, AreLevels}
-use Rattle.ghistory.specs.Offer.{IsOffer, is_untold}
+use Rattle.ghistory.specs.Laws.{LevelsAreDistances}
+use Rattle.ghistory.specs.Offer.{IsOffer}
 use Rattle.gwalk.specs.Walks.{HasMet, places}
 use Rattle.gwalk.proofs.IdLists.{either_way, contains_from_in, in_from_contains}
-use Rattle.gwalk.proofs.LevelEnds.{levels_end, levels_stay}
 use Rattle.gwalk.proofs.LevelWalk.{IsWalked}
 use Rattle.gwalk.proofs.Looking.{new_same, placed}
-use Rattle.gwalk.proofs.Untold.{offer_by_filter}
+use Rattle.gwalk.proofs.Untold.{is_untold, offer_by_filter}
 use Rattle.gwalk.proofs.Reached.{found_at}
 use Rattle.gwalk.proofs.Reaching.{node_at_none, held_at_place}
 use Rattle.gwalk.proofs.Walking.{IsUnderway, IsNext, ends_levels, none_left}
@@ -74,17 +74,17 @@ module _ {A : Type 0} (g : List (Entry A)) (tips reached others : List (List ℕ
       further j (count, above, more, is) = (suc count, omega (arith, above), more ++ level g tips count, ap (λ l. l ++ level g tips count) is ∙ (simp append_assoc))
 
   -- what a walk has met begins all levels
-  begins_levels : (ids : List (List ℕ)) (at : ℕ) → IsWalked g tips ids at → (count : ℕ) × (rest : List (List ℕ)) × (levels_below g tips count ≡ ids ++ rest) × (level g tips count ≡ [])
-  begins_levels ids at w = by (levels_end g tips) (levels_more (levels_end g tips).0 (suc (suc w.k)))
+  begins_levels : LevelsAreDistances A → (ids : List (List ℕ)) (at : ℕ) → IsWalked g tips ids at → (count : ℕ) × (rest : List (List ℕ)) × (levels_below g tips count ≡ ids ++ rest) × (level g tips count ≡ [])
+  begins_levels law ids at w = by (law g tips).ends (levels_more ((law g tips).ends).0 (suc (suc w.k)))
     where
       by : (end : (k : ℕ) × (level g tips k ≡ [])) → (count : ℕ) × (end.0 ≤ count) × (more : List (List ℕ)) × (levels_below g tips count ≡ levels_below g tips (suc (suc w.k)) ++ more) → (count : ℕ) × (rest : List (List ℕ)) × (levels_below g tips count ≡ ids ++ rest) × (level g tips count ≡ [])
       by end (count, above, more, is) =
-          (count, new_ids ids (parents_of_each g w.rest) ++ more, is ∙ ap (λ l. l ++ more) (sym w.ahead) ∙ (simp append_assoc), levels_stay g tips end.0 count above end.1)
+          (count, new_ids ids (parents_of_each g w.rest) ++ more, is ∙ ap (λ l. l ++ more) (sym w.ahead) ∙ (simp append_assoc), (law g tips).stays end.0 count above end.1)
 
   module _ (commons : List (List ℕ)) (levels : AreLevels g commons reached) (n : ℕ) (front back list : List (List ℕ)) (marks : List Bool) (met : List ℕ) (lost : Option (List ℕ)) (parents at : ℕ) (now : IsUnderway g tips front back marks met lost parents at) (is : list ≡ filter (is_untold g reached others) front) where
     -- there are as many as were asked for
-    pub offers_enough : length list ≡ n → IsOffer g tips commons others n list
-    offers_enough enough = by (begins_levels (front ++ back) (length front) now.walked)
+    pub offers_enough : LevelsAreDistances A → length list ≡ n → IsOffer g tips commons others n list
+    offers_enough law enough = by (begins_levels law (front ++ back) (length front) now.walked)
       where
         by : (count : ℕ) × (rest : List (List ℕ)) × (levels_below g tips count ≡ (front ++ back) ++ rest) × (level g tips count ≡ []) → IsOffer g tips commons others n list
         by (count, rest, whole, last) =

@@ -1,16 +1,9 @@
--- The common ids, and what a walk looks for.
-use Rattle.std.specs.Prelude.{◌≡◌, ◌↔◌, ℕ, Bool, true, false, List, [], length, slice_get, slice_index_or, filter}
-use Rattle.std.specs.Prelude.{is_some, Contains, None, Some}
+-- What a walk looks for.
+use Rattle.std.specs.Prelude.{◌≡◌, ◌↔◌, ℕ, Bool, true, false, List, [], length, slice_get, slice_index_or, Contains, None, Some}
 use Rattle.std.specs.List.{filter_map}
 use Rattle.std.specs.Option.{option_map}
 use Rattle.gobject.specs.declared.node.Entry.{Entry}
 use Rattle.gobject.specs.Objects.{node_at, place_of}
-use Rattle.ghistory.specs.Levels.{new_ids}
-
--- the common ids (gitprotocol-v2(5), "fetch": `ACK`): the distinct haves that are held, in the order in which each
--- comes first
-abbrev pub common_of : {A : Type 0} → List (Entry A) → List (List ℕ) → List (List ℕ)
-common_of g haves = filter (λ a. is_some (node_at g a)) (new_ids [] haves)
 
 -- the ids at some places, in order
 abbrev pub ids_at : {A : Type 0} → List (Entry A) → List ℕ → List (List ℕ)

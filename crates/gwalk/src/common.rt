@@ -6,9 +6,9 @@ ghost use Rattle.std.specs.List.{Any};
 ghost use Rattle.gobject.specs.Objects.{node_at};
 ghost use Rattle.ghistory.specs.Levels.{new_ids};
 ghost use Rattle.ghistory.specs.Reach.{Reaches};
-ghost use Rattle.ghistory.specs.Walks.{IsReady};
+ghost use Rattle.ghistory.specs.Walks.{IsReady, common_of};
 ghost use Rattle.ghistory.specs.declared.fault.GraphFault.TheVariants.{Memory};
-ghost use Rattle.gwalk.specs.Common.{AreGoals, common_of, ids_at};
+ghost use Rattle.gwalk.specs.Common.{AreGoals, ids_at};
 ghost use Rattle.gwalk.specs.Walks.{HasMet};
 
 use crate::walk::Walk;

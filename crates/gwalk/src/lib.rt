@@ -1,4 +1,33 @@
-//! Walks over the graph of a repository's commits and tags.
+//! Walks over the graph of a repository's commits and tags: which objects some ids lead to, and which of
+//! these are missing.
+//!
+//! # Proved
+//!
+//! - [`missing`] answers `None` where the whole ancestry of each id is held, and else an id that one of the
+//!   given ids reaches and that is not held.
+//! - [`missing_counted`] answers the same, and exactly how many held ids the given ones reach, with how many
+//!   parents. No id counts twice.
+//! - [`mark_full`] marks the ids that the given ones reach, and leaves all other marks. Where there is no
+//!   memory, [`FullMarks`] stay as they were. Marks of ids whose whole ancestry is held are such marks after it,
+//!   and where objects come to the graph ([`laws`]).
+//! - [`missing_known`] answers what `missing` does by a walk that doesn't go on from marked ids, and counts
+//!   exactly the ids that are reached by steps that leave unmarked ids.
+//! - `Memory` is the only fault. No call panics, overflows or reads out of bounds, and each returns.
+//!
+//! # Only tested
+//!
+//! That memory which is there is used, that `missing` takes none in an ordered graph, and that a walk takes
+//! time linear in the objects and parents that it meets.
+//!
+//! # What a body can still get away with
+//!
+//! Where several ids are missing it may answer any. It may report out of memory as often as it likes. It may
+//! take as long as it likes, and more memory than it needs.
+//!
+//! # Stands on
+//!
+//! `ghistory` for graphs, `gobject` for their objects, `gname` for ids; in tests `bumpalo`, for memory that
+//! ends.
 #![tactic(auto)]
 
 mod ancestry;

@@ -9,6 +9,7 @@ ghost use Rattle.gwalk.specs.Walks.{HasMet};
 
 use crate::common::met_of;
 use crate::walk::{Walk, walk_from};
+use ghistory::laws::levels_are_distances;
 use ghistory::{Graph, GraphFault};
 use gname::Oid;
 use std::alloc::{AllocError, Allocator};
@@ -65,6 +66,7 @@ fn first_untold<A: Allocator + Copy>(
             sent.now.marks.items sent.now.met.items sent.now.lost sent.now.parents →
         IsOffer graph.now.entries tips.now commons others n list.items) }
 {
+    levels_are_distances::<A>();
     let mut list = Vec::new(graph.allocator());
     let mut walk = Walk::new(graph)?;
     walk.meet_all(graph, &[], tips)?;

@@ -1,5 +1,6 @@
 //! Common ids, and what reaches what.
-use super::makers::{Row, entry, graph_of, id, ids_of};
+use super::chains::ladder;
+use super::makers::{Row, graph_of, id, ids_of};
 use crate::{common_ids, reaches, ready};
 use ghistory::Graph;
 use gobject::Kind;
@@ -131,23 +132,6 @@ fn cycles_end(rt: HostRuntime) {
     }
     check_ready(&rt, &graph, &[1, 4], &[2, 3], true);
     check_ready(&rt, &graph, &[1, 5], &[2, 3], false);
-}
-
-// Sixty-four levels of two commits, each with both commits of the next level as its parents. There are two
-// to the power of 63 paths from the first level to the last.
-pub(super) fn ladder(rt: &(impl Abort + AllocGlobal)) -> Graph {
-    let mut entries = Vec::new(rt.alloc());
-    for number in 0..128usize {
-        let next = number / 2 * 2 + 2;
-        let both = [next, next + 1];
-        let parents = if next < 128 { both.as_slice() } else { &[] };
-        let next = entry(rt, Kind::Commit, number, parents);
-        entries.push(next).expect(rt, "memory");
-    }
-    let mut graph = Graph::new(rt.alloc());
-    let answer = graph.insert_all(entries.as_slice());
-    assert_eq!(rt; answer, Ok(128));
-    graph
 }
 
 #[test]

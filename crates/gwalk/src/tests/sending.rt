@@ -1,6 +1,6 @@
 //! Lists to send, without tags and with them.
+use super::chains::ladder;
 use super::makers::{Row, graph_of, id, ids_of};
-use super::readiness::ladder;
 use crate::{send_list, send_list_tags};
 use ghistory::Graph;
 use gname::RefName;

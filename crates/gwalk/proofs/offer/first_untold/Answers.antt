@@ -20,7 +20,7 @@ returns-then-len-n g c =
     λ commons reached others levels h h2.
     let now = c.loop-at.invariant.1 in
     let ok = c.loop-at.list.ok in
-    offers_enough c.args.graph.now.entries c.args.tips.now reached others commons levels c.args.n now.0 now.1 c.loop-at.list.items c.loop-at.walk.marks.items c.loop-at.walk.met.items c.loop-at.walk.lost c.loop-at.walk.parents c.loop-at.at now.2 (now.3 commons reached others levels h h2) (omega (arith, c.if-len-n.true, ok.0))
+    offers_enough c.args.graph.now.entries c.args.tips.now reached others commons levels c.args.n now.0 now.1 c.loop-at.list.items c.loop-at.walk.marks.items c.loop-at.walk.met.items c.loop-at.walk.lost c.loop-at.walk.parents c.loop-at.at now.2 (now.3 commons reached others levels h h2) c.levels_are_distances.ensures (omega (arith, c.if-len-n.true, ok.0))
 
 pub is_untold-requires-clause-known : goal.is_untold-requires-clause-known
 is_untold-requires-clause-known g c =
