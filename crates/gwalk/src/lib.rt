@@ -1,5 +1,5 @@
-//! Walks over the graph of a repository's commits and tags: which objects some ids lead to, and which of
-//! these are missing.
+//! Walks over the graph of a repository's commits and tags: which objects some ids lead to, which of these are
+//! missing, which to send, and which ids to offer.
 //!
 //! # Proved
 //!
@@ -12,12 +12,18 @@
 //!   and where objects come to the graph ([`laws`]).
 //! - [`missing_known`] answers what `missing` does by a walk that doesn't go on from marked ids, and counts
 //!   exactly the ids that are reached by steps that leave unmarked ids.
+//! - [`common_ids`], [`reaches`] and [`ready`] answer exactly what is common, reached and ready.
+//! - [`send_list`] and [`send_list_tags`] answer the list to send, without tags and with those of the refs. Its
+//!   entries are a graph's: their ids differ and are of the graph's format.
+//! - [`haves`] answers the offer: the first so many held ids of the levels about the tips that no common id
+//!   reaches and that were not sent.
 //! - `Memory` is the only fault. No call panics, overflows or reads out of bounds, and each returns.
 //!
 //! # Only tested
 //!
 //! That memory which is there is used, that `missing` takes none in an ordered graph, and that a walk takes
-//! time linear in the objects and parents that it meets.
+//! time linear in the objects and parents that it meets. That `ready` walks no further from a want than to a
+//! common id, and `haves` no further than to the level where it has enough.
 //!
 //! # What a body can still get away with
 //!
@@ -26,8 +32,8 @@
 //!
 //! # Stands on
 //!
-//! `ghistory` for graphs, `gobject` for their objects, `gname` for ids; in tests `bumpalo`, for memory that
-//! ends.
+//! `ghistory` for graphs, `gobject` for their objects, `gname` for ids, `grefs` for the refs whose tags are sent;
+//! in tests `bumpalo`, for memory that ends.
 #![tactic(auto)]
 
 mod ancestry;
