@@ -118,19 +118,26 @@ fn leads_to_marked<A: Allocator + Copy>(graph: &Graph<A>, marks: &[bool], id: &O
     is_marked(marks, number)
 }
 
-// The number of a tag, and the id that it names.
-fn tag_at<A: Allocator + Copy>(graph: &Graph<A>, id: &Oid) -> Option<(usize, Oid)>
-    ensures found { IfSome result (λ pair.
-        (place_of graph.now.entries id.now ≡ Some pair.0) × IsTagOf graph.now.entries id.now pair.1) }
+// A tag's number, and the id that it names.
+#[derive(Clone, Copy)]
+struct Tag {
+    number: usize,
+    named: Oid,
+}
+
+// The tag under the id.
+fn tag_at<A: Allocator + Copy>(graph: &Graph<A>, id: &Oid) -> Option<Tag>
+    ensures found { IfSome result (λ tag.
+        (place_of graph.now.entries id.now ≡ Some tag.number) × IsTagOf graph.now.entries id.now tag.named) }
     ensures only { (b : List ℕ) → IsTagOf graph.now.entries id.now b → IsSome result }
 {
     let node = graph.node(id)?;
     if node.kind == Kind::Commit {
         return None;
     }
-    let named = node.parents.as_slice().first()?;
+    let named = *node.parents.as_slice().first()?;
     let number = graph.number(id)?;
-    Some((number, *named))
+    Some(Tag { number, named })
 }
 
 // Marks the tags of the chain that begins at the id and leads to a commit.
@@ -144,11 +151,11 @@ fn mark_chain<A: Allocator + Copy>(graph: &Graph<A>, marks: &mut Vec<bool, A>, i
 {
     let mut at = *id;
     for _step in 0..graph.len() {
-        let Some((number, named)) = tag_at(graph, &at) else {
+        let Some(tag) = tag_at(graph, &at) else {
             return;
         };
-        marks[number] = true;
-        at = named;
+        marks[tag.number] = true;
+        at = tag.named;
     }
 }
 

@@ -57,13 +57,14 @@ loop-at-preserved g c =
     let full = c.loop-at.list.ok in
     let n = next c.args.graph.now.entries c.args.tips.now now.0 now.1 c.loop-at.walk.marks.items c.loop-at.walk.met.items c.loop-at.walk.lost c.loop-at.walk.parents c.loop-at.at now.2 c.index-number.result.now (omega (arith, c.loop-at-test.true, ok.0)) c.index-number.ensures in
     let lent = lent_parents c.args.graph.now.entries n.id c.index-number.result.now c.parents.result.now n.place c.parents.ensures in
-    let under = goes c.args.graph.now.entries c.args.tips.now now.0 now.1 c.loop-at.walk.marks.items c.loop-at.walk.met.items c.loop-at.walk.lost c.loop-at.walk.parents c.loop-at.at now.2 c.index-number.result.now n c.parents.result.now lent c.meet_all-2.new.self.marks.items c.meet_all-2.new.self.met.items c.meet_all-2.new.self.lost c.meet_all-2.new.self.parents (c.in_ok-meet_all-2.ensures (now.0 ++ now.1) (now.2).has_met) in
+    let under = goes c.args.graph.now.entries c.args.tips.now now.0 now.1 c.loop-at.walk.marks.items c.loop-at.walk.met.items c.loop-at.walk.lost c.loop-at.walk.parents c.loop-at.at now.2 c.index-number.result.now n c.parents.result.now lent _ _ _ _ (c.in_ok-meet_all-2.ensures (now.0 ++ now.1) (now.2).has_met) in
     let front = now.0 ++ (n.mid ++ n.id ∷ []) in
     let back = n.rest ++ new_ids (now.0 ++ now.1) c.parents.result.now in
     elim c.if-is_untold.branch [
       | then-is_untold+in_ok-push w ↦
           let id = id_taken c.args.graph.now.entries n.id w.id_at.result.now c.index-number.result.now n.place w.id_at.ensures in
-          let pushed = w.list-is ∙ w.in_ok-push.ensures.items ∙ ap (λ x. c.loop-at.list.items ++ x ∷ []) id in
+          let grown : c.if-is_untold.list.items ≡ c.loop-at.list.items ++ w.id_at.result.now ∷ [] = cc (w.in_ok-push.ensures.items) in
+          let pushed = grown ∙ ap (λ x. c.loop-at.list.items ++ x ∷ []) id in
           let long = length-append c.loop-at.list.items (n.id ∷ []) in
           let small = c.loop-at.invariant.0 in
           (subst (λ l. length l ≤ c.args.n) (sym pushed) (omega (arith, long, small, c.if-len-n.false, full.0)),
@@ -71,9 +72,10 @@ loop-at-preserved g c =
               pushed ∙ offers_next c.args.graph.now.entries c.args.tips.now reached others now.0 now.1 c.loop-at.list.items c.index-number.result.now n (now.3 commons reached others levels h h2)
               (untold_is c.args.graph.now.entries reached others _ _ _ _ _ _ _ _ n.id c.index-number.result.now h h2 n.place ∙ sym c.is_untold.ensures ∙ w.if-is_untold.true)))
       | else-is_untold w ↦
-          (subst (λ l. length l ≤ c.args.n) (sym w.list-is) c.loop-at.invariant.0,
+          let kept : c.if-is_untold.list.items ≡ c.loop-at.list.items = cc in
+          (subst (λ l. length l ≤ c.args.n) (sym kept) c.loop-at.invariant.0,
             (front, back, under, λ commons reached others levels h h2.
-              w.list-is ∙ skips_next c.args.graph.now.entries c.args.tips.now reached others now.0 now.1 c.loop-at.list.items c.index-number.result.now n (now.3 commons reached others levels h h2)
+              kept ∙ skips_next c.args.graph.now.entries c.args.tips.now reached others now.0 now.1 c.loop-at.list.items c.index-number.result.now n (now.3 commons reached others levels h h2)
               (untold_is c.args.graph.now.entries reached others _ _ _ _ _ _ _ _ n.id c.index-number.result.now h h2 n.place ∙ sym c.is_untold.ensures ∙ w.if-is_untold.false)))
     ]
 

@@ -1,4 +1,4 @@
-use Rattle.std.proofs.Common.{◌≡◌, ◌<◌, ◌≤◌, ◌+◌, List, Bool, true, false, length, refl, sym, ◌∙◌, subst, arith}
+use Rattle.std.proofs.Common.{◌≡◌, ◌<◌, ◌≤◌, ◌+◌, List, Bool, true, false, length, set, refl, sym, ap, ◌∙◌, subst, arith}
 use Rattle.std.proofs.lemmas.List.{get_or_read}
 use Rattle.gwalk.proofs.SentMarks.{IsLess, less_begins, less_known, less_other, less_ends}
 use Rattle.gwalk.proofs.Reached.{marks_reached}
@@ -20,12 +20,16 @@ loop-place-preserved g c =
     let read = sym (get_or_read known place c.index.result.now inside c.index.ensures false) in
     let I : List Bool → Type 0 = λ l. IsLess wanted known l (place + 1) in
     elim c.if-index.branch [
-      | then-index v ↦ subst I (sym v.marks-is) (less_known wanted known c.loop-place.marks.items place c.loop-place.invariant inside small (read ∙ v.if-index.true))
-      | else-index v ↦ subst I (sym v.marks-is) (less_other wanted known c.loop-place.marks.items place c.loop-place.invariant inside (read ∙ v.if-index.false))
+      | then-index v ↦
+          let is : c.if-index.marks.items ≡ set c.loop-place.marks.items place false = ap (λ m. m.items) v.marks-is in
+          subst I (sym is) (less_known wanted known c.loop-place.marks.items place c.loop-place.invariant inside small (read ∙ v.if-index.true))
+      | else-index v ↦
+          let is : c.if-index.marks.items ≡ c.loop-place.marks.items = cc in
+          subst I (sym is) (less_other wanted known c.loop-place.marks.items place c.loop-place.invariant inside (read ∙ v.if-index.false))
     ]
 
-pub returns : goal.returns
-returns g c =
+pub returns-clause-marks : goal.returns-clause-marks
+returns-clause-marks g c =
     let w = marks_reached c.args.graph.now.entries c.args.wants.now c.in_ok-wanted.wanted.marks.items c.in_ok-wanted.wanted.met.items c.in_ok-wanted.wanted.lost c.in_ok-wanted.wanted.parents c.in_ok-wanted.ensures.graph.differ c.in_ok-wanted.ensures.walk in
     let k = marks_reached c.args.graph.now.entries c.args.commons.now c.in_ok-known.known.marks.items c.in_ok-known.known.met.items c.in_ok-known.known.lost c.in_ok-known.known.parents c.in_ok-known.ensures.graph.differ c.in_ok-known.ensures.walk in
     less_ends c.args.graph.now.entries c.args.wants.now c.args.commons.now c.in_ok-wanted.wanted.marks.items c.in_ok-known.known.marks.items c.loop-place.marks.items c.loop-place.place w k c.loop-place.invariant (let a = w.long in let b = k.long in omega (arith, a, b, c.loop-place-test.false))

@@ -31,10 +31,12 @@ loop-tip-preserved g c =
       | then-leads_to_marked w ↦
           let lead = c.leads_to_marked.ensures.0 w.if-leads_to_marked.true in
           let stepped = tags_step entries c.args.new.now before marks c.loop-tip.invariant tip w.mark_chain.new.marks.items lead w.mark_chain.ensures.long w.mark_chain.ensures.each in
-          subst (λ (l : List Bool). I (take (i + 1) c.args.tips.now) l) (sym w.marks-is) (subst (λ (t : List (List ℕ)). I t w.mark_chain.new.marks.items) (sym more) stepped)
+          let is : c.if-leads_to_marked.marks.items ≡ w.mark_chain.new.marks.items = cc in
+          subst (λ (l : List Bool). I (take (i + 1) c.args.tips.now) l) (sym is) (subst (λ (t : List (List ℕ)). I t w.mark_chain.new.marks.items) (sym more) stepped)
       | else-leads_to_marked w ↦
           let kept = tags_skip entries c.args.new.now before marks c.loop-tip.invariant tip (λ lead. false≢true (sym w.if-leads_to_marked.false ∙ c.leads_to_marked.ensures.1 lead)) in
-          subst (λ (l : List Bool). I (take (i + 1) c.args.tips.now) l) (sym w.marks-is) (subst (λ (t : List (List ℕ)). I t marks) (sym more) kept)
+          let is : c.if-leads_to_marked.marks.items ≡ marks = cc in
+          subst (λ (l : List Bool). I (take (i + 1) c.args.tips.now) l) (sym is) (subst (λ (t : List (List ℕ)). I t marks) (sym more) kept)
     ]
 
 pub returns : goal.returns
