@@ -1,4 +1,4 @@
-use Rattle.std.proofs.Common.{◌≡◌, true, false, List, Bool, ◌+◌, ◌++◌, ◌∷◌, [], length, get_or, set, refl, sym, ap, ◌∙◌, subst, arith}
+use Rattle.std.proofs.Common.{◌≡◌, true, false, List, Bool, ◌+◌, ◌++◌, ◌∷◌, [], get_or, set, refl, sym, ap, subst, arith}
 use Rattle.gwalk.proofs.Marking.{IsEither, either_begins, either_grows, either_sets, either_stays, either_ends}
 use Rattle.gwalk.proofs.marks.either.Goals as goal
 use Rattle.gwalk.proofs.marks.either.Goals.{then-number-len+in_ok-push, else-number-len+then-mark, else-number-len+else-mark}
@@ -15,7 +15,7 @@ loop-number-preserved g c =
           subst I (sym pushed)
           (either_grows c.args.reached.items c.args.old.now c.loop-number.marks.items c.loop-number.number _ c.loop-number.invariant c.loop-number-test.true refl (omega (arith, w.if-number-len.true, c.len.ensures)))
       | else-number-len+then-mark w ↦
-          let is : c.if-number-len.marks.items ≡ set c.loop-number.marks.items c.loop-number.number true = cc in
+          let is : c.if-number-len.marks.items ≡ set c.loop-number.marks.items c.loop-number.number true = ap (λ v. v.items) w.marks-is in
           subst I (sym is)
           (either_sets c.args.reached.items c.args.old.now c.loop-number.marks.items c.loop-number.number _ c.loop-number.invariant c.loop-number-test.true refl (omega (arith, w.if-number-len.false, c.len.ensures)) w.if-mark.true)
       | else-number-len+else-mark w ↦
