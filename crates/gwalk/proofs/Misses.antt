@@ -1,5 +1,5 @@
 -- What is missing where nothing is marked, and where no parent is missing.
-use Rattle.std.proofs.Common.{◌≡◌, ℕ, zero, suc, Bool, true, false, List, [], get_or, All, Contains, IsSome, Option, Some, None, refl, sym, ◌∙◌}
+use Rattle.std.proofs.Common.{◌≡◌, ℕ, zero, suc, false, List, [], get_or, All, Contains, IsSome, Option, Some, None, refl, sym, ◌∙◌}
 use Rattle.std.specs.Option.{MatchOption}
 use Rattle.std.proofs.lemmas.Bool.{false≢true}
 use Rattle.gobject.specs.declared.node.Entry.{Entry}

@@ -1,23 +1,22 @@
 -- What the marks of a walk say of the ids that are reached.
-use Rattle.std.proofs.Common.{◌≡◌, ◌⊎◌, inl, inr, ◌↔◌, ℕ, zero, suc, ◌+◌, ◌<◌, Bool, true, false, cond, List, [], ◌∷◌, ◌++◌, length, get_or, sum_by, All, Contains, IsSome, Option, Some, None, refl, sym, ap, ◌∙◌, subst, arith, rules}
+use Rattle.std.proofs.Common.{◌≡◌, ◌⊎◌, inl, inr, ◌↔◌, ℕ, suc, ◌<◌, Bool, true, false, cond, List, [], ◌∷◌, length, get_or, sum_by, Contains, IsSome, Option, Some, None, refl, sym, ap, ◌∙◌, subst, arith, rules}
 use Rattle.std.specs.List.{slice_get}
 use Rattle.std.specs.Option.{option_map}
 use Rattle.std.proofs.lemmas.List.Sums.{sum_by-cons}
 use Rattle.std.proofs.lemmas.List.Elements.{Contains-get_or}
 use Rattle.std.proofs.lemmas.Option.{get_or_from_slice_get, slice_get_cases, none-some, same_Some}
 use Rattle.std.proofs.lemmas.List.Quantifiers.{position-Some}
-use Rattle.std.proofs.lemmas.Bool.{false≢true, cases_Bool}
+use Rattle.std.proofs.lemmas.Bool.{false≢true}
 use Rattle.gobject.specs.declared.node.Node.{Node}
 use Rattle.gobject.specs.declared.node.Entry.{Entry}
 use Rattle.gobject.specs.Objects.{node_at, place_of, has_id, IdsDiffer}
 use Rattle.ghistory.specs.Graphs.{Holds, HasParent, IsNode}
 use Rattle.ghistory.specs.Reach.{Reaches, here, onward, SomeReaches, IsFull}
-use Rattle.ghistory.specs.Levels.{AreLevels, levels_below}
 use Rattle.gwalk.specs.Marks.{AreFull, stop_at}
 use Rattle.ghistory.specs.Selecting.{Selects, none, keep, skip}
 use Rattle.ghistory.specs.Walks.{CountsReached, Misses}
-use Rattle.gwalk.specs.Walks.{IsWalk, HasMet, AreMarked, IsLost, marked, marked_parents}
-use Rattle.gwalk.proofs.Reaching.{held_at_place, node_at_place, node_at_none, place_inside, kept_along, reaches_parent, some_reaches, place_of_node}
+use Rattle.gwalk.specs.Walks.{IsWalk, AreMarked, marked, marked_parents}
+use Rattle.gwalk.proofs.Reaching.{held_at_place, node_at_place, node_at_none, place_inside, kept_along, some_reaches, place_of_node}
 use Rattle.gwalk.proofs.Holding.{own_place, has_id_is}
 use Rattle.gwalk.proofs.Counting.{count_marks}
 use Rattle.gwalk.proofs.LevelReach.{met_reached, reached_met}

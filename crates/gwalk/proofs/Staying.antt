@@ -1,5 +1,5 @@
 -- Marks where objects only came to a graph.
-use Rattle.std.proofs.Common.{◌≡◌, ◌⊎◌, inl, inr, ℕ, zero, suc, ◌<◌, Bool, List, [], ◌∷◌, ◌++◌, Some, None, refl, sym, ◌∙◌, subst}
+use Rattle.std.proofs.Common.{◌≡◌, inl, inr, ℕ, zero, suc, List, [], ◌∷◌, ◌++◌, Some, sym, ◌∙◌, subst}
 use Rattle.std.specs.List.{slice_get}
 use Rattle.std.proofs.lemmas.Option.{none-some}
 use Rattle.gobject.specs.declared.node.Node.{Node}
@@ -7,7 +7,7 @@ use Rattle.gobject.specs.declared.node.Entry.{Entry}
 use Rattle.ghistory.specs.Graphs.{IsNode}
 use Rattle.ghistory.specs.Laws.{FullStaysFull}
 use Rattle.ghistory.specs.Reach.{Grows, Keeps}
-use Rattle.gwalk.specs.Marks.{AreFull, MarksStayFull}
+use Rattle.gwalk.specs.Marks.{MarksStayFull}
 use Rattle.gwalk.proofs.Holding.{id_cases, node_here, node_there}
 
 -- a node is found where it was

@@ -1,18 +1,11 @@
 -- The graph whose marked objects have no parents.
-use Rattle.std.proofs.Common.{◌≡◌, ◌⊎◌, inl, inr, ℕ, zero, suc, ◌<◌, ◌≤◌, Bool, true, false, cond, List, [], ◌∷◌, length, get_or, All, Contains, IsSome, Option, Some, None, refl, sym, ap, ◌∙◌, subst, arith}
+use Rattle.std.proofs.Common.{◌≡◌, inl, inr, ℕ, zero, suc, ◌<◌, ◌≤◌, Bool, true, false, cond, List, [], ◌∷◌, length, get_or, All, Option, Some, None, refl, sym, ap, ◌∙◌, subst, arith}
 use Rattle.std.specs.List.{position_or_len, slice_get}
 use Rattle.std.specs.Option.{option_map}
-use Rattle.std.proofs.lemmas.List.Elements.{All-head, All-tail}
 use Rattle.std.proofs.lemmas.Option.{none-some, slice_get_within, get_or_from_slice_get, slice_get_cases}
-use Rattle.std.proofs.lemmas.Bool.{cases_Bool}
-use Rattle.std.proofs.lemmas.Bool.Decides.{nat_tests}
-use Rattle.gobject.specs.declared.node.Node.{Node}
 use Rattle.gobject.specs.declared.node.Entry.{Entry}
-use Rattle.gobject.specs.Objects.{has_id, node_at, place_of, entry_of, node_of, IdsDiffer, IsShaped, max_parents}
-use Rattle.ghistory.specs.Graphs.{IsNode, Holds, HasParent}
-use Rattle.ghistory.specs.Reach.{Reaches, here, onward, SomeReaches, IsFull}
-use Rattle.gwalk.specs.Marks.{AreFull, stop_at}
-use Rattle.gwalk.proofs.Reaching.{node_at_place, node_at_none, held_at_place, kept_along, reaches_parent}
+use Rattle.gobject.specs.Objects.{has_id, place_of, entry_of, node_of, IsShaped}
+use Rattle.gwalk.specs.Marks.{stop_at}
 
 -- an entry whose node has no parents
 abbrev pub bare : {A : Type 0} → Entry A → Entry A

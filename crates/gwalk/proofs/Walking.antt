@@ -1,6 +1,6 @@
 -- What a walk keeps as it goes.
-use Rattle.std.proofs.Common.{◌≡◌, ◌⊎◌, inl, inr, ◌↔◌, ℕ, zero, suc, ◌+◌, ◌<◌, ◌≤◌, Bool, true, false, List, [], ◌∷◌, ◌++◌, length, get_or, set, take, Contains, Option, Some, None, refl, sym, ap, ◌∙◌, subst, arith, replicate, append-nil, append_assoc, length-append, unwrap_or}
-use Rattle.std.specs.List.{slice_get, filter_map, cons_option}
+use Rattle.std.proofs.Common.{◌≡◌, inl, inr, ℕ, zero, suc, ◌+◌, ◌<◌, ◌≤◌, Bool, true, false, List, [], ◌∷◌, ◌++◌, length, get_or, set, take, Contains, Option, Some, None, refl, sym, ap, ◌∙◌, subst, arith, replicate, append-nil, append_assoc, length-append, unwrap_or}
+use Rattle.std.specs.List.{slice_get, cons_option}
 use Rattle.std.specs.Option.{option_map}
 use Rattle.std.proofs.Math.Seq.{get_or-append_seam}
 use Rattle.std.proofs.lemmas.List.{nil_from_length, get_or-set_same, get_or-set_other, length-set, length-replicate, take_more}
@@ -13,8 +13,8 @@ use Rattle.gobject.specs.Objects.{node_at, place_of}
 use Rattle.ghistory.specs.Graphs.{IsNode, Holds}
 use Rattle.ghistory.specs.Levels.{is_in, new_ids, parents_of, AreLevels}
 use Rattle.gwalk.specs.Walks.{HasMet, IsLost, IsWalk, places}
-use Rattle.gwalk.proofs.Counting.{count_marks, count_none, count_more, count_less, parents_none, parents_more}
-use Rattle.gwalk.proofs.IdLists.{either_way, nothing_in_nil, in_or_not, in_from_contains, new_ids-old, new_ids-new, contains_from_in, absent_from_in, with_new, with_new-nil, with_new-append}
+use Rattle.gwalk.proofs.Counting.{count_none, count_more, count_less, parents_none, parents_more}
+use Rattle.gwalk.proofs.IdLists.{either_way, nothing_in_nil, in_or_not, in_from_contains, new_ids-old, new_ids-new, contains_from_in, with_new, with_new-nil, with_new-append}
 use Rattle.gwalk.proofs.LevelWalk.{IsWalked, walk_begins, walk_goes, walk_ends}
 use Rattle.gwalk.proofs.Reaching.{place_inside, place_same, node_at_place, node_at_none, held_at_place}
 

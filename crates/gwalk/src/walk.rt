@@ -63,9 +63,9 @@ impl<A: Allocator + Copy> Walk<A> {
             self.old.marks.items self.old.met.items self.old.lost self.old.parents }
         ensures { OnOk result ((ids : List (List ℕ)) →
             HasMet (stop_at known.now graph.now.entries) ids
-                self.old.marks.items self.old.met.items self.old.lost self.old.parents →
+            self.old.marks.items self.old.met.items self.old.lost self.old.parents →
             HasMet (stop_at known.now graph.now.entries) (ids ++ new_ids ids (id.now ∷ []))
-                self.new.marks.items self.new.met.items self.new.lost self.new.parents) }
+            self.new.marks.items self.new.met.items self.new.lost self.new.parents) }
     {
         let Some(place) = graph.number(id) else {
             self.lost = Some(*id);
@@ -91,9 +91,9 @@ impl<A: Allocator + Copy> Walk<A> {
             self.old.marks.items self.old.met.items self.old.lost self.old.parents }
         ensures { OnOk result ((before : List (List ℕ)) →
             HasMet (stop_at known.now graph.now.entries) before
-                self.old.marks.items self.old.met.items self.old.lost self.old.parents →
+            self.old.marks.items self.old.met.items self.old.lost self.old.parents →
             HasMet (stop_at known.now graph.now.entries) (before ++ new_ids before ids.now)
-                self.new.marks.items self.new.met.items self.new.lost self.new.parents) }
+            self.new.marks.items self.new.met.items self.new.lost self.new.parents) }
     {
         for id in ids {
             self.meet(graph, known, id)?;

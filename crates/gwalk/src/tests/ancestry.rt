@@ -79,7 +79,11 @@ const ORDERED: &[Row] = &[
 fn ids_of_an_ordered_graph_are_looked_up(rt: HostRuntime) {
     let graph = graph_of(&rt, ORDERED);
     assert!(rt; graph.is_ordered());
-    check_missing(&rt, &graph, &[(&[], None), (&[3, 1], None), (&[3, 7], Some(7))]);
+    check_missing(
+        &rt,
+        &graph,
+        &[(&[], None), (&[3, 1], None), (&[3, 7], Some(7))],
+    );
 }
 
 #[test]

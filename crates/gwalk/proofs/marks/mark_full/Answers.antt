@@ -1,4 +1,3 @@
-use Rattle.std.proofs.Common.{◌≡◌, ℕ, ◌||◌, get_or, false, sym, ap, ◌∙◌}
 use Rattle.gwalk.proofs.Marking.{marks_more, full_more}
 use Rattle.gwalk.proofs.Reached.{marks_reached}
 use Rattle.gwalk.proofs.marks.mark_full.Goals as goal

@@ -1,4 +1,4 @@
-use Rattle.std.proofs.Common.{◌≡◌, ◌≤◌, ◌<◌, ◌++◌, ◌∷◌, [], ℕ, List, length, sym, ap, subst, ◌∙◌, arith}
+use Rattle.std.proofs.Common.{◌++◌, ◌∷◌, [], arith}
 use Rattle.gwalk.specs.Marks.{stop_at}
 use Rattle.gwalk.proofs.IdLists.{with_new}
 use Rattle.ghistory.specs.Levels.{new_ids}

@@ -1,5 +1,4 @@
-use Rattle.std.proofs.Common.{◌≡◌, ◌<◌, length, get_or, false, true, Some, None, sym, ◌∙◌, arith, rules}
-use Rattle.gobject.specs.Objects.{place_of}
+use Rattle.std.proofs.Common.{false, sym, ◌∙◌, arith}
 use Rattle.gwalk.specs.Marks.{stop_at}
 use Rattle.gwalk.proofs.Counting.{counts_fit}
 use Rattle.gwalk.proofs.Stopping.{stop_place, stop_length, stop_narrow}

@@ -1,4 +1,4 @@
-use Rattle.std.proofs.Common.{◌≡◌, ◌≤◌, ℕ, List, ◌++◌, take, length, sym, ap, subst, append-nil, arith}
+use Rattle.std.proofs.Common.{◌≤◌, ℕ, List, take, length, sym, subst, append-nil, arith}
 use Rattle.std.proofs.lemmas.List.{take_all}
 use Rattle.gwalk.specs.Marks.{stop_at}
 use Rattle.gwalk.specs.Walks.{HasMet}

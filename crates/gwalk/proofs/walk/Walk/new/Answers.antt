@@ -1,5 +1,4 @@
-use Rattle.std.proofs.Common.{◌≡◌, List, Bool, length, replicate, false, sym, ◌∙◌, subst}
-use Rattle.gwalk.specs.Walks.{HasMet}
+use Rattle.std.proofs.Common.{sym, ◌∙◌}
 use Rattle.gwalk.specs.Marks.{stop_at}
 use Rattle.gwalk.proofs.Stopping.{stop_length}
 use Rattle.gwalk.proofs.Walking.{meets_nothing}
