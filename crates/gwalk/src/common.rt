@@ -34,7 +34,8 @@ pub fn common_ids<A: Allocator + Copy>(
 /// Whether the first id reaches the second: whether they are one id, or a parent of the first, which is
 /// then held, reaches the second.
 ///
-/// It walks from the first id no further than to the second. It fails with `Memory` alone.
+/// In an ordered graph it passes once over the objects from the second id to the first. In any other it walks
+/// from the first id no further than to the second. It fails with `Memory` alone.
 pub fn reaches<A: Allocator + Copy>(
     graph: &Graph<A>,
     a: &Oid,
@@ -43,6 +44,9 @@ pub fn reaches<A: Allocator + Copy>(
     ensures answer { IfOk result (λ answer. IsTrue answer ↔ Reaches graph.now.entries a.now b.now) }
     ensures fault { IfErr result (λ fault. fault ≡ Memory) }
 {
+    if graph.is_ordered() {
+        return gpass::reaches(graph, a, b);
+    }
     let goals = Goals::new(graph, &[*b])?;
     Ok(goals.reached_by(graph, a)?)
 }
@@ -50,8 +54,9 @@ pub fn reaches<A: Allocator + Copy>(
 /// Whether enough is common for a pack (gitprotocol-v2(5), "fetch": `ready`): there are common ids, and
 /// each want reaches one of them. Where there are none it takes no memory.
 ///
-/// From each want it walks no further than to the first common id that it meets. It fails with `Memory`
-/// alone.
+/// In an ordered graph it passes once over the objects from the first common id to the last want. In any
+/// other it walks from each want no further than to the first common id that it meets. It fails with
+/// `Memory` alone.
 pub fn ready<A: Allocator + Copy>(
     graph: &Graph<A>,
     wants: &[Oid],
@@ -61,6 +66,9 @@ pub fn ready<A: Allocator + Copy>(
     ensures nothing { commons.now ≡ [] → result ≡ Ok false }
     ensures fault { IfErr result (λ fault. fault ≡ Memory) }
 {
+    if graph.is_ordered() {
+        return gpass::ready(graph, wants, commons);
+    }
     if commons.is_empty() {
         return Ok(false);
     }

@@ -71,8 +71,26 @@ fn tips_of<A: Allocator + Copy>(
     refs.iter().map(|reference| reference.1).collect(alloc)
 }
 
-// The list to send, with the tags that lead from the tips.
+// The list to send, with the tags that lead from the tips: by a pass where parents came first, else by walks.
 fn list_to_send<A: Allocator + Copy>(
+    graph: &Graph<A>,
+    wants: &[Oid],
+    commons: &[Oid],
+    tips: &[Oid],
+) -> Result<Vec<Entry<A>, A>, GraphFault>
+    ensures graph { IsGraph graph.now }
+    ensures list { IfOk result (λ list.
+        IsListToSend graph.now.entries wants.now commons.now tips.now list.items) }
+    ensures fault { IfErr result (λ fault. fault ≡ Memory) }
+{
+    if graph.is_ordered() {
+        return gpass::send_list(graph, wants, commons, tips);
+    }
+    Ok(walked_list(graph, wants, commons, tips)?)
+}
+
+// The same by walks.
+fn walked_list<A: Allocator + Copy>(
     graph: &Graph<A>,
     wants: &[Oid],
     commons: &[Oid],

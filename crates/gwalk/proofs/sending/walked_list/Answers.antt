@@ -4,7 +4,7 @@ use Rattle.ghistory.specs.Sending.{IsListToSend}
 use Rattle.gwalk.specs.Tags.{AreTagged}
 use Rattle.gwalk.specs.Walks.{marked}
 use Rattle.gwalk.proofs.Tagging.{tags_end}
-use Rattle.gwalk.proofs.sending.list_to_send.Goals as goal
+use Rattle.gwalk.proofs.sending.walked_list.Goals as goal
 
 pub with_tags-requires : goal.with_tags-requires
 with_tags-requires g c = ap length c.as_slice.ensures.value ∙ c.in_ok-new.ensures.marks.long
