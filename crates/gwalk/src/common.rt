@@ -36,11 +36,7 @@ pub fn common_ids<A: Allocator + Copy>(
 ///
 /// In an ordered graph it passes once over the objects from the second id to the first. In any other it walks
 /// from the first id no further than to the second. It fails with `Memory` alone.
-pub fn reaches<A: Allocator + Copy>(
-    graph: &Graph<A>,
-    a: &Oid,
-    b: &Oid,
-) -> Result<bool, GraphFault>
+pub fn reaches<A: Allocator + Copy>(graph: &Graph<A>, a: &Oid, b: &Oid) -> Result<bool, GraphFault>
     ensures answer { IfOk result (λ answer. IsTrue answer ↔ Reaches graph.now.entries a.now b.now) }
     ensures fault { IfErr result (λ fault. fault ≡ Memory) }
 {

@@ -61,9 +61,9 @@ fn first_untold<A: Allocator + Copy>(
     ensures { IfOk result (λ list. (commons reached others : List (List ℕ)) →
         AreLevels graph.now.entries commons reached →
         HasMet graph.now.entries reached
-            known.now.marks.items known.now.met.items known.now.lost known.now.parents →
+        known.now.marks.items known.now.met.items known.now.lost known.now.parents →
         HasMet graph.now.entries (new_ids [] others)
-            sent.now.marks.items sent.now.met.items sent.now.lost sent.now.parents →
+        sent.now.marks.items sent.now.met.items sent.now.lost sent.now.parents →
         IsOffer graph.now.entries tips.now commons others n list.items) }
 {
     levels_are_distances::<A>();

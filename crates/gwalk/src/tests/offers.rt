@@ -186,7 +186,13 @@ fn check(rt: &(impl Abort + AllocGlobal), case: &Case) {
     let tips = ids_of(rt, case.tips);
     let commons = ids_of(rt, case.commons);
     let sent = ids_of(rt, case.sent);
-    let answer = haves(&graph, tips.as_slice(), commons.as_slice(), sent.as_slice(), case.n);
+    let answer = haves(
+        &graph,
+        tips.as_slice(),
+        commons.as_slice(),
+        sent.as_slice(),
+        case.n,
+    );
     let offer = answer.expect(rt, "memory");
     let wanted = ids_of(rt, case.offer);
     assert_eq!(rt; offer.as_slice(), wanted.as_slice());

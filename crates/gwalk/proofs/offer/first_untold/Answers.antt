@@ -66,17 +66,29 @@ loop-at-preserved g c =
           let grown : c.if-is_untold.list.items ≡ c.loop-at.list.items ++ w.id_at.result.now ∷ [] = cc (w.in_ok-push.ensures.items) in
           let pushed = grown ∙ ap (λ x. c.loop-at.list.items ++ x ∷ []) id in
           let long = length-append c.loop-at.list.items (n.id ∷ []) in
-          let small = c.loop-at.invariant.0 in
-          (subst (λ l. length l ≤ c.args.n) (sym pushed) (omega (arith, long, small, c.if-len-n.false, full.0)),
-            (front, back, under, λ commons reached others levels h h2.
-              pushed ∙ offers_next c.args.graph.now.entries c.args.tips.now reached others now.0 now.1 c.loop-at.list.items c.index-number.result.now n (now.3 commons reached others levels h h2)
-              (untold_is c.args.graph.now.entries reached others _ _ _ _ _ _ _ _ n.id c.index-number.result.now h h2 n.place ∙ sym c.is_untold.ensures ∙ w.if-is_untold.true)))
+          let small = c.loop-at.invariant.0 in (
+            subst (λ l. length l ≤ c.args.n) (sym pushed) (omega (arith, long, small, c.if-len-n.false, full.0)),
+            (
+              front,
+              back,
+              under,
+              λ commons reached others levels h h2.
+                  pushed ∙ offers_next c.args.graph.now.entries c.args.tips.now reached others now.0 now.1 c.loop-at.list.items c.index-number.result.now n (now.3 commons reached others levels h h2)
+                  (untold_is c.args.graph.now.entries reached others _ _ _ _ _ _ _ _ n.id c.index-number.result.now h h2 n.place ∙ sym c.is_untold.ensures ∙ w.if-is_untold.true),
+            ),
+          )
       | else-is_untold w ↦
-          let kept : c.if-is_untold.list.items ≡ c.loop-at.list.items = cc in
-          (subst (λ l. length l ≤ c.args.n) (sym kept) c.loop-at.invariant.0,
-            (front, back, under, λ commons reached others levels h h2.
-              kept ∙ skips_next c.args.graph.now.entries c.args.tips.now reached others now.0 now.1 c.loop-at.list.items c.index-number.result.now n (now.3 commons reached others levels h h2)
-              (untold_is c.args.graph.now.entries reached others _ _ _ _ _ _ _ _ n.id c.index-number.result.now h h2 n.place ∙ sym c.is_untold.ensures ∙ w.if-is_untold.false)))
+          let kept : c.if-is_untold.list.items ≡ c.loop-at.list.items = cc in (
+            subst (λ l. length l ≤ c.args.n) (sym kept) c.loop-at.invariant.0,
+            (
+              front,
+              back,
+              under,
+              λ commons reached others levels h h2.
+                  kept ∙ skips_next c.args.graph.now.entries c.args.tips.now reached others now.0 now.1 c.loop-at.list.items c.index-number.result.now n (now.3 commons reached others levels h h2)
+                  (untold_is c.args.graph.now.entries reached others _ _ _ _ _ _ _ _ n.id c.index-number.result.now h h2 n.place ∙ sym c.is_untold.ensures ∙ w.if-is_untold.false),
+            ),
+          )
     ]
 
 pub returns : goal.returns

@@ -16,5 +16,5 @@ pub returns-clause-list : goal.returns-clause-list
 returns-clause-list g c =
     let entries = c.args.graph.now.entries in
     let tagged : AreTagged entries c.in_ok-new.new.items c.args.tips.now c.in_ok-marks.marks.items =
-        subst (λ (l : List Bool). AreTagged entries l c.args.tips.now c.in_ok-marks.marks.items) c.as_slice.ensures.value c.in_ok-marks.ensures in
+    subst (λ (l : List Bool). AreTagged entries l c.args.tips.now c.in_ok-marks.marks.items) c.as_slice.ensures.value c.in_ok-marks.ensures in
     rw (c.in_ok-entries_at.ensures, c.as_slice-2.ensures.value) (tags_end entries c.args.wants.now c.args.commons.now c.in_ok-new.new.items c.in_ok-new.ensures.graph.differ c.in_ok-new.ensures.marks c.args.tips.now c.in_ok-marks.marks.items tagged)

@@ -25,7 +25,7 @@ loop-tip-preserved g c =
     let before = take i c.args.tips.now in
     let marks = c.loop-tip.marks.items in
     let more : take (i + 1) c.args.tips.now ≡ before ++ tip ∷ [] =
-        take_more c.args.tips.now i tip c.loop-tip-test.true ∙ ap (λ t. before ++ t ∷ []) (sym c.tip-item.is) in
+    take_more c.args.tips.now i tip c.loop-tip-test.true ∙ ap (λ t. before ++ t ∷ []) (sym c.tip-item.is) in
     let I : List (List ℕ) → List Bool → Type 0 = λ tips l. AreTagged entries c.args.new.now tips l in
     elim c.if-leads_to_marked.branch [
       | then-leads_to_marked w ↦
