@@ -32,9 +32,9 @@
 mod fault;
 mod text;
 
-pub use crate::fault::TextFault;
+pub use crate::fault::{LoadFault, SaveFault};
 pub use crate::text::{Order, Repository, load, save};
-pub use ghistory::{Count, Graph, GraphFault, MAX_NODES, laws};
+pub use ghistory::{Graph, GraphFault, IdHasher, MAX_NODES, laws};
 pub use gobject::{
     Entry, Faithful, IndexFault, Indexer, Kind, MAX_PARENTS, Node, PackFault, Packer, Parents,
     PlainPack, have_ids,

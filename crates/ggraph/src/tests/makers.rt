@@ -1,5 +1,5 @@
 //! Texts, ids and names for tests.
-use crate::{Order, Repository, TextFault, load};
+use crate::{Order, Repository, LoadFault, load};
 use gname::{Oid, RefName};
 use std::process::Abort;
 
@@ -34,7 +34,7 @@ pub(super) fn read(
     rt: &(impl Abort + AllocGlobal),
     short: &str,
     order: Order,
-) -> Result<Repository, TextFault> {
+) -> Result<Repository, LoadFault> {
     let text = spelled(rt, short);
     load(rt.alloc(), text.as_slice(), order)
 }
@@ -49,10 +49,10 @@ pub(super) fn fault_of(
     Some((fault.code(), line_of(&fault)))
 }
 
-fn line_of(fault: &TextFault) -> usize {
+fn line_of(fault: &LoadFault) -> usize {
     match fault {
-        TextFault::Text { line } | TextFault::ParentLater { line } => *line,
-        TextFault::Memory => 0,
+        LoadFault::Text { line } | LoadFault::ParentLater { line } => *line,
+        LoadFault::Memory => 0,
     }
 }
 
