@@ -54,7 +54,7 @@ NamesLaterParent A text lines =
 abbrev pub IsKeptLine : (A : Type 0) → List ℕ → Type 0
 IsKeptLine A line =
     ((entry : Entry A) × (line ≡ node_text entry)) ⊎ ((ref : List ℕ × List ℕ) × (line ≡ ref_line ref))
-    ⊎ ((target : List ℕ) × (line ≡ head_line {A} (Symref target)))
+    ⊎ ((target : List ℕ) × (line ≡ head_line {A = A} (Symref target)))
 
 -- the next line may come after these, and takes memory
 abbrev pub TakesMemory : (A : Type 0) → Order → List ℕ → List (List ℕ) → Type 0

@@ -57,4 +57,4 @@ IsNoHead A format line = (head : Head A) → IsHead format head → line ≡ hea
 
 -- the line is that of HEAD on a ref
 abbrev pub IsSymrefLine : (A : Type 0) → List ℕ → Type 0
-IsSymrefLine A line = (target : List ℕ) × IsBelowRefs target × (line ≡ head_line {A} (Symref target))
+IsSymrefLine A line = (target : List ℕ) × IsBelowRefs target × (line ≡ head_line {A = A} (Symref target))

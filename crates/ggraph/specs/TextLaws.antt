@@ -1,6 +1,6 @@
 -- The laws of ids and names that reading a repository text rests on.
-use Rattle.gname.specs.Laws.{IdTextsAreDigits, IdsHaveOneFormat, IdsHaveTexts, NamesAreClean, TextsHaveOneReading}
-use Rattle.gname.specs.Laws.{TextsSpellOneId}
+use Rattle.gname.specs.Laws.{IdTextsAreDigits, IdsHaveOneFormat, IdsHaveTexts, NamesAreClean, RulesNeverReportMemory}
+use Rattle.gname.specs.Laws.{TextsHaveOneReading, TextsSpellOneId}
 
 pub record TextLaws : Type 0 where
   pub have_texts : IdsHaveTexts
@@ -9,3 +9,4 @@ pub record TextLaws : Type 0 where
   pub one_format : IdsHaveOneFormat
   pub one_reading : TextsHaveOneReading
   pub clean_names : NamesAreClean
+  pub no_memory_rule : RulesNeverReportMemory

@@ -15,4 +15,5 @@ pub(crate) fn text_laws()
     laws::ids_have_one_format();
     laws::texts_have_one_reading();
     laws::names_are_clean();
+    laws::rules_never_report_memory();
 }

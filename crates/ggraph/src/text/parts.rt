@@ -90,6 +90,7 @@ pub(crate) fn name_of<A: Allocator + Copy>(
         (λ found. MatchOption found (¬ (IsBelowRefs text.now)) (λ name. (name ≡ text.now) × IsBelowRefs text.now))
         (λ _. IsBelowRefs text.now) }
 {
+    text_laws();
     if !text.starts_with(b"refs/") {
         return Ok(None);
     }
