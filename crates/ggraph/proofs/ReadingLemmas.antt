@@ -60,6 +60,11 @@ head_on_line format line text (Ok (Some (heads_of.Symref target))) is facts =
     (is ∙ ap (λ (t : List ℕ). codes "h ref " ++ t) (sym facts.0), subst IsBelowRefs (sym facts.0) facts.1)
 head_on_line format line text (Err e) is below = (text, below, is)
 
+-- ---- HEAD on a ref for whose name there is no memory
+
+pub symref_short : {A : Type 0} (order : Order) (old : Reading A) (line : List ℕ) (number : ℕ) → RefMayCome old.stage → IsSymrefLine A line → RefusesLine order old line number faults.Memory
+symref_short order old line number due (target, below, is) = (heads (heads_of.Symref target), is, (due, below), tt)
+
 module _ (laws : TextLaws) where
   letter_not : (kind : Kind) (s t : List ℕ) (b : ℕ) → (b ≡ 99 → ⊥) → (b ≡ 116 → ⊥) → letter kind ∷ s ≡ b ∷ t → ⊥
   letter_not Commit s t b notc nott e = notc (sym (ap first_byte e))
@@ -288,8 +293,3 @@ module _ (laws : TextLaws) where
     ref_stopped number (Err (faults.Text at)) valid facts = (facts.0, no_ref_comes Any old line due text is (λ other e may.
         facts.1 (subst (λ (x : List ℕ × List ℕ). RefMayFollow old.graph.format old.refs x) (one_ref old.graph.format other it may.id valid (sym e ∙ ref_line_is)) may)))
     ref_stopped number (Err (faults.ParentLater at)) valid facts = absurd facts
-
-  -- ---- what taking HEAD answers
-
-  pub symref_short : {A : Type 0} (order : Order) (old : Reading A) (line : List ℕ) (number : ℕ) → RefMayCome old.stage → IsSymrefLine A line → RefusesLine order old line number faults.Memory
-  symref_short order old line number due (target, below, is) = (heads (heads_of.Symref target), is, (due, below), tt)

@@ -1,7 +1,7 @@
 -- Writing a text, one line more, and the first id of another format.
-use Rattle.std.proofs.Common.{◌≡◌, ℕ, ◌+◌, ◌<◌, List, [], ◌∷◌, ◌++◌, length, get_or, slice_get, take, drop, map, All, Some, codes, refl, sym, ◌∙◌, ap, subst, arith}
+use Rattle.std.proofs.Common.{◌≡◌, ℕ, ◌+◌, ◌<◌, List, [], ◌∷◌, ◌++◌, length, get_or, slice_get, take, drop, map, All, Option, Some, None, MatchOption, codes, refl, sym, ◌∙◌, ap, subst, arith}
 use Rattle.std.proofs.lemmas.List.{append_assoc, map-append, take_more, take-append-drop}
-use Rattle.std.proofs.lemmas.List.Elements.{All-append, All-push}
+use Rattle.std.proofs.lemmas.List.Elements.{All-append, All-cons, All-nil, All-push}
 use Rattle.std.proofs.lemmas.Option.{slice_get-get_or}
 use Rattle.gname.specs.declared.formats.Format.{Format}
 use Rattle.gname.specs.Ids.{IsIdOf}
@@ -108,3 +108,14 @@ other_in_head format refs head id all first = record {
 
 pub no_other : {A : Type 0} (format : Format) (refs : RefList) (head : Head A) → All (IsIdOf format) (ref_ids refs) → All (IsIdOf format) (head_ids head) → All (IsIdOf format) (named_ids refs head)
 no_other format refs head all here = All-append (IsIdOf format) (ref_ids refs) (head_ids head) all here
+
+pub other_in_head_result : {A : Type 0} (format : Format) (refs : RefList) (head : Head A) (found : Option (List ℕ)) → All (IsIdOf format) (ref_ids refs) → MatchOption found (All (IsIdOf format) (head_ids head)) (IsFirstOther format (head_ids head)) → MatchOption found (All (IsIdOf format) (named_ids refs head)) (IsFirstOther format (named_ids refs head))
+other_in_head_result format refs head None all here = no_other format refs head all here
+other_in_head_result format refs head (Some id) all here = other_in_head format refs head id all here
+
+-- the one id that HEAD stands at
+pub head_is_other : (format : Format) (id : List ℕ) → (IsIdOf format id → ⊥) → IsFirstOther format (id ∷ []) id
+head_is_other format id other = record { front = []; rest = []; parts = refl; before = All-nil (IsIdOf format); other = other }
+
+pub head_is_not : (format : Format) (id : List ℕ) → IsIdOf format id → All (IsIdOf format) (id ∷ [])
+head_is_not format id is = All-cons (IsIdOf format) id [] is (All-nil (IsIdOf format))

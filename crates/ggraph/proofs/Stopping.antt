@@ -3,7 +3,7 @@ use Rattle.std.proofs.Common.{◌≡◌, inl, inr, ℕ, ◌+◌, List, [], ◌�
 use Rattle.std.proofs.lemmas.List.{append_assoc, length-map}
 use Rattle.gobject.specs.declared.node.Entry.{Entry}
 use Rattle.grefs.specs.declared.head.Head.{Head}
-use Rattle.grefs.specs.declared.head.Head.TheVariants.{Symref}
+use Rattle.grefs.specs.declared.head.Head.TheVariants.{Id, None, Symref}
 use Rattle.ggraph.specs.declared.fault.LoadFault.{LoadFault}
 use Rattle.ggraph.specs.declared.fault.LoadFault.TheVariants as faults
 use Rattle.ggraph.specs.declared.text.Order.{Order}
@@ -73,9 +73,13 @@ module _ (laws : TextLaws) where
   )
 
   kept_line : {A : Type 0} (item : Item A) (this : List ℕ) → this ≡ line_of item → IsKept item → IsKeptLine A this
+  kept_line (begins format) this is kept = absurd kept
   kept_line (node entry) this is kept = inl (entry, is)
   kept_line (ref it) this is kept = inr (inl (it, is))
   kept_line (heads (Symref target)) this is kept = inr (inr (target, is))
+  kept_line (heads (Id id)) this is kept = absurd kept
+  kept_line (heads None) this is kept = absurd kept
+  kept_line ends this is kept = absurd kept
 
   counted_lines : {A : Type 0} (items : List (Item A)) (number : ℕ) → number ≡ length items + 1 → number ≡ length (map line_of items) + 1
   counted_lines items number e = e ∙ ap (λ (n : ℕ). n + 1) (sym (length-map items line_of))

@@ -3,7 +3,6 @@
 
 ghost use Rattle.std.specs.Prelude.{◌≡◌, ◌++◌, All, IfOk, IsTrue, ◌↔◌, ◌∷◌, ◌<◌, [], MatchOption, MatchResult, OnOk, Some, length, map, slice_get};
 ghost use Rattle.ghistory.specs.Graphs.{IsGraph};
-ghost use Rattle.grefs.specs.RefLists.{IsRefs};
 ghost use Rattle.gobject.specs.declared.node.Entry.{Entry};
 ghost use Rattle.gname.specs.Ids.{IsIdOf, id_text};
 ghost use Rattle.gobject.specs.PlainPackText.{ids_text, line, node_text, text_of};
@@ -107,8 +106,7 @@ fn written<A: Allocator + Copy>(
     refs: &Refs<A>,
     head: &Head<A>,
 ) -> Result<Vec<u8, A>, AllocError>
-    ensures graph { IsGraph graph.now }
-    ensures refs { IsRefs refs.now }
+    ensures graph { IfOk result (λ _. IsGraph graph.now) }
     ensures head { IfOk result (λ _. PointsBelowRefs head.now) }
     ensures text { IfOk result (λ text. text.items ≡ repository_text graph.now refs.now head.now) }
 {
@@ -122,7 +120,8 @@ fn written<A: Allocator + Copy>(
 }
 
 fn put_nodes<A: Allocator + Copy>(text: &mut Vec<u8, A>, graph: &Graph<A>) -> Result<(), AllocError>
-    ensures { OnOk result (text.new.items ≡ text.old.items ++ text_of (map node_text graph.now.entries)) }
+    ensures text { OnOk result (text.new.items ≡ text.old.items ++ text_of (map node_text graph.now.entries)) }
+    ensures graph { IsGraph graph.now }
 {
     for place in 0..graph.len() {
         put_node(text, graph, place)?;
