@@ -7,7 +7,6 @@ use Rattle.ggraph.specs.declared.text.Order.{Order}
 use Rattle.ggraph.specs.declared.text.reading.Stage.TheVariants.{Done}
 use Rattle.ggraph.specs.declared.text.reading.Stage.{Stage}
 use Rattle.ggraph.specs.declared.text.reading.Reading.{Reading}
-use Rattle.ghistory.specs.Graphs.{History}
 use Rattle.gobject.specs.PlainPackText.{line, text_of}
 use Rattle.ggraph.specs.Reading.{Item, MayCome, ComesNext, after, line_of, nothing_read}
 use Rattle.ggraph.proofs.Items.{HasRead, ReadsTo, items_text}

@@ -5,7 +5,7 @@ use Rattle.std.proofs.lemmas.List.{append_assoc, append-nil}
 use Rattle.std.proofs.lemmas.List.Elements.{All-head, All-tail, All-cons}
 use Rattle.gname.specs.declared.formats.Format.{Format}
 use Rattle.gname.specs.declared.formats.Format.TheVariants.{Sha1, Sha256}
-use Rattle.gname.specs.Ids.{IsIdOf, IsIdTextOf, id_text}
+use Rattle.gname.specs.Ids.{IsIdOf, id_text}
 use Rattle.gobject.specs.declared.node.Kind.{Kind}
 use Rattle.gobject.specs.declared.node.Kind.TheVariants.{Commit, Tag}
 use Rattle.gobject.specs.declared.node.Entry.{Entry}
@@ -23,7 +23,6 @@ use Rattle.ggraph.specs.Reading.{Item, MayCome, RefMayCome, after, begins, ends,
 use Rattle.ggraph.proofs.Items.{ReadsTo}
 use Rattle.ggraph.proofs.Lines.{AreLines, IsLine, clean_line, line-append, one_list}
 use Rattle.ggraph.proofs.ReadingLemmas.{one_item}
-use Rattle.ggraph.proofs.TextLemmas.{id_spells}
 use Rattle.ggraph.specs.TextLaws.{TextLaws}
 
 module _ (laws : TextLaws) where

@@ -1,7 +1,6 @@
 -- Where a text is refused, and that no text of a repository is.
-use Rattle.std.proofs.Common.{◌≡◌, inl, inr, ℕ, ◌+◌, List, [], ◌∷◌, ◌++◌, length, map, codes, Ok, Err, refl, sym, ◌∙◌, ap, subst}
+use Rattle.std.proofs.Common.{◌≡◌, inl, inr, ℕ, ◌+◌, List, [], ◌∷◌, ◌++◌, length, map, Ok, Err, refl, sym, ◌∙◌, ap, subst}
 use Rattle.std.proofs.lemmas.List.{append_assoc, length-map}
-use Rattle.gobject.specs.declared.node.Entry.{Entry}
 use Rattle.grefs.specs.declared.head.Head.{Head}
 use Rattle.grefs.specs.declared.head.Head.TheVariants.{Id, None, Symref}
 use Rattle.ggraph.specs.declared.fault.LoadFault.{LoadFault}
@@ -12,9 +11,9 @@ use Rattle.ggraph.specs.declared.text.Repository.{Repository}
 use Rattle.ggraph.specs.declared.text.reading.Stage.TheVariants.{Done}
 use Rattle.ggraph.specs.declared.text.reading.Reading.{Reading}
 use Rattle.grefs.specs.RefLists.{RefList}
-use Rattle.ggraph.specs.RepositoryText.{IsLoadable, head_line, lines_of, ref_line, repository_text}
+use Rattle.ggraph.specs.RepositoryText.{IsLoadable, lines_of, repository_text}
 use Rattle.ggraph.specs.Reading.{Item, IsKept, MayCome, RefusesLine, NeverComes, after, begins, ends, heads, line_of, node, nothing_read, ref}
-use Rattle.gobject.specs.PlainPackText.{IsInLine, line, node_text, text_of}
+use Rattle.gobject.specs.PlainPackText.{IsInLine, line}
 use Rattle.ghistory.specs.Graphs.{History}
 use Rattle.ggraph.specs.Loading.{AcceptsText, BeginsText, EndsEarly, GoesOn, IsKeptLine, IsWholeText, IsWrongLine, StopsAt}
 use Rattle.ggraph.proofs.Items.{HasRead, ReadsTo, items_text}

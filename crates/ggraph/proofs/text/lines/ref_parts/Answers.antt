@@ -1,4 +1,4 @@
-use Rattle.std.proofs.Common.{Some, None, ◌∷◌, []}
+use Rattle.std.proofs.Common.{None, ◌∷◌, []}
 use Rattle.std.proofs.lemmas.Slice.Eq.{strip_prefix_is}
 use Rattle.std.proofs.lemmas.Bool.Decides.{Decides-eqb}
 use Rattle.ggraph.proofs.TextLemmas.{no_ref_id, no_ref_space}

@@ -1,4 +1,4 @@
-use Rattle.std.proofs.Common.{◌≡◌, ◌<◌, ◌+◌, take, List, ℕ, length, sym, ◌∙◌, subst, arith}
+use Rattle.std.proofs.Common.{◌<◌, take, List, ℕ, length, sym, ◌∙◌, subst, arith}
 use Rattle.std.proofs.lemmas.List.{length-set, length-take-le, take_more_set}
 use Rattle.ggraph.proofs.TextLemmas.{IdsSoFar, ids_begin, ids_more, no_ids_stuck, too_many_ids}
 use Rattle.ggraph.proofs.text.parts.read_parents.Goals as goal

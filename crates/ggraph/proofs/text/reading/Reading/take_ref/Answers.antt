@@ -1,4 +1,4 @@
-use Rattle.std.proofs.Common.{Some, None, ◌∷◌, [], refl}
+use Rattle.std.proofs.Common.{Some, ◌∷◌, [], refl}
 use Rattle.std.proofs.lemmas.Slice.Eq.{strip_prefix_is}
 use Rattle.std.proofs.lemmas.Bool.Decides.{Decides-eqb}
 use Rattle.ggraph.specs.declared.text.Order.TheVariants.{Any}
