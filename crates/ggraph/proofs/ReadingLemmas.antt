@@ -290,6 +290,9 @@ module _ (laws : TextLaws) where
     pub ref_stopped : (number : ℕ) (r : Result (Unit {0}) LoadFault) → IsIdOf old.graph.format it.1 → IfErr r (RefusesRef old.graph.format old.refs it number) → IfErr r (RefusesLine order old line number)
     ref_stopped number (Ok u) valid facts = tt
     ref_stopped number (Err faults.Memory) valid facts = (ref it, ref_line_is, (due, facts), tt)
-    ref_stopped number (Err (faults.Text at)) valid facts = (facts.0, no_ref_comes Any old line due text is (λ other e may.
-        facts.1 (subst (λ (x : List ℕ × List ℕ). RefMayFollow old.graph.format old.refs x) (one_ref old.graph.format other it may.id valid (sym e ∙ ref_line_is)) may)))
+    ref_stopped number (Err (faults.Text at)) valid facts = (
+      facts.0,
+      no_ref_comes Any old line due text is (λ other e may.
+          facts.1 (subst (λ (x : List ℕ × List ℕ). RefMayFollow old.graph.format old.refs x) (one_ref old.graph.format other it may.id valid (sym e ∙ ref_line_is)) may)),
+    )
     ref_stopped number (Err (faults.ParentLater at)) valid facts = absurd facts

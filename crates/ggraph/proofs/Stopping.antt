@@ -66,8 +66,8 @@ module _ (laws : TextLaws) where
   goes_on order text rest this after_it items old so_far next clean = (
     after_it,
     so_far.spells ∙ ap (λ (t : List ℕ). items_text items ++ t) next
-    ∙ sym (append_assoc (items_text items) (line this) after_it)
-    ∙ ap (λ (t : List ℕ). t ++ after_it) (sym (text_of-push (map line_of items) this)),
+        ∙ sym (append_assoc (items_text items) (line this) after_it)
+        ∙ ap (λ (t : List ℕ). t ++ after_it) (sym (text_of-push (map line_of items) this)),
     clean,
   )
 

@@ -108,8 +108,8 @@ module _ (laws : TextLaws) (format : Format) where
     valid = All-push (IsIdOf format) ids id so_far.valid valid;
     left = λ all each same.
         (let before = so_far.left all each same in
-         let step = left_step rest id after valid e before.0 before.1 before.2 in
-         (step.0, step.1, step.2, omega (arith, before.3, step.3, length-append ids (id ∷ []))));
+        let step = left_step rest id after valid e before.0 before.1 before.2 in
+        (step.0, step.1, step.2, omega (arith, before.3, step.3, length-append ids (id ∷ []))));
   }
     where
       regroup : ids_text ids ++ (codes " " ++ (id_text id ++ after)) ≡ (ids_text ids ++ ids_text (id ∷ [])) ++ after

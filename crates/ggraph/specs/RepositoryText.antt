@@ -56,7 +56,8 @@ ComesAfter Any g entry = ⊤
 ComesAfter ParentsFirst g entry = All (Holds g) entry.node.parents
 
 -- an entry may come next
-pub record MayFollow {A : Type 0} (order : Order) (format : Format) (g : List (Entry A)) (entry : Entry A) : Type 0 where
+pub record MayFollow {A : Type 0} (order : Order) (format : Format) (g : List (Entry A))
+    (entry : Entry A) : Type 0 where
   pub ids : HasIdsOf format entry
   pub new : node_at g entry.id ≡ None
   pub shaped : IsShaped entry.node

@@ -69,12 +69,20 @@ fn ids_of_the_other_format_are_refused(rt: HostRuntime) {
 
 // The formats and the digits of the ids at which refs stand, in name order; the same of HEAD; and the one
 // that is not saved with a graph of SHA-1 ids.
-type Names = (&'static [(Format, u8)], Option<(Format, u8)>, Option<(Format, u8)>);
+type Names = (
+    &'static [(Format, u8)],
+    Option<(Format, u8)>,
+    Option<(Format, u8)>,
+);
 
 const NOT_SAVED: &[Names] = &[
     (&[(Format::Sha1, b'a')], Some((Format::Sha1, b'b')), None),
     (
-        &[(Format::Sha1, b'a'), (Format::Sha256, b'b'), (Format::Sha256, b'c')],
+        &[
+            (Format::Sha1, b'a'),
+            (Format::Sha256, b'b'),
+            (Format::Sha256, b'c'),
+        ],
         Some((Format::Sha256, b'd')),
         Some((Format::Sha256, b'b')),
     ),
@@ -88,7 +96,11 @@ const NOT_SAVED: &[Names] = &[
         Some((Format::Sha256, b'd')),
         Some((Format::Sha256, b'd')),
     ),
-    (&[], Some((Format::Sha256, b'd')), Some((Format::Sha256, b'd'))),
+    (
+        &[],
+        Some((Format::Sha256, b'd')),
+        Some((Format::Sha256, b'd')),
+    ),
 ];
 
 // Refs at these ids.

@@ -37,7 +37,10 @@ fn the_most_refs_are_loaded_and_saved(rt: HostRuntime) -> Result<(), Fail> {
     let it = load(rt.alloc(), text.as_bytes(), Order::Any)?;
     assert_eq!(rt; it.refs.len(), 65_536);
     for place in [0, 1, 40_000, 65_535] {
-        assert!(rt; is_name_at(&it.refs, place, &numbered(&rt, place)), "at {place}");
+        assert!(rt;
+            is_name_at(&it.refs, place, &numbered(&rt, place)),
+            "at {place}"
+        );
     }
     let saved = save(rt.alloc(), &it.graph, &it.refs, &it.head)?;
     assert!(rt; saved.as_slice() == text.as_bytes());

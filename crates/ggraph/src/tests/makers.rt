@@ -1,5 +1,5 @@
 //! Texts, ids and names for tests.
-use crate::{Order, Repository, LoadFault, load};
+use crate::{LoadFault, Order, Repository, load};
 use gname::{Format, MAX_ID_TEXT, Oid, RefName};
 use std::process::Abort;
 
@@ -10,11 +10,7 @@ pub(super) fn spelled(rt: &(impl Abort + AllocGlobal), short: &str) -> Vec<u8> {
 }
 
 // The same with ids of the format.
-pub(super) fn spelled_in(
-    rt: &(impl Abort + AllocGlobal),
-    format: Format,
-    short: &str,
-) -> Vec<u8> {
+pub(super) fn spelled_in(rt: &(impl Abort + AllocGlobal), format: Format, short: &str) -> Vec<u8> {
     let mut text = Vec::new(rt.alloc());
     for b in short.as_bytes() {
         match *b {

@@ -7,10 +7,12 @@ use std::alloc::Global;
 use std::process::Abort;
 use std::test::Fail;
 
-const TEXT: &str = "gitv2 1\nc A\nc B A\nt T B\nc C A B\nr A refs/a\nr C refs/b\nh ref refs/heads/main\nend\n";
+const TEXT: &str =
+    "gitv2 1\nc A\nc B A\nt T B\nc C A B\nr A refs/a\nr C refs/b\nh ref refs/heads/main\nend\n";
 
 // The same, and a line after the ref on which HEAD is that comes too late.
-const WRONG: &str = "gitv2 1\nc A\nc B A\nt T B\nc C A B\nr A refs/a\nr C refs/b\nh ref refs/heads/main\nc D\n";
+const WRONG: &str =
+    "gitv2 1\nc A\nc B A\nt T B\nc C A B\nr A refs/a\nr C refs/b\nh ref refs/heads/main\nc D\n";
 
 // The most room that is tried, in steps of sixteen bytes.
 const STEPS: usize = 400;
@@ -67,7 +69,10 @@ fn wrong_lines_are_reported_where_there_is_memory(rt: HostRuntime) -> Result<(),
         let arena = arena(rt.alloc(), steps)?;
         let fault = load(&arena, text.as_slice(), Order::Any).err();
         let is_refused = fault == Some(LoadFault::Memory);
-        assert!(rt; is_refused || fault == Some(LoadFault::Text { line: 9 }), "at {steps}");
+        assert!(rt;
+            is_refused || fault == Some(LoadFault::Text { line: 9 }),
+            "at {steps}"
+        );
         refused.push(is_refused)?;
     }
     check_steps(&rt, refused.as_slice());
@@ -76,15 +81,43 @@ fn wrong_lines_are_reported_where_there_is_memory(rt: HostRuntime) -> Result<(),
 
 // Texts whose last line breaks a rule and would take memory, and the fault of that line.
 const WRONG_AT_ONCE: &[(&str, Order, LoadFault)] = &[
-    ("gitv2 1\nc A B !\n", Order::Any, LoadFault::Text { line: 2 }),
-    ("gitv2 1\nt A B C\n", Order::Any, LoadFault::Text { line: 2 }),
+    (
+        "gitv2 1\nc A B !\n",
+        Order::Any,
+        LoadFault::Text { line: 2 },
+    ),
+    (
+        "gitv2 1\nt A B C\n",
+        Order::Any,
+        LoadFault::Text { line: 2 },
+    ),
     ("gitv2 1\nt A\n", Order::Any, LoadFault::Text { line: 2 }),
-    ("gitv2 1\nc A B\n", Order::ParentsFirst, LoadFault::ParentLater { line: 2 }),
+    (
+        "gitv2 1\nc A B\n",
+        Order::ParentsFirst,
+        LoadFault::ParentLater { line: 2 },
+    ),
     ("gitv2 1\nr A $\n", Order::Any, LoadFault::Text { line: 2 }),
-    ("gitv2 1\nr A refs/a.\n", Order::Any, LoadFault::Text { line: 2 }),
-    ("gitv2 1\nr ! refs/a\n", Order::Any, LoadFault::Text { line: 2 }),
-    ("gitv2 1\nh ref $\n", Order::Any, LoadFault::Text { line: 2 }),
-    ("gitv2 1\nh ref refs//a\n", Order::Any, LoadFault::Text { line: 2 }),
+    (
+        "gitv2 1\nr A refs/a.\n",
+        Order::Any,
+        LoadFault::Text { line: 2 },
+    ),
+    (
+        "gitv2 1\nr ! refs/a\n",
+        Order::Any,
+        LoadFault::Text { line: 2 },
+    ),
+    (
+        "gitv2 1\nh ref $\n",
+        Order::Any,
+        LoadFault::Text { line: 2 },
+    ),
+    (
+        "gitv2 1\nh ref refs//a\n",
+        Order::Any,
+        LoadFault::Text { line: 2 },
+    ),
 ];
 
 #[test]

@@ -2,7 +2,7 @@
 ghost use Rattle.std.specs.Prelude.{◌≡◌, ⊤, MatchOption, MatchResult};
 
 use super::makers::{fault_of, id, name, read, spelled};
-use crate::{Graph, Head, Kind, Order, Repository, LoadFault, load, save};
+use crate::{Graph, Head, Kind, LoadFault, Order, Repository, load, save};
 use bumpalo::Bump;
 use std::alloc::Allocator;
 use std::process::Abort;
@@ -66,7 +66,7 @@ fn reload<A: Allocator + Copy>(
 ) -> Result<Option<Repository<A>>, LoadFault>
     ensures { MatchResult result
         (λ loaded. MatchOption loaded ⊤ (λ again.
-            (again.graph ≡ it.now.graph) × (again.refs ≡ it.now.refs) × (again.head ≡ it.now.head)))
+        (again.graph ≡ it.now.graph) × (again.refs ≡ it.now.refs) × (again.head ≡ it.now.head)))
         (λ fault. fault ≡ LoadFault.Memory) }
 {
     match save(alloc, &it.graph, &it.refs, &it.head) {

@@ -68,7 +68,7 @@ pub(crate) fn head_of<A: Allocator + Copy>(
 ) -> Result<Option<Head<A>>, AllocError>
     ensures { MatchResult result
         (λ found. MatchOption found (IsNoHead A format line.now) (λ head.
-            (line.now ≡ head_line head) × IsHead format head))
+        (line.now ≡ head_line head) × IsHead format head))
         (λ _. IsSymrefLine A line.now) }
 {
     if line == b"h none".as_slice() {

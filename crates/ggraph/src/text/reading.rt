@@ -133,7 +133,15 @@ impl<A: Allocator + Copy> Reading<A> {
         let Some(count) = read_parents(format, first.1, &mut ids) else {
             return Err(LoadFault::Text { line: number });
         };
-        add_node(&mut self.graph, alloc, order, kind, first.0, &ids[..count], number)
+        add_node(
+            &mut self.graph,
+            alloc,
+            order,
+            kind,
+            first.0,
+            &ids[..count],
+            number,
+        )
     }
 
     // Takes the line of a ref or of HEAD.

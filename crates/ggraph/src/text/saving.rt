@@ -72,13 +72,7 @@ fn other_head<A: Allocator + Copy>(format: Format, head: &Head<A>) -> Option<Oid
     ensures { MatchOption result (All (IsIdOf format) (head_ids head.now)) (IsFirstOther format (head_ids head.now)) }
 {
     match head {
-        Head::Id(id) => {
-            if is_of(format, id) {
-                None
-            } else {
-                Some(*id)
-            }
-        }
+        Head::Id(id) => { if is_of(format, id) { None } else { Some(*id) } }
         _ => None,
     }
 }
