@@ -91,12 +91,12 @@ impl<A: Allocator + Copy> Refs<A> {
         Some((&pair.0, pair.1))
     }
 
-    /// Whether the name is above every name of the refs.
-    pub fn are_below(&self, name: &RefName<A>) -> bool
+    /// Whether a name of these bytes is above every name of the refs.
+    pub fn are_below(&self, name: &[u8]) -> bool
         ensures { IsTrue result ↔ AreBelow self.now name.now }
     {
         match self.refs.last() {
-            Some(last) => last.0 < *name,
+            Some(last) => last.0.as_bytes().cmp(name).is_lt(),
             None => true,
         }
     }

@@ -68,11 +68,11 @@ fn refs_are_pushed_in_order(rt: HostRuntime) {
     let mut refs = Refs::new(rt.alloc());
     for place in 0..NAMES.len() {
         let next = nth_name(&rt, place);
-        assert!(rt; is_below_refs(&next) && refs.are_below(&next));
-        if is_below_refs(&next) && refs.are_below(&next) && refs.len() < MAX_REFS {
+        assert!(rt; is_below_refs(&next) && refs.are_below(next.as_bytes()));
+        if is_below_refs(&next) && refs.are_below(next.as_bytes()) && refs.len() < MAX_REFS {
             assert!(rt; refs.push(next, id(&rt, nth_digit(place))).is_ok());
         }
-        assert!(rt; !refs.are_below(&nth_name(&rt, place)));
+        assert!(rt; !refs.are_below(nth_name(&rt, place).as_bytes()));
     }
     check_refs(&rt, &refs, &[0, 1, 2, 3, 4]);
 }
