@@ -8,7 +8,7 @@ use Rattle.ghistory.specs.Graphs.{Holds}
 use Rattle.grefs.specs.RefLists.{RefList}
 use Rattle.gobject.specs.declared.node.Entry.{Entry}
 use Rattle.grefs.specs.declared.head.Head.{Head}
-use Rattle.ggraph.specs.declared.fault.TextFault.{TextFault}
+use Rattle.ggraph.specs.declared.fault.LoadFault.{LoadFault}
 use Rattle.ggraph.specs.declared.text.Order.TheVariants.{ParentsFirst}
 use Rattle.ggraph.specs.declared.text.Repository.{Repository}
 use Rattle.ggraph.specs.Loading as load
@@ -47,14 +47,14 @@ all_there P (y ∷ xs) (suc place) x all at = all_there P xs place x (All-tail P
 none_missing : {A : Type 0} (graph : List (Entry A)) (refs : RefList) (name : List ℕ) → HoldsRefs graph refs → IsFirstMissing graph refs name → ⊥
 none_missing graph refs name all first = first.missing (all_there (λ (ref : List ℕ × List ℕ). Holds graph ref.1) refs first.place (name, first.id) all first.there)
 
-pub accepts_unloaded : {A : Type 0} (text : List ℕ) (fault : TextFault) (told : RepoFault A) → load.Accepts A ParentsFirst text (Err fault) → IsTextFault fault told → AcceptsServable A text (Err told)
+pub accepts_unloaded : {A : Type 0} (text : List ℕ) (fault : LoadFault) (told : RepoFault A) → load.AcceptsText A ParentsFirst text (Err fault) → IsTextFault fault told → AcceptsServable A text (Err told)
 accepts_unloaded text fault told accepts is repo names refs head =
-    subst (λ (f : TextFault). IsTextFault f told) (accepts repo.graph repo.refs repo.head names.1 names.0) is
+    subst (λ (f : LoadFault). IsTextFault f told) (accepts repo.graph repo.refs repo.head names.loadable names.text_is) is
 
-pub accepts_refused : {A : Type 0} (text : List ℕ) (it : Repository A) (told : RepoFault A) → load.Accepts A ParentsFirst text (Ok it) → RefusesRefs it told → AcceptsServable A text (Err told)
+pub accepts_refused : {A : Type 0} (text : List ℕ) (it : Repository A) (told : RepoFault A) → load.AcceptsText A ParentsFirst text (Ok it) → RefusesRefs it told → AcceptsServable A text (Err told)
 accepts_refused text it Memory accepts refuses repo names refs head = refl
 accepts_refused {A} text it (RefMissing name) accepts refuses repo names refs head =
-    let same = accepts repo.graph repo.refs repo.head names.1 names.0 in
+    let same = accepts repo.graph repo.refs repo.head names.loadable names.text_is in
     let held : HoldsRefs it.graph it.refs =
     subst (λ (rs : RefList). HoldsRefs it.graph rs) (sym same.1) (subst (λ (g : List (Entry A)). HoldsRefs g repo.refs) (sym same.0) refs) in
     let at : HoldsHead it.graph it.head =
@@ -66,5 +66,5 @@ accepts_refused {A} text it (RefMissing name) accepts refuses repo names refs he
 accepts_refused text it (Text line) accepts refuses repo names refs head = absurd refuses
 accepts_refused text it (ParentLater line) accepts refuses repo names refs head = absurd refuses
 
-pub accepts_served : {A : Type 0} (text : List ℕ) (it : Repository A) → load.Accepts A ParentsFirst text (Ok it) → AcceptsServable A text (Ok (record { graph = it.graph; refs = it.refs; head = it.head }))
-accepts_served text it accepts repo names refs head = accepts repo.graph repo.refs repo.head names.1 names.0
+pub accepts_served : {A : Type 0} (text : List ℕ) (it : Repository A) → load.AcceptsText A ParentsFirst text (Ok it) → AcceptsServable A text (Ok (record { graph = it.graph; refs = it.refs; head = it.head }))
+accepts_served text it accepts repo names refs head = accepts repo.graph repo.refs repo.head names.loadable names.text_is

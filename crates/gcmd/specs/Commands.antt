@@ -54,10 +54,10 @@ module _ (A : Type 0) (file : List ℕ) (input : Input) (output errors : Output)
   pub record IsServed : Type 0 where
     pub repo : Repository A
     pub names : Names file repo
-    pub refs : HoldsRefs repo.graph repo.refs
-    pub head : HoldsHead repo.graph repo.head
+    pub refs : HoldsRefs repo.graph.entries repo.refs
+    pub head : HoldsHead repo.graph.entries repo.head
     pub ended : LsEnd
-    pub exchange : Exchanges repo.graph repo.refs repo.head input output ended
+    pub exchange : Exchanges repo.graph.entries repo.refs repo.head input output ended
     pub ends : EndsWith (line_at_end ended) errors status
 
   -- what `ls --stdio-server` does
@@ -68,10 +68,10 @@ module _ (A : Type 0) (file : List ℕ) (input : Input) (output errors : Output)
 
 -- what there is to report of a repository
 pub record IsReport {A : Type 0} (repo : Repository A) (report : Report) : Type 0 where
-  pub nodes : report.nodes ≡ length repo.graph
+  pub nodes : report.nodes ≡ length repo.graph.entries
   pub refs : report.refs ≡ length repo.refs
-  pub closed : IsTrue report.closed ↔ IsClosed repo.graph
-  pub safe : IsTrue report.safe ↔ IsSafe repo.graph repo.refs
+  pub closed : IsTrue report.closed ↔ IsClosed repo.graph.entries
+  pub safe : IsTrue report.safe ↔ IsSafe repo.graph.entries repo.refs
 
 abbrev pub yes_or_no : Bool → List ℕ
 yes_or_no holds = if holds then codes "yes" else codes "no"

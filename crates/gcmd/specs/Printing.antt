@@ -16,8 +16,8 @@ use Rattle.ghistory.specs.Faults.{graph_fault_row}
 use Rattle.ghistory.specs.declared.fault.GraphFault.{GraphFault}
 use Rattle.ghistory.specs.declared.fault.GraphFault.TheVariants as graph
 use Rattle.ggraph.specs.Faults.{text_fault_row}
-use Rattle.ggraph.specs.declared.fault.TextFault.{TextFault}
-use Rattle.ggraph.specs.declared.fault.TextFault.TheVariants as load
+use Rattle.ggraph.specs.declared.fault.LoadFault.{LoadFault}
+use Rattle.ggraph.specs.declared.fault.LoadFault.TheVariants as load
 use Rattle.gobject.specs.Faults.{index_fault_row}
 use Rattle.gobject.specs.declared.fault.IndexFault.{IndexFault}
 use Rattle.gobject.specs.declared.fault.IndexFault.TheVariants as index
@@ -135,12 +135,12 @@ id_in_conflict _ = None
 abbrev pub graph_fault_line : GraphFault → List ℕ
 graph_fault_line fault = fault_line (graph_fault_row fault) (record no_details { id = id_in_conflict fault })
 
-abbrev pub line_in_text : TextFault → Option ℕ
+abbrev pub line_in_text : LoadFault → Option ℕ
 line_in_text (load.Text at) = Some at
 line_in_text (load.ParentLater at) = Some at
 line_in_text load.Memory = None
 
-abbrev pub text_fault_line : TextFault → List ℕ
+abbrev pub text_fault_line : LoadFault → List ℕ
 text_fault_line fault = fault_line (text_fault_row fault) (record no_details { line = line_in_text fault })
 
 abbrev pub check_fault_line : CheckFault → List ℕ

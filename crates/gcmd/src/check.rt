@@ -10,7 +10,8 @@ use crate::print::FaultLine;
 use crate::program::fail;
 use crate::send::send;
 use arrayvec::ArrayVec;
-use ggraph::{Order, Repository, TextFault, load};
+use ggraph::{Order, Repository, LoadFault, load};
+use gwalk::missing;
 use gname::{Oid, RefName};
 use gpkt::{Down, Sink};
 use std::alloc::{AllocError, Allocator};
@@ -44,7 +45,7 @@ pub fn cmd_check<A: Allocator + Copy, W: Sink, E: Sink>(
 #[derive(Drop)]
 pub(crate) enum CheckFault {
     /// The text is no repository, or there is no memory.
-    Text(TextFault),
+    Text(LoadFault),
     /// The output failed.
     WriteFailed,
 }
@@ -64,7 +65,7 @@ fn check<A: Allocator + Copy, W: Sink>(
     };
     let report = match report_of(alloc, &repo) {
         Ok(report) => report,
-        Err(_) => return Err(CheckFault::Text(TextFault::Memory)),
+        Err(_) => return Err(CheckFault::Text(LoadFault::Memory)),
     };
     match send_report(&report, output) {
         Ok(()) => Ok(()),
@@ -126,12 +127,12 @@ fn yes_or_no(holds: bool) -> &'static [u8]
 
 // Whether every object that a ref reaches is one of the graph's.
 fn is_safe<A: Allocator + Copy>(alloc: A, repo: &Repository<A>) -> Result<bool, AllocError>
-    ensures safe { IfOk result (λ safe. IsTrue safe ↔ IsSafe repo.now.graph repo.now.refs) }
+    ensures safe { IfOk result (λ safe. IsTrue safe ↔ IsSafe repo.now.graph.entries repo.now.refs) }
 {
     let refs = repo.refs.as_slice();
     let tips = tips_of(alloc, refs)?;
     let ids = tips.as_slice();
-    match repo.graph.missing(ids) {
+    match missing(&repo.graph, ids) {
         Ok(missing) => Ok(missing.is_none()),
         Err(_) => Err(AllocError),
     }

@@ -5,7 +5,7 @@ ghost use Rattle.std.specs.Fmt.{decimal};
 ghost use Rattle.gname.specs.Ids.{id_text};
 
 use arrayvec::ArrayVec;
-use gname::{ID_TEXT_LENGTH, Oid};
+use gname::{MAX_ID_TEXT, Oid};
 use itoa::Buffer;
 
 /// Adds a piece at the end.
@@ -29,11 +29,11 @@ pub(crate) fn add_number<const N: usize>(number: u64, text: &mut ArrayVec<u8, N>
 
 /// Adds the digits of an id.
 pub(crate) fn add_id<const N: usize>(id: &Oid, text: &mut ArrayVec<u8, N>)
-    requires { length text.old.items + 40 ≤ N }
+    requires { length text.old.items + 64 ≤ N }
     ensures text { text.new.items ≡ text.old.items ++ id_text id.now }
-    ensures long { length text.new.items ≡ length text.old.items + 40 }
+    ensures long { length text.new.items ≤ length text.old.items + 64 }
 {
-    let mut digits = [0; ID_TEXT_LENGTH];
-    id.to_hex(&mut digits);
-    add(&digits, text);
+    let mut digits = [0; MAX_ID_TEXT];
+    let count = id.to_hex(&mut digits);
+    add(&digits[..count], text);
 }

@@ -121,7 +121,7 @@ pub fn ls_once<S: Source, W: Sink, A: Allocator + Copy>(
     source: &mut S,
     sink: &mut W,
 ) -> LsEnd
-    ensures exchange { Exchanges repo.now.graph repo.now.refs repo.now.head
+    ensures exchange { Exchanges repo.now.graph.entries repo.now.refs repo.now.head
         (input_of S.remaining S.is_down source.old source.new)
         (output_of W.contents W.passed_on W.is_down sink.old sink.new) result }
     ensures source_seat { S.seat source.new ≡ S.seat source.old }
@@ -163,7 +163,7 @@ fn answer<W: Sink, A: Allocator + Copy>(
     asked: &LsRefs<A>,
     sink: &mut W,
 ) -> LsEnd
-    ensures replies { Replies repo.now.graph repo.now.refs repo.now.head asked.now
+    ensures replies { Replies repo.now.graph.entries repo.now.refs repo.now.head asked.now
         (output_of W.contents W.passed_on W.is_down sink.old sink.new) result }
     ensures seat { W.seat sink.new ≡ W.seat sink.old }
 {

@@ -15,7 +15,7 @@ use crate::program::ProgramFault;
 use crate::repository::RepoFault;
 use crate::send::send;
 use arrayvec::ArrayVec;
-use ggraph::{GraphFault, IndexFault, TextFault};
+use ggraph::{GraphFault, IndexFault, LoadFault};
 use gname::{NameFault, Oid, OidFault};
 use gpkt::{Down, Sink, WriteFault};
 use std::alloc::Allocator;
@@ -117,7 +117,7 @@ impl<'a> FaultLine<'a> {
     }
 
     /// A text that is no repository's, with the line.
-    pub(crate) fn of_text(fault: &TextFault) -> FaultLine<'a>
+    pub(crate) fn of_text(fault: &LoadFault) -> FaultLine<'a>
         ensures line { printed result ≡ text_fault_line fault.now }
         ensures short { IsShort result }
     {
@@ -291,12 +291,12 @@ fn place_in_name(fault: &NameFault) -> Option<usize>
     }
 }
 
-fn line_in_text(fault: &TextFault) -> Option<usize>
+fn line_in_text(fault: &LoadFault) -> Option<usize>
     ensures { result ≡ line_in_text fault.now }
 {
     match fault {
-        TextFault::Text { line } | TextFault::ParentLater { line } => Some(*line),
-        TextFault::Memory => None,
+        LoadFault::Text { line } | LoadFault::ParentLater { line } => Some(*line),
+        LoadFault::Memory => None,
     }
 }
 

@@ -14,7 +14,7 @@ use gpkt::{LineWriter, Sink, WriteFault};
 use std::alloc::Allocator;
 
 /// The most bytes of a line's text: two ids, two names, and the words between them.
-const MAX_REF_LINE: usize = 2_104;
+const MAX_REF_LINE: usize = 2_152;
 
 /// A ref in the reply to ls-refs.
 #[derive(Debug, Drop)]
@@ -62,7 +62,7 @@ fn write_line<A: Allocator + Copy, W: Sink>(
 #[tactic(auto, unfolding(crate::specs::Reply::ref_line))]
 fn compose<A: Allocator + Copy>(line: &RefLine<A>, text: &mut ArrayVec<u8, MAX_REF_LINE>)
     ensures text { text.new.items ≡ ref_line line.now }
-    ensures long { length text.new.items ≤ 2104 }
+    ensures long { length text.new.items ≤ 2152 }
 {
     text.clear();
     add_id(&line.id, text);
@@ -76,7 +76,7 @@ fn add_symref<A: Allocator + Copy>(
     target: Option<&RefName<A>>,
     text: &mut ArrayVec<u8, MAX_REF_LINE>,
 )
-    requires { length text.old.items ≤ 1041 }
+    requires { length text.old.items ≤ 1065 }
     ensures text { text.new.items ≡ text.old.items ++ symref_text (option_copied target.entry) }
     ensures long { length text.new.items ≤ length text.old.items + 1015 }
 {
@@ -87,9 +87,9 @@ fn add_symref<A: Allocator + Copy>(
 }
 
 fn add_peeled(id: Option<&Oid>, text: &mut ArrayVec<u8, MAX_REF_LINE>)
-    requires { length text.old.items ≤ 2056 }
+    requires { length text.old.items ≤ 2080 }
     ensures text { text.new.items ≡ text.old.items ++ peeled_text (option_copied id.entry) }
-    ensures long { length text.new.items ≤ length text.old.items + 48 }
+    ensures long { length text.new.items ≤ length text.old.items + 72 }
 {
     if let Some(id) = id {
         add(b" peeled:", text);
@@ -98,7 +98,7 @@ fn add_peeled(id: Option<&Oid>, text: &mut ArrayVec<u8, MAX_REF_LINE>)
 }
 
 fn add_name<A: Allocator + Copy>(name: &RefName<A>, text: &mut ArrayVec<u8, MAX_REF_LINE>)
-    requires { length text.old.items ≤ 1104 }
+    requires { length text.old.items ≤ 1152 }
     ensures text { text.new.items ≡ text.old.items ++ name.now }
     ensures long { length text.new.items ≤ length text.old.items + 1000 }
 {

@@ -3,7 +3,7 @@ ghost use Rattle.gcmd.specs.Printing.{IsShort};
 
 use crate::print::FaultLine;
 use crate::{LsFault, MessageFault, PeerText, ProgramFault, RepoFault, Why};
-use ggraph::{GraphFault, IndexFault, TextFault};
+use ggraph::{GraphFault, IndexFault, LoadFault};
 use gname::{NameFault, Oid, OidFault, RefName};
 use gpkt::memory::VecSink;
 use gpkt::{LineFault, WriteFault};
@@ -215,9 +215,9 @@ fn faults_of_graphs_are_printed(rt: HostRuntime) -> Result<(), Fail> {
 #[test]
 fn faults_of_texts_and_packs_are_printed(rt: HostRuntime) -> Result<(), Fail> {
     let rows = [
-        (TextFault::Text { line: 6 }, "67 Text line 6"),
-        (TextFault::ParentLater { line: 7 }, "68 ParentLater line 7"),
-        (TextFault::Memory, "64 Memory"),
+        (LoadFault::Text { line: 6 }, "67 Text line 6"),
+        (LoadFault::ParentLater { line: 7 }, "68 ParentLater line 7"),
+        (LoadFault::Memory, "64 Memory"),
     ];
     for (fault, rest) in rows {
         check_printed(&rt, rt.alloc(), &FaultLine::of_text(&fault), rest)?;
