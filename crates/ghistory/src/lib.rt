@@ -18,8 +18,7 @@
 //!
 //! # Only tested
 //!
-//! That memory, where there is some, is found. No test fills a graph: that takes too long where tests are run
-//! step by step.
+//! That memory, where there is some, is found.
 //!
 //! # What a body can still get away with
 //!

@@ -89,7 +89,7 @@ fn each_allocation_is_refused_in_turn(rt: HostRuntime) -> Result<(), Fail> {
 #[test]
 fn an_entry_needs_memory_where_it_is_new(rt: HostRuntime) -> Result<(), Fail> {
     let mut done = false;
-    for count in 0..100usize {
+    for count in 0..500usize {
         let arena = Bump::try_with_capacity(rt.alloc(), 9_000)?;
         let first = entry_in(&rt, &arena, Kind::Commit, 1, &[2]);
         let again = entry_in(&rt, &arena, Kind::Commit, 1, &[2]);
