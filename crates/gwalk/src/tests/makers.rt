@@ -13,11 +13,11 @@ pub(super) fn id_in(rt: &impl Abort, format: Format, number: usize) -> Oid {
     let mut text = [b'0'; 64];
     text[0] = DIGITS[number / 16 % 16];
     text[1] = DIGITS[number % 16];
-    let text = match format {
-        Format::Sha1 => &text[..40],
-        Format::Sha256 => &text[..],
+    let id = match format {
+        Format::Sha1 => Oid::from_hex_in(format, &text[..40]),
+        Format::Sha256 => Oid::from_hex_in(format, &text),
     };
-    Oid::from_hex_in(format, text).expect(rt, "an id")
+    id.expect(rt, "an id")
 }
 
 pub(super) fn id(rt: &impl Abort, number: usize) -> Oid {
