@@ -1,7 +1,8 @@
 // Marks of ids whose whole ancestry is held.
 #![tactic(auto)]
 
-ghost use Rattle.std.specs.Prelude.{◌≡◌, ℕ, [], length, IfOk, ◌||◌, OnOk, OnErr, IfErr, All, slice_index_or, false};
+ghost use Rattle.std.specs.Prelude.{◌≡◌, ℕ, List, [], length, IfOk, ◌||◌, OnOk, OnErr, IfErr, All, slice_index_or, false};
+ghost use Rattle.gobject.specs.declared.node.Entry.{Entry};
 ghost use Rattle.ghistory.specs.Reach.{IsFull};
 ghost use Rattle.ghistory.specs.declared.fault.GraphFault.TheVariants.{Memory};
 ghost use Rattle.gwalk.specs.Marks.{AreFull, MarksReached};
@@ -29,7 +30,8 @@ impl<A: Allocator + Copy> Model for FullMarks<A> {
 impl<A: Allocator + Copy> FullMarks<A> {
     /// No marks. It takes no memory.
     pub fn new(alloc: A) -> FullMarks<A>
-        ensures { result ≡ [] }
+        ensures none { result ≡ [] }
+        ensures full { (g : List (Entry A)) → AreFull g result }
     {
         FullMarks {
             marks: Vec::new(alloc),
