@@ -1,5 +1,5 @@
 -- A plain pack has one reading, a bad line has one place, and nothing is lost.
-use Rattle.std.proofs.Common.{ap₂, ◌≡◌, ◌≢◌, ◌⊎◌, inl, inr, ℕ, suc, ◌+◌, List, [], ◌∷◌, ◌++◌, length, decimal, map, refl, ap, sym, subst, ◌∙◌, append_assoc, arith}
+use Rattle.std.proofs.Common.{ap₂, ◌≡◌, ◌⊎◌, inl, inr, ℕ, ◌+◌, List, [], ◌∷◌, ◌++◌, length, decimal, map, refl, ap, sym, subst, ◌∙◌, append_assoc, arith}
 use Rattle.std.specs.List.{All}
 use Rattle.std.proofs.lemmas.List.Elements.{All-append, All-cons, All-head, All-nil, All-tail}
 use Rattle.std.proofs.lemmas.List.{append-nil}
@@ -13,7 +13,7 @@ use Rattle.gobject.specs.declared.fault.IndexFault.TheVariants as index_faults
 use Rattle.gobject.specs.Objects.{HasIds, entry_of, node_of}
 use Rattle.gobject.specs.Packs.{LosesNothing}
 use Rattle.gobject.specs.PlainPackText.{line, text_of, header, letter, ids_of, ids_text, node_text, end_text, pack_lines, pack_text, PackRefuses, IsInLine, IsIdsText, IsNodeText, AreNodeTexts, ArePackLines, IsPack, BeginsPack, IsWholePack, IsBadLine, IndexRefuses}
-use Rattle.gobject.proofs.PlainPackLines.{IsPart-nil, IsPart-id, IsPart-letter, letter_no_end, IsPart-decimal, IsPart-header, IsInLine-part, IsInLine-cons, IsInLine-append, not_in_line, line_parts, text_of-push, IsIdsText-one}
+use Rattle.gobject.proofs.PlainPackLines.{IsPart-nil, IsPart-id, IsPart-letter, IsPart-decimal, IsPart-header, IsInLine-part, IsInLine-cons, IsInLine-append, not_in_line, line_parts, text_of-push, IsIdsText-one}
 use Rattle.gobject.proofs.PlainPackFronts.{end_no_node}
 
 module _ (digits_law : IdTextsAreDigits) (one_law : TextsSpellOneId) where

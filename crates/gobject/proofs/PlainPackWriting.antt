@@ -5,7 +5,7 @@ use Rattle.std.proofs.lemmas.List.{append-nil, flat_map_more, take_more, take-ap
 use Rattle.std.proofs.lemmas.List.Concat.{flat_map-append}
 use Rattle.gname.specs.Ids.{id_text}
 use Rattle.gobject.specs.declared.node.Entry.{Entry}
-use Rattle.gobject.specs.PlainPackText.{line, text_of, ids_text, ids_of, letter, header, node_text, end_text, pack_text}
+use Rattle.gobject.specs.PlainPackText.{line, text_of, ids_text, ids_of, header, node_text, end_text, pack_text}
 use Rattle.gobject.specs.PlainPackWriting.{nodes_text}
 use Rattle.gobject.proofs.PlainPackLines.{text_of-push}
 

@@ -1,4 +1,4 @@
-use Rattle.std.proofs.Common.{◌≡◌, ◌∷◌, [], ◌<◌, List, ℕ, length, ap, subst, arith}
+use Rattle.std.proofs.Common.{◌∷◌, ◌<◌, List, ℕ, length, ap, subst, arith}
 use Rattle.std.proofs.lemmas.List.{append-nil}
 use Rattle.gname.specs.Ids.{id_text}
 use Rattle.gobject.proofs.PlainPackWriting.{left_none}

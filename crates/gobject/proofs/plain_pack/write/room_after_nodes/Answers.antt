@@ -1,4 +1,4 @@
-use Rattle.std.proofs.Common.{◌≡◌, ◌<◌, List, ℕ, length, arith}
+use Rattle.std.proofs.Common.{◌<◌, List, ℕ, length, arith}
 use Rattle.gobject.specs.declared.node.Entry.{Entry}
 use Rattle.gobject.specs.PlainPackText.{line, node_text}
 use Rattle.gobject.proofs.PlainPackWriting.{left_none}
