@@ -14,7 +14,7 @@ use Rattle.gcmd.specs.Exchange.{Exchanges}
 use Rattle.gcmd.specs.Printing.{check_fault_line, ls_fault_line, repo_fault_line, write_fault_line}
 use Rattle.gcmd.specs.Sending.{Input, Output, IsUnread, IsUnwritten, Sends, SendsSome}
 use Rattle.gcmd.specs.declared.check.CheckFault.{CheckFault}
-use Rattle.gcmd.specs.declared.check.CheckFault.TheVariants.{Text, WriteFailed}
+use Rattle.gcmd.specs.declared.check.CheckFault.TheVariants.{Text, Memory, WriteFailed}
 use Rattle.gcmd.specs.declared.check.Report.{Report}
 use Rattle.gcmd.specs.declared.repository.RepoFault.{RepoFault}
 use Rattle.gcmd.specs.declared.exchange.LsEnd.{LsEnd}
@@ -82,6 +82,12 @@ report_line report =
     codes "nodes " ++ decimal report.nodes ++ codes " refs " ++ decimal report.refs
     ++ codes " closed " ++ yes_or_no report.closed ++ codes " safe " ++ yes_or_no report.safe ++ codes "\n"
 
+-- the file is the text of a repository
+pub record IsRepository (A : Type 0) (file : List ℕ) : Type 0 where
+  pub repo : Repository A
+  pub names : file ≡ repository_text repo.graph repo.refs repo.head
+  pub loadable : IsLoadable Any repo.graph repo.refs repo.head
+
 -- the repository that the file names, and its report
 pub record IsReported (A : Type 0) (file : List ℕ) (report : Report) : Type 0 where
   pub repo : Repository A
@@ -96,6 +102,7 @@ HasChecked A file output (Ok done) = (report : Report) × IsReported A file repo
 HasChecked A file output (Err WriteFailed) =
     (report : Report) × IsReported A file report × SendsSome output (report_line report)
 HasChecked A file output (Err (Text fault)) = StopsAt A Any file fault × IsUnwritten output
+HasChecked A file output (Err Memory) = IsRepository A file × IsUnwritten output
 
 -- the line that is printed at the end, if one is
 abbrev pub line_of_check : Result (Unit {0}) CheckFault → Option (List ℕ)

@@ -15,7 +15,7 @@ use Rattle.gname.specs.declared.ids.OidFault.TheVariants as id
 use Rattle.ghistory.specs.Faults.{graph_fault_row}
 use Rattle.ghistory.specs.declared.fault.GraphFault.{GraphFault}
 use Rattle.ghistory.specs.declared.fault.GraphFault.TheVariants as graph
-use Rattle.ggraph.specs.Faults.{text_fault_row}
+use Rattle.ggraph.specs.Faults.{load_fault_row}
 use Rattle.ggraph.specs.declared.fault.LoadFault.{LoadFault}
 use Rattle.ggraph.specs.declared.fault.LoadFault.TheVariants as load
 use Rattle.gobject.specs.Faults.{index_fault_row}
@@ -141,10 +141,11 @@ line_in_text (load.ParentLater at) = Some at
 line_in_text load.Memory = None
 
 abbrev pub text_fault_line : LoadFault → List ℕ
-text_fault_line fault = fault_line (text_fault_row fault) (record no_details { line = line_in_text fault })
+text_fault_line fault = fault_line (load_fault_row fault) (record no_details { line = line_in_text fault })
 
 abbrev pub check_fault_line : CheckFault → List ℕ
 check_fault_line (check.Text fault) = text_fault_line fault
+check_fault_line check.Memory = text_fault_line load.Memory
 check_fault_line check.WriteFailed = write_fault_line write.Io
 
 -- the text of a peer's error

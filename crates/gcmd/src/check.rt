@@ -44,8 +44,10 @@ pub fn cmd_check<A: Allocator + Copy, W: Sink, E: Sink>(
 /// Why there is no report.
 #[derive(Drop)]
 pub(crate) enum CheckFault {
-    /// The text is no repository, or there is no memory.
+    /// The text was not loaded.
     Text(LoadFault),
+    /// There is no memory to judge the repository.
+    Memory,
     /// The output failed.
     WriteFailed,
 }
@@ -65,7 +67,7 @@ fn check<A: Allocator + Copy, W: Sink>(
     };
     let report = match report_of(alloc, &repo) {
         Ok(report) => report,
-        Err(_) => return Err(CheckFault::Text(LoadFault::Memory)),
+        Err(_) => return Err(CheckFault::Memory),
     };
     match send_report(&report, output) {
         Ok(()) => Ok(()),

@@ -134,6 +134,7 @@ impl<'a> FaultLine<'a> {
     {
         match fault {
             CheckFault::Text(fault) => FaultLine::of_text(fault),
+            CheckFault::Memory => FaultLine::of_text(&LoadFault::Memory),
             CheckFault::WriteFailed => FaultLine::of_write(&WriteFault::Io),
         }
     }

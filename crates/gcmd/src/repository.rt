@@ -1,7 +1,9 @@
 //! The repository that is served.
 
 ghost use Rattle.std.specs.Prelude.{◌≡◌, ◌↔◌, IfOk, IfErr, IsTrue, MatchOption, MatchResult};
+ghost use Rattle.gname.specs.declared.formats.Format.TheVariants.{Sha1, Sha256};
 ghost use Rattle.gcmd.specs.Faults.{repo_fault_row};
+ghost use Rattle.gcmd.specs.declared.repository.RepoFault.TheVariants.{Text};
 ghost use Rattle.gcmd.specs.Repository.{AcceptsServable, Names, HoldsRefs, HoldsHead, IsFirstMissing, RefusesText, RefusesRefs, IsTextFault, missing_fault};
 
 use ggraph::{Graph, Head, Order, Refs, Repository, LoadFault, load};
@@ -73,8 +75,8 @@ impl<A: Allocator + Copy> RepoFile<A> {
     /// an object which is not there. Out of memory may come at any text.
     pub fn read(alloc: A, text: &[u8]) -> Result<RepoFile<A>, RepoFault<A>>
         ensures names { IfOk result (λ repo. Names text.now (record { graph = repo.graph; refs = repo.refs; head = repo.head })) }
-        ensures refs { IfOk result (λ repo. HoldsRefs repo.graph repo.refs) }
-        ensures head { IfOk result (λ repo. HoldsHead repo.graph repo.head) }
+        ensures refs { IfOk result (λ repo. HoldsRefs repo.graph.entries repo.refs) }
+        ensures head { IfOk result (λ repo. HoldsHead repo.graph.entries repo.head) }
         ensures refused { IfErr result (RefusesText text.now) }
         ensures accepts { AcceptsServable A text.now result }
     {
@@ -82,8 +84,9 @@ impl<A: Allocator + Copy> RepoFile<A> {
             Ok(repo) => repo,
             Err(fault) => return Err(text_fault(fault)),
         };
-        if repo.graph.format() != Format::Sha1 {
-            return Err(RepoFault::Text { line: 1 });
+        match check_format(repo.graph.format()) {
+            Ok(()) => {}
+            Err(fault) => return Err(fault),
         }
         match check_refs(alloc, &repo) {
             Ok(()) => {}
@@ -102,6 +105,16 @@ fn text_fault<A: Allocator + Copy>(fault: LoadFault) -> RepoFault<A>
         LoadFault::Text { line } => RepoFault::Text { line },
         LoadFault::ParentLater { line } => RepoFault::ParentLater { line },
         LoadFault::Memory => RepoFault::Memory,
+    }
+}
+
+// Refuses a repository with other ids than SHA-1's at its first line, which says so.
+fn check_format<A: Allocator + Copy>(format: Format) -> Result<(), RepoFault<A>>
+    ensures { MatchResult result (λ _. format ≡ Sha1) (λ fault. (fault ≡ Text 1) × (format ≡ Sha256)) }
+{
+    match format {
+        Format::Sha1 => Ok(()),
+        Format::Sha256 => Err(RepoFault::Text { line: 1 }),
     }
 }
 
