@@ -47,11 +47,11 @@ all_there P (y ∷ xs) (suc place) x all at = all_there P xs place x (All-tail P
 none_missing : {A : Type 0} (graph : List (Entry A)) (refs : RefList) (name : List ℕ) → HoldsRefs graph refs → IsFirstMissing graph refs name → ⊥
 none_missing graph refs name all first = first.missing (all_there (λ (ref : List ℕ × List ℕ). Holds graph ref.1) refs first.place (name, first.id) all first.there)
 
-pub accepts_unloaded : {A : Type 0} (text : List ℕ) (fault : TextFault) (told : RepoFault A) → load.Accepts A ParentsFirst text (Err fault) → IsTextFault fault told → AcceptsServable A text (Err told)
-accepts_unloaded text fault told accepts is repo names refs head =
-    subst (λ (f : TextFault). IsTextFault f told) (accepts repo.graph repo.refs repo.head names.1 names.0) is
+pub accepts_unloaded : {A : Type 0} (text : List ℕ) (fault : TextFault) (reported : RepoFault A) → load.Accepts A ParentsFirst text (Err fault) → IsTextFault fault reported → AcceptsServable A text (Err reported)
+accepts_unloaded text fault reported accepts is repo names refs head =
+    subst (λ (f : TextFault). IsTextFault f reported) (accepts repo.graph repo.refs repo.head names.1 names.0) is
 
-pub accepts_refused : {A : Type 0} (text : List ℕ) (it : Repository A) (told : RepoFault A) → load.Accepts A ParentsFirst text (Ok it) → RefusesRefs it told → AcceptsServable A text (Err told)
+pub accepts_refused : {A : Type 0} (text : List ℕ) (it : Repository A) (reported : RepoFault A) → load.Accepts A ParentsFirst text (Ok it) → RefusesRefs it reported → AcceptsServable A text (Err reported)
 accepts_refused text it Memory accepts refuses repo names refs head = refl
 accepts_refused {A} text it (RefMissing name) accepts refuses repo names refs head =
     let same = accepts repo.graph repo.refs repo.head names.1 names.0 in

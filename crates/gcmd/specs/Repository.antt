@@ -19,8 +19,8 @@ use Rattle.gcmd.specs.declared.repository.RepoFault.{RepoFault}
 use Rattle.gcmd.specs.declared.repository.RepoFault.TheVariants.{Text, ParentLater, RefMissing, Memory}
 
 -- the text is that of the repository, with parents before their children
-abbrev pub Names : {A : Type 0} → List ℕ → Repository A → Type 0
-Names text repo =
+abbrev pub IsServerText : {A : Type 0} → List ℕ → Repository A → Type 0
+IsServerText text repo =
     (text ≡ repository_text repo.graph repo.refs repo.head) × IsLoadable ParentsFirst repo.graph repo.refs repo.head
 
 -- each ref stands at an object that is there
@@ -58,7 +58,7 @@ RefusesRefs repo (ParentLater line) = ⊥
 abbrev pub RefusesText : {A : Type 0} → List ℕ → RepoFault A → Type 0
 RefusesText {A} text (Text line) = StopsAt A ParentsFirst text (load.Text line)
 RefusesText {A} text (ParentLater line) = StopsAt A ParentsFirst text (load.ParentLater line)
-RefusesText {A} text (RefMissing name) = (repo : Repository A) × Names text repo × MissesRef repo name
+RefusesText {A} text (RefMissing name) = (repo : Repository A) × IsServerText text repo × MissesRef repo name
 RefusesText text Memory = ⊤
 
 -- the fault for each fault of loading; others than these do not come
@@ -74,6 +74,6 @@ missing_fault (Err e) = Memory
 -- the text of a repository that can be served is read as that one, where there is memory
 abbrev pub AcceptsServable : (A : Type 0) → List ℕ → Result (RepoFile A) (RepoFault A) → Type 0
 AcceptsServable A text result =
-    (repo : Repository A) → Names text repo → HoldsRefs repo.graph repo.refs → HoldsHead repo.graph repo.head
+    (repo : Repository A) → IsServerText text repo → HoldsRefs repo.graph repo.refs → HoldsHead repo.graph repo.head
     → MatchResult result (λ it. (it.graph ≡ repo.graph) × (it.refs ≡ repo.refs) × (it.head ≡ repo.head))
     (λ fault. fault ≡ Memory)

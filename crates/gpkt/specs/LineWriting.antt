@@ -24,7 +24,7 @@ AppendsFront written bytes =
     (front : List ℕ) × (rest : List ℕ) × (bytes ≡ front ++ rest) × (0 < length rest)
     × Appends written.old written.new front
 
-module _ {W : Type 0} (contents_of passed_on_of : W → Option (List ℕ)) (is_down : W → Bool) (seat_of : W → List ℕ) where
+module _ {W : Type 0} (contents_of passed_on_of : W → Option (List ℕ)) (is_down : W → Bool) (loans_of : W → List ℕ) where
   -- the writer had not failed; whether it has failed now, and its sink is then down
   abbrev pub SetsWriter : Writer W → Writer W → Bool → Type 0
   SetsWriter old new failed = (old.failed ≡ false) × (new.failed ≡ failed) × (is_down new.sink ≡ failed)
@@ -48,7 +48,7 @@ module _ {W : Type 0} (contents_of passed_on_of : W → Option (List ℕ)) (is_d
   pub record HasWritten (old new : Writer W) (result : Result Unit WriteFault) (bytes : List ℕ) : Type 0 where
     pub outcome : Wrote old new result bytes
     pub passed_on : Keeps (passed_on_of old.sink) (passed_on_of new.sink)
-    pub seat : seat_of new.sink ≡ seat_of old.sink
+    pub loans : loans_of new.sink ≡ loans_of old.sink
 
   -- what a call that was to pass on all that was written did, by its result
   abbrev pub Pushed : Writer W → Writer W → Result Unit WriteFault → Type 0
@@ -61,4 +61,4 @@ module _ {W : Type 0} (contents_of passed_on_of : W → Option (List ℕ)) (is_d
   pub record HasPushed (old new : Writer W) (result : Result Unit WriteFault) : Type 0 where
     pub outcome : Pushed old new result
     pub written : Keeps (contents_of old.sink) (contents_of new.sink)
-    pub seat : seat_of new.sink ≡ seat_of old.sink
+    pub loans : loans_of new.sink ≡ loans_of old.sink
