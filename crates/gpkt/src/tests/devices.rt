@@ -155,9 +155,11 @@ fn check_failing_read(
     lines: usize,
 ) -> Result<(), Fail> {
     let mut reader = LineReader::new(alloc, FromRead::new(device))?;
-    let due = [Line::Data(b"abc"), Line::Flush];
-    for line in due.iter().take(lines) {
-        assert!(rt; reader.next()? == Some(*line));
+    if lines > 0 {
+        assert!(rt; reader.next()? == Some(Line::Data(b"abc")));
+    }
+    if lines > 1 {
+        assert!(rt; reader.next()? == Some(Line::Flush));
     }
     assert!(rt; reader.next() == Err(LineFault::Io));
     assert!(rt; reader.next() == Err(LineFault::Failed));
