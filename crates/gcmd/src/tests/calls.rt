@@ -267,26 +267,29 @@ fn read_first(alloc: Global, text: &str) -> Result<Option<u32>, Fail> {
     fault_of(alloc, bytes.as_slice())
 }
 
+// The faults, if any, of a command, an agent and a prefix.
+type Faults = (Option<u32>, Option<u32>, Option<u32>);
+
 // Of a command, an agent and a prefix of so many bytes.
-fn faults_of(alloc: Global, length: usize) -> Result<[Option<u32>; 3], Fail> {
+fn faults_of(alloc: Global, length: usize) -> Result<Faults, Fail> {
     let long = "a".repeat(alloc, length)?;
     let command = format!(in alloc; "command={long}")?;
     let agent = format!(in alloc; "agent={long}")?;
     let prefix = format!(in alloc; "ref-prefix {long}")?;
     let request = request_of(alloc, &[agent.as_str()], &[])?;
-    Ok([
+    Ok((
         read_first(alloc, command.as_str())?,
         fault_of(alloc, request.as_slice())?,
         read_many(alloc, prefix.as_str(), 1)?,
-    ])
+    ))
 }
 
 // How long they are, and the faults: the command is unknown, and the others are taken; or none has the right form.
-const LENGTHS: &[(usize, [Option<u32>; 3])] = &[
-    (1, [Some(43), None, None]),
-    (999, [Some(43), None, None]),
-    (1_000, [Some(43), None, None]),
-    (1_001, [Some(42), Some(42), Some(47)]),
+const LENGTHS: &[(usize, Faults)] = &[
+    (1, (Some(43), None, None)),
+    (999, (Some(43), None, None)),
+    (1_000, (Some(43), None, None)),
+    (1_001, (Some(42), Some(42), Some(47))),
 ];
 
 #[test]
