@@ -16,7 +16,7 @@ use Rattle.gcmd.specs.declared.repository.RepoFault.{RepoFault}
 use Rattle.gcmd.specs.declared.repository.RepoFault.TheVariants.{Text, ParentLater, RefMissing, Memory}
 use Rattle.gname.specs.declared.formats.Format.TheVariants.{Sha1, Sha256}
 use Rattle.ggraph.specs.RepositoryText.{repository_text, IsLoadable}
-use Rattle.gcmd.specs.Repository.{AcceptsServable, HoldsHead, IsTextFault, RefusesRefs, RefusesText, Names, HoldsRefs, IsFirstMissing}
+use Rattle.gcmd.specs.Repository.{AcceptsServable, HoldsHead, IsTextFault, RefusesRefs, RefusesText, IsServerText, HoldsRefs, IsFirstMissing}
 
 module _ {A : Type 0} (graph : List (Entry A)) (refs : RefList) where
   abbrev Stands : List ℕ × List ℕ → Type 0
@@ -49,11 +49,11 @@ all_there P (y ∷ xs) (suc place) x all at = all_there P xs place x (All-tail P
 none_missing : {A : Type 0} (graph : List (Entry A)) (refs : RefList) (name : List ℕ) → HoldsRefs graph refs → IsFirstMissing graph refs name → ⊥
 none_missing graph refs name all first = first.missing (all_there (λ (ref : List ℕ × List ℕ). Holds graph ref.1) refs first.place (name, first.id) all first.there)
 
-pub accepts_unloaded : {A : Type 0} (text : List ℕ) (fault : LoadFault) (told : RepoFault A) → load.AcceptsText A ParentsFirst text (Err fault) → IsTextFault fault told → AcceptsServable A text (Err told)
-accepts_unloaded text fault told accepts is repo names refs head =
-    subst (λ (f : LoadFault). IsTextFault f told) (accepts repo.graph repo.refs repo.head names.loadable names.text_is) is
+pub accepts_unloaded : {A : Type 0} (text : List ℕ) (fault : LoadFault) (reported : RepoFault A) → load.AcceptsText A ParentsFirst text (Err fault) → IsTextFault fault reported → AcceptsServable A text (Err reported)
+accepts_unloaded text fault reported accepts is repo names refs head =
+    subst (λ (f : LoadFault). IsTextFault f reported) (accepts repo.graph repo.refs repo.head names.loadable names.text_is) is
 
-pub accepts_refused : {A : Type 0} (text : List ℕ) (it : Repository A) (told : RepoFault A) → load.AcceptsText A ParentsFirst text (Ok it) → RefusesRefs it told → AcceptsServable A text (Err told)
+pub accepts_refused : {A : Type 0} (text : List ℕ) (it : Repository A) (reported : RepoFault A) → load.AcceptsText A ParentsFirst text (Ok it) → RefusesRefs it reported → AcceptsServable A text (Err reported)
 accepts_refused text it Memory accepts refuses repo names refs head = refl
 accepts_refused {A} text it (RefMissing name) accepts refuses repo names refs head =
     let same = accepts repo.graph repo.refs repo.head names.loadable names.text_is in
@@ -73,18 +73,18 @@ accepts_served text it accepts repo names refs head = accepts repo.graph repo.re
 
 -- ---- the format of ids
 
-pub refuses_format : {A : Type 0} (text : List ℕ) (it : Repository A) (told : RepoFault A) → text ≡ repository_text it.graph it.refs it.head → IsLoadable ParentsFirst it.graph it.refs it.head
-    → (told ≡ Text 1) × (it.graph.format ≡ Sha256) → RefusesText text told
-refuses_format {A} text it told is loadable h =
+pub refuses_format : {A : Type 0} (text : List ℕ) (it : Repository A) (reported : RepoFault A) → text ≡ repository_text it.graph it.refs it.head → IsLoadable ParentsFirst it.graph it.refs it.head
+    → (reported ≡ Text 1) × (it.graph.format ≡ Sha256) → RefusesText text reported
+refuses_format {A} text it reported is loadable h =
     subst (λ (fault : RepoFault A). RefusesText text fault) (sym h.0) (inr (refl, record { repo = it; text_is = is; loadable = loadable; format = h.1 }))
 
-pub accepts_format : {A : Type 0} (text : List ℕ) (it : Repository A) (told : RepoFault A) → load.AcceptsText A ParentsFirst text (Ok it) → it.graph.format ≡ Sha256 → AcceptsServable A text (Err told)
-accepts_format {A} text it told accepts other repo names refs head =
+pub accepts_format : {A : Type 0} (text : List ℕ) (it : Repository A) (reported : RepoFault A) → load.AcceptsText A ParentsFirst text (Ok it) → it.graph.format ≡ Sha256 → AcceptsServable A text (Err reported)
+accepts_format {A} text it reported accepts other repo names refs head =
     let same = accepts repo.graph repo.refs repo.head names.loadable names.text_is in
     let clash : Sha1 ≡ Sha256 = sym names.format ∙ (ap (λ (g : History A). g.format) (sym same.0) ∙ other) in
     cc
 
-pub refuses_refs : {A : Type 0} (text : List ℕ) (it : Repository A) (told : RepoFault A) → Names text it → RefusesRefs it told → RefusesText text told
+pub refuses_refs : {A : Type 0} (text : List ℕ) (it : Repository A) (reported : RepoFault A) → IsServerText text it → RefusesRefs it reported → RefusesText text reported
 refuses_refs text it Memory names h = tt
 refuses_refs text it (RefMissing name) names h = (it, names, h)
 refuses_refs text it (Text line) names h = absurd h

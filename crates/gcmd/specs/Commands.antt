@@ -9,7 +9,7 @@ use Rattle.ggraph.specs.Loading.{StopsAt}
 use Rattle.ggraph.specs.RepositoryText.{repository_text, IsLoadable}
 use Rattle.ggraph.specs.declared.text.Order.TheVariants.{Any}
 use Rattle.ggraph.specs.declared.text.Repository.{Repository}
-use Rattle.gcmd.specs.Repository.{Names, HoldsRefs, HoldsHead, RefusesText}
+use Rattle.gcmd.specs.Repository.{IsServerText, HoldsRefs, HoldsHead, RefusesText}
 use Rattle.gcmd.specs.Exchange.{Exchanges}
 use Rattle.gcmd.specs.Printing.{check_fault_line, ls_fault_line, repo_fault_line, write_fault_line}
 use Rattle.gcmd.specs.Sending.{Input, Output, IsUnread, IsUnwritten, Sends, SendsSome}
@@ -37,7 +37,7 @@ EndsWith (Some line) errors status = Prints errors line × (status ≡ 1)
 abbrev pub line_at_end : LsEnd → Option (List ℕ)
 line_at_end end.Answered = None
 line_at_end end.Closed = None
-line_at_end end.Ended = None
+line_at_end end.NoInput = None
 line_at_end (end.Refused fault) = Some (ls_fault_line fault)
 line_at_end end.WriteFailed = Some (write_fault_line Io)
 
@@ -53,7 +53,7 @@ module _ (A : Type 0) (file : List ℕ) (input : Input) (output errors : Output)
   -- the file is a repository, and there was one exchange over it
   pub record IsServed : Type 0 where
     pub repo : Repository A
-    pub names : Names file repo
+    pub names : IsServerText file repo
     pub refs : HoldsRefs repo.graph.entries repo.refs
     pub head : HoldsHead repo.graph.entries repo.head
     pub ended : LsEnd

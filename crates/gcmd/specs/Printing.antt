@@ -1,6 +1,6 @@
 -- How faults are printed: `gitv2: fault NUMBER NAME`, and then, where the fault has them and in this order, the
 -- frame, the line, the place, and the id, the name or the text.
-use Rattle.std.specs.Prelude.{ℕ, ◌≤◌, ◌++◌, ◌&&◌, nat_le, if◌then◌else◌, List, [], length, map, codes, Option, None}
+use Rattle.std.specs.Prelude.{ℕ, ◌+◌, ◌*◌, ◌≤◌, ◌++◌, ◌&&◌, nat_le, if◌then◌else◌, List, [], length, map, codes, Option, None}
 use Rattle.std.specs.Prelude.{Some, ⊤}
 use Rattle.std.specs.Fmt.{decimal}
 use Rattle.std.specs.Option.{option_copied}
@@ -8,6 +8,7 @@ use Rattle.gpkt.specs.declared.fault.WriteFault.{WriteFault}
 use Rattle.gpkt.specs.declared.fault.WriteFault.TheVariants as write
 use Rattle.gname.specs.Faults.{FaultRow, id_fault_row, name_fault_row}
 use Rattle.gname.specs.Ids.{id_text}
+use Rattle.gname.specs.Names.{max_name}
 use Rattle.gname.specs.declared.faults.NameFault.{NameFault}
 use Rattle.gname.specs.declared.faults.NameFault.TheVariants as name
 use Rattle.gname.specs.declared.ids.OidFault.{OidFault}
@@ -78,6 +79,22 @@ fault_line row details =
 
 -- ---- what the code prints
 
+-- the most digits of a number of 64 bits
+abbrev pub max_decimal : ℕ
+max_decimal = 20
+
+-- the most bytes of a fault's name
+abbrev pub max_fault_name : ℕ
+max_fault_name = 32
+
+-- a space, and a name or a text
+abbrev pub max_subject : ℕ
+max_subject = 1 + max_name
+
+-- the most bytes of a line: 32 of its words, the name, four numbers and the subject
+abbrev pub max_fault_line : ℕ
+max_fault_line = 32 + max_fault_name + 4 * max_decimal + max_subject
+
 abbrev pub printed : FaultLine → List ℕ
 printed fault = fault_line (fault.number, fault.name.now) (record {
   frame = fault.frame;
@@ -89,11 +106,11 @@ printed fault = fault_line (fault.number, fault.name.now) (record {
 
 abbrev pub IsShortText : Option (List ℕ) → Type 0
 IsShortText None = ⊤
-IsShortText (Some text) = length text ≤ 1000
+IsShortText (Some text) = length text ≤ max_name
 
 -- a name of at most 32 bytes, and a text of at most 1,000
 pub record IsShort (fault : FaultLine) : Type 0 where
-  pub name : length fault.name.now ≤ 32
+  pub name : length fault.name.now ≤ max_fault_name
   pub text : IsShortText (option_copied fault.text)
 
 -- ---- each fault's line

@@ -20,13 +20,13 @@ use Rattle.gcmd.specs.declared.repository.RepoFault.{RepoFault}
 use Rattle.gcmd.specs.declared.repository.RepoFault.TheVariants.{Text, ParentLater, RefMissing, Memory}
 
 -- the text is that of the repository, with parents before their children and SHA-1 ids
-pub record Names {A : Type 0} (text : List ℕ) (repo : Repository A) : Type 0 where
+pub record IsServerText {A : Type 0} (text : List ℕ) (repo : Repository A) : Type 0 where
   pub text_is : text ≡ repository_text repo.graph repo.refs repo.head
   pub loadable : IsLoadable ParentsFirst repo.graph repo.refs repo.head
   pub format : repo.graph.format ≡ Sha1
 
 -- the text is that of a repository with other ids, which is not served: its first line says so
-pub record NamesOtherFormat (A : Type 0) (text : List ℕ) : Type 0 where
+pub record IsOtherFormatText (A : Type 0) (text : List ℕ) : Type 0 where
   pub repo : Repository A
   pub text_is : text ≡ repository_text repo.graph repo.refs repo.head
   pub loadable : IsLoadable ParentsFirst repo.graph repo.refs repo.head
@@ -65,9 +65,10 @@ RefusesRefs repo (ParentLater line) = ⊥
 
 -- why a text is refused; out of memory may come at any text
 abbrev pub RefusesText : {A : Type 0} → List ℕ → RepoFault A → Type 0
-RefusesText {A} text (Text line) = StopsAt A ParentsFirst text (load.Text line) ⊎ ((line ≡ 1) × NamesOtherFormat A text)
+RefusesText {A} text (Text line) =
+    StopsAt A ParentsFirst text (load.Text line) ⊎ ((line ≡ 1) × IsOtherFormatText A text)
 RefusesText {A} text (ParentLater line) = StopsAt A ParentsFirst text (load.ParentLater line)
-RefusesText {A} text (RefMissing name) = (repo : Repository A) × Names text repo × MissesRef repo name
+RefusesText {A} text (RefMissing name) = (repo : Repository A) × IsServerText text repo × MissesRef repo name
 RefusesText text Memory = ⊤
 
 -- the fault for each fault of loading; others than these do not come
@@ -83,6 +84,6 @@ missing_fault (Err e) = Memory
 -- the text of a repository that can be served is read as that one, where there is memory
 abbrev pub AcceptsServable : (A : Type 0) → List ℕ → Result (RepoFile A) (RepoFault A) → Type 0
 AcceptsServable A text result =
-    (repo : Repository A) → Names text repo → HoldsRefs repo.graph.entries repo.refs → HoldsHead repo.graph.entries repo.head
+    (repo : Repository A) → IsServerText text repo → HoldsRefs repo.graph.entries repo.refs → HoldsHead repo.graph.entries repo.head
     → MatchResult result (λ it. (it.graph ≡ repo.graph) × (it.refs ≡ repo.refs) × (it.head ≡ repo.head))
     (λ fault. fault ≡ Memory)

@@ -86,14 +86,14 @@ fn add_line<A: Allocator + Copy>(
     ensures { OnOk result (AddsLines graph.now.entries head.now asked.now ((name.now, id) ∷ []) lines.old.items lines.new.items) }
 {
     if is_asked(asked.prefixes(), name) {
-        let line = line_of(graph, head, asked, name, id)?;
+        let line = answer_line(graph, head, asked, name, id)?;
         lines.push(line)?;
     }
     Ok(())
 }
 
 // The line of a ref, with the attributes that are asked for.
-fn line_of<A: Allocator + Copy>(
+fn answer_line<A: Allocator + Copy>(
     graph: &Graph<A>,
     head: &Head<A>,
     asked: &LsRefs<A>,

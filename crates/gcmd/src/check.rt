@@ -32,8 +32,8 @@ pub fn cmd_check<A: Allocator + Copy, W: Sink, E: Sink>(
 ) -> u8
     ensures checks { Checks A file.now (output_of W.contents W.passed_on W.is_down output.old output.new)
         (output_of E.contents E.passed_on E.is_down errors.old errors.new) result }
-    ensures output_seat { W.seat output.new ≡ W.seat output.old }
-    ensures errors_seat { E.seat errors.new ≡ E.seat errors.old }
+    ensures output_loans { W.loans output.new ≡ W.loans output.old }
+    ensures errors_loans { E.loans errors.new ≡ E.loans errors.old }
 {
     match check(alloc, file, output) {
         Ok(()) => 0,
@@ -59,7 +59,7 @@ fn check<A: Allocator + Copy, W: Sink>(
     output: &mut W,
 ) -> Result<(), CheckFault>
     ensures checked { HasChecked A file.now (output_of W.contents W.passed_on W.is_down output.old output.new) result }
-    ensures seat { W.seat output.new ≡ W.seat output.old }
+    ensures loans { W.loans output.new ≡ W.loans output.old }
 {
     let repo = match load(alloc, file, Order::Any) {
         Ok(repo) => repo,
@@ -98,7 +98,7 @@ fn report_of<A: Allocator + Copy>(alloc: A, repo: &Repository<A>) -> Result<Repo
 
 fn send_report<W: Sink>(report: &Report, output: &mut W) -> Result<(), Down>
     ensures sent { HasSent (output_of W.contents W.passed_on W.is_down output.old output.new) result (report_line report.now) }
-    ensures seat { W.seat output.new ≡ W.seat output.old }
+    ensures loans { W.loans output.new ≡ W.loans output.old }
 {
     let mut text = ArrayVec::new();
     compose_report(report, &mut text);

@@ -4,7 +4,7 @@ ghost use Rattle.std.specs.Prelude.{◌≡◌, ◌↔◌, IfOk, IfErr, IsTrue, M
 ghost use Rattle.gname.specs.declared.formats.Format.TheVariants.{Sha1, Sha256};
 ghost use Rattle.gcmd.specs.Faults.{repo_fault_row};
 ghost use Rattle.gcmd.specs.declared.repository.RepoFault.TheVariants.{Text};
-ghost use Rattle.gcmd.specs.Repository.{AcceptsServable, Names, HoldsRefs, HoldsHead, IsFirstMissing, RefusesText, RefusesRefs, IsTextFault, missing_fault};
+ghost use Rattle.gcmd.specs.Repository.{AcceptsServable, IsServerText, HoldsRefs, HoldsHead, IsFirstMissing, RefusesText, RefusesRefs, IsTextFault, missing_fault};
 
 use ggraph::{Graph, Head, Order, Refs, Repository, LoadFault, load};
 use gname::{Format, Oid, RefName};
@@ -74,7 +74,7 @@ impl<A: Allocator + Copy> RepoFile<A> {
     /// a text whose lines are right, with the first ref in name order, or else HEAD, that stands at
     /// an object which is not there. Out of memory may come at any text.
     pub fn read(alloc: A, text: &[u8]) -> Result<RepoFile<A>, RepoFault<A>>
-        ensures names { IfOk result (λ repo. Names text.now (record { graph = repo.graph; refs = repo.refs; head = repo.head })) }
+        ensures names { IfOk result (λ repo. IsServerText text.now (record { graph = repo.graph; refs = repo.refs; head = repo.head })) }
         ensures refs { IfOk result (λ repo. HoldsRefs repo.graph.entries repo.refs) }
         ensures head { IfOk result (λ repo. HoldsHead repo.graph.entries repo.head) }
         ensures refused { IfErr result (RefusesText text.now) }
