@@ -1,16 +1,14 @@
 -- A walk that looks for some ids.
-use Rattle.std.proofs.Common.{◌≡◌, ◌⊎◌, inl, inr, ◌↔◌, ℕ, zero, suc, ◌+◌, ◌<◌, ◌≤◌, Bool, true, false, true≢false, not, cond, List, [], ◌∷◌, ◌++◌, length, get_or, filter, is_some, All, Contains, Option, Some, None, refl, sym, ap, ◌∙◌, subst, arith, append_assoc}
+use Rattle.std.proofs.Common.{◌≡◌, inl, inr, ◌↔◌, ℕ, zero, suc, ◌+◌, ◌<◌, ◌≤◌, Bool, true, false, not, cond, List, [], ◌∷◌, ◌++◌, length, get_or, filter, is_some, All, Contains, Option, Some, None, refl, sym, ap, ◌∙◌, subst, arith, append_assoc}
 use Rattle.std.specs.List.{Any, AllByRecursion, slice_get, cons_option}
 use Rattle.std.specs.Option.{option_map}
 use Rattle.std.proofs.lemmas.Bool.{false≢true}
 use Rattle.std.proofs.lemmas.Option.{none-some}
 use Rattle.std.proofs.lemmas.List.Elements.{Contains-append_left, Contains-append_right, Contains-append_cases, Contains-push_cases}
-use Rattle.gobject.specs.declared.node.Node.{Node}
 use Rattle.gobject.specs.declared.node.Entry.{Entry}
 use Rattle.gobject.specs.Objects.{node_at, place_of}
-use Rattle.ghistory.specs.Graphs.{HasParent}
-use Rattle.ghistory.specs.Reach.{Reaches, SomeReaches, here}
-use Rattle.ghistory.specs.Levels.{new_ids, parents_of, parents_of_each, levels_below}
+use Rattle.ghistory.specs.Reach.{Reaches, SomeReaches}
+use Rattle.ghistory.specs.Levels.{new_ids, parents_of, parents_of_each}
 use Rattle.gwalk.specs.Common.{AreGoals, ids_at}
 use Rattle.gwalk.specs.Walks.{HasMet, places}
 use Rattle.gwalk.proofs.IdLists.{either_way, nothing_in_nil, new_ids-from, new_ids-has, contains_head, contains_tail, contains_cases, with_new}

@@ -1,12 +1,11 @@
 -- The offer by the marks of two walks, as far as a walk from the tips went.
-use Rattle.std.proofs.Common.{◌≡◌, ◌⊎◌, inl, inr, ◌↔◌, ℕ, zero, suc, ◌+◌, ◌<◌, ◌≤◌, Bool, true, false, true≢false, ◌&&◌, not, cond, List, [], ◌∷◌, ◌++◌, length, get_or, take, filter, is_some, Contains, Option, Some, None, refl, sym, ap, ap₂, ◌∙◌, subst, arith, append_assoc, append-nil, length-append, take_all}
+use Rattle.std.proofs.Common.{◌≡◌, ◌↔◌, ℕ, zero, suc, ◌≤◌, Bool, true, false, ◌&&◌, not, cond, List, [], ◌∷◌, ◌++◌, length, get_or, take, filter, is_some, Contains, Option, Some, refl, sym, ap, ap₂, ◌∙◌, arith, append_assoc, append-nil, take_all}
 use Rattle.std.proofs.Math.Seq.{take-append_seam}
 use Rattle.std.specs.List.{slice_get}
 use Rattle.std.specs.Option.{option_map}
 use Rattle.std.proofs.lemmas.List.Elements.{filter-append}
 use Rattle.gobject.specs.declared.node.Entry.{Entry}
 use Rattle.gobject.specs.Objects.{node_at, place_of}
-use Rattle.ghistory.specs.Graphs.{Holds}
 use Rattle.ghistory.specs.Levels.{is_in, new_ids, parents_of_each, level, levels_below, AreLevels}
 use Rattle.ghistory.specs.Laws.{LevelsAreDistances}
 use Rattle.ghistory.specs.Offer.{IsOffer}

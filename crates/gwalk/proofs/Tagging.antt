@@ -1,8 +1,7 @@
 -- The tags to send.
-use Rattle.std.proofs.Common.{◌≡◌, ◌⊎◌, inl, inr, ◌↔◌, ℕ, zero, suc, ◌+◌, ◌-◌, ◌<◌, ◌≤◌, Bool, true, false, List, [], ◌∷◌, ◌++◌, length, get_or, set, take, Contains, IsSome, Option, Some, None, refl, sym, ap, ◌∙◌, subst, arith, rules}
-use Rattle.std.specs.List.{slice_get}
+use Rattle.std.proofs.Common.{◌≡◌, ◌⊎◌, inl, inr, ◌↔◌, ℕ, zero, suc, ◌+◌, ◌-◌, ◌<◌, Bool, true, false, List, [], ◌∷◌, ◌++◌, length, get_or, set, IsSome, Option, Some, None, refl, sym, ap, ◌∙◌, subst, arith, rules}
 use Rattle.std.proofs.lemmas.Bool.{cases_eq, cases_lt}
-use Rattle.std.proofs.lemmas.List.{get_or-set_same, get_or-set_other, length-set, take_more, map-append}
+use Rattle.std.proofs.lemmas.List.{get_or-set_same, get_or-set_other, length-set}
 use Rattle.std.proofs.lemmas.List.Elements.{Contains-append_left, Contains-push, Contains-push_cases}
 use Rattle.gobject.specs.declared.node.Entry.{Entry}
 use Rattle.gobject.specs.Objects.{place_of, IdsDiffer}
@@ -12,7 +11,7 @@ use Rattle.ghistory.specs.Sending.{IsNew, IsTagToSend, IsToSend}
 use Rattle.gwalk.specs.Tags.{AreTagged, IsTagAmong, IsTagFrom, LeadsToMarked}
 use Rattle.gwalk.specs.Walks.{AreMarked, marked}
 use Rattle.gwalk.proofs.Holding.{own_place}
-use Rattle.gwalk.proofs.TagChains.{onward, no_tag, rest_of, tags_more}
+use Rattle.gwalk.proofs.TagChains.{onward, rest_of, tags_more}
 use Rattle.gwalk.proofs.Reaching.{place_inside, place_same}
 use Rattle.gwalk.proofs.Reached.{held_by, marked_selects}
 use Rattle.gwalk.proofs.IdLists.{nothing_in_nil}

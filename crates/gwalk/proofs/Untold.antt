@@ -1,5 +1,5 @@
 -- The offer by a test of each id.
-use Rattle.std.proofs.Common.{◌≡◌, ℕ, Bool, true, false, true≢false, ◌&&◌, not, cond, List, [], ◌∷◌, take, filter, Contains, is_some, refl, sym, ap, subst, ◌∙◌}
+use Rattle.std.proofs.Common.{◌≡◌, ℕ, Bool, true, false, true≢false, ◌&&◌, not, cond, List, [], ◌∷◌, take, filter, is_some, refl, sym, subst, ◌∙◌}
 use Rattle.gobject.specs.declared.node.Entry.{Entry}
 use Rattle.gobject.specs.Objects.{node_at}
 use Rattle.ghistory.specs.Selecting.{Selects, none, keep, skip}

@@ -232,12 +232,11 @@ fn offers_of_sixteen_and_then_of_more_go_down_a_chain(rt: HostRuntime) {
     let graph = chain(&rt, 100);
     let tips = ids_of(&rt, &[99]);
     let mut sent = Vec::new(rt.alloc());
-    let mut next = 100;
     for (n, wanted) in [(16, 16), (32, 32), (64, 52), (128, 0)] {
         let offer = haves(&graph, tips.as_slice(), &[], sent.as_slice(), n).expect(&rt, "memory");
         assert_eq!(rt; offer.len(), wanted);
         for have in offer.as_slice() {
-            next -= 1;
+            let next = 99usize.saturating_sub(sent.len());
             assert!(rt; *have == id(&rt, next), "{next}");
             sent.push(*have).expect(&rt, "memory");
         }

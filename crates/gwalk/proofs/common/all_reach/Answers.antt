@@ -1,4 +1,4 @@
-use Rattle.std.proofs.Common.{◌≡◌, ◌∙◌, ℕ, List, length, ◌≤◌, sym, subst, arith, refl}
+use Rattle.std.proofs.Common.{◌∙◌, ℕ, List, length, ◌≤◌, sym, subst, arith, refl}
 use Rattle.std.specs.List.{Any}
 use Rattle.std.proofs.lemmas.Bool.{false≢true}
 use Rattle.std.proofs.lemmas.List.{take_all}

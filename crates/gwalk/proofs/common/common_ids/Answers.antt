@@ -1,4 +1,4 @@
-use Rattle.std.proofs.Common.{◌≡◌, ℕ, List, [], ◌<◌, length, sym, ap, ◌∙◌, subst}
+use Rattle.std.proofs.Common.{ℕ, List, [], ◌<◌, length, sym, ap, ◌∙◌, subst}
 use Rattle.std.proofs.Common.{All}
 use Rattle.ghistory.specs.Levels.{new_ids}
 use Rattle.gwalk.specs.Common.{ids_at}

@@ -1,4 +1,4 @@
-use Rattle.std.proofs.Common.{◌≡◌, ◌<◌, ◌++◌, ◌∷◌, [], length, sym, ap, ◌∙◌, arith}
+use Rattle.std.proofs.Common.{◌≡◌, ◌++◌, ◌∷◌, [], sym, ap, ◌∙◌, arith}
 use Rattle.gwalk.proofs.SentMarks.{marked_more, marked_same}
 use Rattle.gwalk.proofs.sending.entries_at.Goals as goal
 use Rattle.gwalk.proofs.sending.entries_at.Goals.{then-mark+in_ok-entry_in+in_ok-push, else-mark}

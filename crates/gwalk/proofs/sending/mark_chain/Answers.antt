@@ -1,5 +1,4 @@
-use Rattle.std.proofs.Common.{◌≡◌, ℕ, List, None, sym, ◌∙◌, arith}
-use Rattle.ghistory.specs.Peeling.{IsTagOf}
+use Rattle.std.proofs.Common.{arith}
 use Rattle.gwalk.proofs.Tagging.{none_held}
 use Rattle.gwalk.proofs.TagChains.{peel_long}
 use Rattle.gwalk.proofs.Tagging.{passed_none, passes_tag, passes_all}

@@ -1,6 +1,5 @@
-use Rattle.std.proofs.Common.{◌≡◌, ◌∙◌, List, ℕ, ap, subst}
+use Rattle.std.proofs.Common.{◌∙◌, ap}
 use Rattle.std.specs.Map.{values_of}
-use Rattle.ghistory.specs.Sending.{IsListToSend}
 use Rattle.gwalk.proofs.sending.send_list_tags.Goals as goal
 
 pub returns-clause-answer : goal.returns-clause-answer

@@ -1,8 +1,5 @@
-use Rattle.std.proofs.Common.{◌≡◌, ◌∙◌, List, Bool, length, sym, ap, subst}
-use Rattle.gobject.specs.declared.node.Entry.{Entry}
-use Rattle.ghistory.specs.Sending.{IsListToSend}
+use Rattle.std.proofs.Common.{◌∙◌, List, Bool, length, ap, subst}
 use Rattle.gwalk.specs.Tags.{AreTagged}
-use Rattle.gwalk.specs.Walks.{marked}
 use Rattle.gwalk.proofs.Tagging.{tags_end}
 use Rattle.gwalk.proofs.sending.walked_list.Goals as goal
 
