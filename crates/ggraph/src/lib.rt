@@ -44,10 +44,9 @@ pub use gobject::{
     PlainPack, have_ids,
 };
 pub use grefs::{Head, MAX_REFS, Refs, RefsFault, Target, is_below_refs};
-pub use gwalk::laws as walk_laws;
 pub use gwalk::{
-    Count, FullMarks, common_ids, haves, mark_full, missing, missing_counted, missing_known, reaches,
-    ready, send_list, send_list_tags,
+    Count, FullMarks, common_ids, haves, laws as walk_laws, mark_full, missing, missing_counted,
+    missing_known, reaches, ready, send_list, send_list_tags,
 };
 
 #[cfg(test)]
