@@ -6,7 +6,7 @@ ghost use Rattle.gcmd.specs.Faults.{repo_fault_row};
 ghost use Rattle.gcmd.specs.declared.repository.RepoFault.TheVariants.{Text};
 ghost use Rattle.gcmd.specs.Repository.{AcceptsServable, IsServerText, HoldsRefs, HoldsHead, IsFirstMissing, RefusesText, RefusesRefs, IsTextFault, missing_fault};
 
-use ggraph::{Graph, Head, Order, Refs, Repository, LoadFault, load};
+use ggraph::{Graph, Head, LoadFault, Order, Refs, Repository, load};
 use gname::{Format, Oid, RefName};
 use std::alloc::{AllocError, Allocator};
 use thiserror::Error;

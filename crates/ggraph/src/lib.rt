@@ -1,6 +1,6 @@
-//! The text that keeps a repository: its objects, its refs and HEAD. The crate offers what it stands on
-//! under its own name, too: graphs and walks (`ghistory`), objects and packs (`gobject`), refs and HEAD
-//! (`grefs`).
+//! The text that keeps a repository: its objects, its refs and HEAD. The crate offers under its own name, too,
+//! what programs need beside it: graphs (`ghistory`), walks (`gwalk`), objects and packs (`gobject`), refs and
+//! HEAD (`grefs`).
 //!
 //! # Proved
 //!
@@ -29,7 +29,8 @@
 //! # Stands on
 //!
 //! `gobject`, `ghistory` and `grefs` for what a repository holds, `gname` for ids and names, `memchr` for
-//! the ends of lines, `thiserror` for the texts of faults; in tests `bumpalo`, for memory that ends.
+//! the ends of lines, `thiserror` for the texts of faults; in tests `bumpalo`, for memory that ends. `gwalk` it
+//! only offers.
 #![tactic(auto)]
 
 mod fault;
@@ -43,6 +44,10 @@ pub use gobject::{
     PlainPack, have_ids,
 };
 pub use grefs::{Head, MAX_REFS, Refs, RefsFault, Target, is_below_refs};
+pub use gwalk::{
+    Count, FullMarks, common_ids, haves, laws as walk_laws, mark_full, missing, missing_counted,
+    missing_known, reaches, ready, send_list, send_list_tags,
+};
 
 #[cfg(test)]
 mod tests;

@@ -96,11 +96,12 @@ fn refs_are_set_where_there_is_memory(rt: HostRuntime) -> Result<(), Fail> {
 
 #[test]
 fn refs_are_copied_where_there_is_memory(rt: HostRuntime) -> Result<(), Fail> {
-    let source = Bump::new(rt.alloc());
-    let refs = set_all(&rt, &source, id(&rt, b'1')).expect(&rt, "memory");
     let mut refused = Vec::new(rt.alloc());
     for steps in 0..STEPS {
-        let arena = arena(rt.alloc(), steps)?;
+        let arena = Bump::try_with_capacity(rt.alloc(), 8_000)?;
+        let refs = set_all(&rt, &arena, id(&rt, b'1')).expect(&rt, "memory");
+        arena.set_allocation_limit(Some(arena.allocated_bytes()));
+        fill(rt.alloc(), &arena, steps.saturating_mul(8))?;
         let copy = refs.copy_in(&arena);
         refused.push(copy.is_err())?;
         if let Ok(copy) = copy {
