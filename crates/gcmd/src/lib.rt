@@ -22,8 +22,8 @@
 //!   refuses the first packet that does not fit. [`laws`] say that the grammar is the manual's.
 //! - [`ls_refs`] answers exactly HEAD and the refs that are asked for, in order, with the attributes asked
 //!   for; [`write_ls_reply`] writes exactly their canonical bytes.
-//! - [`RepoFile::read`] accepts exactly the texts of repositories with parents first whose refs stand at
-//!   objects that are there, and reports the fault of others at its line or by its ref.
+//! - [`RepoFile::read`] accepts exactly the texts of repositories with SHA-1 ids and parents first whose
+//!   refs stand at objects that are there, and reports the fault of others at its line or by its ref.
 //! - The number and the name of each fault, and its printed line.
 //!
 //! # Only tested

@@ -16,7 +16,7 @@
 //!   (`HasRead` in `specs/LineReading.antt`, over `Spells` and `NoLine`).
 //! - Whatever the source does: a reader that has failed answers `Failed` and touches nothing; it fails
 //!   at every fault; `Io` is reported exactly where the source is down after a call that read; a
-//!   payload has at most 65,516 bytes; no call but the constructor takes memory.
+//!   payload has at most 65,516 bytes; no call but the constructor reports that memory is missing.
 //! - A write that succeeds appends the canonical spelling and nothing else, where the bytes written
 //!   are known. `Payload` is reported exactly where a line cannot carry the payload, and leaves
 //!   everything as it was; at `Io` a beginning of the spelling stands written, and not all of it; a
@@ -39,7 +39,8 @@
 //! - A device's call is made once and not tried again, of whatever kind its error is; how many calls
 //!   are made, and how many bytes each asks for.
 //! - How [`memory::Limited`] hinders, and how often a [`memory::VecSink`] says that it was flushed.
-//! - The texts of the faults, and that memory is found where there is some.
+//! - The texts of the faults, and that memory is found where there is some. By reading alone: that no call
+//!   but the constructor takes memory, and that a source is not read where the constructor fails.
 //!
 //! # What a body can still get away with
 //!

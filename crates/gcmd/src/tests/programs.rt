@@ -3,7 +3,7 @@
 use crate::tests::devices::{FREE, Hindrance, Hindrances, Program, SLOW, Writer, failing_at, run};
 use crate::tests::requests::{ANSWERED, Case, OF_TAGS, REFUSED};
 use crate::tests::samples::{
-    CHILD_FIRST, EMPTY, HEAD_MISSING, OPEN, REF_MISSING, SAMPLE, TAGGED, UNSAFE, id_of,
+    CHILD_FIRST, EMPTY, HEAD_MISSING, OPEN, REF_MISSING, SAMPLE, SHA256, TAGGED, UNSAFE, id_of,
 };
 use crate::{ProgramFault, cmd_check, cmd_ls};
 use gpkt::{FromRead, ToWrite};
@@ -23,6 +23,7 @@ const CHECKED: &[Case] = &[
     (REF_MISSING, b"nodes 0 refs 1 closed yes safe no\n", b""),
     (HEAD_MISSING, b"nodes 0 refs 0 closed yes safe yes\n", b""),
     (EMPTY, b"nodes 0 refs 0 closed yes safe yes\n", b""),
+    (SHA256, b"nodes 1 refs 1 closed yes safe yes\n", b""),
     (b"gitv2 2\n", b"", b"gitv2: fault 67 Text line 1\n"),
     (b"", b"", b"gitv2: fault 67 Text line 1\n"),
     (
@@ -35,6 +36,7 @@ const CHECKED: &[Case] = &[
 // What `ls` prints of a file that is not served. Nothing is read or written.
 const UNSERVED: &[Case] = &[
     (b"gitv2 1\nend\n", b"", b"gitv2: fault 67 Text line 2\n"),
+    (SHA256, b"", b"gitv2: fault 67 Text line 1\n"),
     (CHILD_FIRST, b"", b"gitv2: fault 68 ParentLater line 2\n"),
     (OPEN, b"", b"gitv2: fault 68 ParentLater line 3\n"),
     (

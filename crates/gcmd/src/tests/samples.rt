@@ -78,3 +78,10 @@ pub(super) fn repo(alloc: Global, text: &[u8]) -> Result<RepoFile<Global>, Fail>
 pub(super) fn id_of(alloc: Global, digit: u8) -> Result<Vec<u8>, Fail> {
     Ok(vec![in alloc; digit; 40]?)
 }
+
+// A repository with SHA-256 ids.
+pub(super) const SHA256: &[u8] = b"gitv2 2 sha256\n\
+    c aaaaaaaaaaaaaaaaaaaaaaaaaaaaaaaaaaaaaaaaaaaaaaaaaaaaaaaaaaaaaaaa\n\
+    r aaaaaaaaaaaaaaaaaaaaaaaaaaaaaaaaaaaaaaaaaaaaaaaaaaaaaaaaaaaaaaaa refs/heads/main\n\
+    h ref refs/heads/main\n\
+    end\n";
