@@ -84,6 +84,7 @@ missing_fault (Err e) = Memory
 -- the text of a repository that can be served is read as that one, where there is memory
 abbrev pub AcceptsServable : (A : Type 0) → List ℕ → Result (RepoFile A) (RepoFault A) → Type 0
 AcceptsServable A text result =
-    (repo : Repository A) → IsServerText text repo → HoldsRefs repo.graph.entries repo.refs → HoldsHead repo.graph.entries repo.head
+    (repo : Repository A) → IsServerText text repo → HoldsRefs repo.graph.entries repo.refs
+    → HoldsHead repo.graph.entries repo.head
     → MatchResult result (λ it. (it.graph ≡ repo.graph) × (it.refs ≡ repo.refs) × (it.head ≡ repo.head))
     (λ fault. fault ≡ Memory)
