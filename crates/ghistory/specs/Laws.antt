@@ -7,7 +7,9 @@ use Rattle.gobject.specs.Objects.{node_at, place_of, IdsDiffer, IsShaped}
 use Rattle.gname.specs.declared.formats.Format.{Format}
 use Rattle.ghistory.specs.declared.fault.GraphFault.{GraphFault}
 use Rattle.ghistory.specs.Graphs.{History, Holds, IsNode, IsGraph, IsOrdered, HasIdsOf, max_nodes}
-use Rattle.ghistory.specs.Reach.{Reaches, IsFull, IsClosed, Agree, Keeps}
+use Rattle.gobject.specs.declared.node.Node.{Node}
+use Rattle.gobject.specs.Packs.{AreEntries}
+use Rattle.ghistory.specs.Reach.{Reaches, IsFull, IsClosed, Agree, Grows, Keeps}
 use Rattle.ghistory.specs.Insert.{Inserts, IsCause}
 use Rattle.ghistory.specs.Peeling.{IsTagOf, PeelsTo}
 use Rattle.ghistory.specs.Sending.{IsListToSend}
@@ -53,11 +55,23 @@ FullStaysFull A =
 abbrev pub PathsAreShared : Type 0 → Type 0
 PathsAreShared A = (g h : List (Entry A)) (a b : List ℕ) → Agree g h → IsFull h a → Reaches g a b → Reaches h a b
 
--- two graphs that agree still do once entries of the one are inserted into the other
+-- what grows keeps what it held
+abbrev pub GrowingKeeps : Type 0 → Type 0
+GrowingKeeps A = (g h : List (Entry A)) → Grows g h → Keeps g h
+
+-- where a graph keeps what it held, a path is still there
+abbrev pub KeepingReaches : Type 0 → Type 0
+KeepingReaches A = (g h : List (Entry A)) (a b : List ℕ) → Keeps g h → Reaches g a b → Reaches h a b
+
+-- where the graph holds the entry's id, it holds it with the entry's node
+abbrev pub AgreesWith : {A : Type 0} → List (Entry A) → Entry A → Type 0
+AgreesWith {A} g entry = (node : Node A) → IsNode g entry.id node → node ≡ entry.node
+
+-- two graphs that agree still do once entries with which the one agrees are inserted into the other
 abbrev pub AgreeingStays : Type 0 → Type 0
 AgreeingStays A =
     (g h entries new : List (Entry A)) (format : Format)
-    → Agree g h → All (λ entry. IsNode g entry.id entry.node) entries → Inserts format h entries new → Agree g new
+    → Agree g h → All (AgreesWith g) entries → Inserts format h entries new → Agree g new
 
 -- an id peels to one commit at most
 abbrev pub PeelsToOne : Type 0 → Type 0
@@ -85,12 +99,14 @@ OneListToSend A =
     (g list other : List (Entry A)) (wants commons tips : List (List ℕ))
     → IsListToSend g wants commons tips list → IsListToSend g wants commons tips other → list ≡ other
 
--- and its entries are a graph's: their ids differ and are of the format, and each node has its shape
+-- and its entries are a graph's: their ids differ and are of the format, and each node has its shape; a pack may have
+-- them; and each is of the graph that it was made from
 abbrev pub SentAreEntries : Type 0 → Type 0
 SentAreEntries A =
     (g : History A) (list : List (Entry A)) (wants commons tips : List (List ℕ))
     → IsGraph g → IsListToSend g.entries wants commons tips list
-    → IsGraph (record { format = g.format; entries = list })
+    → IsGraph (record { format = g.format; entries = list }) × AreEntries list
+    × All (λ entry. IsNode g.entries entry.id entry.node) list
 
 -- the ids are full, and all that they reach in another graph is held
 abbrev pub HasAll : {A : Type 0} → List (Entry A) → List (List ℕ) → List (Entry A) → Type 0

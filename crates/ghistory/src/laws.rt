@@ -1,7 +1,7 @@
 // Laws of graphs. A call does nothing, and gives its caller's proof the law.
 #![tactic(auto)]
 
-ghost use Rattle.ghistory.specs.Laws.{EntriesComeInOrder, OneCause, ClosedIsFull, ReachingGoesOn, FullStaysFull, PathsAreShared, AgreeingStays, PeelsToOne, PeelsAlongTags, OrderedIsClosed, ReachingGoesDown, OneListToSend, SentAreEntries, SendingIsEnough, LevelsAreDistances, LevelsAreReached, OffersAreExact, CommonsAreHeld};
+ghost use Rattle.ghistory.specs.Laws.{EntriesComeInOrder, OneCause, ClosedIsFull, ReachingGoesOn, FullStaysFull, PathsAreShared, GrowingKeeps, KeepingReaches, AgreeingStays, PeelsToOne, PeelsAlongTags, OrderedIsClosed, ReachingGoesDown, OneListToSend, SentAreEntries, SendingIsEnough, LevelsAreDistances, LevelsAreReached, OffersAreExact, CommonsAreHeld};
 
 use std::alloc::Allocator;
 
@@ -35,7 +35,18 @@ pub fn paths_are_shared<A: Allocator + Copy>()
     ensures { PathsAreShared A }
 {}
 
-/// Two graphs that agree still do once entries of the one are inserted into the other.
+/// A graph to which objects only came holds what it held, with the same nodes.
+pub fn growing_keeps<A: Allocator + Copy>()
+    ensures { GrowingKeeps A }
+{}
+
+/// Where a graph keeps what it held, what an id reached it still reaches.
+pub fn keeping_reaches<A: Allocator + Copy>()
+    ensures { KeepingReaches A }
+{}
+
+/// Two graphs that agree still do once entries are inserted into the one: each entry whose id the other holds has
+/// the node that stands there.
 pub fn agreeing_stays<A: Allocator + Copy>()
     ensures { AgreeingStays A }
 {}
@@ -66,10 +77,12 @@ pub fn one_list_to_send<A: Allocator + Copy>()
 {}
 
 /// The entries of a list to send are a graph's: their ids differ and are of its format, and each node has its
-/// shape.
+/// shape. A packer may pack them. Each id stands for its entry's node in the graph from which they are sent.
 pub fn sent_are_entries<A: Allocator + Copy>()
     ensures { SentAreEntries A }
-{}
+{
+    gname::laws::ids_have_one_format();
+}
 
 /// What a server sends makes the wants whole at the client. No parent is missing in the server's graph, the
 /// graphs agree, the server's holds the wants, and the client's holds the whole ancestries of the common
