@@ -12,8 +12,8 @@ use Rattle.gobject.specs.Packs.{AreEntries}
 use Rattle.gname.specs.Laws.{IdsHaveOneFormat}
 use Rattle.gname.specs.declared.formats.Format.{Format}
 use Rattle.ghistory.specs.Graphs.{History, IsNode, IsGraph, Holds, HasIdsOf, HasParent}
-use Rattle.ghistory.specs.Reach.{Reaches, here, onward, SomeReaches, IsFull, IsClosed, Agree, Keeps}
-use Rattle.ghistory.specs.Insert.{Inserts, Lists, AddsOnly, AddsOnlyParents}
+use Rattle.ghistory.specs.Reach.{Reaches, here, onward, SomeReaches, IsFull, IsClosed, HoldsParents, Agree, Keeps}
+use Rattle.ghistory.specs.Insert.{ComesIn, Inserts, Lists, AddsOnly, AddsOnlyParents}
 use Rattle.ghistory.specs.Peeling.{IsTagOf, IsCommit, Tags, PeelsTo}
 use Rattle.ghistory.specs.Selecting.{Selects, none, keep, skip}
 use Rattle.ghistory.specs.Sending.{IsToSend, IsListToSend}
@@ -21,8 +21,9 @@ use Rattle.ghistory.specs.Laws.{AgreesWith, HasAll}
 use Rattle.ghistory.proofs.Reaching.{kept_along, reaches_parent, full_in_closed, place_at, node_at_place}
 use Rattle.ghistory.proofs.PeelLemmas.{peel_ends}
 use Rattle.ghistory.proofs.Holding.{one_node, held_node, own_place, has_id_is, id_cases, node_here, node_there, absent_head, absent_tail}
+use Rattle.ghistory.proofs.IdLists.{nothing_in_nil, contains_cases}
 use Rattle.ghistory.proofs.Choosing.{chosen_or_not, chosen_all, chosen_few}
-use Rattle.ghistory.proofs.Growing.{grows_keeps, inserts_grows, inserts_held, node_in_front, node_after, reached_before}
+use Rattle.ghistory.proofs.Growing.{grows_keeps, comes_grows, inserts_grows, inserts_held, node_in_front, node_after, reached_before}
 
 -- a node that is there is held
 pub holds_node : {A : Type 0} (g : List (Entry A)) (a : List ℕ) (node : Node A) → IsNode g a node → Holds g a
@@ -89,6 +90,20 @@ adds_only_parents old entries new only a b parent =
     elim (only a parent.0 parent.1) [
       | inl is ↦ inl (parent.0, is, parent.2)
       | inr listed ↦ inr (parent.0, listed, parent.2)
+    ]
+
+-- where no parent is missing, none is after an entry came in whose parents are held
+pub closed_stays : {A : Type 0} (format : Format) (g : List (Entry A)) (entry : Entry A) (h : List (Entry A)) → IsClosed g → HoldsParents g entry → ComesIn format g entry h → IsClosed h
+unfolding HoldsParents
+closed_stays {A} format g entry h closed held comes a b parent =
+    let keeps = grows_keeps g h (comes_grows format g entry h comes) in
+    let kept : Holds g b → Holds h b = λ there. let n = held_node g b there in holds_node h b n.0 (keeps b n.0 n.1) in
+    elim (comes_only g entry h [] a parent.0 comes.comes parent.1) [
+      | inl before ↦ kept (closed a b (parent.0, before, parent.2))
+      | inr listed ↦ elim (contains_cases entry [] (entry_of a parent.0) listed) [
+        | inl same ↦ kept (All-contains (Holds g) entry.node.parents b held (subst (λ (e : Entry A). Contains e.node.parents b) (sym same) parent.2))
+        | inr later ↦ nothing_in_nil (entry_of a parent.0) later
+      ]
     ]
 
 -- agreeing is kept when entries come in with which the other graph agrees

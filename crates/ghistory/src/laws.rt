@@ -1,7 +1,7 @@
 // Laws of graphs. A call does nothing, and gives its caller's proof the law.
 #![tactic(auto)]
 
-ghost use Rattle.ghistory.specs.Laws.{EntriesComeInOrder, OneCause, ClosedIsFull, ReachingGoesOn, FullStaysFull, PathsAreShared, GrowingKeeps, KeepingReaches, AgreeingStays, PeelsToOne, PeelsAlongTags, OrderedIsClosed, ReachingGoesDown, OneListToSend, SentAreEntries, SendingIsEnough, LevelsAreDistances, LevelsAreReached, OffersAreExact, CommonsAreHeld};
+ghost use Rattle.ghistory.specs.Laws.{EntriesComeInOrder, OneCause, ClosedIsFull, ReachingGoesOn, FullStaysFull, PathsAreShared, GrowingKeeps, KeepingReaches, AgreeingStays, AgreeingEntriesFit, PeelsToOne, PeelsAlongTags, OrderedIsClosed, ReachingGoesDown, ClosedStays, PlacesAreNodes, OneListToSend, SentAreEntries, SendingIsEnough, ReachedAreCounted, CountsStay, LevelsAreDistances, LevelsAreReached, OffersAreExact, CommonsAreHeld};
 
 use std::alloc::Allocator;
 
@@ -51,6 +51,11 @@ pub fn agreeing_stays<A: Allocator + Copy>()
     ensures { AgreeingStays A }
 {}
 
+/// A graph refuses entries of one with which it agrees only with `TooMany` or `Memory`.
+pub fn agreeing_entries_fit<A: Allocator + Copy>()
+    ensures { AgreeingEntriesFit A }
+{}
+
 /// An id peels to one commit at most.
 pub fn peels_to_one<A: Allocator + Copy>()
     ensures { PeelsToOne A }
@@ -69,6 +74,17 @@ pub fn ordered_is_closed<A: Allocator + Copy>()
 /// In a graph in which parents come first an id reaches no id with a higher number.
 pub fn reaching_goes_down<A: Allocator + Copy>()
     ensures { ReachingGoesDown A }
+{}
+
+/// Where no parent is missing, none is once an entry came in whose parents were held.
+pub fn closed_stays<A: Allocator + Copy>()
+    ensures { ClosedStays A }
+{}
+
+/// What `Graph::node`, `Graph::number` and `Graph::at` answer agrees: an id has a node exactly where it stands
+/// at some place with that node, and that place is its number.
+pub fn places_are_nodes<A: Allocator + Copy>()
+    ensures { PlacesAreNodes A }
 {}
 
 /// There is one list to send for some wants, common ids and tips.
@@ -90,6 +106,17 @@ pub fn sent_are_entries<A: Allocator + Copy>()
 /// wants, and all that they reach in the server's.
 pub fn sending_is_enough<A: Allocator + Copy>()
     ensures { SendingIsEnough A }
+{}
+
+/// Distinct held ids that some tips reach are at most as many as are counted.
+pub fn reached_are_counted<A: Allocator + Copy>()
+    ensures { ReachedAreCounted A }
+{}
+
+/// How many held ids some tips reach, and how many parents these have, stays as objects come, where the whole
+/// ancestries of the tips were held.
+pub fn counts_stay<A: Allocator + Copy>()
+    ensures { CountsStay A }
 {}
 
 /// Level k has exactly the ids whose least number of steps to a parent, from a tip on, is k. No id is in
