@@ -1,5 +1,6 @@
 -- Graphs of commits and tags: which ids a graph holds, with which nodes, and which is a parent of which.
-use Rattle.std.specs.Prelude.{◌≡◌, ℕ, ◌≤◌, List, ◌∷◌, ◌++◌, length, map, take, slice_get, Contains, All, None, Some, IsSome}
+use Rattle.std.specs.Prelude.{◌≡◌, ℕ, ◌≤◌, List, ◌∷◌, ◌++◌, length, map, take, slice_get, Contains, All}
+use Rattle.std.specs.Prelude.{None, Some, IsSome}
 use Rattle.gname.specs.declared.formats.Format.{Format}
 use Rattle.gname.specs.Ids.{IsIdOf}
 use Rattle.gobject.specs.declared.node.Node.{Node}
