@@ -11,9 +11,9 @@ use Rattle.gobject.specs.declared.node.Entry.{Entry}
 use Rattle.gobject.specs.Objects.{has_id, node_at, IdsDiffer}
 use Rattle.ghistory.specs.Graphs.{Holds}
 use Rattle.ghistory.specs.Reach.{SomeReaches, IsFull, Grows}
-use Rattle.ghistory.specs.Selecting.{Selects, none, keep, skip}
+use Rattle.ghistory.specs.Selecting.{Selects}
 use Rattle.ghistory.specs.Walks.{CountsReached}
-use Rattle.ghistory.proofs.Choosing.{chosen_or_not}
+use Rattle.ghistory.proofs.Choosing.{chosen_or_not, selects_same, selects_before}
 use Rattle.ghistory.proofs.Growing.{grows_keeps, keeps_reaching, other_id}
 use Rattle.ghistory.proofs.Holding.{node_there, absent_head, absent_tail}
 use Rattle.ghistory.proofs.IdLists.{nothing_in_nil, contains_head, contains_tail, contains_cases, any_from_contains, contains_from_any}
@@ -66,20 +66,6 @@ new_after [] more entry differ among = refl
 new_after (first ∷ g) more entry differ among =
     node_there first g entry.id (other_id entry first (absent_member (g ++ more) first.id entry differ.0 (Contains-append_right g more entry among)))
     ∙ new_after g more entry differ.1 among
-
-selects_same : {X : Type 0} (P Q : X → Type 0) (xs ys : List X) → ((x : X) → P x → Q x) → ((x : X) → Q x → P x) → Selects P xs ys → Selects Q xs ys
-selects_same P Q xs ys to back none = none
-selects_same P Q xs ys to back (keep {x = x} {xs = others} {ys = more} p rest) = keep (to x p) (selects_same P Q others more to back rest)
-selects_same P Q xs ys to back (skip {x = x} {xs = others} left_out rest) = skip (λ q. left_out (back x q)) (selects_same P Q others ys to back rest)
-
-selects_none : {X : Type 0} (P : X → Type 0) (xs : List X) → ((x : X) → Contains xs x → ¬ (P x)) → Selects P xs []
-selects_none P [] out = none
-selects_none P (x ∷ xs) out = skip (out x (contains_head x xs)) (selects_none P xs (λ y among. out y (contains_tail x xs y among)))
-
-selects_before : {X : Type 0} (P : X → Type 0) (xs ys more : List X) → ((x : X) → Contains more x → ¬ (P x)) → Selects P xs ys → Selects P (xs ++ more) ys
-selects_before P xs ys more out none = selects_none P more out
-selects_before P xs ys more out (keep {xs = others} {ys = chosen} p rest) = keep p (selects_before P others chosen more out rest)
-selects_before P xs ys more out (skip {xs = others} left_out rest) = skip left_out (selects_before P others ys more out rest)
 
 module _ {A : Type 0} (g h : List (Entry A)) (tips : List (List ℕ)) (grows : Grows g h) (differ : IdsDiffer h) (full : All (IsFull g) tips) where
   reached_later : (a : List ℕ) → SomeReaches g tips a → SomeReaches h tips a

@@ -11,16 +11,13 @@ use Rattle.ghistory.specs.Laws.{IsAt, PlacesAreNodes}
 use Rattle.ghistory.proofs.Holding.{has_id_is, own_place}
 use Rattle.ghistory.proofs.Ordering.{entry_at_place}
 use Rattle.ghistory.proofs.Reaching.{place_inside, place_of_node}
-use Rattle.ghistory.proofs.Sharing.{own_node}
+use Rattle.ghistory.proofs.Sharing.{entry_is, own_node}
 
 id_at_place : {A : Type 0} (g : List (Entry A)) (a : List ℕ) (p : ℕ) (entry : Entry A) → place_of g a ≡ Some p → slice_get g p ≡ Some entry → entry.id ≡ a
 id_at_place [] a p entry place at = absurd (none-some p place)
 id_at_place {A} (first ∷ g) a p entry place at =
     let found = (position-Some (has_id a) (first ∷ g) p first place).1 in
     has_id_is a entry (subst (λ (e : Entry A). has_id a e ≡ true) (get_or_from_slice_get (first ∷ g) p entry first at) found)
-
-entry_is : {A : Type 0} (entry : Entry A) (a : List ℕ) (node : Node A) → entry.id ≡ a → entry.node ≡ node → entry ≡ entry_of a node
-entry_is entry a node ids nodes = ap (λ x. entry_of x entry.node) ids ∙ ap (entry_of a) nodes
 
 at_of_node : {A : Type 0} (g : List (Entry A)) (a : List ℕ) (node : Node A) → IsNode g a node → (p : ℕ) × IsAt g p a node
 at_of_node g a node is =

@@ -53,10 +53,12 @@ path_shared g h a b agree full r =
 
 -- ---- nothing else comes in
 
+pub entry_is : {A : Type 0} (entry : Entry A) (a : List ℕ) (node : Node A) → entry.id ≡ a → entry.node ≡ node → entry ≡ entry_of a node
+entry_is entry a node ids nodes = ap (λ x. entry_of x entry.node) ids ∙ ap (entry_of a) nodes
+
 listed_first : {A : Type 0} (entry : Entry A) (entries : List (Entry A)) (a : List ℕ) (node : Node A) → entry.id ≡ a → entry.node ≡ node → Lists (entry ∷ entries) a node
 listed_first {A} entry entries a node ids nodes =
-    let is : entry ≡ entry_of a node = ap (λ x. entry_of x entry.node) ids ∙ ap (entry_of a) nodes in
-    (0, omega arith, is)
+    (0, omega arith, entry_is entry a node ids nodes)
 
 pub comes_only : {A : Type 0} (old : List (Entry A)) (entry : Entry A) (new entries : List (Entry A)) (a : List ℕ) (node : Node A) → (IsNode old entry.id entry.node × (new ≡ old)) ⊎ ((node_at old entry.id ≡ None) × (new ≡ old ++ entry ∷ [])) → IsNode new a node → IsNode old a node ⊎ Lists (entry ∷ entries) a node
 comes_only {A} old entry new entries a node (inl c) is = inl (ap (λ x. node_at x a) (sym c.1) ∙ is)
