@@ -11,7 +11,7 @@ use Rattle.ghistory.specs.declared.fault.GraphFault.TheVariants.{TooManyParents,
 use Rattle.ghistory.specs.Graphs.{IsNode}
 use Rattle.ghistory.specs.Insert.{IsCause}
 
-too_many : {most count : ℕ} → most < count → count ≤ most → ⊥
+pub too_many : {most count : ℕ} → most < count → count ≤ most → ⊥
 too_many more few = omega (arith, more, few)
 
 full : {most count : ℕ} → count ≡ most → count < most → ⊥

@@ -1,5 +1,5 @@
 -- Choosing from a list.
-use Rattle.std.proofs.Common.{◌≡◌, ◌⊎◌, inl, inr, ℕ, zero, suc, ◌≤◌, Bool, true, false, true≢false, cond, List, [], ◌∷◌, length, filter, All, Contains, Some, refl, sym, ap, subst, ◌∙◌, arith}
+use Rattle.std.proofs.Common.{◌≡◌, ◌⊎◌, inl, inr, ℕ, zero, suc, ◌≤◌, Bool, true, false, true≢false, cond, List, [], ◌∷◌, ◌++◌, length, filter, All, Contains, Some, refl, sym, ap, subst, ◌∙◌, arith}
 use Rattle.std.specs.List.{slice_get, IsDistinct, AllByRecursion}
 use Rattle.std.proofs.lemmas.Option.{same_Some, none-some}
 use Rattle.std.proofs.lemmas.List.Elements.{All-head, All-tail, All-cons, All-nil, Contains-append_right}
@@ -74,6 +74,22 @@ module _ {X : Type 0} (P : X → Type 0) where
   select_distinct e none h = tt
   select_distinct e (keep {x = x} p s) h = (select_each (λ y. e x y ≡ false) s h.0, select_distinct e s h.1)
   select_distinct e (skip p s) h = select_distinct e s h.1
+
+-- ---- the same choice, and one from a longer list
+
+pub selects_same : {X : Type 0} (P Q : X → Type 0) (xs ys : List X) → ((x : X) → P x → Q x) → ((x : X) → Q x → P x) → Selects P xs ys → Selects Q xs ys
+selects_same P Q xs ys to back none = none
+selects_same P Q xs ys to back (keep {x = x} {xs = others} {ys = more} p rest) = keep (to x p) (selects_same P Q others more to back rest)
+selects_same P Q xs ys to back (skip {x = x} {xs = others} left_out rest) = skip (λ q. left_out (back x q)) (selects_same P Q others ys to back rest)
+
+selects_none : {X : Type 0} (P : X → Type 0) (xs : List X) → ((x : X) → Contains xs x → ¬ (P x)) → Selects P xs []
+selects_none P [] out = none
+selects_none P (x ∷ xs) out = skip (out x (contains_head x xs)) (selects_none P xs (λ y among. out y (contains_tail x xs y among)))
+
+pub selects_before : {X : Type 0} (P : X → Type 0) (xs ys more : List X) → ((x : X) → Contains more x → ¬ (P x)) → Selects P xs ys → Selects P (xs ++ more) ys
+selects_before P xs ys more out none = selects_none P more out
+selects_before P xs ys more out (keep {xs = others} {ys = chosen} p rest) = keep p (selects_before P others chosen more out rest)
+selects_before P xs ys more out (skip {xs = others} left_out rest) = skip left_out (selects_before P others ys more out rest)
 
 -- ---- a filter chooses
 

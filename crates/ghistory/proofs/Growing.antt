@@ -146,7 +146,7 @@ inserts_more format old (first ∷ entries) entry mid new (next, c, rest) d = (n
 pub take_one : {X : Type 0} (xs : List X) (k : ℕ) (x : X) → k < length xs → x ≡ get_or xs k x → take (k + 1) xs ≡ take k xs ++ x ∷ []
 take_one xs k x inside is = take_more xs k x inside ∙ ap (λ y. take k xs ++ y ∷ []) (sym is)
 
-at_front : {X : Type 0} (xs : List X) (k : ℕ) (x : X) → k < length xs → x ≡ get_or xs k x → xs ≡ take k xs ++ x ∷ drop (k + 1) xs
+pub at_front : {X : Type 0} (xs : List X) (k : ℕ) (x : X) → k < length xs → x ≡ get_or xs k x → xs ≡ take k xs ++ x ∷ drop (k + 1) xs
 at_front xs k x inside is =
     let rest : drop k xs ≡ x ∷ drop (k + 1) xs = rw add-one (drop-cons xs k x inside ∙ ap (λ y. y ∷ drop (suc k) xs) (sym is)) in
     sym (take-append-drop k xs) ∙ ap (λ ys. take k xs ++ ys) rest

@@ -71,6 +71,13 @@ some_is (Some x) is = (x, refl)
 pub held_node : {A : Type 0} (g : List (Entry A)) (a : List ℕ) → Holds g a → (node : Node A) × IsNode g a node
 held_node g a held = some_is (node_at g a) held
 
+none_is : {X : Type 0} (o : Option X) → ¬ (IsSome o) → o ≡ None
+none_is None out = refl
+none_is (Some x) out = absurd (out refl)
+
+pub not_held : {A : Type 0} (g : List (Entry A)) (a : List ℕ) → ¬ (Holds g a) → node_at g a ≡ None
+not_held g a out = none_is (node_at g a) out
+
 -- and one alone
 pub one_node : {A : Type 0} (g : List (Entry A)) (a : List ℕ) (m n : Node A) → IsNode g a m → IsNode g a n → m ≡ n
 one_node g a m n left right = same_Some m n (sym left ∙ right)

@@ -2,6 +2,7 @@ pub mod Causes
 pub mod Choosing
 pub mod ClosedLemmas
 pub mod CommonLaws
+pub mod Counting
 pub mod Growing
 pub mod Holding
 pub mod IdLists
@@ -12,6 +13,8 @@ pub mod OrderLemmas
 pub mod Ordering
 pub mod Pairs
 pub mod PeelLemmas
+pub mod Places
 pub mod Reaching
+pub mod Refusing
 pub mod Sharing
 pub mod Storing

@@ -9,7 +9,7 @@ use Rattle.ghistory.specs.Laws.{EntriesComeInOrder}
 use Rattle.ghistory.proofs.Growing.{other_id}
 use Rattle.ghistory.proofs.Holding.{absent_head, absent_tail, node_there}
 
-all_at : {X : Type 0} (P : X → Type 0) (front : List X) (x : X) (back : List X) → All P (front ++ x ∷ back) → P x
+pub all_at : {X : Type 0} (P : X → Type 0) (front : List X) (x : X) (back : List X) → All P (front ++ x ∷ back) → P x
 all_at P [] x back all = All-head P x back all
 all_at P (y ∷ front) x back all = all_at P front x back (All-tail P y (front ++ x ∷ back) all)
 

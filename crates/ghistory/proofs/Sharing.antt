@@ -7,20 +7,23 @@ use Rattle.std.proofs.lemmas.Bool.{cases_Bool, false≢true}
 use Rattle.std.proofs.lemmas.List.Elements.{All-contains, Contains-append_right, Contains-get_or}
 use Rattle.gobject.specs.declared.node.Node.{Node}
 use Rattle.gobject.specs.declared.node.Entry.{Entry}
-use Rattle.gobject.specs.Objects.{node_at, entry_of, IdsDiffer, IsShaped}
+use Rattle.gobject.specs.Objects.{node_at, entry_of, HasIds, IdsDiffer, IsShaped}
+use Rattle.gobject.specs.Packs.{AreEntries}
+use Rattle.gname.specs.Laws.{IdsHaveOneFormat}
 use Rattle.gname.specs.declared.formats.Format.{Format}
 use Rattle.ghistory.specs.Graphs.{History, IsNode, IsGraph, Holds, HasIdsOf, HasParent}
-use Rattle.ghistory.specs.Reach.{Reaches, here, onward, SomeReaches, IsFull, IsClosed, Agree, Keeps}
-use Rattle.ghistory.specs.Insert.{Inserts, Lists, AddsOnly, AddsOnlyParents}
+use Rattle.ghistory.specs.Reach.{Reaches, here, onward, SomeReaches, IsFull, IsClosed, HoldsParents, Agree, Keeps}
+use Rattle.ghistory.specs.Insert.{ComesIn, Inserts, Lists, AddsOnly, AddsOnlyParents}
 use Rattle.ghistory.specs.Peeling.{IsTagOf, IsCommit, Tags, PeelsTo}
 use Rattle.ghistory.specs.Selecting.{Selects, none, keep, skip}
 use Rattle.ghistory.specs.Sending.{IsToSend, IsListToSend}
-use Rattle.ghistory.specs.Laws.{HasAll}
+use Rattle.ghistory.specs.Laws.{AgreesWith, HasAll}
 use Rattle.ghistory.proofs.Reaching.{kept_along, reaches_parent, full_in_closed, place_at, node_at_place}
 use Rattle.ghistory.proofs.PeelLemmas.{peel_ends}
 use Rattle.ghistory.proofs.Holding.{one_node, held_node, own_place, has_id_is, id_cases, node_here, node_there, absent_head, absent_tail}
+use Rattle.ghistory.proofs.IdLists.{nothing_in_nil, contains_cases}
 use Rattle.ghistory.proofs.Choosing.{chosen_or_not, chosen_all, chosen_few}
-use Rattle.ghistory.proofs.Growing.{grows_keeps, inserts_grows, inserts_held, node_in_front, node_after, reached_before}
+use Rattle.ghistory.proofs.Growing.{grows_keeps, comes_grows, inserts_grows, inserts_held, node_in_front, node_after, reached_before}
 
 -- a node that is there is held
 pub holds_node : {A : Type 0} (g : List (Entry A)) (a : List ℕ) (node : Node A) → IsNode g a node → Holds g a
@@ -50,12 +53,14 @@ path_shared g h a b agree full r =
 
 -- ---- nothing else comes in
 
+pub entry_is : {A : Type 0} (entry : Entry A) (a : List ℕ) (node : Node A) → entry.id ≡ a → entry.node ≡ node → entry ≡ entry_of a node
+entry_is entry a node ids nodes = ap (λ x. entry_of x entry.node) ids ∙ ap (entry_of a) nodes
+
 listed_first : {A : Type 0} (entry : Entry A) (entries : List (Entry A)) (a : List ℕ) (node : Node A) → entry.id ≡ a → entry.node ≡ node → Lists (entry ∷ entries) a node
 listed_first {A} entry entries a node ids nodes =
-    let is : entry ≡ entry_of a node = ap (λ x. entry_of x entry.node) ids ∙ ap (entry_of a) nodes in
-    (0, omega arith, is)
+    (0, omega arith, entry_is entry a node ids nodes)
 
-comes_only : {A : Type 0} (old : List (Entry A)) (entry : Entry A) (new entries : List (Entry A)) (a : List ℕ) (node : Node A) → (IsNode old entry.id entry.node × (new ≡ old)) ⊎ ((node_at old entry.id ≡ None) × (new ≡ old ++ entry ∷ [])) → IsNode new a node → IsNode old a node ⊎ Lists (entry ∷ entries) a node
+pub comes_only : {A : Type 0} (old : List (Entry A)) (entry : Entry A) (new entries : List (Entry A)) (a : List ℕ) (node : Node A) → (IsNode old entry.id entry.node × (new ≡ old)) ⊎ ((node_at old entry.id ≡ None) × (new ≡ old ++ entry ∷ [])) → IsNode new a node → IsNode old a node ⊎ Lists (entry ∷ entries) a node
 comes_only {A} old entry new entries a node (inl c) is = inl (ap (λ x. node_at x a) (sym c.1) ∙ is)
 comes_only {A} old entry new entries a node (inr c) is = by (node_at old a) refl
   where
@@ -89,12 +94,26 @@ adds_only_parents old entries new only a b parent =
       | inr listed ↦ inr (parent.0, listed, parent.2)
     ]
 
--- agreeing is kept when entries of the other graph come in
-pub agree_inserted : {A : Type 0} (g h entries new : List (Entry A)) (format : Format) → Agree g h → All (λ entry. IsNode g entry.id entry.node) entries → Inserts format h entries new → Agree g new
+-- where no parent is missing, none is after an entry came in whose parents are held
+pub closed_stays : {A : Type 0} (format : Format) (g : List (Entry A)) (entry : Entry A) (h : List (Entry A)) → IsClosed g → HoldsParents g entry → ComesIn format g entry h → IsClosed h
+unfolding HoldsParents
+closed_stays {A} format g entry h closed held comes a b parent =
+    let keeps = grows_keeps g h (comes_grows format g entry h comes) in
+    let kept : Holds g b → Holds h b = λ there. let n = held_node g b there in holds_node h b n.0 (keeps b n.0 n.1) in
+    elim (comes_only g entry h [] a parent.0 comes.comes parent.1) [
+      | inl before ↦ kept (closed a b (parent.0, before, parent.2))
+      | inr listed ↦ elim (contains_cases entry [] (entry_of a parent.0) listed) [
+        | inl same ↦ kept (All-contains (Holds g) entry.node.parents b held (subst (λ (e : Entry A). Contains e.node.parents b) (sym same) parent.2))
+        | inr later ↦ nothing_in_nil (entry_of a parent.0) later
+      ]
+    ]
+
+-- agreeing is kept when entries come in with which the other graph agrees
+pub agree_inserted : {A : Type 0} (g h entries new : List (Entry A)) (format : Format) → Agree g h → All (AgreesWith g) entries → Inserts format h entries new → Agree g new
 agree_inserted {A} g h entries new format agree theirs inserts a m n left right =
     elim (adds_only format h entries new inserts a n right) [
       | inl before ↦ agree a m n left before
-      | inr listed ↦ one_node g a m n left (All-contains (λ (entry : Entry A). IsNode g entry.id entry.node) entries (entry_of a n) theirs listed)
+      | inr listed ↦ All-contains (AgreesWith g) entries (entry_of a n) theirs listed m left
     ]
 
 -- ---- choosing
@@ -129,6 +148,23 @@ own_node {A} g k entry differ at =
 pub own_nodes : {A : Type 0} (g : List (Entry A)) → IdsDiffer g → All (λ entry. IsNode g entry.id entry.node) g
 own_nodes g differ k d inside = own_node g k (get_or g k d) differ (slice_get-get_or g k d inside)
 
+-- a graph agrees with its entries
+pub nodes_agree : {A : Type 0} (g entries : List (Entry A)) → All (λ entry. IsNode g entry.id entry.node) entries → All (AgreesWith g) entries
+nodes_agree g entries are k d inside = λ node is. let entry = get_or entries k d in one_node g entry.id node entry.node is (are k d inside)
+
+-- chosen entries of a graph are its nodes, and a pack may have them
+pub chosen_nodes : {A : Type 0} (P : Entry A → Type 0) (g list : List (Entry A)) → IdsDiffer g → Selects P g list → All (λ entry. IsNode g entry.id entry.node) list
+chosen_nodes {A} P g list differ chosen = chosen_all P (λ (entry : Entry A). IsNode g entry.id entry.node) g list chosen (own_nodes g differ)
+
+ids_of_any : {A : Type 0} → IdsHaveOneFormat → (format : Format) (list : List (Entry A)) → All (HasIdsOf format) list → All HasIds list
+ids_of_any one format list ids k d inside = let of = ids k d inside in record {
+  id = (one format _ of.id).0;
+  parents = λ i e within. (one format _ (of.parents i e within)).0;
+}
+
+pub graph_entries : {A : Type 0} → IdsHaveOneFormat → (g : History A) → IsGraph g → AreEntries g.entries
+graph_entries one g graph = record { differ = graph.differ; ids = ids_of_any one g.format g.entries graph.ids }
+
 -- ---- the list to send is enough
 
 module _ {A : Type 0} (s c list new : List (Entry A)) (wants commons tips : List (List ℕ)) (format : Format)
@@ -138,7 +174,7 @@ module _ {A : Type 0} (s c list new : List (Entry A)) (wants commons tips : List
   keeps = grows_keeps c new (inserts_grows format c list new inserts)
 
   agrees : Agree s new
-  agrees = agree_inserted s c list new format agree (chosen_all (IsToSend s wants commons tips) (λ (entry : Entry A). IsNode s entry.id entry.node) s list sent (own_nodes s differ)) inserts
+  agrees = agree_inserted s c list new format agree (nodes_agree s list (chosen_nodes (IsToSend s wants commons tips) s list differ sent)) inserts
 
   wanted_held : (a : List ℕ) → SomeReaches s wants a → Holds s a
   wanted_held a (want, among, way) = full_in_closed s closed want (All-contains (Holds s) wants want held among) a way

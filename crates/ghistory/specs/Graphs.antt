@@ -1,5 +1,6 @@
 -- Graphs of commits and tags: which ids a graph holds, with which nodes, and which is a parent of which.
-use Rattle.std.specs.Prelude.{◌≡◌, ℕ, ◌≤◌, List, length, map, take, slice_get, Contains, All, Some, IsSome}
+use Rattle.std.specs.Prelude.{◌≡◌, ℕ, ◌≤◌, List, ◌∷◌, ◌++◌, length, map, take, slice_get, Contains, All}
+use Rattle.std.specs.Prelude.{None, Some, IsSome}
 use Rattle.gname.specs.declared.formats.Format.{Format}
 use Rattle.gname.specs.Ids.{IsIdOf}
 use Rattle.gobject.specs.declared.node.Node.{Node}
@@ -18,6 +19,14 @@ IsNode g a node = node_at g a ≡ Some node
 -- an id is one of the graph's
 abbrev pub Holds : {A : Type 0} → List (Entry A) → List ℕ → Type 0
 Holds g a = IsSome (node_at g a)
+
+-- of the ids, `a` is the first that is not held
+pub record IsFirstAbsent {A : Type 0} (g : List (Entry A)) (ids : List (List ℕ)) (a : List ℕ) : Type 0 where
+  pub front : List (List ℕ)
+  pub rest : List (List ℕ)
+  pub parts : ids ≡ front ++ a ∷ rest
+  pub held : All (Holds g) front
+  pub absent : node_at g a ≡ None
 
 -- `a` is held, and `b` is one of its parents
 abbrev pub HasParent : {A : Type 0} → List (Entry A) → List ℕ → List ℕ → Type 0

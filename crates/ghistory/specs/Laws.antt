@@ -1,20 +1,23 @@
 -- Laws of graphs, over all graphs and lists.
-use Rattle.std.specs.Prelude.{◌≡◌, ◌<◌, ◌≤◌, ◌⊎◌, ◌↔◌, ℕ, List, ◌∷◌, ◌++◌, length, All, Contains, None, Some}
+use Rattle.std.specs.Prelude.{◌≡◌, ◌<◌, ◌≤◌, ◌⊎◌, ◌↔◌, ℕ, List, ◌∷◌, ◌++◌, length, All, Contains, None, Some, slice_get}
 use Rattle.std.specs.List.{IsDistinct}
 use Rattle.std.specs.Str.{bytes_eq}
 use Rattle.gobject.specs.declared.node.Entry.{Entry}
-use Rattle.gobject.specs.Objects.{node_at, place_of, IdsDiffer, IsShaped}
+use Rattle.gobject.specs.Objects.{node_at, place_of, entry_of, IdsDiffer, IsShaped}
 use Rattle.gname.specs.declared.formats.Format.{Format}
 use Rattle.ghistory.specs.declared.fault.GraphFault.{GraphFault}
+use Rattle.ghistory.specs.declared.fault.GraphFault.TheVariants.{TooMany, Memory}
 use Rattle.ghistory.specs.Graphs.{History, Holds, IsNode, IsGraph, IsOrdered, HasIdsOf, max_nodes}
-use Rattle.ghistory.specs.Reach.{Reaches, IsFull, IsClosed, Agree, Keeps}
-use Rattle.ghistory.specs.Insert.{Inserts, IsCause}
+use Rattle.gobject.specs.declared.node.Node.{Node}
+use Rattle.gobject.specs.Packs.{AreEntries}
+use Rattle.ghistory.specs.Reach.{Reaches, IsFull, IsClosed, HoldsParents, Agree, Grows, Keeps}
+use Rattle.ghistory.specs.Insert.{ComesIn, Inserts, IsCause, IsRefused}
 use Rattle.ghistory.specs.Peeling.{IsTagOf, PeelsTo}
 use Rattle.ghistory.specs.Sending.{IsListToSend}
 use Rattle.ghistory.specs.Reach.{SomeReaches}
 use Rattle.ghistory.specs.Levels.{level, AreDistances}
 use Rattle.ghistory.specs.Offer.{IsExact}
-use Rattle.ghistory.specs.Walks.{common_of}
+use Rattle.ghistory.specs.Walks.{CountsReached, common_of}
 
 -- an entry may come next: its id is new, its ids are of the format, its node has its shape, and there is room
 pub record MayComeNext {A : Type 0} (format : Format) (g : List (Entry A)) (entry : Entry A) : Type 0 where
@@ -53,11 +56,31 @@ FullStaysFull A =
 abbrev pub PathsAreShared : Type 0 → Type 0
 PathsAreShared A = (g h : List (Entry A)) (a b : List ℕ) → Agree g h → IsFull h a → Reaches g a b → Reaches h a b
 
--- two graphs that agree still do once entries of the one are inserted into the other
+-- what grows keeps what it held
+abbrev pub GrowingKeeps : Type 0 → Type 0
+GrowingKeeps A = (g h : List (Entry A)) → Grows g h → Keeps g h
+
+-- where a graph keeps what it held, a path is still there
+abbrev pub KeepingReaches : Type 0 → Type 0
+KeepingReaches A = (g h : List (Entry A)) (a b : List ℕ) → Keeps g h → Reaches g a b → Reaches h a b
+
+-- where the graph holds the entry's id, it holds it with the entry's node
+abbrev pub AgreesWith : {A : Type 0} → List (Entry A) → Entry A → Type 0
+AgreesWith {A} g entry = (node : Node A) → IsNode g entry.id node → node ≡ entry.node
+
+-- two graphs that agree still do once entries with which the one agrees are inserted into the other
 abbrev pub AgreeingStays : Type 0 → Type 0
 AgreeingStays A =
     (g h entries new : List (Entry A)) (format : Format)
-    → Agree g h → All (λ entry. IsNode g entry.id entry.node) entries → Inserts format h entries new → Agree g new
+    → Agree g h → All (AgreesWith g) entries → Inserts format h entries new → Agree g new
+
+-- entries of a graph are refused by one that agrees with it only where there is no room or no memory
+abbrev pub AgreeingEntriesFit : Type 0 → Type 0
+AgreeingEntriesFit A =
+    (g h entries : List (Entry A)) (format : Format) (fault : GraphFault)
+    → IsGraph (record { format = format; entries = entries }) → Agree g h
+    → All (λ entry. IsNode g entry.id entry.node) entries → IsRefused format h entries fault
+    → (fault ≡ TooMany) ⊎ (fault ≡ Memory)
 
 -- an id peels to one commit at most
 abbrev pub PeelsToOne : Type 0 → Type 0
@@ -79,18 +102,37 @@ ReachingGoesDown A =
     (g : List (Entry A)) (a b : List ℕ) (p : ℕ)
     → IdsDiffer g → IsOrdered g → Reaches g a b → place_of g a ≡ Some p → (q : ℕ) × (place_of g b ≡ Some q) × (q ≤ p)
 
+-- where no parent is missing, none is once an entry came in whose parents were held
+abbrev pub ClosedStays : Type 0 → Type 0
+ClosedStays A =
+    (format : Format) (g : List (Entry A)) (entry : Entry A) (h : List (Entry A))
+    → IsClosed g → HoldsParents g entry → ComesIn format g entry h → IsClosed h
+
+-- the id and its node stand at the place of the store order
+abbrev pub IsAt : {A : Type 0} → List (Entry A) → ℕ → List ℕ → Node A → Type 0
+IsAt g place a node = slice_get g place ≡ Some (entry_of a node)
+
+-- an id has a node exactly where it stands at some place with that node, and that place is its number
+abbrev pub PlacesAreNodes : Type 0 → Type 0
+PlacesAreNodes A =
+    (g : List (Entry A)) → IdsDiffer g
+    → ((a : List ℕ) (node : Node A) → IsNode g a node ↔ ((place : ℕ) × IsAt g place a node))
+    × ((a : List ℕ) (place : ℕ) → (place_of g a ≡ Some place) ↔ ((node : Node A) × IsAt g place a node))
+
 -- there is one list to send
 abbrev pub OneListToSend : Type 0 → Type 0
 OneListToSend A =
     (g list other : List (Entry A)) (wants commons tips : List (List ℕ))
     → IsListToSend g wants commons tips list → IsListToSend g wants commons tips other → list ≡ other
 
--- and its entries are a graph's: their ids differ and are of the format, and each node has its shape
+-- and its entries are a graph's: their ids differ and are of the format, and each node has its shape; a pack may have
+-- them; and each is of the graph that it was made from
 abbrev pub SentAreEntries : Type 0 → Type 0
 SentAreEntries A =
     (g : History A) (list : List (Entry A)) (wants commons tips : List (List ℕ))
     → IsGraph g → IsListToSend g.entries wants commons tips list
-    → IsGraph (record { format = g.format; entries = list })
+    → IsGraph (record { format = g.format; entries = list }) × AreEntries list
+    × All (λ entry. IsNode g.entries entry.id entry.node) list
 
 -- the ids are full, and all that they reach in another graph is held
 abbrev pub HasAll : {A : Type 0} → List (Entry A) → List (List ℕ) → List (Entry A) → Type 0
@@ -104,6 +146,22 @@ SendingIsEnough A =
     (s c list new : List (Entry A)) (wants commons tips : List (List ℕ)) (format : Format)
     → IdsDiffer s → IsClosed s → Agree s c → All (Holds s) wants → All (IsFull c) commons
     → IsListToSend s wants commons tips list → Inserts format c list new → HasAll s wants new
+
+-- ---- counts
+
+-- distinct held ids that tips reach are at most as many as are counted
+abbrev pub ReachedAreCounted : Type 0 → Type 0
+ReachedAreCounted A =
+    (g : List (Entry A)) (tips ids : List (List ℕ)) (held parents : ℕ)
+    → CountsReached g tips held parents → IsDistinct bytes_eq ids
+    → All (λ a. Holds g a × SomeReaches g tips a) ids → length ids ≤ held
+
+-- the counts about full tips stay as the graph grows
+abbrev pub CountsStay : Type 0 → Type 0
+CountsStay A =
+    (g h : List (Entry A)) (tips : List (List ℕ)) (held parents : ℕ)
+    → Grows g h → IdsDiffer h → All (IsFull g) tips
+    → CountsReached g tips held parents → CountsReached h tips held parents
 
 -- ---- levels, offers and common ids
 

@@ -6,7 +6,7 @@ ghost use Rattle.std.specs.Option.{option_copied, option_map};
 ghost use Rattle.gobject.specs.Objects.{IsShaped, entry_of, node_at, place_of};
 ghost use Rattle.gname.specs.declared.formats.Format.TheVariants.{Sha1};
 ghost use Rattle.ghistory.specs.declared.fault.GraphFault.TheVariants.{Memory};
-ghost use Rattle.ghistory.specs.Graphs.{IsGraph, IsOrdered, Holds, HasIdsOf, max_nodes, pairs_of};
+ghost use Rattle.ghistory.specs.Graphs.{IsGraph, IsOrdered, Holds, IsFirstAbsent, HasIdsOf, max_nodes, pairs_of};
 
 use crate::fault::GraphFault;
 use gname::{Format, Oid};
@@ -106,6 +106,18 @@ impl<A: Allocator + Copy> Graph<A> {
         ensures { IsTrue result ↔ All (Holds self.now.entries) ids.now }
     {
         ids.iter().all(|id| self.contains(id))
+    }
+
+    /// The first of the ids that the graph does not hold. It takes no memory.
+    pub fn first_absent(&self, ids: &[Oid]) -> Option<Oid>
+        ensures { MatchOption result (All (Holds self.now.entries) ids.now) (IsFirstAbsent self.now.entries ids.now) }
+    {
+        for id in ids {
+            if !self.contains(id) {
+                return Some(*id);
+            }
+        }
+        None
     }
 
     /// The node under the id.

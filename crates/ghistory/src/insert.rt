@@ -1,7 +1,7 @@
 // Adding entries to a graph, all or none.
 #![tactic(auto)]
 
-ghost use Rattle.std.specs.Prelude.{◌≡◌, ◌<◌, ◌++◌, ◌∷◌, ◌↔◌, ℕ, List, length, None, MatchResult, OnOk, IsTrue, All};
+ghost use Rattle.std.specs.Prelude.{◌≡◌, ◌<◌, ◌++◌, ◌∷◌, ◌↔◌, ℕ, List, [], length, None, MatchResult, OnOk, IsTrue, All};
 ghost use Rattle.gobject.specs.Objects.{IsShaped, node_at};
 ghost use Rattle.gname.specs.Ids.{IsIdOf};
 ghost use Rattle.ghistory.specs.Graphs.{HasIdsOf, IsGraph, IsNode};
@@ -22,8 +22,13 @@ impl<A: Allocator + Copy> Graph<A> {
     /// It is refused as `insert_all` refuses the entries of a list, and then the graph is as it was.
     pub fn insert(&mut self, entry: Entry<A>) -> Result<bool, GraphFault>
         ensures adds { AddsOne self.old entry self.new result }
+        ensures only { AddsOnly self.old.entries (entry ∷ []) self.new.entries }
+        ensures only_parents { AddsOnlyParents self.old.entries (entry ∷ []) self.new.entries }
         ensures held { OnOk result (IsNode self.new.entries entry.id entry.node) }
         ensures grows { Grows self.old.entries self.new.entries }
+        ensures keeps { Keeps self.old.entries self.new.entries }
+        ensures reaches { (a b : List ℕ) → Reaches self.old.entries a b → Reaches self.new.entries a b }
+        ensures full { (a : List ℕ) → IsFull self.old.entries a → IsFull self.new.entries a }
         ensures graph { IsGraph self.new }
     {
         let is_new = self.admits(&entry)?;

@@ -1,7 +1,7 @@
 // Laws of graphs. A call does nothing, and gives its caller's proof the law.
 #![tactic(auto)]
 
-ghost use Rattle.ghistory.specs.Laws.{EntriesComeInOrder, OneCause, ClosedIsFull, ReachingGoesOn, FullStaysFull, PathsAreShared, AgreeingStays, PeelsToOne, PeelsAlongTags, OrderedIsClosed, ReachingGoesDown, OneListToSend, SentAreEntries, SendingIsEnough, LevelsAreDistances, LevelsAreReached, OffersAreExact, CommonsAreHeld};
+ghost use Rattle.ghistory.specs.Laws.{EntriesComeInOrder, OneCause, ClosedIsFull, ReachingGoesOn, FullStaysFull, PathsAreShared, GrowingKeeps, KeepingReaches, AgreeingStays, AgreeingEntriesFit, PeelsToOne, PeelsAlongTags, OrderedIsClosed, ReachingGoesDown, ClosedStays, PlacesAreNodes, OneListToSend, SentAreEntries, SendingIsEnough, ReachedAreCounted, CountsStay, LevelsAreDistances, LevelsAreReached, OffersAreExact, CommonsAreHeld};
 
 use std::alloc::Allocator;
 
@@ -35,9 +35,25 @@ pub fn paths_are_shared<A: Allocator + Copy>()
     ensures { PathsAreShared A }
 {}
 
-/// Two graphs that agree still do once entries of the one are inserted into the other.
+/// A graph to which objects only came holds what it held, with the same nodes.
+pub fn growing_keeps<A: Allocator + Copy>()
+    ensures { GrowingKeeps A }
+{}
+
+/// Where a graph keeps what it held, what an id reached it still reaches.
+pub fn keeping_reaches<A: Allocator + Copy>()
+    ensures { KeepingReaches A }
+{}
+
+/// Two graphs that agree still do once entries are inserted into the one: each entry whose id the other holds has
+/// the node that stands there.
 pub fn agreeing_stays<A: Allocator + Copy>()
     ensures { AgreeingStays A }
+{}
+
+/// A graph refuses entries of one with which it agrees only with `TooMany` or `Memory`.
+pub fn agreeing_entries_fit<A: Allocator + Copy>()
+    ensures { AgreeingEntriesFit A }
 {}
 
 /// An id peels to one commit at most.
@@ -60,16 +76,29 @@ pub fn reaching_goes_down<A: Allocator + Copy>()
     ensures { ReachingGoesDown A }
 {}
 
+/// Where no parent is missing, none is once an entry came in whose parents were held.
+pub fn closed_stays<A: Allocator + Copy>()
+    ensures { ClosedStays A }
+{}
+
+/// What `Graph::node`, `Graph::number` and `Graph::at` answer agrees: an id has a node exactly where it stands
+/// at some place with that node, and that place is its number.
+pub fn places_are_nodes<A: Allocator + Copy>()
+    ensures { PlacesAreNodes A }
+{}
+
 /// There is one list to send for some wants, common ids and tips.
 pub fn one_list_to_send<A: Allocator + Copy>()
     ensures { OneListToSend A }
 {}
 
 /// The entries of a list to send are a graph's: their ids differ and are of its format, and each node has its
-/// shape.
+/// shape. A packer may pack them. Each id stands for its entry's node in the graph from which they are sent.
 pub fn sent_are_entries<A: Allocator + Copy>()
     ensures { SentAreEntries A }
-{}
+{
+    gname::laws::ids_have_one_format();
+}
 
 /// What a server sends makes the wants whole at the client. No parent is missing in the server's graph, the
 /// graphs agree, the server's holds the wants, and the client's holds the whole ancestries of the common
@@ -77,6 +106,17 @@ pub fn sent_are_entries<A: Allocator + Copy>()
 /// wants, and all that they reach in the server's.
 pub fn sending_is_enough<A: Allocator + Copy>()
     ensures { SendingIsEnough A }
+{}
+
+/// Distinct held ids that some tips reach are at most as many as are counted.
+pub fn reached_are_counted<A: Allocator + Copy>()
+    ensures { ReachedAreCounted A }
+{}
+
+/// How many held ids some tips reach, and how many parents these have, stays as objects come, where the whole
+/// ancestries of the tips were held.
+pub fn counts_stay<A: Allocator + Copy>()
+    ensures { CountsStay A }
 {}
 
 /// Level k has exactly the ids whose least number of steps to a parent, from a tip on, is k. No id is in

@@ -12,9 +12,11 @@
 //!   where an object is new and there is room for it.
 //! - `is_closed` answers whether no parent is missing. `peel` answers the commit at the end of a chain of
 //!   tags exactly where there is one. Neither takes memory.
-//! - `laws` speak of all graphs and lists: of reaching, of whole ancestries, of graphs that agree, of
-//!   peeling, of the levels about some tips, of the ids to offer, and that a list to send, once it is
-//!   inserted, makes the wants whole at the client.
+//! - `first_absent` answers the first of some ids that is not held.
+//! - `laws` speak of all graphs and lists: of reaching, of whole ancestries, of graphs that grow, of graphs
+//!   that agree and what they refuse of each other, of places, of peeling, of how many ids are reached, of
+//!   the levels about some tips, of the ids to offer, and that a list to send, once it is inserted, makes
+//!   the wants whole at the client.
 //!
 //! # Only tested
 //!

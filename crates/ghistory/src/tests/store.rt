@@ -48,6 +48,30 @@ fn a_tag_has_one_parent(rt: HostRuntime) {
     assert_eq!(rt; graph.len(), 4);
 }
 
+// Ids, and the first that is not held.
+const SEARCHED: &[([usize; 3], Option<usize>)] = &[
+    ([1, 2, 3], None),
+    ([3, 3, 3], None),
+    ([3, 9, 8], Some(9)),
+    ([8, 1, 9], Some(8)),
+    ([2, 1, 7], Some(7)),
+];
+
+#[test]
+fn the_first_absent_id_is_found(rt: HostRuntime) {
+    let graph = graph_of(&rt, DANGLING);
+    for (numbers, absent) in SEARCHED {
+        let ids = [
+            id(&rt, numbers[0]),
+            id(&rt, numbers[1]),
+            id(&rt, numbers[2]),
+        ];
+        let first = absent.map(|number| id(&rt, number));
+        assert_eq!(rt; graph.first_absent(&ids), first);
+    }
+    assert_eq!(rt; graph.first_absent(&[]), None);
+}
+
 const CONFLICTING: &[Row] = &[(Kind::Commit, 4, &[2]), (Kind::Commit, 1, &[4])];
 
 const AT_ODDS: &[Row] = &[(Kind::Commit, 5, &[2]), (Kind::Commit, 5, &[2, 2])];
