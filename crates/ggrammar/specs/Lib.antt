@@ -1,0 +1,9 @@
+pub mod Grammar
+pub mod MessageReading
+pub mod Faults
+pub mod PeerErrors
+pub mod Capabilities
+pub mod CapabilityView
+pub use Rattle.gpkt.specs.Packets
+pub use Rattle.gpkt.specs.Change
+pub use Rattle.gpkt.specs.LineReading
