@@ -1,0 +1,2 @@
+//! Requests.
+#![tactic(auto)]
