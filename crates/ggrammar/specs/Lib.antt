@@ -3,6 +3,8 @@ pub mod MessageReading
 pub mod Faults
 pub mod PeerErrors
 pub mod Capabilities
+pub mod Ids
+pub mod Endings
 pub mod CapabilityView
 pub use Rattle.gpkt.specs.Packets
 pub use Rattle.gpkt.specs.Change

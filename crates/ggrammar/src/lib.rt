@@ -27,7 +27,9 @@
 #![tactic(auto)]
 
 mod capability;
+mod ends;
 mod fault;
+mod id;
 pub mod laws;
 mod message;
 mod peer;
@@ -35,6 +37,8 @@ mod peer;
 pub use crate::capability::{
     Capability, MAX_CAPABILITY, capability_of, is_key, is_value, is_word_value,
 };
+pub use crate::ends::Ends;
 pub use crate::fault::{MAX_PEER_TEXT, MessageFault, PeerText, Why};
+pub use crate::id::id_of_text;
 pub use crate::message::{Message, Step, read_message};
 pub use crate::peer::{after_word, peer_error};

@@ -1,11 +1,7 @@
 -- The texts of a request's lines (gitprotocol-v2(5), "Command Request", "ls-refs", "fetch"): what each says, with
 -- the value that it carries. A table each for commands, capabilities and the arguments of a command.
-use Rattle.std.specs.Prelude.{ℕ, ◌&&◌, Bool, List, codes, if◌then◌else◌, ◌==◌, length, Option, Some, None, Result, Ok, Err}
+use Rattle.std.specs.Prelude.{ℕ, Bool, List, codes, if◌then◌else◌, Option, Some, None}
 use Rattle.std.specs.Str.{bytes_eq}
-use Rattle.hex.specs.Hex.{decode_of}
-use Rattle.hex.specs.declared.error.FromHexError.{FromHexError}
-use Rattle.gname.specs.Formats.{id_text_length}
-use Rattle.gname.specs.declared.formats.Format.{Format}
 use Rattle.ggrammar.specs.PeerErrors.{after_word}
 use Rattle.ggrammar.specs.Capabilities.{Capability, capability_of, is_key, is_word_value}
 
@@ -115,13 +111,3 @@ fetch_argument text =
     else if is_word (codes "ofs-delta") text then OfsDelta
     else if is_word (codes "done") text then Done
     else want_or_else (after_word (codes "want ") text) (have_or_unknown (after_word (codes "have ") text))
-
--- ---- ids
-
-abbrev pub ok_of : Result (List ℕ) FromHexError → Option (List ℕ)
-ok_of (Ok id) = Some id
-ok_of (Err fault) = None
-
--- the id of a format that a text spells, in either case of digits
-unfoldable pub id_of_text : Format → List ℕ → Option (List ℕ)
-id_of_text format text = if length text == id_text_length format then ok_of (decode_of text) else None

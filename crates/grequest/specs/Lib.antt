@@ -1,7 +1,10 @@
+pub mod Hello
+pub mod Adverts
 pub mod Arguments
 pub mod Asked
 pub mod RequestLines
 pub mod Manual
 pub mod Requests
+pub mod RequestWriting
 pub use Rattle.ggrammar.specs.Grammar
 pub use Rattle.ggrammar.specs.MessageReading

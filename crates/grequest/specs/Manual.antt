@@ -12,10 +12,11 @@ use Rattle.gname.specs.Names.{prefix_fault}
 use Rattle.gname.specs.Formats.{format_name}
 use Rattle.gname.specs.declared.formats.Format.{Format}
 use Rattle.gname.specs.declared.formats.Format.TheVariants.{Sha1, Sha256}
+use Rattle.ggrammar.specs.Ids.{id_of_text}
 use Rattle.grequest.specs.Arguments.{Command, LsRefs, Fetch, command_name, CapabilityText, Agent, ObjectFormat}
 use Rattle.grequest.specs.Arguments.{UnknownCapability, BadCapability, capability_text, LsArgument, Symrefs, Peel, Unborn}
 use Rattle.grequest.specs.Arguments.{RefPrefix, UnknownLsArgument, ls_argument, FetchArgument, Want, Have}
-use Rattle.grequest.specs.Arguments.{UnknownFetchArgument, fetch_argument, id_of_text}
+use Rattle.grequest.specs.Arguments.{UnknownFetchArgument, fetch_argument}
 use Rattle.grequest.specs.Asked.{Asked, Empty, max_prefixes, max_wants, max_haves, max_arguments}
 use Rattle.grequest.specs.RequestLines.{agents, formats, prefixes, wants, haves, asked_by}
 use Rattle.std.specs.Option.{IsSome}

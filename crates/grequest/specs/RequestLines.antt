@@ -3,10 +3,11 @@ use Rattle.std.specs.Prelude.{ℕ, Bool, true, false, List, [], ◌∷◌, ◌++
 use Rattle.std.specs.List.{filter_map, list_any}
 use Rattle.gpkt.specs.Packets.{Packet, Data, Flush, Delim, ResponseEnd, text}
 use Rattle.gname.specs.declared.formats.Format.{Format}
+use Rattle.ggrammar.specs.Ids.{id_of_text}
 use Rattle.grequest.specs.Arguments.{Command, LsRefs, Fetch, CommandText, Known, UnknownCommand, BadCommand, command_text}
 use Rattle.grequest.specs.Arguments.{CapabilityText, Agent, ObjectFormat, UnknownCapability, BadCapability}
 use Rattle.grequest.specs.Arguments.{capability_text, LsArgument, Symrefs, Peel, Unborn, RefPrefix, UnknownLsArgument}
-use Rattle.grequest.specs.Arguments.{ls_argument, FetchArgument, Want, Have, fetch_argument, is_word, id_of_text}
+use Rattle.grequest.specs.Arguments.{ls_argument, FetchArgument, Want, Have, fetch_argument, is_word}
 use Rattle.grequest.specs.Asked.{LsRefsAsked, FetchAsked, Asked, Empty, Ls, Fetches}
 
 -- ---- where a packet stands

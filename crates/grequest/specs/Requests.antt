@@ -7,13 +7,14 @@ use Rattle.gname.specs.Formats.{format_name}
 use Rattle.gname.specs.declared.formats.Format.{Format}
 use Rattle.gname.specs.declared.formats.Format.TheVariants.{Sha1, Sha256}
 use Rattle.ggrammar.specs.Grammar.{Verdict, Open, Whole, Refused, IsWhole}
+use Rattle.ggrammar.specs.Ids.{id_of_text}
 use Rattle.ggrammar.specs.PeerErrors.{judge_unless_error}
 use Rattle.ggrammar.specs.declared.fault.Why.TheVariants as why
 use Rattle.grequest.specs.Arguments.{Command, LsRefs, Fetch, CommandText, Known, UnknownCommand, BadCommand, command_text}
 use Rattle.grequest.specs.Arguments.{CapabilityText, Agent, ObjectFormat, UnknownCapability, BadCapability}
 use Rattle.grequest.specs.Arguments.{capability_text, LsArgument, Symrefs, Peel, Unborn, RefPrefix, UnknownLsArgument}
 use Rattle.grequest.specs.Arguments.{ls_argument, FetchArgument, ThinPack, NoProgress, IncludeTag, OfsDelta, Done, Want}
-use Rattle.grequest.specs.Arguments.{Have, UnknownFetchArgument, fetch_argument, is_word, id_of_text}
+use Rattle.grequest.specs.Arguments.{Have, UnknownFetchArgument, fetch_argument, is_word}
 use Rattle.grequest.specs.Asked.{Asked, Empty, max_prefixes, max_wants, max_haves, max_arguments}
 use Rattle.grequest.specs.RequestLines.{Place, First, Capabilities, ArgumentsOf, place_after, capability_texts, argument_texts, agents, formats, prefixes, wants, haves, asked_by}
 

@@ -1,0 +1,2 @@
+//! Replies.
+#![tactic(auto)]
