@@ -2,6 +2,7 @@ pub mod Hello
 pub mod Adverts
 pub mod Arguments
 pub mod Asked
+pub mod Views
 pub mod RequestLines
 pub mod Manual
 pub mod Requests

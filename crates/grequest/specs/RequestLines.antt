@@ -137,3 +137,12 @@ fetch_asked format capabilities arguments = record {
 abbrev pub asked_by : Format → Command → List (List ℕ) → List (List ℕ) → Asked
 asked_by format LsRefs capabilities arguments = Ls (ls_refs_asked capabilities arguments)
 asked_by format Fetch capabilities arguments = Fetches (fetch_asked format capabilities arguments)
+
+-- a request without a command is empty
+abbrev pub asked_at : Format → Place → List (List ℕ) → List (List ℕ) → Asked
+asked_at format First capabilities arguments = Empty
+asked_at format (Capabilities command) capabilities arguments = asked_by format command capabilities arguments
+asked_at format (ArgumentsOf command) capabilities arguments = asked_by format command capabilities arguments
+
+abbrev pub asked_of : Format → List Packet → Asked
+asked_of format lines = asked_at format (place_after lines) (capability_texts lines) (argument_texts lines)

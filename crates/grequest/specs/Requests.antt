@@ -15,29 +15,41 @@ use Rattle.grequest.specs.Arguments.{CapabilityText, Agent, ObjectFormat, Unknow
 use Rattle.grequest.specs.Arguments.{capability_text, LsArgument, Symrefs, Peel, Unborn, RefPrefix, UnknownLsArgument}
 use Rattle.grequest.specs.Arguments.{ls_argument, FetchArgument, ThinPack, NoProgress, IncludeTag, OfsDelta, Done, Want}
 use Rattle.grequest.specs.Arguments.{Have, UnknownFetchArgument, fetch_argument, is_word}
-use Rattle.grequest.specs.Asked.{Asked, Empty, max_prefixes, max_wants, max_haves, max_arguments}
-use Rattle.grequest.specs.RequestLines.{Place, First, Capabilities, ArgumentsOf, place_after, capability_texts, argument_texts, agents, formats, prefixes, wants, haves, asked_by}
+use Rattle.grequest.specs.Asked.{Asked, Empty, Ls, Fetches, max_prefixes, max_wants, max_haves, max_arguments}
+use Rattle.grequest.specs.RequestLines.{Place, First, Capabilities, ArgumentsOf, place_after, capability_texts}
+use Rattle.grequest.specs.RequestLines.{argument_texts, formats, asked_of}
 
--- what the lines so far count for
+-- what the lines so far come to
 pub record Front : Type 0 where
   pub place : Place
-  pub agents : ℕ
   pub formats : ℕ
   pub arguments : ℕ
-  pub prefixes : ℕ
-  pub wants : ℕ
-  pub haves : ℕ
+  pub asked : Asked
 
 abbrev pub front_of : Format → List Packet → Front
 front_of format lines = record {
   place = place_after lines;
-  agents = length (agents (capability_texts lines));
   formats = length (formats (capability_texts lines));
   arguments = length (argument_texts lines);
-  prefixes = length (prefixes (argument_texts lines));
-  wants = length (wants format (argument_texts lines));
-  haves = length (haves format (argument_texts lines));
+  asked = asked_of format lines;
 }
+
+abbrev pub agent_of : Asked → Option (List ℕ)
+agent_of Empty = None
+agent_of (Ls asked) = asked.agent
+agent_of (Fetches asked) = asked.agent
+
+abbrev pub prefixes_of : Asked → List (List ℕ)
+prefixes_of (Ls asked) = asked.prefixes
+prefixes_of _ = []
+
+abbrev pub wants_of : Asked → List (List ℕ)
+wants_of (Fetches asked) = asked.wants
+wants_of _ = []
+
+abbrev pub haves_of : Asked → List (List ℕ)
+haves_of (Fetches asked) = asked.haves
+haves_of _ = []
 
 -- ---- the tables, a row a case
 
@@ -47,13 +59,13 @@ judge_command UnknownCommand = Refused why.UnknownCommand
 judge_command BadCommand = Refused why.BadText
 
 -- a capability comes once
-abbrev pub once : ℕ → Verdict → Verdict
-once before verdict = if before == 0 then verdict else Refused why.BadText
+abbrev pub once : Bool → Verdict → Verdict
+once is_first verdict = if is_first then verdict else Refused why.BadText
 
 abbrev pub judge_capability : Format → Front → CapabilityText → Verdict
-judge_capability format front (Agent value) = once front.agents Open
+judge_capability format front (Agent value) = once (is_none (agent_of front.asked)) Open
 judge_capability format front (ObjectFormat value) =
-    once front.formats (if is_word (format_name format) value then Open else Refused why.Format)
+    once (front.formats == 0) (if is_word (format_name format) value then Open else Refused why.Format)
 judge_capability format front UnknownCapability = Refused why.UnknownCapability
 judge_capability format front BadCapability = Refused why.BadText
 
@@ -64,21 +76,21 @@ within has_room = if has_room then Open else Refused why.Limit
 abbrev pub has_room : Front → Bool
 has_room front = nat_lt front.arguments max_arguments
 
--- a well-formed argument of which only so many are taken
-abbrev pub of_few : Front → ℕ → ℕ → Verdict
-of_few front count limit = within (has_room front && nat_lt count limit)
+-- a well-formed argument of which only so many are taken, after these
+abbrev pub of_few : Front → List (List ℕ) → ℕ → Verdict
+of_few front before limit = within (has_room front && nat_lt (length before) limit)
 
 abbrev pub judge_ls_argument : Front → LsArgument → Verdict
 judge_ls_argument front (RefPrefix prefix) =
-    if is_none (prefix_fault prefix) then of_few front front.prefixes max_prefixes else Refused why.BadName
+    if is_none (prefix_fault prefix) then of_few front (prefixes_of front.asked) max_prefixes else Refused why.BadName
 judge_ls_argument front UnknownLsArgument = Refused why.UnknownArgument
 judge_ls_argument front _ = within (has_room front)
 
 abbrev pub judge_fetch_argument : Format → Front → FetchArgument → Verdict
 judge_fetch_argument format front (Want id) =
-    if is_some (id_of_text format id) then of_few front front.wants max_wants else Refused why.BadId
+    if is_some (id_of_text format id) then of_few front (wants_of front.asked) max_wants else Refused why.BadId
 judge_fetch_argument format front (Have id) =
-    if is_some (id_of_text format id) then of_few front front.haves max_haves else Refused why.BadId
+    if is_some (id_of_text format id) then of_few front (haves_of front.asked) max_haves else Refused why.BadId
 judge_fetch_argument format front UnknownFetchArgument = Refused why.UnknownArgument
 judge_fetch_argument format front _ = within (has_room front)
 
@@ -143,16 +155,8 @@ abbrev pub brings : List Packet → Packet → Bool
 brings lines (Data payload) = text_brings (place_after lines) (text payload)
 brings lines _ = false
 
+
 -- ---- what whole lists say
-
-abbrev pub asked_at : Format → Place → List (List ℕ) → List (List ℕ) → Asked
-asked_at format First capabilities arguments = Empty
-asked_at format (Capabilities command) capabilities arguments = asked_by format command capabilities arguments
-asked_at format (ArgumentsOf command) capabilities arguments = asked_by format command capabilities arguments
-
--- a request without a command is empty
-abbrev pub asked_of : Format → List Packet → Asked
-asked_of format lines = asked_at format (place_after lines) (capability_texts lines) (argument_texts lines)
 
 -- the lines are a request, and ask this
 pub record Says (format : Format) (lines : List Packet) (asked : Asked) : Type 0 where
