@@ -1,7 +1,7 @@
 -- Facts on open and whole lists of packet lines, for every judge.
 use Rattle.std.proofs.Common.{◌≡◌, List, [], ◌∷◌, ◌++◌, ◌⊎◌, inl, inr, refl, sym, ap, subst, ◌∙◌, append_assoc}
 use Rattle.gpkt.specs.Packets.{Packet}
-use Rattle.gcmd.specs.Grammar.{Verdict, Goes, Ends, Refuses, IsOpen, HasEndings, RefusesFirstMisfits, IsPrefixFree}
+use Rattle.gcmd.specs.Grammar.{Verdict, Goes, Completes, Misfits, IsOpen, HasEndings, RefusesFirstMisfits, IsPrefixFree}
 use Rattle.gcmd.specs.declared.fault.Why.{Why}
 
 -- an empty list has no place
@@ -43,11 +43,11 @@ IsOpen-last xs x opened = opened.each xs x [] refl
 
 -- no packet of an open list ends the message or is refused
 pub IsOpen-never_ends : {judge : List Packet → Packet → Verdict} (front : List Packet) (packet : Packet) (back : List Packet)
-    → IsOpen judge (front ++ packet ∷ back) → judge front packet ≡ Ends → ⊥
+    → IsOpen judge (front ++ packet ∷ back) → judge front packet ≡ Completes → ⊥
 IsOpen-never_ends front packet back opened ends = let goes = opened.each front packet back refl in cc
 
 pub IsOpen-never_refuses : {judge : List Packet → Packet → Verdict} (front : List Packet) (packet : Packet) (back : List Packet) (why : Why)
-    → IsOpen judge (front ++ packet ∷ back) → judge front packet ≡ Refuses why → ⊥
+    → IsOpen judge (front ++ packet ∷ back) → judge front packet ≡ Misfits why → ⊥
 IsOpen-never_refuses front packet back why opened refuses = let goes = opened.each front packet back refl in cc
 
 -- ---- the laws of every judge
@@ -74,11 +74,11 @@ RefusesFirstMisfits-from_endings judge endings front packet why opened refuses =
       let whole = begins.1 in
       let same : whole.front ++ whole.last ∷ [] ≡ front ++ packet ∷ begins.0 = sym whole.parts ∙ append_assoc front (packet ∷ []) begins.0 in
       elim (split_push whole.front whole.last front packet begins.0 same) [
-        | inl h ↦ (let ends : judge front packet ≡ Ends = cc (whole.ends, h.0, h.1) in cc)
+        | inl h ↦ (let ends : judge front packet ≡ Completes = cc (whole.ends, h.0, h.1) in cc)
         | inr h ↦ IsOpen-never_refuses front packet h.0 why (subst (IsOpen judge) h.1 whole.goes) refuses
       ];
 }
 
 -- a packet that always ends the message ends each open list
-pub HasEndings-by : (judge : List Packet → Packet → Verdict) (last : Packet) → ((front : List Packet) → judge front last ≡ Ends) → HasEndings judge
+pub HasEndings-by : (judge : List Packet → Packet → Verdict) (last : Packet) → ((front : List Packet) → judge front last ≡ Completes) → HasEndings judge
 HasEndings-by judge last ends front opened = (last ∷ [], record { front = front; last = last; parts = refl; goes = opened; ends = ends front })

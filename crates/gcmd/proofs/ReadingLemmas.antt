@@ -1,36 +1,20 @@
 -- Lines read one after the other.
 use Rattle.std.proofs.Common.{◌≡◌, ℕ, List, [], ◌∷◌, ◌++◌, length, Option, Some, None, Ok, Err, Result, Bool, true, ◌+◌, refl, sym, ap, ◌∙◌, append_assoc, append-nil}
-use Rattle.gpkt.specs.Packets.{Packet, Spells, SpellsAll}
-use Rattle.gpkt.specs.LineReading.{Reads}
+use Rattle.gpkt.specs.Laws.{ReadsNext}
+use Rattle.gpkt.specs.Packets.{Packet}
+use Rattle.gpkt.specs.LineReading.{Reads, ReadsLines}
 use Rattle.gcmd.specs.Grammar.{Verdict, IsOpen}
 use Rattle.gpkt.specs.Packets.{packet_of}
 use Rattle.gpkt.specs.LineReading.{Reader, HasRead, read_of}
 use Rattle.gpkt.specs.declared.line.Line.{Line}
 use Rattle.gpkt.specs.declared.fault.LineFault.{LineFault}
 use Rattle.gpkt.specs.declared.fault.LineFault.TheVariants.{BadDigits, Reserved, TooLong, Truncated, Io, Failed, Memory}
-use Rattle.gcmd.specs.MessageReading.{ReadsLines, ReadsRefused, HasTaken, TakesPacket, IsReadFailure}
+use Rattle.gcmd.specs.MessageReading.{ReadsRefused, HasTaken, TakesPacket, IsReadFailure}
 use Rattle.gcmd.specs.declared.fault.Why.TheVariants as why
 use Rattle.gcmd.specs.declared.message.Step.TheVariants as step
 use Rattle.std.proofs.lemmas.List.{length_push}
 use Rattle.std.proofs.lemmas.Bool.{false≢true}
 use Rattle.gcmd.proofs.GrammarLemmas.{IsOpen-push}
-
-pub SpellsAll-push : (lines : List Packet) (packet : Packet) (bytes more : List ℕ) → SpellsAll lines bytes → Spells packet more → SpellsAll (lines ++ packet ∷ []) (bytes ++ more)
-SpellsAll-push [] packet bytes more e s = (more, [], ap (λ xs. xs ++ more) e ∙ sym (append-nil more), s, refl)
-SpellsAll-push (line ∷ lines) packet bytes more h s =
-    (h.0, h.1 ++ more, ap (λ xs. xs ++ more) h.2 ∙ append_assoc h.0 h.1 more, h.3, SpellsAll-push lines packet h.1 more h.4 s)
-
-pub ReadsLines-nil : (a : Option (List ℕ)) → ReadsLines (record { old = a; new = a }) []
-ReadsLines-nil None = tt
-ReadsLines-nil (Some old) = ([], refl, refl)
-
-pub ReadsLines-push : (a b c : Option (List ℕ)) (lines : List Packet) (packet : Packet) → ReadsLines (record { old = a; new = b }) lines
-    → Reads (record { old = b; new = c }) (Ok (Some packet)) → ReadsLines (record { old = a; new = c }) (lines ++ packet ∷ [])
-ReadsLines-push None b c lines packet p q = tt
-ReadsLines-push (Some x) None c lines packet p q = absurd p
-ReadsLines-push (Some x) (Some y) None lines packet p q = absurd q
-ReadsLines-push (Some x) (Some y) (Some z) lines packet p q =
-    (p.0 ++ q.0, p.1 ∙ ap (λ xs. p.0 ++ xs) q.1 ∙ sym (append_assoc p.0 q.0 z), SpellsAll-push lines packet p.0 q.0 p.2 q.2)
 
 -- a message that is being read: its lines so far
 pub record IsGoing {M : Type 0} (judge : List Packet → Packet → Verdict) (holds : M → List Packet → Type 0) (old new : Option (List ℕ)) (message : M) (frame : ℕ) : Type 0 where
@@ -61,40 +45,40 @@ module _ {M : Type 0} (judge : List Packet → Packet → Verdict) (holds : M �
   }
 
   -- the message goes on
-  pub goes_on : (old new last : Option (List ℕ)) (message after : M) (frame : ℕ) (packet : Packet) → (going : IsGoing judge holds old new message frame) → Reads (record { old = new; new = last }) (Ok (Some packet))
+  pub goes_on : ReadsNext → (old new last : Option (List ℕ)) (message after : M) (frame : ℕ) (packet : Packet) → (going : IsGoing judge holds old new message frame) → Reads (record { old = new; new = last }) (Ok (Some packet))
       → TakesPacket judge holds going.lines packet after (Ok step.Goes) → IsGoing judge holds old last after (frame + 1)
-  goes_on old new last message after frame packet going read taken = record {
+  goes_on next old new last message after frame packet going read taken = record {
     lines = going.lines ++ packet ∷ [];
     goes = IsOpen-push going.goes taken.0;
     held = taken.1;
     count = ap (λ n. n + 1) going.count ∙ sym (length_push going.lines packet);
-    bytes = ReadsLines-push old new last going.lines packet going.bytes read;
+    bytes = next old new last going.lines packet going.bytes read;
   }
 
   -- the message ends
-  pub ends_there : (old new last : Option (List ℕ)) (message after : M) (frame : ℕ) (packet : Packet) → (going : IsGoing judge holds old new message frame) → Reads (record { old = new; new = last }) (Ok (Some packet))
-      → TakesPacket judge holds going.lines packet after (Ok step.Ends) → HasTaken judge holds (record { old = old; new = last }) after
-  ends_there old new last message after frame packet going read taken = record {
+  pub ends_there : ReadsNext → (old new last : Option (List ℕ)) (message after : M) (frame : ℕ) (packet : Packet) → (going : IsGoing judge holds old new message frame) → Reads (record { old = new; new = last }) (Ok (Some packet))
+      → TakesPacket judge holds going.lines packet after (Ok step.Completes) → HasTaken judge holds (record { old = old; new = last }) after
+  ends_there next old new last message after frame packet going read taken = record {
     lines = going.lines ++ packet ∷ [];
     read = record {
       whole = record { front = going.lines; last = packet; parts = refl; goes = going.goes; ends = taken.0 };
-      bytes = ReadsLines-push old new last going.lines packet going.bytes read;
+      bytes = next old new last going.lines packet going.bytes read;
     };
     held = taken.1;
   }
 
 -- a read that failed
-pub read_failure : {S : Type 0} (remaining : S → Option (List ℕ)) (is_down : S → Bool) (seat : S → List ℕ) (failed : Bool) (old new : Reader S) (fault : LineFault)
-    → (old.failed ≡ true → failed ≡ true) → HasRead remaining is_down seat old new (Err fault) → IsReadFailure failed (is_down new.source) (why.Line fault)
-read_failure remaining is_down seat failed old new BadDigits first h = h.after.2
-read_failure remaining is_down seat failed old new Reserved first h = h.after.2
-read_failure remaining is_down seat failed old new TooLong first h = h.after.2
-read_failure remaining is_down seat failed old new Truncated first h = h.after.2
-read_failure remaining is_down seat failed old new Io first h = h.after.2
-read_failure remaining is_down seat failed old new Failed first h = first h.after.0
-read_failure remaining is_down seat failed old new Memory first h = absurd h.after
+pub read_failure : {S : Type 0} (remaining : S → Option (List ℕ)) (is_down : S → Bool) (loans : S → List ℕ) (failed : Bool) (old new : Reader S) (fault : LineFault)
+    → (old.failed ≡ true → failed ≡ true) → HasRead remaining is_down loans old new (Err fault) → IsReadFailure failed (is_down new.source) (why.Line fault)
+read_failure remaining is_down loans failed old new BadDigits first h = h.after.2
+read_failure remaining is_down loans failed old new Reserved first h = h.after.2
+read_failure remaining is_down loans failed old new TooLong first h = h.after.2
+read_failure remaining is_down loans failed old new Truncated first h = h.after.2
+read_failure remaining is_down loans failed old new Io first h = h.after.2
+read_failure remaining is_down loans failed old new Failed first h = first h.after.0
+read_failure remaining is_down loans failed old new Memory first h = absurd h.after
 
 -- a reader that gave a line has not failed
-pub not_failed : {S : Type 0} (remaining : S → Option (List ℕ)) (is_down : S → Bool) (seat : S → List ℕ) (old new : Reader S) (packet : Packet) {P : Type 0}
-    → HasRead remaining is_down seat old new (Ok (Some packet)) → new.failed ≡ true → P
-not_failed remaining is_down seat old new packet h failed = let well = h.after.1 in absurd (false≢true (sym well ∙ failed))
+pub not_failed : {S : Type 0} (remaining : S → Option (List ℕ)) (is_down : S → Bool) (loans : S → List ℕ) (old new : Reader S) (packet : Packet) {P : Type 0}
+    → HasRead remaining is_down loans old new (Ok (Some packet)) → new.failed ≡ true → P
+not_failed remaining is_down loans old new packet h failed = let well = h.after.1 in absurd (false≢true (sym well ∙ failed))

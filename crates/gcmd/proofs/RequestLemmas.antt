@@ -7,14 +7,14 @@ use Rattle.std.proofs.lemmas.List.Elements.{filter-append}
 use Rattle.std.proofs.lemmas.List.Folds.{list_any-append}
 use Rattle.gpkt.specs.Packets.{Packet, Flush}
 use Rattle.gcmd.specs.Forms.{is_word}
-use Rattle.gcmd.specs.Grammar.{Ends, HasEndings}
+use Rattle.gcmd.specs.Grammar.{Completes, HasEndings}
 use Rattle.gcmd.specs.Request.{Place, Command, Capabilities, Arguments, next_place, place_from, place_after, text_there, texts_from, capability_texts, argument_texts, is_agent, is_format, is_ref_prefix, agent_value, prefix_value, agents, formats, ref_prefixes, first_of, judge}
 use Rattle.gcmd.proofs.GrammarLemmas.{HasEndings-by}
 
 -- ---- the end
 
 -- a flush ends a request wherever it stands
-pub judge-flush : (front : List Packet) → judge front Flush ≡ Ends
+pub judge-flush : (front : List Packet) → judge front Flush ≡ Completes
 unfolding judge
 judge-flush front = refl
 
@@ -23,7 +23,7 @@ HasEndings-judge = HasEndings-by judge Flush judge-flush
 
 -- ---- a packet more
 
--- the place behind some packets and then others
+-- the place after some packets and then others
 pub place_from-append : (place : Place) (front back : List Packet) → place_from place (front ++ back) ≡ place_from (place_from place front) back
 place_from-append place [] back = refl
 place_from-append place (packet ∷ front) back = place_from-append (next_place place packet) front back

@@ -1,4 +1,4 @@
--- What is kept of a request's lines tells what the judge says of the next packet, and a packet that
+-- What is kept of a request's lines gives what the judge says of the next packet, and a packet that
 -- is taken adds to it what it adds to the lines.
 use Rattle.std.proofs.Common.{◌≡◌, ℕ, ◌+◌, ◌<◌, ◌^◌, ◌||◌, ◌⊎◌, inl, inr, Bool, true, false, not, cond, List, [], ◌∷◌, ◌++◌, length, map, drop, codes, Option, Some, None, Result, Ok, Err, refl, sym, ap, subst, ◌∙◌, arith, length-append}
 use Rattle.std.specs.Prelude.{is_none}
@@ -10,7 +10,7 @@ use Rattle.gpkt.specs.Packets.{Packet, Data, Flush, Delim, ResponseEnd, text}
 use Rattle.gname.specs.Names.{prefix_fault}
 use Rattle.gcmd.specs.Faults.{kept_text}
 use Rattle.gcmd.specs.Forms.{is_word, begins, capability_form, argument_form}
-use Rattle.gcmd.specs.Grammar.{Verdict, Goes, Ends, Refuses, IsOpen}
+use Rattle.gcmd.specs.Grammar.{Verdict, Goes, Completes, Misfits, IsOpen}
 use Rattle.gcmd.specs.Request.{Place, Command, Capabilities, Arguments, LsRefs, next_place, place_after, text_there, argument_texts, is_agent, is_format, is_ref_prefix, agent_value, prefix_value, agents, formats, first_of, is_none_yet, judge_capability, judge_argument, judge_text, judge_delim, judge}
 use Rattle.gcmd.specs.RequestState.{State, state_of, judge_capability_at, judge_argument_at, judge_text_at, judge_at, with_capability, with_argument, with_text, with_delim, with_packet}
 use Rattle.gcmd.specs.MessageReading.{TakesAs}
@@ -37,7 +37,7 @@ cond-not true x y = refl
 cond-not false x y = refl
 
 capability_is : (front : List Packet) (form : CapabilityForm) → judge_capability front form ≡ judge_capability_at (state_of front) form
-capability_is front capability.Agent = ap (λ (b : Bool). cond b Goes (Refuses BadText)) (none_first (agents front))
+capability_is front capability.Agent = ap (λ (b : Bool). cond b Goes (Misfits BadText)) (none_first (agents front))
 capability_is front capability.Sha1 = cond-not (is_none_yet (formats front)) _ _
 capability_is front capability.OtherFormat = cond-not (is_none_yet (formats front)) _ _
 capability_is front capability.Unknown = refl
@@ -54,11 +54,11 @@ text_is Command front line = refl
 text_is Capabilities front line = capability_is front (capability_form line)
 text_is Arguments front line = argument_is front line (argument_form line)
 
--- the state tells what the judge says
+-- what the judge says, by the state
 pub judge_is : (front : List Packet) (packet : Packet) → judge front packet ≡ judge_at (state_of front) packet
 unfolding judge judge_at
 judge_is front (Data payload) =
-    ap (λ (verdict : Verdict). cond (begins (codes "ERR ") payload) (Refuses (RemoteErr (kept_text (drop 4 payload)))) verdict) (text_is (place_after front) front (text payload))
+    ap (λ (verdict : Verdict). cond (begins (codes "ERR ") payload) (Misfits (RemoteErr (kept_text (drop 4 payload)))) verdict) (text_is (place_after front) front (text payload))
 judge_is front Flush = refl
 judge_is front Delim = refl
 judge_is front ResponseEnd = refl
@@ -113,18 +113,18 @@ grown-none place state =
 
 -- the message goes on with the packet, or ends with it
 IsTaken : Verdict → Type 0
-IsTaken verdict = (verdict ≡ Goes) ⊎ (verdict ≡ Ends)
+IsTaken verdict = (verdict ≡ Goes) ⊎ (verdict ≡ Completes)
 
-refused : (why : Why) {P : Type 0} → IsTaken (Refuses why) → P
+refused : (why : Why) {P : Type 0} → IsTaken (Misfits why) → P
 unfolding IsTaken
 refused why (inl e) = absurd cc
 refused why (inr e) = absurd cc
 
-taken_past : (b : Bool) (why : Why) (verdict : Verdict) → IsTaken (cond b (Refuses why) verdict) → IsTaken verdict
+taken_past : (b : Bool) (why : Why) (verdict : Verdict) → IsTaken (cond b (Misfits why) verdict) → IsTaken verdict
 taken_past true why verdict h = refused why h
 taken_past false why verdict h = h
 
-taken_first : (b : Bool) (why : Why) (verdict : Verdict) → IsTaken (cond b verdict (Refuses why)) → b ≡ true
+taken_first : (b : Bool) (why : Why) (verdict : Verdict) → IsTaken (cond b verdict (Misfits why)) → b ≡ true
 taken_first true why verdict h = refl
 taken_first false why verdict h = refused why h
 
@@ -203,7 +203,7 @@ packet_grows Arguments state Delim at taken = refused _ (subst (λ (there : Plac
 packet_grows place state ResponseEnd at taken = refused _ taken
 
 -- a packet that is taken adds this
-pub state_push : (front : List Packet) (packet : Packet) → (judge front packet ≡ Goes) ⊎ (judge front packet ≡ Ends)
+pub state_push : (front : List Packet) (packet : Packet) → (judge front packet ≡ Goes) ⊎ (judge front packet ≡ Completes)
     → state_of (front ++ packet ∷ []) ≡ with_packet (state_of front) packet
 unfolding IsTaken
 state_push front packet taken =
@@ -214,7 +214,7 @@ state_push front packet taken =
 takes_also : {verdict other : Verdict} {P Q : Type 0} → other ≡ verdict → (IsTaken other → P → Q) → (result : Result Step Why) → TakesAs verdict P result → TakesAs other Q result
 unfolding IsTaken
 takes_also same more (Ok step.Goes) h = let goes = same ∙ h.0 in (goes, more (inl goes) h.1)
-takes_also same more (Ok step.Ends) h = let ends = same ∙ h.0 in (ends, more (inr ends) h.1)
+takes_also same more (Ok step.Completes) h = let ends = same ∙ h.0 in (ends, more (inr ends) h.1)
 takes_also same more (Err (Line fault)) h = absurd h
 takes_also same more (Err Ended) h = absurd h
 takes_also same more (Err Memory) h = same ∙ h
@@ -228,11 +228,11 @@ takes_also same more (Err Limit) h = same ∙ h
 takes_also same more (Err (RemoteErr said)) h = same ∙ h
 takes_also same more (Err Format) h = same ∙ h
 
--- taken by the state of the lines so far, a packet is taken behind these lines
-pub takes_behind : (front : List Packet) (packet : Packet) (old new : State) (result : Result Step Why) → old ≡ state_of front
+-- taken by the state of the lines so far, a packet is taken after these lines
+pub takes_after : (front : List Packet) (packet : Packet) (old new : State) (result : Result Step Why) → old ≡ state_of front
     → TakesAs (judge_at old packet) (new ≡ with_packet old packet) result → TakesAs (judge front packet) (new ≡ state_of (front ++ packet ∷ [])) result
 unfolding IsTaken
-takes_behind front packet old new result held taken =
+takes_after front packet old new result held taken =
     takes_also (judge_is front packet ∙ ap (λ (state : State). judge_at state packet) (sym held))
     (λ is adds. adds ∙ (ap (λ (state : State). with_packet state packet) held ∙ sym (state_push front packet is))) result taken
 

@@ -9,7 +9,7 @@ use Rattle.gname.specs.Names.{prefix_fault}
 use Rattle.gname.specs.declared.faults.NameFault.{NameFault}
 use Rattle.gcmd.specs.Faults.{kept_text}
 use Rattle.gcmd.specs.Forms.{begins, command_form, capability_form, argument_form}
-use Rattle.gcmd.specs.Grammar.{Verdict, Goes, Ends, Refuses}
+use Rattle.gcmd.specs.Grammar.{Verdict, Goes, Completes, Misfits}
 use Rattle.gcmd.specs.Request.{Place, Command, Capabilities, Arguments, place_after, capability_texts, argument_texts, is_ref_prefix, prefix_value, agents, formats, ref_prefixes, is_none_yet, has_room, has_prefix_room, judge_command, judge_capability, judge_argument, judge_text, judge_delim, judge}
 use Rattle.gcmd.specs.Manual.{IsArgumentLine}
 use Rattle.gcmd.specs.declared.fault.Why.{Why}
@@ -26,7 +26,7 @@ use Rattle.gcmd.proofs.RequestSections.{MayFollow, MayFollowArguments}
 -- ---- the judge, a packet at a time
 
 pub judge-data : (front : List Packet) (payload : List ℕ)
-    → judge front (Data payload) ≡ cond (begins (codes "ERR ") payload) (Refuses (RemoteErr (kept_text (drop 4 payload)))) (judge_text (place_after front) front (text payload))
+    → judge front (Data payload) ≡ cond (begins (codes "ERR ") payload) (Misfits (RemoteErr (kept_text (drop 4 payload)))) (judge_text (place_after front) front (text payload))
 unfolding judge
 judge-data front payload = refl
 
@@ -39,15 +39,15 @@ pub judge-response_end_goes : (front : List Packet) → judge front ResponseEnd 
 unfolding judge
 judge-response_end_goes front e = cc
 
-pub judge-response_end_ends : (front : List Packet) → judge front ResponseEnd ≡ Ends → ⊥
+pub judge-response_end_ends : (front : List Packet) → judge front ResponseEnd ≡ Completes → ⊥
 unfolding judge
 judge-response_end_ends front e = cc
 
-judge_text-goes : (b : Bool) (why : Why) (verdict : Verdict) → cond b (Refuses why) verdict ≡ Goes → verdict ≡ Goes
+judge_text-goes : (b : Bool) (why : Why) (verdict : Verdict) → cond b (Misfits why) verdict ≡ Goes → verdict ≡ Goes
 judge_text-goes true why verdict e = cc
 judge_text-goes false why verdict e = e
 
-ends_past : (b : Bool) (why : Why) (verdict : Verdict) → cond b (Refuses why) verdict ≡ Ends → verdict ≡ Ends
+ends_past : (b : Bool) (why : Why) (verdict : Verdict) → cond b (Misfits why) verdict ≡ Completes → verdict ≡ Completes
 ends_past true why verdict e = cc
 ends_past false why verdict e = e
 
@@ -87,15 +87,15 @@ is_none_yet-nil : (xs : List (List ℕ)) (verdict : Verdict) → xs ≡ [] → c
 is_none_yet-nil [] verdict e = refl
 is_none_yet-nil (x ∷ xs) verdict e = cc
 
-refuses_other : (why : Why) → Refuses why ≡ Goes → ⊥
+refuses_other : (why : Why) → Misfits why ≡ Goes → ⊥
 refuses_other why e = cc
 
 judge_capability-MayFollow : (front : List Packet) (line : List ℕ) (form : CapabilityForm) → capability_form line ≡ form → judge_capability front form ≡ Goes
     → MayFollow (capability_texts front) line
-judge_capability-MayFollow front line capability.Agent is e = inl (agent_line line is, is_none_yet-goes (agents front) (Refuses BadText) (refuses_other BadText) e)
-judge_capability-MayFollow front line capability.Sha1 is e = inr (format_line line is, is_none_yet-goes (formats front) (Refuses BadText) (refuses_other BadText) e)
+judge_capability-MayFollow front line capability.Agent is e = inl (agent_line line is, is_none_yet-goes (agents front) (Misfits BadText) (refuses_other BadText) e)
+judge_capability-MayFollow front line capability.Sha1 is e = inr (format_line line is, is_none_yet-goes (formats front) (Misfits BadText) (refuses_other BadText) e)
 judge_capability-MayFollow front line capability.OtherFormat is e = absurd (format_never (is_none_yet (formats front)) e) where
-  format_never : (b : Bool) → cond b (Refuses Format) (Refuses BadText) ≡ Goes → ⊥
+  format_never : (b : Bool) → cond b (Misfits Format) (Misfits BadText) ≡ Goes → ⊥
   format_never true h = cc
   format_never false h = cc
 judge_capability-MayFollow front line capability.Unknown is e = absurd cc
@@ -109,22 +109,22 @@ pub judge-from_capability_text : (front : List Packet) (payload : List ℕ) → 
     → judge front (Data payload) ≡ Goes
 judge-from_capability_text front payload at (inl may) =
     judge-data_from front payload Capabilities at (reports_none payload _ _ may.0.1 refl)
-    (ap (judge_capability front) (capability_form-agent (text payload) may.0) ∙ is_none_yet-nil (agents front) (Refuses BadText) may.1)
+    (ap (judge_capability front) (capability_form-agent (text payload) may.0) ∙ is_none_yet-nil (agents front) (Misfits BadText) may.1)
 judge-from_capability_text front payload at (inr may) =
     judge-data_from front payload Capabilities at (reports_none payload _ _ may.0 refl)
-    (ap (judge_capability front) (capability_form-format (text payload) may.0) ∙ is_none_yet-nil (formats front) (Refuses BadText) may.1)
+    (ap (judge_capability front) (capability_form-format (text payload) may.0) ∙ is_none_yet-nil (formats front) (Misfits BadText) may.1)
 
 -- ---- the arguments
 
-has_room-goes : (b : Bool) → cond b Goes (Refuses Limit) ≡ Goes → b ≡ true
+has_room-goes : (b : Bool) → cond b Goes (Misfits Limit) ≡ Goes → b ≡ true
 has_room-goes true e = refl
 has_room-goes false e = cc
 
-goes-prefix_fits : (fault : Option NameFault) (room : Bool) → cond (is_none fault) (cond room Goes (Refuses Limit)) (Refuses BadName) ≡ Goes → (fault ≡ None) × (room ≡ true)
+goes-prefix_fits : (fault : Option NameFault) (room : Bool) → cond (is_none fault) (cond room Goes (Misfits Limit)) (Misfits BadName) ≡ Goes → (fault ≡ None) × (room ≡ true)
 goes-prefix_fits None room e = (refl, has_room-goes room e)
 goes-prefix_fits (Some fault) room e = absurd cc
 
-prefix_fits-goes : (fault : Option NameFault) (room : Bool) → fault ≡ None → room ≡ true → cond (is_none fault) (cond room Goes (Refuses Limit)) (Refuses BadName) ≡ Goes
+prefix_fits-goes : (fault : Option NameFault) (room : Bool) → fault ≡ None → room ≡ true → cond (is_none fault) (cond room Goes (Misfits Limit)) (Misfits BadName) ≡ Goes
 prefix_fits-goes None room e h = cond-true room _ _ h
 prefix_fits-goes (Some fault) room e h = cc
 
@@ -184,50 +184,50 @@ judge-from_argument_text front payload at may = judge-from_argument_line front p
 
 -- ---- only a flush ends
 
-ends_never : (b : Bool) (x y : Verdict) → (x ≡ Ends → ⊥) → (y ≡ Ends → ⊥) → cond b x y ≡ Ends → ⊥
+ends_never : (b : Bool) (x y : Verdict) → (x ≡ Completes → ⊥) → (y ≡ Completes → ⊥) → cond b x y ≡ Completes → ⊥
 ends_never true x y h k e = h e
 ends_never false x y h k e = k e
 
-Goes-Ends : Goes ≡ Ends → ⊥
-Goes-Ends e = cc
+Goes-Completes : Goes ≡ Completes → ⊥
+Goes-Completes e = cc
 
-refuses_no_end : (why : Why) → Refuses why ≡ Ends → ⊥
+refuses_no_end : (why : Why) → Misfits why ≡ Completes → ⊥
 refuses_no_end why e = cc
 
-command_ends : (form : CommandForm) → judge_command form ≡ Ends → ⊥
+command_ends : (form : CommandForm) → judge_command form ≡ Completes → ⊥
 command_ends command.LsRefs e = cc
 command_ends command.Unknown e = cc
 command_ends command.Malformed e = cc
 
-capability_ends : (front : List Packet) (form : CapabilityForm) → judge_capability front form ≡ Ends → ⊥
-capability_ends front capability.Agent e = ends_never _ Goes (Refuses BadText) Goes-Ends (refuses_no_end BadText) e
-capability_ends front capability.Sha1 e = ends_never _ Goes (Refuses BadText) Goes-Ends (refuses_no_end BadText) e
-capability_ends front capability.OtherFormat e = ends_never _ (Refuses Format) (Refuses BadText) (refuses_no_end Format) (refuses_no_end BadText) e
+capability_ends : (front : List Packet) (form : CapabilityForm) → judge_capability front form ≡ Completes → ⊥
+capability_ends front capability.Agent e = ends_never _ Goes (Misfits BadText) Goes-Completes (refuses_no_end BadText) e
+capability_ends front capability.Sha1 e = ends_never _ Goes (Misfits BadText) Goes-Completes (refuses_no_end BadText) e
+capability_ends front capability.OtherFormat e = ends_never _ (Misfits Format) (Misfits BadText) (refuses_no_end Format) (refuses_no_end BadText) e
 capability_ends front capability.Unknown e = cc
 capability_ends front capability.Malformed e = cc
 
-room_ends : (b : Bool) → cond b Goes (Refuses Limit) ≡ Ends → ⊥
-room_ends b e = ends_never b Goes (Refuses Limit) Goes-Ends (refuses_no_end Limit) e
+room_ends : (b : Bool) → cond b Goes (Misfits Limit) ≡ Completes → ⊥
+room_ends b e = ends_never b Goes (Misfits Limit) Goes-Completes (refuses_no_end Limit) e
 
-argument_ends : (front : List Packet) (line : List ℕ) (form : ArgumentForm) → judge_argument front line form ≡ Ends → ⊥
+argument_ends : (front : List Packet) (line : List ℕ) (form : ArgumentForm) → judge_argument front line form ≡ Completes → ⊥
 argument_ends front line argument.Symrefs e = room_ends _ e
 argument_ends front line argument.Peel e = room_ends _ e
 argument_ends front line argument.RefPrefix e =
-    ends_never (is_none (prefix_fault (prefix_value line))) (cond (has_room front && has_prefix_room front) Goes (Refuses Limit)) (Refuses BadName)
+    ends_never (is_none (prefix_fault (prefix_value line))) (cond (has_room front && has_prefix_room front) Goes (Misfits Limit)) (Misfits BadName)
     (room_ends (has_room front && has_prefix_room front)) (refuses_no_end BadName) e
 argument_ends front line argument.Unknown e = cc
 
-text_ends : (place : Place) (front : List Packet) (line : List ℕ) → judge_text place front line ≡ Ends → ⊥
+text_ends : (place : Place) (front : List Packet) (line : List ℕ) → judge_text place front line ≡ Completes → ⊥
 text_ends Command front line e = command_ends (command_form line) e
 text_ends Capabilities front line e = capability_ends front (capability_form line) e
 text_ends Arguments front line e = argument_ends front line (argument_form line) e
 
-delim_ends : (place : Place) → judge_delim place ≡ Ends → ⊥
+delim_ends : (place : Place) → judge_delim place ≡ Completes → ⊥
 delim_ends Command e = cc
 delim_ends Capabilities e = cc
 delim_ends Arguments e = cc
 
-pub ends-flush : (front : List Packet) (packet : Packet) → judge front packet ≡ Ends → packet ≡ Flush
+pub ends-flush : (front : List Packet) (packet : Packet) → judge front packet ≡ Completes → packet ≡ Flush
 ends-flush front (Data payload) e = absurd (text_ends (place_after front) front (text payload) (ends_past _ _ _ (sym (judge-data front payload) ∙ e)))
 ends-flush front Flush e = refl
 ends-flush front Delim e = absurd (delim_ends (place_after front) (sym (judge-delim front) ∙ e))

@@ -9,12 +9,12 @@ use Rattle.ggraph.specs.Loading.{StopsAt}
 use Rattle.ggraph.specs.RepositoryText.{repository_text, IsLoadable}
 use Rattle.ggraph.specs.declared.text.Order.TheVariants.{Any}
 use Rattle.ggraph.specs.declared.text.Repository.{Repository}
-use Rattle.gcmd.specs.Repository.{Names, HoldsRefs, HoldsHead, RefusesText}
+use Rattle.gcmd.specs.Repository.{IsServerText, HoldsRefs, HoldsHead, RefusesText}
 use Rattle.gcmd.specs.Exchange.{Exchanges}
 use Rattle.gcmd.specs.Printing.{check_fault_line, ls_fault_line, repo_fault_line, write_fault_line}
 use Rattle.gcmd.specs.Sending.{Input, Output, IsUnread, IsUnwritten, Sends, SendsSome}
 use Rattle.gcmd.specs.declared.check.CheckFault.{CheckFault}
-use Rattle.gcmd.specs.declared.check.CheckFault.TheVariants.{Text, WriteFailed}
+use Rattle.gcmd.specs.declared.check.CheckFault.TheVariants.{Text, Memory, WriteFailed}
 use Rattle.gcmd.specs.declared.check.Report.{Report}
 use Rattle.gcmd.specs.declared.repository.RepoFault.{RepoFault}
 use Rattle.gcmd.specs.declared.exchange.LsEnd.{LsEnd}
@@ -37,7 +37,7 @@ EndsWith (Some line) errors status = Prints errors line × (status ≡ 1)
 abbrev pub line_at_end : LsEnd → Option (List ℕ)
 line_at_end end.Answered = None
 line_at_end end.Closed = None
-line_at_end end.Ended = None
+line_at_end end.NoInput = None
 line_at_end (end.Refused fault) = Some (ls_fault_line fault)
 line_at_end end.WriteFailed = Some (write_fault_line Io)
 
@@ -53,11 +53,11 @@ module _ (A : Type 0) (file : List ℕ) (input : Input) (output errors : Output)
   -- the file is a repository, and there was one exchange over it
   pub record IsServed : Type 0 where
     pub repo : Repository A
-    pub names : Names file repo
-    pub refs : HoldsRefs repo.graph repo.refs
-    pub head : HoldsHead repo.graph repo.head
+    pub names : IsServerText file repo
+    pub refs : HoldsRefs repo.graph.entries repo.refs
+    pub head : HoldsHead repo.graph.entries repo.head
     pub ended : LsEnd
-    pub exchange : Exchanges repo.graph repo.refs repo.head input output ended
+    pub exchange : Exchanges repo.graph.entries repo.refs repo.head input output ended
     pub ends : EndsWith (line_at_end ended) errors status
 
   -- what `ls --stdio-server` does
@@ -68,10 +68,10 @@ module _ (A : Type 0) (file : List ℕ) (input : Input) (output errors : Output)
 
 -- what there is to report of a repository
 pub record IsReport {A : Type 0} (repo : Repository A) (report : Report) : Type 0 where
-  pub nodes : report.nodes ≡ length repo.graph
+  pub nodes : report.nodes ≡ length repo.graph.entries
   pub refs : report.refs ≡ length repo.refs
-  pub closed : IsTrue report.closed ↔ IsClosed repo.graph
-  pub safe : IsTrue report.safe ↔ IsSafe repo.graph repo.refs
+  pub closed : IsTrue report.closed ↔ IsClosed repo.graph.entries
+  pub safe : IsTrue report.safe ↔ IsSafe repo.graph.entries repo.refs
 
 abbrev pub yes_or_no : Bool → List ℕ
 yes_or_no holds = if holds then codes "yes" else codes "no"
@@ -81,6 +81,12 @@ abbrev pub report_line : Report → List ℕ
 report_line report =
     codes "nodes " ++ decimal report.nodes ++ codes " refs " ++ decimal report.refs
     ++ codes " closed " ++ yes_or_no report.closed ++ codes " safe " ++ yes_or_no report.safe ++ codes "\n"
+
+-- the file is the text of a repository
+pub record IsRepository (A : Type 0) (file : List ℕ) : Type 0 where
+  pub repo : Repository A
+  pub names : file ≡ repository_text repo.graph repo.refs repo.head
+  pub loadable : IsLoadable Any repo.graph repo.refs repo.head
 
 -- the repository that the file names, and its report
 pub record IsReported (A : Type 0) (file : List ℕ) (report : Report) : Type 0 where
@@ -96,6 +102,7 @@ HasChecked A file output (Ok done) = (report : Report) × IsReported A file repo
 HasChecked A file output (Err WriteFailed) =
     (report : Report) × IsReported A file report × SendsSome output (report_line report)
 HasChecked A file output (Err (Text fault)) = StopsAt A Any file fault × IsUnwritten output
+HasChecked A file output (Err Memory) = IsRepository A file × IsUnwritten output
 
 -- the line that is printed at the end, if one is
 abbrev pub line_of_check : Result (Unit {0}) CheckFault → Option (List ℕ)

@@ -3,13 +3,13 @@
 use Rattle.std.specs.Prelude.{◌≡◌, ◌≢◌, ℕ, ◌⊎◌, false, List, [], ◌∷◌, ◌++◌, codes, Option, Result, Ok, Err, None, Some}
 use Rattle.gpkt.specs.Change.{Change}
 use Rattle.gpkt.specs.Packets.{Packet, Data, canonical}
-use Rattle.gpkt.specs.LineReading.{Reads}
+use Rattle.gpkt.specs.LineReading.{Reads, ReadsLines}
 use Rattle.gpkt.specs.declared.fault.LineFault.{LineFault}
 use Rattle.gpkt.specs.declared.fault.LineFault.TheVariants as line
 use Rattle.gcmd.specs.Request.{LsRefs, Request, Empty, Ls, Says, judge}
-use Rattle.gcmd.specs.MessageReading.{ReadsLines, ReadsRefused, IsReadFailure}
+use Rattle.gcmd.specs.MessageReading.{ReadsRefused, IsReadFailure}
 use Rattle.gcmd.specs.Reply.{reply_bytes}
-use Rattle.gcmd.specs.Sending.{Input, Output, IsUnread, IsUnwritten, Sends, SendsSome}
+use Rattle.gcmd.specs.Sending.{Input, Output, IsUnread, IsUp, IsUnwritten, Sends, SendsSome}
 use Rattle.gcmd.specs.RequestReader.{request_view}
 use Rattle.gcmd.specs.declared.request.Request as read
 use Rattle.gcmd.specs.Answer.{IsAnswer}
@@ -75,7 +75,7 @@ IsRefusal input (Message fault) =
     × (fault.why ≡ why.Ended → fault.frame ≢ 0)
 IsRefusal input Memory = (asked : LsRefs) × ReadsRequest input.read (Ls asked)
 
-module _ {A : Type 0} (graph : List (Entry A)) (refs : RefList) (at : Head A) where
+module _ {A : Type 0} (graph : List (Entry A)) (refs : RefList) (head : Head A) where
   -- the lines that are read are a request for ls-refs, and these are the bytes of its answer
   pub record IsAnswered (bytes : Change) (due : List ℕ) : Type 0 where
     pub lines : List Packet
@@ -83,27 +83,27 @@ module _ {A : Type 0} (graph : List (Entry A)) (refs : RefList) (at : Head A) wh
     pub read : ReadsLines bytes lines
     pub says : Says lines (Ls asked)
     pub reply : List (RefLine A)
-    pub answer : IsAnswer graph refs at asked reply
+    pub answer : IsAnswer graph refs head asked reply
     pub due_is : due ≡ reply_bytes reply
 
   -- what was to be written: the answer, or the line that reports the refusal
   abbrev pub IsDue : Input → List ℕ → Type 0
   IsDue input due = IsAnswered input.read due ⊎ ((fault : LsFault) × IsRefusal input fault × (due ≡ err_bytes fault))
 
-  -- what was read, and what was written for it
+  -- what was read, and what was written for it; after an answer, and where nothing is asked, the source has not failed
   abbrev pub Exchanges : Input → Output → LsEnd → Type 0
-  Exchanges input output end.Answered = (due : List ℕ) × IsAnswered input.read due × Sends output due
-  Exchanges input output end.Closed = ReadsRequest input.read Empty × IsUnwritten output
-  Exchanges input output end.Ended = Reads input.read (Ok None) × IsUnwritten output
+  Exchanges input output end.Answered = (due : List ℕ) × IsAnswered input.read due × Sends output due × IsUp input
+  Exchanges input output end.Closed = ReadsRequest input.read Empty × IsUnwritten output × IsUp input
+  Exchanges input output end.NoInput = Reads input.read (Ok None) × IsUnwritten output × IsUp input
   Exchanges input output (end.Refused fault) = IsRefusal input fault × Sends output (err_bytes fault)
   Exchanges input output end.WriteFailed = (due : List ℕ) × IsDue input due × SendsSome output due
 
 -- ---- its steps
 
--- the request is read
+-- the request is read, and the source has not failed
 abbrev pub TakesRequest : {A : Type 0} → Input → Result (Option (read.Request A)) LsFault → Type 0
-TakesRequest input (Ok (Some request)) = ReadsRequest input.read (request_view request)
-TakesRequest input (Ok None) = Reads input.read (Ok None)
+TakesRequest input (Ok (Some request)) = ReadsRequest input.read (request_view request) × IsUp input
+TakesRequest input (Ok None) = Reads input.read (Ok None) × IsUp input
 TakesRequest input (Err Memory) = ⊥
 TakesRequest input (Err fault) = IsRefusal input fault
 
@@ -115,10 +115,10 @@ ReportsRefusal fault output _ = ⊥
 
 -- the request is answered, or it is reported that there is no memory for the answer
 abbrev pub Replies : {A : Type 0} → List (Entry A) → RefList → Head A → LsRefs → Output → LsEnd → Type 0
-Replies {A} graph refs at asked output end.Answered =
-    (reply : List (RefLine A)) × IsAnswer graph refs at asked reply × Sends output (reply_bytes reply)
-Replies graph refs at asked output (end.Refused fault) = (fault ≡ Memory) × Sends output (err_bytes Memory)
-Replies {A} graph refs at asked output end.WriteFailed =
-    ((reply : List (RefLine A)) × IsAnswer graph refs at asked reply × SendsSome output (reply_bytes reply))
+Replies {A} graph refs head asked output end.Answered =
+    (reply : List (RefLine A)) × IsAnswer graph refs head asked reply × Sends output (reply_bytes reply)
+Replies graph refs head asked output (end.Refused fault) = (fault ≡ Memory) × Sends output (err_bytes Memory)
+Replies {A} graph refs head asked output end.WriteFailed =
+    ((reply : List (RefLine A)) × IsAnswer graph refs head asked reply × SendsSome output (reply_bytes reply))
     ⊎ SendsSome output (err_bytes Memory)
-Replies graph refs at asked output _ = ⊥
+Replies graph refs head asked output _ = ⊥

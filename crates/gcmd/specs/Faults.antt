@@ -12,9 +12,13 @@ use Rattle.gcmd.specs.declared.program.ProgramFault.TheVariants as program
 use Rattle.gcmd.specs.declared.repository.RepoFault.{RepoFault}
 use Rattle.gcmd.specs.declared.repository.RepoFault.TheVariants as repo
 
--- the first 256 bytes of the text, which is the payload without one line feed at its end
+-- how many bytes are kept of a peer's text
+abbrev pub max_peer_text : ℕ
+max_peer_text = 256
+
+-- the first bytes of the text, which is the payload without one line feed at its end
 abbrev pub kept_text : List ℕ → List ℕ
-kept_text payload = take 256 (text payload)
+kept_text payload = take max_peer_text (text payload)
 
 -- ---- faults of messages
 

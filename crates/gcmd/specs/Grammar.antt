@@ -6,8 +6,8 @@ use Rattle.gpkt.specs.Packets.{Packet}
 use Rattle.gcmd.specs.declared.fault.Why.{Why}
 
 pub data Verdict : Type 0 where
-  Goes Ends : Verdict
-  Refuses : (why : Why) → Verdict
+  Goes Completes : Verdict
+  Misfits : (why : Why) → Verdict
 
 -- the message goes on with each packet after those before it
 pub record IsOpen (judge : List Packet → Packet → Verdict) (lines : List Packet) : Type 0 where
@@ -20,7 +20,7 @@ pub record IsWholeMessage (judge : List Packet → Packet → Verdict) (lines : 
   pub last : Packet
   pub parts : lines ≡ front ++ last ∷ []
   pub goes : IsOpen judge front
-  pub ends : judge front last ≡ Ends
+  pub ends : judge front last ≡ Completes
 
 -- some lines can follow that make a whole message
 abbrev pub BeginsMessage : (List Packet → Packet → Verdict) → List Packet → Type 0
@@ -42,7 +42,7 @@ HasEndings judge = (front : List Packet) → IsOpen judge front → BeginsMessag
 -- a refused packet is the first that does not fit
 abbrev pub RefusesFirstMisfits : (List Packet → Packet → Verdict) → Type 0
 RefusesFirstMisfits judge =
-    (front : List Packet) (packet : Packet) (why : Why) → IsOpen judge front → judge front packet ≡ Refuses why
+    (front : List Packet) (packet : Packet) (why : Why) → IsOpen judge front → judge front packet ≡ Misfits why
     → IsFirstMisfit judge front packet
 
 -- no message begins another

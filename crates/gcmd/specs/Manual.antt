@@ -12,6 +12,7 @@ use Rattle.gpkt.specs.Packets.{Packet, Data, Flush, Delim, text}
 use Rattle.gname.specs.Names.{IsPrefix}
 use Rattle.gcmd.specs.Forms.{is_word, is_agent_value}
 use Rattle.gcmd.specs.Request.{LsRefs, is_agent, is_format, is_ref_prefix, agent_value, prefix_value, first_of}
+use Rattle.gcmd.specs.Request.{max_arguments, max_prefixes}
 
 -- `agent=` and its value
 abbrev pub IsAgentLine : List ℕ → Type 0
@@ -50,8 +51,8 @@ pub record IsLsRequest (lines : List Packet) (asked : LsRefs) : Type 0 where
   -- each capability once, 64 prefixes and 4,294,967,295 arguments at most
   pub one_agent : length (filter is_agent (map text capabilities)) ≤ 1
   pub one_format : length (filter is_format (map text capabilities)) ≤ 1
-  pub few_prefixes : length (filter is_ref_prefix (map text arguments)) ≤ 64
-  pub few_arguments : length arguments ≤ 4294967295
+  pub few_prefixes : length (filter is_ref_prefix (map text arguments)) ≤ max_prefixes
+  pub few_arguments : length arguments ≤ max_arguments
   pub agent : asked.agent ≡ first_of (map agent_value (filter is_agent (map text capabilities)))
   pub symrefs : asked.symrefs ≡ list_any (is_word (codes "symrefs")) (map text arguments)
   pub peel : asked.peel ≡ list_any (is_word (codes "peel")) (map text arguments)

@@ -1,10 +1,10 @@
 -- What reading a message takes from its source, and what it answers.
 use Rattle.std.specs.Prelude.{◌≡◌, ℕ, Bool, true, false, List, [], ◌∷◌, ◌++◌, length, Option, Some, None, Result}
 use Rattle.std.specs.Prelude.{Ok, Err}
-use Rattle.gpkt.specs.Packets.{Packet, SpellsAll}
-use Rattle.gpkt.specs.Change.{Change, WhereKnown}
-use Rattle.gpkt.specs.LineReading.{Reads}
-use Rattle.gcmd.specs.Grammar.{Verdict, Goes, Ends, Refuses, IsOpen, IsWholeMessage}
+use Rattle.gpkt.specs.Packets.{Packet}
+use Rattle.gpkt.specs.Change.{Change}
+use Rattle.gpkt.specs.LineReading.{Reads, ReadsLines}
+use Rattle.gcmd.specs.Grammar.{Verdict, Goes, Completes, Misfits, IsOpen, IsWholeMessage}
 use Rattle.gcmd.specs.declared.fault.Why.{Why}
 use Rattle.gcmd.specs.declared.fault.Why.TheVariants.{Line, UnexpectedFrame, BadText, UnknownCommand}
 use Rattle.gcmd.specs.declared.fault.Why.TheVariants.{UnknownCapability, UnknownArgument, BadName, Limit, RemoteErr}
@@ -13,10 +13,6 @@ use Rattle.gcmd.specs.declared.fault.MessageFault.{MessageFault}
 use Rattle.gcmd.specs.declared.message.Step.{Step}
 use Rattle.gcmd.specs.declared.message.Step.TheVariants as step
 use Rattle.gpkt.specs.declared.fault.LineFault.TheVariants.{Io, Failed}
-
--- the bytes that are read spell the lines, where the bytes still to come are known
-abbrev pub ReadsLines : Change → List Packet → Type 0
-ReadsLines bytes lines = WhereKnown bytes (λ old new. (front : List ℕ) × (old ≡ front ++ new) × SpellsAll lines front)
 
 -- these lines are read, a whole message
 pub record ReadsWhole (judge : List Packet → Packet → Verdict) (read : Change) (lines : List Packet) : Type 0 where
@@ -34,15 +30,15 @@ abbrev pub IsReasonFor : (List Packet → Packet → Verdict) → List Packet �
 IsReasonFor judge front bytes (Line fault) = Reads bytes (Err fault)
 IsReasonFor judge front bytes Ended = Reads bytes (Ok None)
 IsReasonFor judge front bytes Memory = ReadsJudged judge front bytes Goes
-IsReasonFor judge front bytes UnexpectedFrame = ReadsJudged judge front bytes (Refuses UnexpectedFrame)
-IsReasonFor judge front bytes BadText = ReadsJudged judge front bytes (Refuses BadText)
-IsReasonFor judge front bytes UnknownCommand = ReadsJudged judge front bytes (Refuses UnknownCommand)
-IsReasonFor judge front bytes UnknownCapability = ReadsJudged judge front bytes (Refuses UnknownCapability)
-IsReasonFor judge front bytes UnknownArgument = ReadsJudged judge front bytes (Refuses UnknownArgument)
-IsReasonFor judge front bytes BadName = ReadsJudged judge front bytes (Refuses BadName)
-IsReasonFor judge front bytes Limit = ReadsJudged judge front bytes (Refuses Limit)
-IsReasonFor judge front bytes (RemoteErr said) = ReadsJudged judge front bytes (Refuses (RemoteErr said))
-IsReasonFor judge front bytes Format = ReadsJudged judge front bytes (Refuses Format)
+IsReasonFor judge front bytes UnexpectedFrame = ReadsJudged judge front bytes (Misfits UnexpectedFrame)
+IsReasonFor judge front bytes BadText = ReadsJudged judge front bytes (Misfits BadText)
+IsReasonFor judge front bytes UnknownCommand = ReadsJudged judge front bytes (Misfits UnknownCommand)
+IsReasonFor judge front bytes UnknownCapability = ReadsJudged judge front bytes (Misfits UnknownCapability)
+IsReasonFor judge front bytes UnknownArgument = ReadsJudged judge front bytes (Misfits UnknownArgument)
+IsReasonFor judge front bytes BadName = ReadsJudged judge front bytes (Misfits BadName)
+IsReasonFor judge front bytes Limit = ReadsJudged judge front bytes (Misfits Limit)
+IsReasonFor judge front bytes (RemoteErr said) = ReadsJudged judge front bytes (Misfits (RemoteErr said))
+IsReasonFor judge front bytes Format = ReadsJudged judge front bytes (Misfits Format)
 
 -- the message is refused at this frame: the lines before it are open
 pub record ReadsRefused (judge : List Packet → Packet → Verdict) (bytes : Change) (fault : MessageFault) : Type 0 where
@@ -57,19 +53,19 @@ pub record ReadsRefused (judge : List Packet → Packet → Verdict) (bytes : Ch
 -- memory comes only at a packet that goes on.
 abbrev pub TakesAs : Verdict → Type 0 → Result Step Why → Type 0
 TakesAs verdict P (Ok step.Goes) = (verdict ≡ Goes) × P
-TakesAs verdict P (Ok step.Ends) = (verdict ≡ Ends) × P
+TakesAs verdict P (Ok step.Completes) = (verdict ≡ Completes) × P
 TakesAs verdict P (Err (Line fault)) = ⊥
 TakesAs verdict P (Err Ended) = ⊥
 TakesAs verdict P (Err Memory) = verdict ≡ Goes
-TakesAs verdict P (Err UnexpectedFrame) = verdict ≡ Refuses UnexpectedFrame
-TakesAs verdict P (Err BadText) = verdict ≡ Refuses BadText
-TakesAs verdict P (Err UnknownCommand) = verdict ≡ Refuses UnknownCommand
-TakesAs verdict P (Err UnknownCapability) = verdict ≡ Refuses UnknownCapability
-TakesAs verdict P (Err UnknownArgument) = verdict ≡ Refuses UnknownArgument
-TakesAs verdict P (Err BadName) = verdict ≡ Refuses BadName
-TakesAs verdict P (Err Limit) = verdict ≡ Refuses Limit
-TakesAs verdict P (Err (RemoteErr said)) = verdict ≡ Refuses (RemoteErr said)
-TakesAs verdict P (Err Format) = verdict ≡ Refuses Format
+TakesAs verdict P (Err UnexpectedFrame) = verdict ≡ Misfits UnexpectedFrame
+TakesAs verdict P (Err BadText) = verdict ≡ Misfits BadText
+TakesAs verdict P (Err UnknownCommand) = verdict ≡ Misfits UnknownCommand
+TakesAs verdict P (Err UnknownCapability) = verdict ≡ Misfits UnknownCapability
+TakesAs verdict P (Err UnknownArgument) = verdict ≡ Misfits UnknownArgument
+TakesAs verdict P (Err BadName) = verdict ≡ Misfits BadName
+TakesAs verdict P (Err Limit) = verdict ≡ Misfits Limit
+TakesAs verdict P (Err (RemoteErr said)) = verdict ≡ Misfits (RemoteErr said)
+TakesAs verdict P (Err Format) = verdict ≡ Misfits Format
 
 module _ {M : Type 0} (judge : List Packet → Packet → Verdict) (holds : M → List Packet → Type 0) where
   -- taking a packet after these answers what the judge says of it

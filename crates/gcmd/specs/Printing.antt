@@ -1,6 +1,6 @@
 -- How faults are printed: `gitv2: fault NUMBER NAME`, and then, where the fault has them and in this order, the
 -- frame, the line, the place, and the id, the name or the text.
-use Rattle.std.specs.Prelude.{ℕ, ◌≤◌, ◌++◌, ◌&&◌, nat_le, if◌then◌else◌, List, [], length, map, codes, Option, None}
+use Rattle.std.specs.Prelude.{ℕ, ◌+◌, ◌*◌, ◌≤◌, ◌++◌, ◌&&◌, nat_le, if◌then◌else◌, List, [], length, map, codes, Option, None}
 use Rattle.std.specs.Prelude.{Some, ⊤}
 use Rattle.std.specs.Fmt.{decimal}
 use Rattle.std.specs.Option.{option_copied}
@@ -8,6 +8,7 @@ use Rattle.gpkt.specs.declared.fault.WriteFault.{WriteFault}
 use Rattle.gpkt.specs.declared.fault.WriteFault.TheVariants as write
 use Rattle.gname.specs.Faults.{FaultRow, id_fault_row, name_fault_row}
 use Rattle.gname.specs.Ids.{id_text}
+use Rattle.gname.specs.Names.{max_name}
 use Rattle.gname.specs.declared.faults.NameFault.{NameFault}
 use Rattle.gname.specs.declared.faults.NameFault.TheVariants as name
 use Rattle.gname.specs.declared.ids.OidFault.{OidFault}
@@ -15,9 +16,9 @@ use Rattle.gname.specs.declared.ids.OidFault.TheVariants as id
 use Rattle.ghistory.specs.Faults.{graph_fault_row}
 use Rattle.ghistory.specs.declared.fault.GraphFault.{GraphFault}
 use Rattle.ghistory.specs.declared.fault.GraphFault.TheVariants as graph
-use Rattle.ggraph.specs.Faults.{text_fault_row}
-use Rattle.ggraph.specs.declared.fault.TextFault.{TextFault}
-use Rattle.ggraph.specs.declared.fault.TextFault.TheVariants as load
+use Rattle.ggraph.specs.Faults.{load_fault_row}
+use Rattle.ggraph.specs.declared.fault.LoadFault.{LoadFault}
+use Rattle.ggraph.specs.declared.fault.LoadFault.TheVariants as load
 use Rattle.gobject.specs.Faults.{index_fault_row}
 use Rattle.gobject.specs.declared.fault.IndexFault.{IndexFault}
 use Rattle.gobject.specs.declared.fault.IndexFault.TheVariants as index
@@ -78,6 +79,22 @@ fault_line row details =
 
 -- ---- what the code prints
 
+-- the most digits of a number of 64 bits
+abbrev pub max_decimal : ℕ
+max_decimal = 20
+
+-- the most bytes of a fault's name
+abbrev pub max_fault_name : ℕ
+max_fault_name = 32
+
+-- a space, and a name or a text
+abbrev pub max_subject : ℕ
+max_subject = 1 + max_name
+
+-- the most bytes of a line: 32 of its words, the name, four numbers and the subject
+abbrev pub max_fault_line : ℕ
+max_fault_line = 32 + max_fault_name + 4 * max_decimal + max_subject
+
 abbrev pub printed : FaultLine → List ℕ
 printed fault = fault_line (fault.number, fault.name.now) (record {
   frame = fault.frame;
@@ -89,11 +106,11 @@ printed fault = fault_line (fault.number, fault.name.now) (record {
 
 abbrev pub IsShortText : Option (List ℕ) → Type 0
 IsShortText None = ⊤
-IsShortText (Some text) = length text ≤ 1000
+IsShortText (Some text) = length text ≤ max_name
 
 -- a name of at most 32 bytes, and a text of at most 1,000
 pub record IsShort (fault : FaultLine) : Type 0 where
-  pub name : length fault.name.now ≤ 32
+  pub name : length fault.name.now ≤ max_fault_name
   pub text : IsShortText (option_copied fault.text)
 
 -- ---- each fault's line
@@ -135,16 +152,17 @@ id_in_conflict _ = None
 abbrev pub graph_fault_line : GraphFault → List ℕ
 graph_fault_line fault = fault_line (graph_fault_row fault) (record no_details { id = id_in_conflict fault })
 
-abbrev pub line_in_text : TextFault → Option ℕ
+abbrev pub line_in_text : LoadFault → Option ℕ
 line_in_text (load.Text at) = Some at
 line_in_text (load.ParentLater at) = Some at
 line_in_text load.Memory = None
 
-abbrev pub text_fault_line : TextFault → List ℕ
-text_fault_line fault = fault_line (text_fault_row fault) (record no_details { line = line_in_text fault })
+abbrev pub text_fault_line : LoadFault → List ℕ
+text_fault_line fault = fault_line (load_fault_row fault) (record no_details { line = line_in_text fault })
 
 abbrev pub check_fault_line : CheckFault → List ℕ
 check_fault_line (check.Text fault) = text_fault_line fault
+check_fault_line check.Memory = text_fault_line load.Memory
 check_fault_line check.WriteFailed = write_fault_line write.Io
 
 -- the text of a peer's error

@@ -7,7 +7,7 @@ use Rattle.gpkt.specs.Packets.{Packet, Data, Flush, Delim, ResponseEnd, text}
 use Rattle.gname.specs.Names.{prefix_fault}
 use Rattle.gcmd.specs.Forms.{is_word, begins, command_form, capability_form, argument_form}
 use Rattle.gcmd.specs.Faults.{kept_text}
-use Rattle.gcmd.specs.Grammar.{Verdict, Goes, Ends, Refuses, IsWholeMessage}
+use Rattle.gcmd.specs.Grammar.{Verdict, Goes, Completes, Misfits, IsWholeMessage}
 use Rattle.gcmd.specs.declared.fault.Why.TheVariants.{UnexpectedFrame, BadText, UnknownCommand, UnknownCapability}
 use Rattle.gcmd.specs.declared.fault.Why.TheVariants.{UnknownArgument, BadName, Limit, RemoteErr, Format}
 use Rattle.gcmd.specs.declared.forms.CommandForm.{CommandForm}
@@ -118,32 +118,39 @@ is_none_yet (x ∷ xs) = false
 
 abbrev pub judge_command : CommandForm → Verdict
 judge_command command.LsRefs = Goes
-judge_command command.Unknown = Refuses UnknownCommand
-judge_command command.Malformed = Refuses BadText
+judge_command command.Unknown = Misfits UnknownCommand
+judge_command command.Malformed = Misfits BadText
 
 -- each capability comes once
 abbrev pub judge_capability : List Packet → CapabilityForm → Verdict
-judge_capability front capability.Agent = if is_none_yet (agents front) then Goes else Refuses BadText
-judge_capability front capability.Sha1 = if is_none_yet (formats front) then Goes else Refuses BadText
-judge_capability front capability.OtherFormat = if is_none_yet (formats front) then Refuses Format else Refuses BadText
-judge_capability front capability.Unknown = Refuses UnknownCapability
-judge_capability front capability.Malformed = Refuses BadText
+judge_capability front capability.Agent = if is_none_yet (agents front) then Goes else Misfits BadText
+judge_capability front capability.Sha1 = if is_none_yet (formats front) then Goes else Misfits BadText
+judge_capability front capability.OtherFormat = if is_none_yet (formats front) then Misfits Format else Misfits BadText
+judge_capability front capability.Unknown = Misfits UnknownCapability
+judge_capability front capability.Malformed = Misfits BadText
+
+-- the most arguments of a request, and the most prefixes
+abbrev pub max_arguments : ℕ
+max_arguments = 4294967295
+
+abbrev pub max_prefixes : ℕ
+max_prefixes = 64
 
 -- whether one argument more is taken, and one prefix more
 abbrev pub has_room : List Packet → Bool
-has_room front = nat_lt (length (argument_texts front)) 4294967295
+has_room front = nat_lt (length (argument_texts front)) max_arguments
 
 abbrev pub has_prefix_room : List Packet → Bool
-has_prefix_room front = nat_lt (length (ref_prefixes front)) 64
+has_prefix_room front = nat_lt (length (ref_prefixes front)) max_prefixes
 
 abbrev pub judge_argument : List Packet → List ℕ → ArgumentForm → Verdict
-judge_argument front line argument.Symrefs = if has_room front then Goes else Refuses Limit
-judge_argument front line argument.Peel = if has_room front then Goes else Refuses Limit
+judge_argument front line argument.Symrefs = if has_room front then Goes else Misfits Limit
+judge_argument front line argument.Peel = if has_room front then Goes else Misfits Limit
 judge_argument front line argument.RefPrefix =
     if is_none (prefix_fault (prefix_value line))
-    then (if has_room front && has_prefix_room front then Goes else Refuses Limit)
-    else Refuses BadName
-judge_argument front line argument.Unknown = Refuses UnknownArgument
+    then (if has_room front && has_prefix_room front then Goes else Misfits Limit)
+    else Misfits BadName
+judge_argument front line argument.Unknown = Misfits UnknownArgument
 
 abbrev pub judge_text : Place → List Packet → List ℕ → Verdict
 judge_text Command front line = judge_command (command_form line)
@@ -151,19 +158,19 @@ judge_text Capabilities front line = judge_capability front (capability_form lin
 judge_text Arguments front line = judge_argument front line (argument_form line)
 
 abbrev pub judge_delim : Place → Verdict
-judge_delim Command = Refuses UnexpectedFrame
+judge_delim Command = Misfits UnexpectedFrame
 judge_delim Capabilities = Goes
-judge_delim Arguments = Refuses UnexpectedFrame
+judge_delim Arguments = Misfits UnexpectedFrame
 
 -- A peer may report an error in the place of any packet. A flush ends the request, also as its
 -- first packet: that request is empty.
 unfoldable pub judge : List Packet → Packet → Verdict
 judge front (Data payload) =
-    if begins (codes "ERR ") payload then Refuses (RemoteErr (kept_text (drop 4 payload)))
+    if begins (codes "ERR ") payload then Misfits (RemoteErr (kept_text (drop 4 payload)))
     else judge_text (place_after front) front (text payload)
-judge front Flush = Ends
+judge front Flush = Completes
 judge front Delim = judge_delim (place_after front)
-judge front ResponseEnd = Refuses UnexpectedFrame
+judge front ResponseEnd = Misfits UnexpectedFrame
 
 -- ---- what whole lists say
 

@@ -5,10 +5,10 @@ use Rattle.gpkt.specs.Packets.{Packet, Data, Flush, Delim, ResponseEnd, text}
 use Rattle.gname.specs.Names.{prefix_fault}
 use Rattle.gcmd.specs.Forms.{begins, command_form, capability_form, argument_form}
 use Rattle.gcmd.specs.Faults.{kept_text}
-use Rattle.gcmd.specs.Grammar.{Verdict, Goes, Ends, Refuses}
+use Rattle.gcmd.specs.Grammar.{Verdict, Goes, Completes, Misfits}
 use Rattle.gcmd.specs.Request.{Place, Command, Capabilities, Arguments, place_after, argument_texts, formats}
 use Rattle.gcmd.specs.Request.{is_none_yet, ls_refs_of, LsRefs, agent_value, prefix_value, judge_command}
-use Rattle.gcmd.specs.Request.{judge_delim}
+use Rattle.gcmd.specs.Request.{judge_delim, max_arguments, max_prefixes}
 use Rattle.gcmd.specs.declared.fault.Why.TheVariants.{UnexpectedFrame, BadText, UnknownCapability, UnknownArgument}
 use Rattle.gcmd.specs.declared.fault.Why.TheVariants.{BadName, Limit, RemoteErr, Format}
 use Rattle.gcmd.specs.declared.forms.CapabilityForm.{CapabilityForm}
@@ -36,23 +36,23 @@ state_of lines = record {
 -- ---- what the judge says, of the state
 
 abbrev pub judge_capability_at : State → CapabilityForm → Verdict
-judge_capability_at state capability.Agent = if is_none state.asked.agent then Goes else Refuses BadText
-judge_capability_at state capability.Sha1 = if state.has_format then Refuses BadText else Goes
-judge_capability_at state capability.OtherFormat = if state.has_format then Refuses BadText else Refuses Format
-judge_capability_at state capability.Unknown = Refuses UnknownCapability
-judge_capability_at state capability.Malformed = Refuses BadText
+judge_capability_at state capability.Agent = if is_none state.asked.agent then Goes else Misfits BadText
+judge_capability_at state capability.Sha1 = if state.has_format then Misfits BadText else Goes
+judge_capability_at state capability.OtherFormat = if state.has_format then Misfits BadText else Misfits Format
+judge_capability_at state capability.Unknown = Misfits UnknownCapability
+judge_capability_at state capability.Malformed = Misfits BadText
 
 abbrev pub has_room_at : State → Bool
-has_room_at state = nat_lt state.arguments 4294967295
+has_room_at state = nat_lt state.arguments max_arguments
 
 abbrev pub judge_argument_at : State → List ℕ → ArgumentForm → Verdict
-judge_argument_at state line argument.Symrefs = if has_room_at state then Goes else Refuses Limit
-judge_argument_at state line argument.Peel = if has_room_at state then Goes else Refuses Limit
+judge_argument_at state line argument.Symrefs = if has_room_at state then Goes else Misfits Limit
+judge_argument_at state line argument.Peel = if has_room_at state then Goes else Misfits Limit
 judge_argument_at state line argument.RefPrefix =
     if is_none (prefix_fault (prefix_value line))
-    then (if has_room_at state && nat_lt (length state.asked.prefixes) 64 then Goes else Refuses Limit)
-    else Refuses BadName
-judge_argument_at state line argument.Unknown = Refuses UnknownArgument
+    then (if has_room_at state && nat_lt (length state.asked.prefixes) max_prefixes then Goes else Misfits Limit)
+    else Misfits BadName
+judge_argument_at state line argument.Unknown = Misfits UnknownArgument
 
 abbrev pub judge_text_at : Place → State → List ℕ → Verdict
 judge_text_at Command state line = judge_command (command_form line)
@@ -61,14 +61,14 @@ judge_text_at Arguments state line = judge_argument_at state line (argument_form
 
 abbrev pub judge_data_at : State → List ℕ → Verdict
 judge_data_at state payload =
-    if begins (codes "ERR ") payload then Refuses (RemoteErr (kept_text (drop 4 payload)))
+    if begins (codes "ERR ") payload then Misfits (RemoteErr (kept_text (drop 4 payload)))
     else judge_text_at state.place state (text payload)
 
 unfoldable pub judge_at : State → Packet → Verdict
 judge_at state (Data payload) = judge_data_at state payload
-judge_at state Flush = Ends
+judge_at state Flush = Completes
 judge_at state Delim = judge_delim state.place
-judge_at state ResponseEnd = Refuses UnexpectedFrame
+judge_at state ResponseEnd = Misfits UnexpectedFrame
 
 -- ---- what a packet adds
 

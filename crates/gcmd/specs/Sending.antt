@@ -35,6 +35,10 @@ pub record IsUnread (input : Input) : Type 0 where
   pub read : input.read.new ≡ input.read.old
   pub down : input.is_down ≡ input.was_down
 
+-- the source has not failed
+abbrev pub IsUp : Input → Type 0
+IsUp input = input.is_down ≡ false
+
 -- nothing was written or passed on
 pub record IsUnwritten (output : Output) : Type 0 where
   pub written : output.written.new ≡ output.written.old

@@ -21,7 +21,7 @@ pub fn ls_refs<A: Allocator + Copy>(
     head: &Head<A>,
     asked: &LsRefs<A>,
 ) -> Result<Vec<RefLine<A>, A>, AllocError>
-    ensures { IfOk result (λ lines. IsAnswer graph.now refs.now head.now asked.now lines.items) }
+    ensures { IfOk result (λ lines. IsAnswer graph.now.entries refs.now head.now asked.now lines.items) }
 {
     let mut lines = Vec::new(alloc);
     add_head(alloc, graph, refs, head, asked, &mut lines)?;
@@ -38,7 +38,7 @@ fn add_head<A: Allocator + Copy>(
     asked: &LsRefs<A>,
     lines: &mut Vec<RefLine<A>, A>,
 ) -> Result<(), AllocError>
-    ensures { OnOk result (AddsLines graph.now head.now asked.now (head_refs head.now refs.now) lines.old.items lines.new.items) }
+    ensures { OnOk result (AddsLines graph.now.entries head.now asked.now (head_refs head.now refs.now) lines.old.items lines.new.items) }
 {
     let Some(id) = head_id(refs, head) else {
         return Ok(());
@@ -66,7 +66,7 @@ fn add_lines<A: Allocator + Copy>(
     refs: &[(RefName<A>, Oid)],
     lines: &mut Vec<RefLine<A>, A>,
 ) -> Result<(), AllocError>
-    ensures { OnOk result (AddsLines graph.now head.now asked.now refs.now lines.old.items lines.new.items) }
+    ensures { OnOk result (AddsLines graph.now.entries head.now asked.now refs.now lines.old.items lines.new.items) }
 {
     for pair in refs {
         add_line(graph, head, asked, &pair.0, pair.1, lines)?;
@@ -83,24 +83,24 @@ fn add_line<A: Allocator + Copy>(
     id: Oid,
     lines: &mut Vec<RefLine<A>, A>,
 ) -> Result<(), AllocError>
-    ensures { OnOk result (AddsLines graph.now head.now asked.now ((name.now, id) ∷ []) lines.old.items lines.new.items) }
+    ensures { OnOk result (AddsLines graph.now.entries head.now asked.now ((name.now, id) ∷ []) lines.old.items lines.new.items) }
 {
     if is_asked(asked.prefixes(), name) {
-        let line = line_of(graph, head, asked, name, id)?;
+        let line = answer_line(graph, head, asked, name, id)?;
         lines.push(line)?;
     }
     Ok(())
 }
 
 // The line of a ref, with the attributes that are asked for.
-fn line_of<A: Allocator + Copy>(
+fn answer_line<A: Allocator + Copy>(
     graph: &Graph<A>,
     head: &Head<A>,
     asked: &LsRefs<A>,
     name: &RefName<A>,
     id: Oid,
 ) -> Result<RefLine<A>, AllocError>
-    ensures { IfOk result (IsLineOf graph.now head.now asked.now (name.now, id)) }
+    ensures { IfOk result (IsLineOf graph.now.entries head.now asked.now (name.now, id)) }
 {
     let symref = symref_of(head, asked, name)?;
     let peeled = peeled_if(asked.peel(), graph, &id);
@@ -130,14 +130,14 @@ fn symref_of<A: Allocator + Copy>(
 }
 
 fn peeled_if<A: Allocator + Copy>(is_asked: bool, graph: &Graph<A>, id: &Oid) -> Option<Oid>
-    ensures { IsPeeledIf is_asked graph.now id.now result }
+    ensures { IsPeeledIf is_asked graph.now.entries id.now result }
 {
     if is_asked { peeled_id(graph, id) } else { None }
 }
 
 // The commit to which a tag leads, and nothing for other objects.
 fn peeled_id<A: Allocator + Copy>(graph: &Graph<A>, id: &Oid) -> Option<Oid>
-    ensures { IsPeeled graph.now id.now result }
+    ensures { IsPeeled graph.now.entries id.now result }
 {
     match graph.node(id)?.kind {
         Kind::Tag => graph.peel(id),

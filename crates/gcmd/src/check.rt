@@ -10,7 +10,8 @@ use crate::print::FaultLine;
 use crate::program::fail;
 use crate::send::send;
 use arrayvec::ArrayVec;
-use ggraph::{Order, Repository, TextFault, load};
+use ggraph::{Order, Repository, LoadFault, load};
+use gwalk::missing;
 use gname::{Oid, RefName};
 use gpkt::{Down, Sink};
 use std::alloc::{AllocError, Allocator};
@@ -31,8 +32,8 @@ pub fn cmd_check<A: Allocator + Copy, W: Sink, E: Sink>(
 ) -> u8
     ensures checks { Checks A file.now (output_of W.contents W.passed_on W.is_down output.old output.new)
         (output_of E.contents E.passed_on E.is_down errors.old errors.new) result }
-    ensures output_seat { W.seat output.new ≡ W.seat output.old }
-    ensures errors_seat { E.seat errors.new ≡ E.seat errors.old }
+    ensures output_loans { W.loans output.new ≡ W.loans output.old }
+    ensures errors_loans { E.loans errors.new ≡ E.loans errors.old }
 {
     match check(alloc, file, output) {
         Ok(()) => 0,
@@ -43,8 +44,10 @@ pub fn cmd_check<A: Allocator + Copy, W: Sink, E: Sink>(
 /// Why there is no report.
 #[derive(Drop)]
 pub(crate) enum CheckFault {
-    /// The text is no repository, or there is no memory.
-    Text(TextFault),
+    /// The text was not loaded.
+    Text(LoadFault),
+    /// There is no memory to judge the repository.
+    Memory,
     /// The output failed.
     WriteFailed,
 }
@@ -56,7 +59,7 @@ fn check<A: Allocator + Copy, W: Sink>(
     output: &mut W,
 ) -> Result<(), CheckFault>
     ensures checked { HasChecked A file.now (output_of W.contents W.passed_on W.is_down output.old output.new) result }
-    ensures seat { W.seat output.new ≡ W.seat output.old }
+    ensures loans { W.loans output.new ≡ W.loans output.old }
 {
     let repo = match load(alloc, file, Order::Any) {
         Ok(repo) => repo,
@@ -64,7 +67,7 @@ fn check<A: Allocator + Copy, W: Sink>(
     };
     let report = match report_of(alloc, &repo) {
         Ok(report) => report,
-        Err(_) => return Err(CheckFault::Text(TextFault::Memory)),
+        Err(_) => return Err(CheckFault::Memory),
     };
     match send_report(&report, output) {
         Ok(()) => Ok(()),
@@ -95,7 +98,7 @@ fn report_of<A: Allocator + Copy>(alloc: A, repo: &Repository<A>) -> Result<Repo
 
 fn send_report<W: Sink>(report: &Report, output: &mut W) -> Result<(), Down>
     ensures sent { HasSent (output_of W.contents W.passed_on W.is_down output.old output.new) result (report_line report.now) }
-    ensures seat { W.seat output.new ≡ W.seat output.old }
+    ensures loans { W.loans output.new ≡ W.loans output.old }
 {
     let mut text = ArrayVec::new();
     compose_report(report, &mut text);
@@ -126,12 +129,12 @@ fn yes_or_no(holds: bool) -> &'static [u8]
 
 // Whether every object that a ref reaches is one of the graph's.
 fn is_safe<A: Allocator + Copy>(alloc: A, repo: &Repository<A>) -> Result<bool, AllocError>
-    ensures safe { IfOk result (λ safe. IsTrue safe ↔ IsSafe repo.now.graph repo.now.refs) }
+    ensures safe { IfOk result (λ safe. IsTrue safe ↔ IsSafe repo.now.graph.entries repo.now.refs) }
 {
     let refs = repo.refs.as_slice();
     let tips = tips_of(alloc, refs)?;
     let ids = tips.as_slice();
-    match repo.graph.missing(ids) {
+    match missing(&repo.graph, ids) {
         Ok(missing) => Ok(missing.is_none()),
         Err(_) => Err(AllocError),
     }

@@ -3,9 +3,11 @@
 ghost use Rattle.std.specs.Prelude.{◌≡◌, ◌+◌, ◌≤◌, ◌++◌, length};
 ghost use Rattle.std.specs.Fmt.{decimal};
 ghost use Rattle.gname.specs.Ids.{id_text};
+ghost use Rattle.gcmd.specs.Reply.{max_id_text};
+ghost use Rattle.gcmd.specs.Printing.{max_decimal};
 
 use arrayvec::ArrayVec;
-use gname::{ID_TEXT_LENGTH, Oid};
+use gname::{MAX_ID_TEXT, Oid};
 use itoa::Buffer;
 
 /// Adds a piece at the end.
@@ -19,9 +21,9 @@ pub(crate) fn add<const N: usize>(piece: &[u8], text: &mut ArrayVec<u8, N>)
 
 /// Adds a number, in decimal.
 pub(crate) fn add_number<const N: usize>(number: u64, text: &mut ArrayVec<u8, N>)
-    requires { length text.old.items + 20 ≤ N }
+    requires { length text.old.items + max_decimal ≤ N }
     ensures text { text.new.items ≡ text.old.items ++ decimal number }
-    ensures long { length text.new.items ≤ length text.old.items + 20 }
+    ensures long { length text.new.items ≤ length text.old.items + max_decimal }
 {
     let mut digits = Buffer::new();
     add(digits.format(number).as_bytes(), text);
@@ -29,11 +31,11 @@ pub(crate) fn add_number<const N: usize>(number: u64, text: &mut ArrayVec<u8, N>
 
 /// Adds the digits of an id.
 pub(crate) fn add_id<const N: usize>(id: &Oid, text: &mut ArrayVec<u8, N>)
-    requires { length text.old.items + 40 ≤ N }
+    requires { length text.old.items + max_id_text ≤ N }
     ensures text { text.new.items ≡ text.old.items ++ id_text id.now }
-    ensures long { length text.new.items ≡ length text.old.items + 40 }
+    ensures long { length text.new.items ≤ length text.old.items + max_id_text }
 {
-    let mut digits = [0; ID_TEXT_LENGTH];
-    id.to_hex(&mut digits);
-    add(&digits, text);
+    let mut digits = [0; MAX_ID_TEXT];
+    let count = id.to_hex(&mut digits);
+    add(&digits[..count], text);
 }

@@ -11,7 +11,7 @@ use crate::fault::{MessageFault, Why};
 use crate::reply::{RefLine, write_ls_reply};
 use crate::repository::RepoFile;
 use crate::request::{LsRefs, Request, read_request};
-use gpkt::{LineBuffer, LineFault, LineReader, LineWriter, Sink, Source, WriteFault};
+use gpkt::{LineBuffer, LineFault, LineReader, LineWriter, Sink, Source, WriteFault, laws};
 use std::alloc::Allocator;
 use thiserror::Error;
 
@@ -106,7 +106,7 @@ pub enum LsEnd {
     /// The request was a lone flush; nothing is written.
     Closed,
     /// There was no input; nothing is written.
-    Ended,
+    NoInput,
     /// The line that reports the fault is written and flushed.
     Refused(LsFault),
     /// The sink failed; a beginning of what was to be written stands.
@@ -114,21 +114,21 @@ pub enum LsEnd {
 }
 
 /// Reads one request and writes what answers it (gitprotocol-v2(5), "ls-refs"). Nothing after the
-/// request's last packet is read.
+/// request's last packet is read. The source has not failed at the first three ends.
 pub fn ls_once<S: Source, W: Sink, A: Allocator + Copy>(
     alloc: A,
     repo: &RepoFile<A>,
     source: &mut S,
     sink: &mut W,
 ) -> LsEnd
-    ensures exchange { Exchanges repo.now.graph repo.now.refs repo.now.head
+    ensures exchange { Exchanges repo.now.graph.entries repo.now.refs repo.now.head
         (input_of S.remaining S.is_down source.old source.new)
         (output_of W.contents W.passed_on W.is_down sink.old sink.new) result }
-    ensures source_seat { S.seat source.new ≡ S.seat source.old }
-    ensures sink_seat { W.seat sink.new ≡ W.seat sink.old }
+    ensures source_loans { S.loans source.new ≡ S.loans source.old }
+    ensures sink_loans { W.loans sink.new ≡ W.loans sink.old }
 {
     match take_request(alloc, source) {
-        Ok(None) => LsEnd::Ended,
+        Ok(None) => LsEnd::NoInput,
         Ok(Some(Request::Empty)) => LsEnd::Closed,
         Ok(Some(Request::Ls(asked))) => answer(alloc, repo, &asked, sink),
         Err(fault) => refuse(fault, sink),
@@ -141,7 +141,7 @@ fn take_request<S: Source, A: Allocator + Copy>(
     source: &mut S,
 ) -> Result<Option<Request<A>>, LsFault>
     ensures read { TakesRequest (input_of S.remaining S.is_down source.old source.new) result }
-    ensures seat { S.seat source.new ≡ S.seat source.old }
+    ensures loans { S.loans source.new ≡ S.loans source.old }
 {
     let buffer = match LineBuffer::new(alloc) {
         Ok(buffer) => buffer,
@@ -163,9 +163,9 @@ fn answer<W: Sink, A: Allocator + Copy>(
     asked: &LsRefs<A>,
     sink: &mut W,
 ) -> LsEnd
-    ensures replies { Replies repo.now.graph repo.now.refs repo.now.head asked.now
+    ensures replies { Replies repo.now.graph.entries repo.now.refs repo.now.head asked.now
         (output_of W.contents W.passed_on W.is_down sink.old sink.new) result }
-    ensures seat { W.seat sink.new ≡ W.seat sink.old }
+    ensures loans { W.loans sink.new ≡ W.loans sink.old }
 {
     let lines = match ls_refs(alloc, &repo.graph, &repo.refs, &repo.head, asked) {
         Ok(lines) => lines,
@@ -182,7 +182,7 @@ fn send_reply<W: Sink, A: Allocator + Copy>(
     sink: &mut W,
 ) -> Result<(), WriteFault>
     ensures sent { HasSent (output_of W.contents W.passed_on W.is_down sink.old sink.new) result (reply_bytes lines.now) }
-    ensures seat { W.seat sink.new ≡ W.seat sink.old }
+    ensures loans { W.loans sink.new ≡ W.loans sink.old }
 {
     let mut writer = LineWriter::new(sink);
     let sent = push_reply(lines, &mut writer);
@@ -197,8 +197,9 @@ fn push_reply<W: Sink, A: Allocator + Copy>(
 ) -> Result<(), WriteFault>
     requires { writer.old.failed ≡ false }
     ensures sent { HasSent (output_of W.contents W.passed_on W.is_down writer.old.sink writer.new.sink) result (reply_bytes lines.now) }
-    ensures seat { W.seat writer.new.sink ≡ W.seat writer.old.sink }
+    ensures loans { W.loans writer.new.sink ≡ W.loans writer.old.sink }
 {
+    laws::writes_join::<W>();
     match write_ls_reply(lines, writer) {
         Ok(()) => writer.push(),
         Err(fault) => Err(fault),
@@ -208,7 +209,7 @@ fn push_reply<W: Sink, A: Allocator + Copy>(
 // Reports the refusal to the peer.
 fn refuse<W: Sink>(fault: LsFault, sink: &mut W) -> LsEnd
     ensures refused { ReportsRefusal fault (output_of W.contents W.passed_on W.is_down sink.old sink.new) result }
-    ensures seat { W.seat sink.new ≡ W.seat sink.old }
+    ensures loans { W.loans sink.new ≡ W.loans sink.old }
 {
     match send_err(&fault, sink) {
         Ok(()) => LsEnd::Refused(fault),
@@ -219,7 +220,7 @@ fn refuse<W: Sink>(fault: LsFault, sink: &mut W) -> LsEnd
 #[tactic(auto, unfolding(crate::specs::Exchange::err_bytes))]
 fn send_err<W: Sink>(fault: &LsFault, sink: &mut W) -> Result<(), WriteFault>
     ensures sent { HasSent (output_of W.contents W.passed_on W.is_down sink.old sink.new) result (err_bytes fault.now) }
-    ensures seat { W.seat sink.new ≡ W.seat sink.old }
+    ensures loans { W.loans sink.new ≡ W.loans sink.old }
 {
     let mut writer = LineWriter::new(sink);
     let sent = match writer.text2(b"ERR ", fault.err_text()) {

@@ -1,7 +1,7 @@
 //! Why a message is refused, and at which of its packets.
 
 ghost use Rattle.std.specs.Prelude.{◌≡◌, ◌≤◌, length};
-ghost use Rattle.gcmd.specs.Faults.{why_row, kept_text};
+ghost use Rattle.gcmd.specs.Faults.{kept_text, max_peer_text, why_row};
 
 use arrayvec::ArrayVec;
 use gpkt::{LineFault, text_of};
@@ -15,7 +15,7 @@ const MAX_PEER_TEXT: usize = 256;
 /// The text of a peer's error, of which the first 256 bytes are kept.
 #[derive(Drop)]
 pub struct PeerText {
-    text: ArrayVec<u8, 256>,
+    text: ArrayVec<u8, MAX_PEER_TEXT>,
 }
 
 impl Model for PeerText {
@@ -44,7 +44,7 @@ impl PeerText {
     /// The bytes, at most 256.
     pub fn as_bytes(&self) -> &[u8]
         ensures bytes { result.now ≡ self.now }
-        ensures short { length result.now ≤ 256 }
+        ensures short { length result.now ≤ max_peer_text }
     {
         self.text.as_slice()
     }

@@ -16,7 +16,8 @@
 //! - [`ls_once`]: what is written is the answer to the request that the bytes read spell, or the line that
 //!   reports the first refusal, at its packet and with its reason, and all of it is passed on; the end of
 //!   the exchange says which. Nothing is written for a lone flush or no input. Where the sink fails, a
-//!   beginning of what was due stands.
+//!   beginning of what was due stands. Where the request was answered or was a lone flush, or there was no
+//!   input, the source has not failed.
 //! - [`read_request`] reads a request exactly where the grammar has one, and nothing after it; else it
 //!   refuses the first packet that does not fit. [`laws`] say that the grammar is the manual's.
 //! - [`ls_refs`] answers exactly HEAD and the refs that are asked for, in order, with the attributes asked
@@ -29,13 +30,15 @@
 //!
 //! The short texts of faults (`Display`). That memory, where there is some, is found. How the devices that
 //! `gpkt` makes of std's readers and writers behave under a program: one byte a call, a failure at each call
-//! in turn, a flush that fails, a reply of more bytes than any buffer has.
+//! in turn, a flush that fails, a reply of more bytes than any buffer has. That a report, and the line of a
+//! fault, is written in one call.
 //!
 //! # What a body can still get away with
 //!
 //! A call that takes memory can answer that there is none, whatever there is. Of an output whose
-//! bytes are not known no clause says what is written to it; but one body serves every output. How often a
-//! device is called is not said, nor how long anything takes.
+//! bytes are not known no clause says what is written to it; but one body serves every output. After a flush
+//! that failed nothing is said of what was passed on. How often a device is called is not said, nor how long
+//! anything takes.
 //!
 //! # Stands on
 //!

@@ -26,9 +26,9 @@ pub fn cmd_ls<A: Allocator + Copy, S: Source, W: Sink, E: Sink>(
     ensures serves { Serves A file.now (input_of S.remaining S.is_down input.old input.new)
         (output_of W.contents W.passed_on W.is_down output.old output.new)
         (output_of E.contents E.passed_on E.is_down errors.old errors.new) result }
-    ensures input_seat { S.seat input.new ≡ S.seat input.old }
-    ensures output_seat { W.seat output.new ≡ W.seat output.old }
-    ensures errors_seat { E.seat errors.new ≡ E.seat errors.old }
+    ensures input_loans { S.loans input.new ≡ S.loans input.old }
+    ensures output_loans { W.loans output.new ≡ W.loans output.old }
+    ensures errors_loans { E.loans errors.new ≡ E.loans errors.old }
 {
     let repo = match RepoFile::read(alloc, file) {
         Ok(repo) => repo,
@@ -42,10 +42,10 @@ pub fn cmd_ls<A: Allocator + Copy, S: Source, W: Sink, E: Sink>(
 fn status_of<E: Sink>(ended: &LsEnd, errors: &mut E) -> u8
     ensures ends { EndsWith (line_at_end ended.now)
         (output_of E.contents E.passed_on E.is_down errors.old errors.new) result }
-    ensures seat { E.seat errors.new ≡ E.seat errors.old }
+    ensures loans { E.loans errors.new ≡ E.loans errors.old }
 {
     match ended {
-        LsEnd::Answered | LsEnd::Closed | LsEnd::Ended => 0,
+        LsEnd::Answered | LsEnd::Closed | LsEnd::NoInput => 0,
         LsEnd::Refused(fault) => fail(&FaultLine::of_exchange(fault), errors),
         LsEnd::WriteFailed => fail(&FaultLine::of_write(&WriteFault::Io), errors),
     }

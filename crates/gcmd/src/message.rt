@@ -7,14 +7,14 @@ ghost use Rattle.gcmd.specs.Grammar.{Verdict, IsOpen};
 ghost use Rattle.gcmd.specs.MessageReading.{TakesPacket, HasTaken, ReadsRefused, IsReadFailure};
 
 use crate::fault::{MessageFault, Why};
-use gpkt::{Line, LineReader, Source};
+use gpkt::{Line, LineReader, Source, laws};
 use std::alloc::Allocator;
 
 /// Whether a message goes on after a packet.
 #[derive(Clone, Copy, Debug, PartialEq, Eq)]
 pub(crate) enum Step {
     Goes,
-    Ends,
+    Completes,
 }
 
 /// A message that is being read: what its packets so far have said.
@@ -47,10 +47,12 @@ pub(crate) fn read_message<S: Source, A: Allocator + Copy, M: Message>(
     ensures read { MatchResult result
         (λ _. HasTaken M.judge M.holds (change_of S.remaining reader.old.source reader.new.source) message.new)
         (λ fault. ReadsRefused M.judge (change_of S.remaining reader.old.source reader.new.source) fault) }
-    ensures seat { S.seat reader.new.source ≡ S.seat reader.old.source }
+    ensures loans { S.loans reader.new.source ≡ S.loans reader.old.source }
     ensures device { IfErr result (λ fault. IsReadFailure reader.old.failed (S.is_down reader.new.source) fault.why) }
     ensures goes_on { OnOk result (reader.new.failed ≡ false) }
+    ensures up { OnOk result (S.is_down reader.new.source ≡ false) }
 {
+    laws::reads_join();
     for frame in 0..u64::MAX {
         let line = match reader.next() {
             Ok(Some(line)) => line,
@@ -65,7 +67,7 @@ pub(crate) fn read_message<S: Source, A: Allocator + Copy, M: Message>(
         };
         match message.take(line) {
             Ok(Step::Goes) => {}
-            Ok(Step::Ends) => return Ok(()),
+            Ok(Step::Completes) => return Ok(()),
             Err(why) => return Err(MessageFault { frame, why }),
         }
     }

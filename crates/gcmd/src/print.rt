@@ -3,7 +3,7 @@
 //! 32 to 126 as `?`.
 
 ghost use Rattle.std.specs.Prelude.{◌≡◌, ◌+◌, ◌≤◌, ◌++◌, length, map, None, []};
-ghost use Rattle.gcmd.specs.Printing.{check_fault_line, graph_fault_line, id_fault_line, id_in_conflict, index_fault_line, line_in_pack, line_in_text, ls_fault_line, message_fault_line, name_fault_line, number_part, peer_text, place_in_id, place_in_name, printed, program_fault_line, repo_fault_line, shown, subject_part, text_fault_line, text_part, write_fault_line, IsShort, IsShortText};
+ghost use Rattle.gcmd.specs.Printing.{check_fault_line, graph_fault_line, id_fault_line, id_in_conflict, index_fault_line, line_in_pack, line_in_text, ls_fault_line, max_decimal, max_fault_line, max_fault_name, max_subject, message_fault_line, name_fault_line, number_part, peer_text, place_in_id, place_in_name, printed, program_fault_line, repo_fault_line, shown, subject_part, text_fault_line, text_part, write_fault_line, IsShort, IsShortText};
 ghost use Rattle.std.specs.Option.{option_copied};
 ghost use Rattle.gcmd.specs.Sending.{output_of, HasSent};
 
@@ -15,7 +15,7 @@ use crate::program::ProgramFault;
 use crate::repository::RepoFault;
 use crate::send::send;
 use arrayvec::ArrayVec;
-use ggraph::{GraphFault, IndexFault, TextFault};
+use ggraph::{GraphFault, IndexFault, LoadFault};
 use gname::{NameFault, Oid, OidFault};
 use gpkt::{Down, Sink, WriteFault};
 use std::alloc::Allocator;
@@ -39,7 +39,7 @@ pub(crate) struct FaultLine<'a> {
 impl<'a> FaultLine<'a> {
     /// A fault of which only the number and the name are printed.
     pub(crate) fn plain(number: u32, name: &'static str) -> FaultLine<'a>
-        requires { length name.now ≤ 32 }
+        requires { length name.now ≤ max_fault_name }
         ensures number { result.number ≡ number }
         ensures name { result.name.now ≡ name.now }
         ensures places { (result.frame ≡ None) × (result.line ≡ None) × (result.at ≡ None) }
@@ -117,7 +117,7 @@ impl<'a> FaultLine<'a> {
     }
 
     /// A text that is no repository's, with the line.
-    pub(crate) fn of_text(fault: &TextFault) -> FaultLine<'a>
+    pub(crate) fn of_text(fault: &LoadFault) -> FaultLine<'a>
         ensures line { printed result ≡ text_fault_line fault.now }
         ensures short { IsShort result }
     {
@@ -134,6 +134,7 @@ impl<'a> FaultLine<'a> {
     {
         match fault {
             CheckFault::Text(fault) => FaultLine::of_text(fault),
+            CheckFault::Memory => FaultLine::of_text(&LoadFault::Memory),
             CheckFault::WriteFailed => FaultLine::of_write(&WriteFault::Io),
         }
     }
@@ -185,7 +186,7 @@ impl<'a> FaultLine<'a> {
     pub(crate) fn print<E: Sink>(&self, errors: &mut E) -> Result<(), Down>
         requires { IsShort self.now }
         ensures sent { HasSent (output_of E.contents E.passed_on E.is_down errors.old errors.new) result (printed self.now) }
-        ensures seat { E.seat errors.new ≡ E.seat errors.old }
+        ensures loans { E.loans errors.new ≡ E.loans errors.old }
     {
         let mut text = ArrayVec::new();
         self.compose(&mut text);
@@ -218,9 +219,9 @@ fn as_number(place: Option<usize>) -> Option<u64>
 
 // Adds a number after its word, where there is one.
 fn add_place(word: &[u8], place: Option<u64>, text: &mut ArrayVec<u8, MAX_FAULT_LINE>)
-    requires { length text.old.items + length word.now + 20 ≤ 1145 }
+    requires { length text.old.items + length word.now + max_decimal ≤ max_fault_line }
     ensures text { text.new.items ≡ text.old.items ++ number_part word.now place }
-    ensures long { length text.new.items ≤ length text.old.items + length word.now + 20 }
+    ensures long { length text.new.items ≤ length text.old.items + length word.now + max_decimal }
 {
     if let Some(place) = place {
         add(word, text);
@@ -230,10 +231,10 @@ fn add_place(word: &[u8], place: Option<u64>, text: &mut ArrayVec<u8, MAX_FAULT_
 
 // Adds the id, the name or the text that the fault is about.
 fn add_subject(id: Option<Oid>, shown: Option<&[u8]>, text: &mut ArrayVec<u8, MAX_FAULT_LINE>)
-    requires room { length text.old.items + 1001 ≤ 1145 }
+    requires room { length text.old.items + max_subject ≤ max_fault_line }
     requires short { IsShortText (option_copied shown) }
     ensures text { text.new.items ≡ text.old.items ++ subject_part id (option_copied shown.entry) }
-    ensures long { length text.new.items ≤ length text.old.items + 1001 }
+    ensures long { length text.new.items ≤ length text.old.items + max_subject }
 {
     match (id, shown) {
         (Some(id), _) => {
@@ -250,7 +251,7 @@ fn add_subject(id: Option<Oid>, shown: Option<&[u8]>, text: &mut ArrayVec<u8, MA
 
 // Adds a text as it is shown.
 fn add_shown(piece: &[u8], text: &mut ArrayVec<u8, MAX_FAULT_LINE>)
-    requires { length text.old.items + length piece.now ≤ 1145 }
+    requires { length text.old.items + length piece.now ≤ max_fault_line }
     ensures text { text.new.items ≡ text.old.items ++ map shown piece.now }
     ensures long { length text.new.items ≡ length text.old.items + length piece.now }
 {
@@ -291,12 +292,12 @@ fn place_in_name(fault: &NameFault) -> Option<usize>
     }
 }
 
-fn line_in_text(fault: &TextFault) -> Option<usize>
+fn line_in_text(fault: &LoadFault) -> Option<usize>
     ensures { result ≡ line_in_text fault.now }
 {
     match fault {
-        TextFault::Text { line } | TextFault::ParentLater { line } => Some(*line),
-        TextFault::Memory => None,
+        LoadFault::Text { line } | LoadFault::ParentLater { line } => Some(*line),
+        LoadFault::Memory => None,
     }
 }
 

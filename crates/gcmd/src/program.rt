@@ -52,7 +52,7 @@ impl ProgramFault {
 pub fn cmd_failed<E: Sink>(fault: ProgramFault, errors: &mut E) -> u8
     ensures ends { EndsWith (Some (program_fault_line fault))
         (output_of E.contents E.passed_on E.is_down errors.old errors.new) result }
-    ensures seat { E.seat errors.new ≡ E.seat errors.old }
+    ensures loans { E.loans errors.new ≡ E.loans errors.old }
 {
     fail(&FaultLine::of_program(&fault), errors)
 }
@@ -62,7 +62,7 @@ pub(crate) fn fail<E: Sink>(fault: &FaultLine<'_>, errors: &mut E) -> u8
     requires { IsShort fault.now }
     ensures ends { EndsWith (Some (printed fault.now))
         (output_of E.contents E.passed_on E.is_down errors.old errors.new) result }
-    ensures seat { E.seat errors.new ≡ E.seat errors.old }
+    ensures loans { E.loans errors.new ≡ E.loans errors.old }
 {
     let _ = fault.print(errors);
     1

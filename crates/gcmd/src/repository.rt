@@ -1,11 +1,13 @@
 //! The repository that is served.
 
 ghost use Rattle.std.specs.Prelude.{◌≡◌, ◌↔◌, IfOk, IfErr, IsTrue, MatchOption, MatchResult};
+ghost use Rattle.gname.specs.declared.formats.Format.TheVariants.{Sha1, Sha256};
 ghost use Rattle.gcmd.specs.Faults.{repo_fault_row};
-ghost use Rattle.gcmd.specs.Repository.{AcceptsServable, Names, HoldsRefs, HoldsHead, IsFirstMissing, RefusesText, RefusesRefs, IsTextFault, missing_fault};
+ghost use Rattle.gcmd.specs.declared.repository.RepoFault.TheVariants.{Text};
+ghost use Rattle.gcmd.specs.Repository.{AcceptsServable, IsServerText, HoldsRefs, HoldsHead, IsFirstMissing, RefusesText, RefusesRefs, IsTextFault, missing_fault};
 
-use ggraph::{Graph, Head, Order, Refs, Repository, TextFault, load};
-use gname::{Oid, RefName};
+use ggraph::{Graph, Head, Order, Refs, Repository, LoadFault, load};
+use gname::{Format, Oid, RefName};
 use std::alloc::{AllocError, Allocator};
 use thiserror::Error;
 
@@ -67,13 +69,14 @@ impl<A: Allocator + Copy> RepoFault<A> {
 impl<A: Allocator + Copy> RepoFile<A> {
     /// Reads a repository text in which each parent comes before its children.
     ///
-    /// It fails at the first line that is not as the format has it, or that names a later parent; of
+    /// It fails at the first line that is not as the format has it, or that names a later parent; at the
+    /// first line of a repository with SHA-256 ids, which is not served; of
     /// a text whose lines are right, with the first ref in name order, or else HEAD, that stands at
     /// an object which is not there. Out of memory may come at any text.
     pub fn read(alloc: A, text: &[u8]) -> Result<RepoFile<A>, RepoFault<A>>
-        ensures names { IfOk result (λ repo. Names text.now (record { graph = repo.graph; refs = repo.refs; head = repo.head })) }
-        ensures refs { IfOk result (λ repo. HoldsRefs repo.graph repo.refs) }
-        ensures head { IfOk result (λ repo. HoldsHead repo.graph repo.head) }
+        ensures names { IfOk result (λ repo. IsServerText text.now (record { graph = repo.graph; refs = repo.refs; head = repo.head })) }
+        ensures refs { IfOk result (λ repo. HoldsRefs repo.graph.entries repo.refs) }
+        ensures head { IfOk result (λ repo. HoldsHead repo.graph.entries repo.head) }
         ensures refused { IfErr result (RefusesText text.now) }
         ensures accepts { AcceptsServable A text.now result }
     {
@@ -81,6 +84,10 @@ impl<A: Allocator + Copy> RepoFile<A> {
             Ok(repo) => repo,
             Err(fault) => return Err(text_fault(fault)),
         };
+        match check_format(repo.graph.format()) {
+            Ok(()) => {}
+            Err(fault) => return Err(fault),
+        }
         match check_refs(alloc, &repo) {
             Ok(()) => {}
             Err(fault) => return Err(fault),
@@ -91,19 +98,29 @@ impl<A: Allocator + Copy> RepoFile<A> {
 }
 
 // The fault of a text that was not loaded.
-fn text_fault<A: Allocator + Copy>(fault: TextFault) -> RepoFault<A>
+fn text_fault<A: Allocator + Copy>(fault: LoadFault) -> RepoFault<A>
     ensures { IsTextFault fault result }
 {
     match fault {
-        TextFault::Text { line } => RepoFault::Text { line },
-        TextFault::ParentLater { line } => RepoFault::ParentLater { line },
-        TextFault::Memory => RepoFault::Memory,
+        LoadFault::Text { line } => RepoFault::Text { line },
+        LoadFault::ParentLater { line } => RepoFault::ParentLater { line },
+        LoadFault::Memory => RepoFault::Memory,
+    }
+}
+
+// Refuses a repository with other ids than SHA-1's at its first line, which says so.
+fn check_format<A: Allocator + Copy>(format: Format) -> Result<(), RepoFault<A>>
+    ensures { MatchResult result (λ _. format ≡ Sha1) (λ fault. (fault ≡ Text 1) × (format ≡ Sha256)) }
+{
+    match format {
+        Format::Sha1 => Ok(()),
+        Format::Sha256 => Err(RepoFault::Text { line: 1 }),
     }
 }
 
 // Looks for a ref, or else HEAD, that stands at an object which is not there.
 fn check_refs<A: Allocator + Copy>(alloc: A, repo: &Repository<A>) -> Result<(), RepoFault<A>>
-    ensures { MatchResult result (λ _. HoldsRefs repo.now.graph repo.now.refs × HoldsHead repo.now.graph repo.now.head) (RefusesRefs repo.now) }
+    ensures { MatchResult result (λ _. HoldsRefs repo.now.graph.entries repo.now.refs × HoldsHead repo.now.graph.entries repo.now.head) (RefusesRefs repo.now) }
 {
     match first_missing(&repo.graph, repo.refs.as_slice()) {
         Some(name) => Err(ref_missing(name.clone())),
@@ -112,8 +129,8 @@ fn check_refs<A: Allocator + Copy>(alloc: A, repo: &Repository<A>) -> Result<(),
 }
 
 fn check_head<A: Allocator + Copy>(alloc: A, repo: &Repository<A>) -> Result<(), RepoFault<A>>
-    requires { HoldsRefs repo.now.graph repo.now.refs }
-    ensures { MatchResult result (λ _. HoldsRefs repo.now.graph repo.now.refs × HoldsHead repo.now.graph repo.now.head) (RefusesRefs repo.now) }
+    requires { HoldsRefs repo.now.graph.entries repo.now.refs }
+    ensures { MatchResult result (λ _. HoldsRefs repo.now.graph.entries repo.now.refs × HoldsHead repo.now.graph.entries repo.now.head) (RefusesRefs repo.now) }
 {
     if holds_head(&repo.graph, &repo.head) {
         Ok(())
@@ -137,7 +154,7 @@ fn first_missing<'a, A: Allocator + Copy>(
     graph: &Graph<A>,
     refs: &'a [(RefName<A>, Oid)],
 ) -> Option<&'a RefName<A>>
-    ensures { MatchOption result (HoldsRefs graph.now refs.now) (λ name. IsFirstMissing graph.now refs.now name.now) }
+    ensures { MatchOption result (HoldsRefs graph.now.entries refs.now) (λ name. IsFirstMissing graph.now.entries refs.now name.now) }
 {
     for pair in refs {
         if !graph.contains(&pair.1) {
@@ -149,7 +166,7 @@ fn first_missing<'a, A: Allocator + Copy>(
 
 // Whether HEAD, where it is an id, stands at an object that is there.
 fn holds_head<A: Allocator + Copy>(graph: &Graph<A>, head: &Head<A>) -> bool
-    ensures { IsTrue result ↔ HoldsHead graph.now head.now }
+    ensures { IsTrue result ↔ HoldsHead graph.now.entries head.now }
 {
     match head {
         Head::None | Head::Symref(_) => true,

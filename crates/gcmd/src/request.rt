@@ -1,6 +1,6 @@
 //! Requests (gitprotocol-v2(5), "Command Request").
 
-ghost use Rattle.std.specs.Prelude.{◌≡◌, ◌<◌, ◌≤◌, ◌↔◌, [], length, option_copied, IsTrue, IfOk, IfErr, IfSome, false};
+ghost use Rattle.std.specs.Prelude.{◌≡◌, ◌<◌, ◌≤◌, ◌↔◌, [], length, option_copied, IsTrue, IfOk, IfErr, IfSome, OnOk, false};
 ghost use Rattle.gpkt.specs.Packets.{packet_of, text};
 ghost use Rattle.gpkt.specs.Change.{change_of};
 ghost use Rattle.gcmd.specs.MessageReading.{TakesAs, ReadsMaybe, IsReadFailure};
@@ -110,10 +110,11 @@ pub fn read_request<S: Source, A: Allocator + Copy>(
 ) -> Result<Option<Request<A>>, MessageFault>
     ensures read { ReadsMaybe judge (λ lines request. Says lines (request_view request))
         (change_of S.remaining reader.old.source reader.new.source) result }
-    ensures seat { S.seat reader.new.source ≡ S.seat reader.old.source }
+    ensures loans { S.loans reader.new.source ≡ S.loans reader.old.source }
     ensures device { IfErr result (λ fault. IsReadFailure reader.old.failed (S.is_down reader.new.source) fault.why) }
     ensures not_ended { IfErr result (λ fault. fault.why ≡ Why.Ended → 0 < fault.frame) }
     ensures goes_on { IfOk result (λ request. IfSome request (λ _. reader.new.failed ≡ false)) }
+    ensures up { OnOk result (S.is_down reader.new.source ≡ false) }
 {
     let mut request = RequestReader::new(alloc);
     match read_message(reader, &mut request) {
@@ -193,7 +194,7 @@ impl<A: Allocator + Copy> RequestReader<A> {
     {
         match line {
             Line::Data(payload) => self.take_data(payload),
-            Line::Flush => Ok(Step::Ends),
+            Line::Flush => Ok(Step::Completes),
             Line::Delim => self.take_delim(),
             Line::ResponseEnd => Err(Why::UnexpectedFrame),
         }

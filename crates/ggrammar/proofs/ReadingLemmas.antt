@@ -127,6 +127,6 @@ module _ {M : Type 0} (judge : Judge) (brings : List Packet → Packet → Bool)
   }
 
 -- a reader that gave a line has not failed
-pub not_failed : {S : Type 0} (remaining : S → Option (List ℕ)) (is_down : S → Bool) (seat : S → List ℕ) (old new : Reader S) (packet : Packet) {P : Type 0}
-    → HasRead remaining is_down seat old new (Ok (Some packet)) → new.failed ≡ true → P
-not_failed remaining is_down seat old new packet h failed = let well = h.after.1 in absurd (false≢true (sym well ∙ failed))
+pub not_failed : {S : Type 0} (remaining : S → Option (List ℕ)) (is_down : S → Bool) (loans : S → List ℕ) (old new : Reader S) (packet : Packet) {P : Type 0}
+    → HasRead remaining is_down loans old new (Ok (Some packet)) → new.failed ≡ true → P
+not_failed remaining is_down loans old new packet h failed = let well = h.after.1 in absurd (false≢true (sym well ∙ failed))

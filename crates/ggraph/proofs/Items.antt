@@ -2,7 +2,7 @@
 use Rattle.std.proofs.Common.{◌≡◌, ℕ, List, [], ◌∷◌, ◌++◌, map}
 use Rattle.ggraph.specs.declared.text.Order.{Order}
 use Rattle.ggraph.specs.declared.text.reading.Reading.{Reading}
-use Rattle.ggraph.specs.RepositoryText.{text_of}
+use Rattle.gobject.specs.PlainPackText.{text_of}
 use Rattle.ggraph.specs.Reading.{Item, MayCome, after, line_of, nothing_read}
 
 -- the items may come one after the other, and this is read then

@@ -1,11 +1,10 @@
 -- Lines of a text: none has an LF, so that a text has one list of lines.
 use Rattle.std.specs.Prelude.{⊤}
-use Rattle.std.proofs.Common.{◌≡◌, ◌≢◌, ℕ, suc, ◌<◌, List, [], ◌∷◌, ◌++◌, codes, refl, sym, ◌∙◌, ap, subst, arith}
+use Rattle.std.proofs.Common.{◌≡◌, ◌≢◌, ℕ, suc, ◌<◌, List, [], ◌∷◌, ◌++◌, refl, sym, ◌∙◌, ap, arith}
 use Rattle.std.proofs.lemmas.List.{append_assoc}
 use Rattle.std.proofs.lemmas.List.Elements.{All-head, All-tail}
 use Rattle.gname.specs.Laws.{IsClean}
-use Rattle.ggraph.specs.RepositoryText.{text_of}
-use Rattle.ggraph.specs.Loading.{HasNoLf}
+use Rattle.gobject.specs.PlainPackText.{IsInLine, line, text_of}
 
 -- no byte of a line is an LF
 abbrev pub IsLine : List ℕ → Type 0
@@ -15,11 +14,11 @@ IsLine (b ∷ bs) = (b ≢ 10) × IsLine bs
 -- none of the lines has one
 abbrev pub AreLines : List (List ℕ) → Type 0
 AreLines [] = ⊤
-AreLines (line ∷ lines) = IsLine line × AreLines lines
+AreLines (first ∷ lines) = IsLine first × AreLines lines
 
-pub line_from : (text : List ℕ) → HasNoLf text → IsLine text
+pub line_from : (text : List ℕ) → IsInLine text → IsLine text
 line_from [] none = tt
-line_from (b ∷ bs) none = (none 0 (omega arith), line_from bs (λ k inside. none (suc k) (omega (arith, inside))))
+line_from (b ∷ bs) none = (none 0, line_from bs (λ k. none (suc k)))
 
 above_lf : (b : ℕ) → 32 < b → b ≢ 10
 above_lf b above is = omega (arith, above, is)
@@ -49,7 +48,7 @@ tail_of [] = []
 tail_of (x ∷ xs) = xs
 
 -- the first line of some bytes, and what follows its LF, are one
-pub one_line : (a b r s : List ℕ) → IsLine a → IsLine b → a ++ (codes "\n" ++ r) ≡ b ++ (codes "\n" ++ s) → (a ≡ b) × (r ≡ s)
+pub one_line : (a b r s : List ℕ) → IsLine a → IsLine b → line a ++ r ≡ line b ++ s → (a ≡ b) × (r ≡ s)
 one_line [] [] r s la lb e = (refl, ap tail_of e)
 one_line [] (y ∷ b) r s la lb e = absurd (lb.0 (sym (ap head_of e)))
 one_line (x ∷ a) [] r s la lb e = absurd (la.0 (ap head_of e))
@@ -58,41 +57,21 @@ one_line (x ∷ a) (y ∷ b) r s la lb e =
     (ap (λ (n : ℕ). n ∷ a) (ap head_of e) ∙ ap (λ (t : List ℕ). y ∷ t) rest.0, rest.1)
 
 -- bytes without an LF have no line before them
-pub not_a_line : (line behind rest : List ℕ) → IsLine rest → rest ≡ line ++ (codes "\n" ++ behind) → ⊥
-not_a_line [] behind [] clean e = let h = e in cc
-not_a_line [] behind (b ∷ rest) clean e = clean.0 (ap head_of e)
-not_a_line (x ∷ line) behind [] clean e = let h = e in cc
-not_a_line (x ∷ line) behind (b ∷ rest) clean e = not_a_line line behind rest clean.1 (ap tail_of e)
+pub not_a_line : (first after rest : List ℕ) → IsLine rest → rest ≡ line first ++ after → ⊥
+not_a_line [] after [] clean e = let h = e in cc
+not_a_line [] after (b ∷ rest) clean e = clean.0 (ap head_of e)
+not_a_line (x ∷ first) after [] clean e = let h = e in cc
+not_a_line (x ∷ first) after (b ∷ rest) clean e = not_a_line first after rest clean.1 (ap tail_of e)
 
 -- where some lines are at the front of a text, they are the first of its lines
 pub more_lines : (lines whole : List (List ℕ)) (rest : List ℕ) → AreLines lines → AreLines whole → text_of whole ≡ text_of lines ++ rest → (more : List (List ℕ)) × (whole ≡ lines ++ more) × (rest ≡ text_of more)
 more_lines [] whole rest ll lw e = (whole, refl, sym e)
-more_lines (line ∷ lines) [] rest ll lw e =
-    absurd (nothing_left line (text_of lines) rest e)
-  where
-    nothing_left : (line behind rest : List ℕ) → [] ≡ (line ++ (codes "\n" ++ behind)) ++ rest → ⊥
-    nothing_left [] behind rest e = let h = e in cc
-    nothing_left (x ∷ line) behind rest e = let h = e in cc
-more_lines (line ∷ lines) (first ∷ whole) rest ll lw e =
-    let here = one_line first line (text_of whole) (text_of lines ++ rest) lw.0 ll.0 (e ∙ append_assoc line (codes "\n" ++ text_of lines) rest) in
+more_lines (first ∷ lines) [] rest ll lw e =
+    absurd (not_a_line first (text_of lines ++ rest) [] tt (e ∙ append_assoc (line first) (text_of lines) rest))
+more_lines (first ∷ lines) (other ∷ whole) rest ll lw e =
+    let here = one_line other first (text_of whole) (text_of lines ++ rest) lw.0 ll.0 (e ∙ append_assoc (line first) (text_of lines) rest) in
     let further = more_lines lines whole rest ll.1 lw.1 here.1 in
-    (further.0, ap (λ (l : List ℕ). l ∷ whole) here.0 ∙ ap (λ (ls : List (List ℕ)). line ∷ ls) further.1, further.2)
-
--- where the text goes on with a line, that is the next of its lines
-pub next_line : (lines whole : List (List ℕ)) (line behind : List ℕ) → AreLines lines → AreLines whole → IsLine line → text_of whole ≡ text_of lines ++ (line ++ (codes "\n" ++ behind)) → (more : List (List ℕ)) × (whole ≡ lines ++ line ∷ more)
-next_line lines whole line behind ll lw clean e =
-    let left = more_lines lines whole (line ++ (codes "\n" ++ behind)) ll lw e in
-    first_left left.0 (lines-back lines left.0 (subst AreLines left.1 lw)) left.1 left.2
-  where
-    lines-back : (lines more : List (List ℕ)) → AreLines (lines ++ more) → AreLines more
-    lines-back [] more all = all
-    lines-back (l ∷ lines) more all = lines-back lines more all.1
-
-    first_left : (more : List (List ℕ)) → AreLines more → whole ≡ lines ++ more → line ++ (codes "\n" ++ behind) ≡ text_of more → (rest : List (List ℕ)) × (whole ≡ lines ++ line ∷ rest)
-    first_left [] each parts same = absurd (not_a_line line behind [] tt (sym same))
-    first_left (first ∷ rest) each parts same =
-        let here = one_line line first behind (text_of rest) clean each.0 same in
-        (rest, parts ∙ ap (λ (l : List ℕ). lines ++ l ∷ rest) (sym here.0))
+    (further.0, ap (λ (l : List ℕ). l ∷ whole) here.0 ∙ ap (λ (ls : List (List ℕ)). first ∷ ls) further.1, further.2)
 
 -- where what is left has no LF, nothing is left
 pub no_line_left : (lines whole : List (List ℕ)) (rest : List ℕ) → AreLines lines → AreLines whole → IsLine rest → text_of whole ≡ text_of lines ++ rest → (rest ≡ []) × (whole ≡ lines)

@@ -1,13 +1,13 @@
 -- Reading a text, one line more.
 use Rattle.std.specs.Prelude.{◌==◌}
 use Rattle.std.proofs.lemmas.Bool.Decides.{nat_tests}
-use Rattle.std.proofs.Common.{true, ◌≡◌, ℕ, ◌+◌, ◌≤◌, List, [], ◌∷◌, ◌++◌, length, map, codes, refl, sym, ◌∙◌, ap, subst, arith}
-use Rattle.std.proofs.lemmas.List.{append_assoc, length-append}
+use Rattle.std.proofs.Common.{true, ◌≡◌, ℕ, ◌+◌, ◌≤◌, List, [], ◌∷◌, ◌++◌, length, map, refl, sym, ◌∙◌, ap, subst, arith}
+use Rattle.std.proofs.lemmas.List.{append_assoc, append-nil, length-append}
 use Rattle.ggraph.specs.declared.text.Order.{Order}
 use Rattle.ggraph.specs.declared.text.reading.Stage.TheVariants.{Done}
 use Rattle.ggraph.specs.declared.text.reading.Stage.{Stage}
 use Rattle.ggraph.specs.declared.text.reading.Reading.{Reading}
-use Rattle.ggraph.specs.RepositoryText.{text_of}
+use Rattle.gobject.specs.PlainPackText.{line, text_of}
 use Rattle.ggraph.specs.Reading.{Item, MayCome, ComesNext, after, line_of, nothing_read}
 use Rattle.ggraph.proofs.Items.{HasRead, ReadsTo, items_text}
 
@@ -17,27 +17,30 @@ reads_more order old mid new (first ∷ items) item (may_first, rest) may e = (m
 
 pub text_of-append : (lines more : List (List ℕ)) → text_of (lines ++ more) ≡ text_of lines ++ text_of more
 text_of-append [] more = refl
-text_of-append (line ∷ lines) more =
-    ap (λ (t : List ℕ). line ++ (codes "\n" ++ t)) (text_of-append lines more)
-    ∙ sym (append_assoc line (codes "\n" ++ text_of lines) (text_of more))
+text_of-append (first ∷ lines) more =
+    ap (λ (t : List ℕ). line first ++ t) (text_of-append lines more)
+    ∙ sym (append_assoc (line first) (text_of lines) (text_of more))
+
+-- a line more at the end
+pub text_of-push : (lines : List (List ℕ)) (last : List ℕ) → text_of (lines ++ last ∷ []) ≡ text_of lines ++ line last
+text_of-push lines last = text_of-append lines (last ∷ []) ∙ ap (λ (t : List ℕ). text_of lines ++ t) (append-nil (line last))
 
 pub map_more : {A : Type 0} (items : List (Item A)) (item : Item A) → map line_of (items ++ item ∷ []) ≡ map line_of items ++ line_of item ∷ []
 map_more [] item = refl
 map_more (first ∷ items) item = ap (λ (ls : List (List ℕ)). line_of first ∷ ls) (map_more items item)
 
-items_text_more : {A : Type 0} (items : List (Item A)) (item : Item A) → items_text (items ++ item ∷ []) ≡ items_text items ++ (line_of item ++ codes "\n")
-items_text_more items item = ap text_of (map_more items item) ∙ text_of-append (map line_of items) (line_of item ∷ [])
+items_text_more : {A : Type 0} (items : List (Item A)) (item : Item A) → items_text (items ++ item ∷ []) ≡ items_text items ++ line (line_of item)
+items_text_more items item = ap text_of (map_more items item) ∙ text_of-push (map line_of items) (line_of item)
 
 pub has_read_none : {A : Type 0} (order : Order) (text : List ℕ) → HasRead {A = A} order text [] text nothing_read
 has_read_none order text = record { spells = refl; reads = refl }
 
-pub has_read_more : {A : Type 0} (order : Order) (text : List ℕ) (items : List (Item A)) (rest line behind : List ℕ) (old new : Reading A) → HasRead order text items rest old → rest ≡ line ++ (codes "\n" ++ behind) → (item : Item A) → line ≡ line_of item → MayCome order old item → new ≡ after old item → HasRead order text (items ++ item ∷ []) behind new
-has_read_more order text items rest line behind old new so_far next item is may e = record {
+pub has_read_more : {A : Type 0} (order : Order) (text : List ℕ) (items : List (Item A)) (rest this after_it : List ℕ) (old new : Reading A) → HasRead order text items rest old → rest ≡ line this ++ after_it → (item : Item A) → this ≡ line_of item → MayCome order old item → new ≡ after old item → HasRead order text (items ++ item ∷ []) after_it new
+has_read_more order text items rest this after_it old new so_far next item is may e = record {
   spells =
-      so_far.spells ∙ ap (λ (t : List ℕ). items_text items ++ t) (next ∙ ap (λ (l : List ℕ). l ++ (codes "\n" ++ behind)) is)
-      ∙ ap (λ (t : List ℕ). items_text items ++ t) (sym (append_assoc (line_of item) (codes "\n") behind))
-      ∙ sym (append_assoc (items_text items) (line_of item ++ codes "\n") behind)
-      ∙ ap (λ (t : List ℕ). t ++ behind) (sym (items_text_more items item));
+      so_far.spells ∙ ap (λ (t : List ℕ). items_text items ++ t) (next ∙ ap (λ (l : List ℕ). line l ++ after_it) is)
+      ∙ sym (append_assoc (items_text items) (line (line_of item)) after_it)
+      ∙ ap (λ (t : List ℕ). t ++ after_it) (sym (items_text_more items item));
   reads = reads_more order nothing_read old new items item so_far.reads may e;
 }
 
@@ -46,12 +49,12 @@ abbrev pub Progress : {A : Type 0} → Order → List ℕ → List ℕ → Readi
 Progress {A} order text rest reading number =
     (items : List (Item A)) × HasRead order text items rest reading × (number ≡ length items + 1) × (number + length rest ≤ length text + 1)
 
-pub progress_more : {A : Type 0} (order : Order) (text rest line behind : List ℕ) (old new : Reading A) (number : ℕ) → Progress order text rest old number → rest ≡ line ++ (codes "\n" ++ behind) → ComesNext order old line new → Progress order text behind new (number + 1)
-progress_more order text rest line behind old new number (items, so_far, counted, small) next (item, is, may, e) = (
+pub progress_more : {A : Type 0} (order : Order) (text rest this after_it : List ℕ) (old new : Reading A) (number : ℕ) → Progress order text rest old number → rest ≡ line this ++ after_it → ComesNext order old this new → Progress order text after_it new (number + 1)
+progress_more order text rest this after_it old new number (items, so_far, counted, small) next (item, is, may, e) = (
   items ++ item ∷ [],
-  has_read_more order text items rest line behind old new so_far next item is may e,
+  has_read_more order text items rest this after_it old new so_far next item is may e,
   omega (arith, length-append items (item ∷ [])),
-  omega (arith, ap length next, length-append line (codes "\n" ++ behind)),
+  omega (arith, ap length next, length-append (line this) after_it, length-append this (10 ∷ [])),
 )
 
 empty_one : (rest : List ℕ) → true ≡ (length rest == 0) → rest ≡ []

@@ -1,41 +1,54 @@
--- What a graph, refs and HEAD hold may be loaded, in any order of nodes.
-use Rattle.std.proofs.Common.{List, [], ◌∷◌, ◌++◌, All, subst}
-use Rattle.std.proofs.lemmas.List.Elements.{All-head, All-tail}
+-- What a graph, refs and HEAD hold may be loaded, in any order of nodes, where all ids are of one format.
+use Rattle.std.proofs.Common.{ℕ, List, [], ◌∷◌, ◌++◌, All, subst}
+use Rattle.std.proofs.lemmas.List.Elements.{All-cons, All-head, All-nil, All-tail}
+use Rattle.gname.specs.declared.formats.Format.{Format}
+use Rattle.gname.specs.Ids.{IsIdOf}
 use Rattle.gobject.specs.declared.node.Entry.{Entry}
-use Rattle.gobject.specs.Objects.{HasIds}
-use Rattle.ghistory.specs.Graphs.{IsGraph}
+use Rattle.ghistory.specs.Graphs.{History, IsGraph}
 use Rattle.ghistory.specs.Laws.{EntriesComeInOrder}
 use Rattle.grefs.specs.declared.head.Head.{Head}
-use Rattle.grefs.specs.RefLists.{IsRefs, RefList, StandsAtId}
+use Rattle.grefs.specs.declared.head.Head.TheVariants.{Id, Symref, None}
+use Rattle.grefs.specs.RefLists.{IsRefs, RefList}
 use Rattle.grefs.specs.Laws.{RefsComeInOrder}
 use Rattle.ggraph.specs.declared.text.Order.TheVariants.{Any}
-use Rattle.ggraph.specs.RepositoryText.{EachBehind, IsHead, IsLoadable, MayFollow, RefMayFollow}
+use Rattle.ggraph.specs.RepositoryText.{EachFollows, IsHead, IsLoadable, MayFollow, RefMayFollow}
+use Rattle.ggraph.specs.Saving.{PointsBelowRefs, head_ids, named_ids, ref_ids}
 
-all_at : {X : Type 0} (P : X → Type 0) (front : List X) (x : X) (back : List X) → All P (front ++ x ∷ back) → P x
-all_at P [] x back all = All-head P x back all
-all_at P (y ∷ front) x back all = all_at P front x back (All-tail P y (front ++ x ∷ back) all)
+nodes_follow : {A : Type 0} → EntriesComeInOrder A → (g : History A) → IsGraph g → EachFollows (MayFollow Any g.format) g.entries
+nodes_follow {A} law g graph front x rest e =
+    let next = law g.format front x rest (subst (λ (es : List (Entry A)). IsGraph (record { format = g.format; entries = es })) e graph) in
+    record { ids = next.ids; new = next.new; shaped = next.shaped; room = next.room; after = tt }
 
-nodes_follow : {A : Type 0} → EntriesComeInOrder A → (g : List (Entry A)) → IsGraph g → All HasIds g → EachBehind (MayFollow Any) g
-nodes_follow {A} law g graph ids front x back e =
-    let next = law front x back (subst IsGraph e graph) in
-    record {
-      ids = all_at HasIds front x back (subst (All HasIds) e ids);
-      new = next.new;
-      shaped = next.shaped;
-      room = next.room;
-      after = tt;
-    }
+all_front : {X : Type 0} (P : X → Type 0) (front back : List X) → All P (front ++ back) → All P front × All P back
+all_front P [] back all = (All-nil P, all)
+all_front P (x ∷ front) back all =
+    let later = all_front P front back (All-tail P x (front ++ back) all) in
+    (All-cons P x front (All-head P x (front ++ back) all) later.0, later.1)
 
-refs_follow : RefsComeInOrder → (refs : RefList) → IsRefs refs → All StandsAtId refs → EachBehind RefMayFollow refs
-refs_follow law refs valid ids front x back e =
-    let next = law front x back (subst IsRefs e valid) in
+id_at : (format : Format) (front : RefList) (ref : List ℕ × List ℕ) (rest : RefList) → All (IsIdOf format) (ref_ids (front ++ ref ∷ rest)) → IsIdOf format ref.1
+id_at format [] ref rest all = All-head (IsIdOf format) ref.1 (ref_ids rest) all
+id_at format (first ∷ front) ref rest all = id_at format front ref rest (All-tail (IsIdOf format) first.1 (ref_ids (front ++ ref ∷ rest)) all)
+
+refs_follow : RefsComeInOrder → (format : Format) (refs : RefList) → IsRefs refs → All (IsIdOf format) (ref_ids refs) → EachFollows (RefMayFollow format) refs
+refs_follow law format refs valid ids front x rest e =
+    let next = law front x rest (subst IsRefs e valid) in
     record {
       name = next.below;
-      id = all_at StandsAtId front x back (subst (All StandsAtId) e ids);
+      id = id_at format front x rest (subst (λ (rs : RefList). All (IsIdOf format) (ref_ids rs)) e ids);
       above = next.above;
       room = next.room;
     }
 
-pub loads_again : {A : Type 0} → EntriesComeInOrder A → RefsComeInOrder → (g : List (Entry A)) (refs : RefList) (head : Head A) → IsGraph g → All HasIds g → IsRefs refs → All StandsAtId refs → IsHead head → IsLoadable Any g refs head
-loads_again entries_law refs_law g refs head graph ids valid at stands =
-    record { nodes = nodes_follow entries_law g graph ids; refs_follow = refs_follow refs_law refs valid at; stands = stands }
+head_stands : {A : Type 0} (format : Format) (head : Head A) → PointsBelowRefs head → All (IsIdOf format) (head_ids head) → IsHead format head
+head_stands format (Id id) below ids = All-head (IsIdOf format) id [] ids
+head_stands format (Symref target) below ids = below
+head_stands format None below ids = tt
+
+pub loads_again : {A : Type 0} → EntriesComeInOrder A → RefsComeInOrder → (g : History A) (refs : RefList) (head : Head A) → IsGraph g → IsRefs refs → PointsBelowRefs head → All (IsIdOf g.format) (named_ids refs head) → IsLoadable Any g refs head
+loads_again entries_law refs_law g refs head graph valid below ids =
+    let both = all_front (IsIdOf g.format) (ref_ids refs) (head_ids head) ids in
+    record {
+      nodes = nodes_follow entries_law g graph;
+      refs_follow = refs_follow refs_law g.format refs valid both.0;
+      stands = head_stands g.format head below both.1;
+    }

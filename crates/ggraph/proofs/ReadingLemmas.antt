@@ -1,40 +1,72 @@
 -- Which line may come next: each line stands for one item.
-use Rattle.std.proofs.Common.{ap₂, ◌≡◌, inl, inr, ℕ, List, [], ◌∷◌, ◌++◌, All, codes, refl, sym, ◌∙◌, ap, subst, arith, lit<, ◌<◌, get_or, Result, Ok, Err, OnOk, IfErr}
+use Rattle.std.proofs.Common.{ap₂, ◌≡◌, inl, inr, ℕ, List, [], ◌∷◌, ◌++◌, All, codes, refl, sym, ◌∙◌, ap, subst, arith, lit<, ◌<◌, get_or, length, Result, Ok, Err, Option, Some, None, MatchOption, MatchResult, OnOk, IfErr}
 use Rattle.std.proofs.lemmas.List.{append_cancel_left}
 use Rattle.std.proofs.lemmas.List.Elements.{All-head, All-tail, All-cons}
-use Rattle.gname.specs.Ids.{IsId, id_text}
+use Rattle.gname.specs.declared.formats.Format.{Format}
+use Rattle.gname.specs.declared.formats.Format.TheVariants.{Sha1, Sha256}
+use Rattle.gname.specs.Ids.{IsIdOf, id_text}
 use Rattle.gobject.specs.declared.node.Kind.{Kind}
 use Rattle.gobject.specs.declared.node.Kind.TheVariants.{Commit, Tag}
 use Rattle.gobject.specs.declared.node.Entry.{Entry}
+use Rattle.gobject.specs.Objects.{entry_of, node_of}
+use Rattle.gobject.specs.PlainPackText.{ids_of, ids_text, letter, node_text}
+use Rattle.ghistory.specs.Graphs.{History, HasIdsOf}
 use Rattle.grefs.specs.declared.head.Head.{Head}
 use Rattle.grefs.specs.declared.head.Head.TheVariants as heads_of
-use Rattle.ggraph.specs.declared.fault.TextFault.{TextFault}
-use Rattle.ggraph.specs.declared.fault.TextFault.TheVariants as faults
+use Rattle.grefs.specs.RefLists.{IsBelowRefs}
+use Rattle.ggraph.specs.declared.fault.LoadFault.{LoadFault}
+use Rattle.ggraph.specs.declared.fault.LoadFault.TheVariants as faults
 use Rattle.ggraph.specs.declared.text.Order.{Order}
 use Rattle.ggraph.specs.declared.text.Order.TheVariants.{Any, ParentsFirst}
 use Rattle.ggraph.specs.declared.text.reading.Stage.{Stage}
 use Rattle.ggraph.specs.declared.text.reading.Stage.TheVariants.{First, Nodes, Refs, Last, Done}
 use Rattle.ggraph.specs.declared.text.reading.Reading.{Reading}
-use Rattle.gobject.specs.Objects.{HasIds, entry_of, node_of}
-use Rattle.ggraph.specs.RepositoryText.{IsHead, MayFollow, RefMayFollow, first_line, head_line, kind_letter, last_line, node_line, ref_line, spaced_ids}
-use Rattle.ggraph.specs.Reading.{Item, MayCome, begins, line_of, node, ref, heads, ends, RefusesLine, RefusesEntry, RefusesRef, ComesNext, NeverComes, RefMayCome}
-use Rattle.ggraph.specs.NoSuchPart.{IsNoNode, IsNoRef, IsNoHead}
+use Rattle.ggraph.specs.RepositoryText.{IsHead, MayFollow, RefMayFollow, first_line, head_line, last_line, ref_line}
+use Rattle.ggraph.specs.Reading.{Item, MayCome, begins, line_of, node, ref, heads, ends, RefusesLine, RefusesEntry, RefusesRef, ComesNext, NeverComes, RefMayCome, with_entry}
+use Rattle.ggraph.specs.NoSuchPart.{BeginsWithNoRefId, BeginsWithNoSpacedId, IsHeadOn, IsNoParents, IsNoNode, IsNoRef, IsNoHead, IsSymrefLine}
 use Rattle.ggraph.proofs.TextLemmas.{one_front, one_id}
 use Rattle.ggraph.specs.TextLaws.{TextLaws}
 
+-- ---- lines that differ
+
+abbrev first_byte : List ℕ → ℕ
+first_byte xs = get_or xs 0 0
+
+abbrev third_byte : List ℕ → ℕ
+third_byte xs = get_or xs 2 0
+
+far : (a b : ℕ) → b < a → a ≡ b → ⊥
+far a b lt e = omega arith
+
+-- a line that begins as that of HEAD on a ref
+no_head_on : {A : Type 0} (format : Format) (line text : List ℕ) → line ≡ codes "h ref " ++ text → (IsBelowRefs text → ⊥) → IsNoHead A format line
+no_head_on format line text is none heads_of.None valid e = far 114 110 (lit< tt) (ap third_byte (sym is ∙ e))
+no_head_on format line text is none (heads_of.Id id) valid e = far 114 105 (lit< tt) (ap third_byte (sym is ∙ e))
+no_head_on format line text is none (heads_of.Symref target) valid e =
+    none (subst IsBelowRefs (sym (append_cancel_left (codes "h ref ") text target (sym is ∙ e))) valid)
+
+abbrev SaysHeadOn : {A E : Type 0} → List ℕ → Result (Option (Head A)) E → Type 0
+SaysHeadOn text r = MatchResult r (λ found. MatchOption found (IsBelowRefs text → ⊥) (λ head. IsHeadOn text head)) (λ _. IsBelowRefs text)
+
+abbrev SaysHead : {A E : Type 0} → Format → List ℕ → Result (Option (Head A)) E → Type 0
+SaysHead {A} format line r =
+    MatchResult r (λ found. MatchOption found (IsNoHead A format line) (λ head. (line ≡ head_line head) × IsHead format head)) (λ _. IsSymrefLine A line)
+
+pub head_on_line : {A E : Type 0} (format : Format) (line text : List ℕ) (r : Result (Option (Head A)) E) → line ≡ codes "h ref " ++ text → SaysHeadOn text r → SaysHead format line r
+head_on_line format line text (Ok None) is none = no_head_on format line text is none
+head_on_line format line text (Ok (Some heads_of.None)) is facts = absurd facts
+head_on_line format line text (Ok (Some (heads_of.Id id))) is facts = absurd facts
+head_on_line format line text (Ok (Some (heads_of.Symref target))) is facts =
+    (is ∙ ap (λ (t : List ℕ). codes "h ref " ++ t) (sym facts.0), subst IsBelowRefs (sym facts.0) facts.1)
+head_on_line format line text (Err e) is below = (text, below, is)
+
+-- ---- HEAD on a ref for whose name there is no memory
+
+pub symref_short : {A : Type 0} (order : Order) (old : Reading A) (line : List ℕ) (number : ℕ) → RefMayCome old.stage → IsSymrefLine A line → RefusesLine order old line number faults.Memory
+symref_short order old line number due (target, below, is) = (heads (heads_of.Symref target), is, (due, below), tt)
+
 module _ (laws : TextLaws) where
-  -- ---- lines that differ
-
-  abbrev first_byte : List ℕ → ℕ
-  first_byte xs = get_or xs 0 0
-
-  abbrev third_byte : List ℕ → ℕ
-  third_byte xs = get_or xs 2 0
-
-  far : (a b : ℕ) → b < a → a ≡ b → ⊥
-  far a b lt e = omega arith
-
-  letter_not : (kind : Kind) (s t : List ℕ) (b : ℕ) → (b ≡ 99 → ⊥) → (b ≡ 116 → ⊥) → kind_letter kind ++ s ≡ b ∷ t → ⊥
+  letter_not : (kind : Kind) (s t : List ℕ) (b : ℕ) → (b ≡ 99 → ⊥) → (b ≡ 116 → ⊥) → letter kind ∷ s ≡ b ∷ t → ⊥
   letter_not Commit s t b notc nott e = notc (sym (ap first_byte e))
   letter_not Tag s t b notc nott e = nott (sym (ap first_byte e))
 
@@ -43,61 +75,74 @@ module _ (laws : TextLaws) where
   head_starts (heads_of.Symref target) = (codes " ref " ++ target, refl)
   head_starts heads_of.None = (codes " none", refl)
 
-  pub node_not_ref : {A : Type 0} → (entry : Entry A) (it : List ℕ × List ℕ) → node_line entry ≡ ref_line it → ⊥
-  node_not_ref entry it e = letter_not entry.node.kind (spaced_ids (entry.id ∷ entry.node.parents)) (codes " " ++ (id_text it.1 ++ (codes " " ++ it.0))) 114 (λ h. omega arith) (λ h. omega arith) e
+  pub letter_not_ref : (kind : Kind) (rest : List ℕ) (it : List ℕ × List ℕ) → letter kind ∷ rest ≡ ref_line it → ⊥
+  letter_not_ref kind rest it e = letter_not kind rest (codes " " ++ (id_text it.1 ++ (codes " " ++ it.0))) 114 (λ h. omega arith) (λ h. omega arith) e
 
-  pub node_not_head : {A : Type 0} → (entry : Entry A) (head : Head A) → node_line entry ≡ head_line head → ⊥
-  node_not_head entry head e = let starts = head_starts head in letter_not entry.node.kind (spaced_ids (entry.id ∷ entry.node.parents)) starts.0 104 (λ h. omega arith) (λ h. omega arith) (e ∙ starts.1)
+  pub letter_not_head : {A : Type 0} → (kind : Kind) (rest : List ℕ) (head : Head A) → letter kind ∷ rest ≡ head_line head → ⊥
+  letter_not_head kind rest head e = let starts = head_starts head in letter_not kind rest starts.0 104 (λ h. omega arith) (λ h. omega arith) (e ∙ starts.1)
+
+  pub node_not_ref : {A : Type 0} → (entry : Entry A) (it : List ℕ × List ℕ) → node_text entry ≡ ref_line it → ⊥
+  node_not_ref entry it e = letter_not_ref entry.node.kind (ids_text (ids_of entry)) it e
+
+  pub node_not_head : {A : Type 0} → (entry : Entry A) (head : Head A) → node_text entry ≡ head_line head → ⊥
+  node_not_head entry head e = letter_not_head entry.node.kind (ids_text (ids_of entry)) head e
 
   pub ref_not_head : {A : Type 0} → (it : List ℕ × List ℕ) (head : Head A) → ref_line it ≡ head_line head → ⊥
   ref_not_head it head e = far 114 104 (lit< tt) (ap first_byte (e ∙ (head_starts head).1))
 
   -- ---- lines that say one thing
 
-  letters_one : (k l : Kind) (s t : List ℕ) → kind_letter k ++ s ≡ kind_letter l ++ t → (k ≡ l) × (s ≡ t)
+  letters_one : (k l : Kind) (s t : List ℕ) → letter k ∷ s ≡ letter l ∷ t → (k ≡ l) × (s ≡ t)
   letters_one Commit Commit s t e = (refl, append_cancel_left (codes "c") s t e)
   letters_one Commit Tag s t e = absurd (far 116 99 (lit< tt) (sym (ap first_byte e)))
   letters_one Tag Commit s t e = absurd (far 116 99 (lit< tt) (ap first_byte e))
   letters_one Tag Tag s t e = (refl, append_cancel_left (codes "t") s t e)
 
-  pub spaced_one : (xs ys : List (List ℕ)) → All IsId xs → All IsId ys → spaced_ids xs ≡ spaced_ids ys → xs ≡ ys
-  spaced_one [] [] vx vy e = refl
-  spaced_one [] (y ∷ ys) vx vy e = (let h = e in cc)
-  spaced_one (x ∷ xs) [] vx vy e = (let h = e in cc)
-  spaced_one (x ∷ xs) (y ∷ ys) vx vy e =
-      let both = append_cancel_left (codes " ") (id_text x ++ spaced_ids xs) (id_text y ++ spaced_ids ys) e in
-      let fronts = one_front laws x y (spaced_ids xs) (spaced_ids ys) (All-head IsId x xs vx) (All-head IsId y ys vy) both in
-      let rests = spaced_one xs ys (All-tail IsId x xs vx) (All-tail IsId y ys vy) fronts.1 in
-      ap (λ (z : List ℕ). z ∷ xs) fronts.0 ∙ ap (λ (zs : List (List ℕ)). y ∷ zs) rests
+  pub formats_one : (a b : Format) → first_line a ≡ first_line b → a ≡ b
+  formats_one Sha1 Sha1 e = refl
+  formats_one Sha1 Sha256 e = absurd (far 14 7 (lit< tt) (sym (ap length e)))
+  formats_one Sha256 Sha1 e = absurd (far 14 7 (lit< tt) (ap length e))
+  formats_one Sha256 Sha256 e = refl
 
-  ids_of_line : {A : Type 0} → (entry : Entry A) → HasIds entry → All IsId (entry.id ∷ entry.node.parents)
-  ids_of_line entry valid = All-cons IsId entry.id entry.node.parents valid.id valid.parents
+  module _ (format : Format) where
+    pub spaced_one : (xs ys : List (List ℕ)) → All (IsIdOf format) xs → All (IsIdOf format) ys → ids_text xs ≡ ids_text ys → xs ≡ ys
+    spaced_one [] [] vx vy e = refl
+    spaced_one [] (y ∷ ys) vx vy e = (let h = e in cc)
+    spaced_one (x ∷ xs) [] vx vy e = (let h = e in cc)
+    spaced_one (x ∷ xs) (y ∷ ys) vx vy e =
+        let both = append_cancel_left (codes " ") (id_text x ++ ids_text xs) (id_text y ++ ids_text ys) e in
+        let fronts = one_front laws format x y (ids_text xs) (ids_text ys) (All-head (IsIdOf format) x xs vx) (All-head (IsIdOf format) y ys vy) both in
+        let rests = spaced_one xs ys (All-tail (IsIdOf format) x xs vx) (All-tail (IsIdOf format) y ys vy) fronts.1 in
+        ap (λ (z : List ℕ). z ∷ xs) fronts.0 ∙ ap (λ (zs : List (List ℕ)). y ∷ zs) rests
 
-  pub one_entry : {A : Type 0} → (a b : Entry A) → HasIds a → HasIds b → node_line a ≡ node_line b → a ≡ b
-  one_entry a b va vb e =
-      let parts = letters_one a.node.kind b.node.kind (spaced_ids (a.id ∷ a.node.parents)) (spaced_ids (b.id ∷ b.node.parents)) e in
-      let lists = spaced_one (a.id ∷ a.node.parents) (b.id ∷ b.node.parents) (ids_of_line a va) (ids_of_line b vb) parts.1 in
-      let ids : a.id ≡ b.id = (cc) in
-      let parents : a.node.parents ≡ b.node.parents = (cc) in
-      ap₂ entry_of ids (ap₂ node_of parts.0 parents)
+    ids_of_line : {A : Type 0} → (entry : Entry A) → HasIdsOf format entry → All (IsIdOf format) (ids_of entry)
+    ids_of_line entry valid = All-cons (IsIdOf format) entry.id entry.node.parents valid.id valid.parents
 
-  pub one_ref : (a b : List ℕ × List ℕ) → IsId a.1 → IsId b.1 → ref_line a ≡ ref_line b → a ≡ b
-  one_ref a b va vb e =
-      let behind = append_cancel_left (codes "r ") (id_text a.1 ++ (codes " " ++ a.0)) (id_text b.1 ++ (codes " " ++ b.0)) e in
-      let parts = one_front laws a.1 b.1 (codes " " ++ a.0) (codes " " ++ b.0) va vb behind in
-      let names = append_cancel_left (codes " ") a.0 b.0 parts.1 in
-      ap (λ (n : List ℕ). (n, a.1)) names ∙ ap (λ (i : List ℕ). (b.0, i)) parts.0
+    pub one_entry : {A : Type 0} → (a b : Entry A) → HasIdsOf format a → HasIdsOf format b → node_text a ≡ node_text b → a ≡ b
+    one_entry a b va vb e =
+        let parts = letters_one a.node.kind b.node.kind (ids_text (ids_of a)) (ids_text (ids_of b)) e in
+        let lists = spaced_one (ids_of a) (ids_of b) (ids_of_line a va) (ids_of_line b vb) parts.1 in
+        let ids : a.id ≡ b.id = (cc) in
+        let parents : a.node.parents ≡ b.node.parents = (cc) in
+        ap₂ entry_of ids (ap₂ node_of parts.0 parents)
 
-  pub one_head : {A : Type 0} → (a b : Head A) → IsHead a → IsHead b → head_line a ≡ head_line b → a ≡ b
-  one_head heads_of.None heads_of.None va vb e = refl
-  one_head heads_of.None (heads_of.Id id) va vb e = absurd (far 110 105 (lit< tt) (ap third_byte e))
-  one_head heads_of.None (heads_of.Symref target) va vb e = absurd (far 114 110 (lit< tt) (sym (ap third_byte e)))
-  one_head (heads_of.Id id) heads_of.None va vb e = absurd (far 110 105 (lit< tt) (sym (ap third_byte e)))
-  one_head (heads_of.Id a) (heads_of.Id b) va vb e = ap heads_of.Id (one_id laws a b va vb (append_cancel_left (codes "h id ") (id_text a) (id_text b) e))
-  one_head (heads_of.Id id) (heads_of.Symref target) va vb e = absurd (far 114 105 (lit< tt) (sym (ap third_byte e)))
-  one_head (heads_of.Symref target) heads_of.None va vb e = absurd (far 114 110 (lit< tt) (ap third_byte e))
-  one_head (heads_of.Symref target) (heads_of.Id id) va vb e = absurd (far 114 105 (lit< tt) (ap third_byte e))
-  one_head (heads_of.Symref a) (heads_of.Symref b) va vb e = ap heads_of.Symref (append_cancel_left (codes "h ref ") a b e)
+    pub one_ref : (a b : List ℕ × List ℕ) → IsIdOf format a.1 → IsIdOf format b.1 → ref_line a ≡ ref_line b → a ≡ b
+    one_ref a b va vb e =
+        let ends_at = append_cancel_left (codes "r ") (id_text a.1 ++ (codes " " ++ a.0)) (id_text b.1 ++ (codes " " ++ b.0)) e in
+        let parts = one_front laws format a.1 b.1 (codes " " ++ a.0) (codes " " ++ b.0) va vb ends_at in
+        let names = append_cancel_left (codes " ") a.0 b.0 parts.1 in
+        ap (λ (n : List ℕ). (n, a.1)) names ∙ ap (λ (i : List ℕ). (b.0, i)) parts.0
+
+    pub one_head : {A : Type 0} → (a b : Head A) → IsHead format a → IsHead format b → head_line a ≡ head_line b → a ≡ b
+    one_head heads_of.None heads_of.None va vb e = refl
+    one_head heads_of.None (heads_of.Id id) va vb e = absurd (far 110 105 (lit< tt) (ap third_byte e))
+    one_head heads_of.None (heads_of.Symref target) va vb e = absurd (far 114 110 (lit< tt) (sym (ap third_byte e)))
+    one_head (heads_of.Id id) heads_of.None va vb e = absurd (far 110 105 (lit< tt) (sym (ap third_byte e)))
+    one_head (heads_of.Id a) (heads_of.Id b) va vb e = ap heads_of.Id (one_id laws format a b va vb (append_cancel_left (codes "h id ") (id_text a) (id_text b) e))
+    one_head (heads_of.Id id) (heads_of.Symref target) va vb e = absurd (far 114 105 (lit< tt) (sym (ap third_byte e)))
+    one_head (heads_of.Symref target) heads_of.None va vb e = absurd (far 114 110 (lit< tt) (ap third_byte e))
+    one_head (heads_of.Symref target) (heads_of.Id id) va vb e = absurd (far 114 105 (lit< tt) (ap third_byte e))
+    one_head (heads_of.Symref a) (heads_of.Symref b) va vb e = ap heads_of.Symref (append_cancel_left (codes "h ref ") a b e)
 
   -- ---- lines that may not come
 
@@ -106,22 +151,22 @@ module _ (laws : TextLaws) where
   no_refs_at stage s e notn notr (inr h) = notr (sym e ∙ h)
 
   module _ {A : Type 0} (order : Order) (old : Reading A) (line : List ℕ) where
-    pub not_first : old.stage ≡ First → (line ≡ first_line → ⊥) → NeverComes order old line
-    not_first here other begins e may = other e
+    pub not_first : old.stage ≡ First → ((format : Format) → line ≡ first_line format → ⊥) → NeverComes order old line
+    not_first here other (begins format) e may = other format e
     not_first here other (node entry) e may = let h = sym here ∙ may.0 in cc
     not_first here other (ref it) e may = no_refs_at old.stage First here (λ h. cc) (λ h. cc) may.0
     not_first here other (heads head) e may = no_refs_at old.stage First here (λ h. cc) (λ h. cc) may.0
     not_first here other ends e may = let h = sym here ∙ may in cc
 
     pub not_last : old.stage ≡ Last → (line ≡ last_line → ⊥) → NeverComes order old line
-    not_last here other begins e may = let h = sym here ∙ may in cc
+    not_last here other (begins format) e may = let h = sym here ∙ may in cc
     not_last here other (node entry) e may = let h = sym here ∙ may.0 in cc
     not_last here other (ref it) e may = no_refs_at old.stage Last here (λ h. cc) (λ h. cc) may.0
     not_last here other (heads head) e may = no_refs_at old.stage Last here (λ h. cc) (λ h. cc) may.0
     not_last here other ends e may = other e
 
     pub not_done : old.stage ≡ Done → NeverComes order old line
-    not_done here begins e may = let h = sym here ∙ may in cc
+    not_done here (begins format) e may = let h = sym here ∙ may in cc
     not_done here (node entry) e may = let h = sym here ∙ may.0 in cc
     not_done here (ref it) e may = no_refs_at old.stage Done here (λ h. cc) (λ h. cc) may.0
     not_done here (heads head) e may = no_refs_at old.stage Done here (λ h. cc) (λ h. cc) may.0
@@ -130,78 +175,124 @@ module _ (laws : TextLaws) where
     not_at : (s : Stage) → RefMayCome old.stage → (s ≡ Nodes → ⊥) → (s ≡ Refs → ⊥) → old.stage ≡ s → ⊥
     not_at s due notn notr e = no_refs_at old.stage s e notn notr due
 
-    pub no_item : RefMayCome old.stage → (old.stage ≡ Nodes → IsNoNode A line) → IsNoRef line → IsNoHead A line → NeverComes order old line
-    no_item due nonode noref nohead begins e may = not_at First due (λ h. cc) (λ h. cc) may
-    no_item due nonode noref nohead (node entry) e may = nonode may.0 entry may.1.ids e
-    no_item due nonode noref nohead (ref it) e may = noref it may.1.id may.1.name e
+    pub no_item : RefMayCome old.stage → (old.stage ≡ Nodes → IsNoNode line) → IsNoRef line → IsNoHead A old.graph.format line → NeverComes order old line
+    no_item due nonode noref nohead (begins format) e may = not_at First due (λ h. cc) (λ h. cc) may
+    no_item due nonode noref nohead (node entry) e may = nonode may.0 entry.node.kind (ids_text (ids_of entry)) e
+    no_item due nonode noref nohead (ref it) e may = noref (id_text it.1 ++ (codes " " ++ it.0)) e
     no_item due nonode noref nohead (heads head) e may = nohead head may.1 e
     no_item due nonode noref nohead ends e may = not_at Last due (λ h. cc) (λ h. cc) may
 
-    pub node_refused : (entry : Entry A) → old.stage ≡ Nodes → line ≡ node_line entry → HasIds entry → (MayFollow order old.graph entry → ⊥) → NeverComes order old line
-    node_refused entry here is valid never begins e may = let h = sym here ∙ may in cc
-    node_refused entry here is valid never (node other) e may = never (subst (λ (x : Entry A). MayFollow order old.graph x) (one_entry other entry may.1.ids valid (sym e ∙ is)) may.1)
-    node_refused entry here is valid never (ref it) e may = node_not_ref entry it (sym is ∙ e)
-    node_refused entry here is valid never (heads head) e may = node_not_head entry head (sym is ∙ e)
-    node_refused entry here is valid never ends e may = let h = sym here ∙ may in cc
+    -- the line begins with the letter of a kind, and no node that has it may come
+    pub no_node_comes : (kind : Kind) (rest : List ℕ) → old.stage ≡ Nodes → line ≡ letter kind ∷ rest → ((entry : Entry A) → letter kind ∷ rest ≡ node_text entry → MayFollow order old.graph.format old.graph.entries entry → ⊥) → NeverComes order old line
+    no_node_comes kind rest here is never (begins format) e may = let h = sym here ∙ may in cc
+    no_node_comes kind rest here is never (node entry) e may = never entry (sym is ∙ e) may.1
+    no_node_comes kind rest here is never (ref it) e may = letter_not_ref kind rest it (sym is ∙ e)
+    no_node_comes kind rest here is never (heads head) e may = letter_not_head kind rest head (sym is ∙ e)
+    no_node_comes kind rest here is never ends e may = let h = sym here ∙ may in cc
 
-    pub ref_refused : (it : List ℕ × List ℕ) → RefMayCome old.stage → line ≡ ref_line it → IsId it.1 → (RefMayFollow old.refs it → ⊥) → NeverComes order old line
-    ref_refused it due is valid never begins e may = not_at First due (λ h. cc) (λ h. cc) may
-    ref_refused it due is valid never (node entry) e may = node_not_ref entry it (sym e ∙ is)
-    ref_refused it due is valid never (ref other) e may = never (subst (λ (x : List ℕ × List ℕ). RefMayFollow old.refs x) (one_ref other it may.1.id valid (sym e ∙ is)) may.1)
-    ref_refused it due is valid never (heads head) e may = ref_not_head it head (sym is ∙ e)
-    ref_refused it due is valid never ends e may = not_at Last due (λ h. cc) (λ h. cc) may
+    -- the line begins as a ref's, and no ref that has it may come
+    pub no_ref_comes : RefMayCome old.stage → (rest : List ℕ) → line ≡ codes "r " ++ rest → ((it : List ℕ × List ℕ) → line ≡ ref_line it → RefMayFollow old.graph.format old.refs it → ⊥) → NeverComes order old line
+    no_ref_comes due rest is never (begins format) e may = not_at First due (λ h. cc) (λ h. cc) may
+    no_ref_comes due rest is never (node entry) e may = letter_not entry.node.kind (ids_text (ids_of entry)) (codes " " ++ rest) 114 (λ h. omega arith) (λ h. omega arith) (sym e ∙ is)
+    no_ref_comes due rest is never (ref it) e may = never it e may.1
+    no_ref_comes due rest is never (heads head) e may = far 114 104 (lit< tt) (ap first_byte (sym is ∙ e ∙ (head_starts head).1))
+    no_ref_comes due rest is never ends e may = not_at Last due (λ h. cc) (λ h. cc) may
 
   -- ---- a line that may come stands for one item
 
   pub one_item : {A : Type 0} → (order other : Order) (old : Reading A) (a b : Item A) → MayCome order old a → MayCome other old b → line_of a ≡ line_of b → a ≡ b
-  one_item order other old begins begins may there e = refl
-  one_item order other old begins (node entry) may there e = let h = sym may ∙ there.0 in cc
-  one_item order other old begins (ref it) may there e = absurd (no_refs_at old.stage First may (λ h. cc) (λ h. cc) there.0)
-  one_item order other old begins (heads head) may there e = absurd (no_refs_at old.stage First may (λ h. cc) (λ h. cc) there.0)
-  one_item order other old begins ends may there e = let h = sym may ∙ there in cc
-  one_item order other old (node entry) begins may there e = let h = sym may.0 ∙ there in cc
-  one_item order other old (node a) (node b) may there e = ap node (one_entry a b may.1.ids there.1.ids e)
+  one_item order other old (begins f) (begins g) may there e = ap begins (formats_one f g e)
+  one_item order other old (begins f) (node entry) may there e = let h = sym may ∙ there.0 in cc
+  one_item order other old (begins f) (ref it) may there e = absurd (no_refs_at old.stage First may (λ h. cc) (λ h. cc) there.0)
+  one_item order other old (begins f) (heads head) may there e = absurd (no_refs_at old.stage First may (λ h. cc) (λ h. cc) there.0)
+  one_item order other old (begins f) ends may there e = let h = sym may ∙ there in cc
+  one_item order other old (node entry) (begins g) may there e = let h = sym may.0 ∙ there in cc
+  one_item order other old (node a) (node b) may there e = ap node (one_entry old.graph.format a b may.1.ids there.1.ids e)
   one_item order other old (node entry) (ref it) may there e = absurd (node_not_ref entry it e)
   one_item order other old (node entry) (heads head) may there e = absurd (node_not_head entry head e)
   one_item order other old (node entry) ends may there e = let h = sym may.0 ∙ there in cc
-  one_item order other old (ref it) begins may there e = absurd (no_refs_at old.stage First there (λ h. cc) (λ h. cc) may.0)
+  one_item order other old (ref it) (begins g) may there e = absurd (no_refs_at old.stage First there (λ h. cc) (λ h. cc) may.0)
   one_item order other old (ref it) (node entry) may there e = absurd (node_not_ref entry it (sym e))
-  one_item order other old (ref a) (ref b) may there e = ap ref (one_ref a b may.1.id there.1.id e)
+  one_item order other old (ref a) (ref b) may there e = ap ref (one_ref old.graph.format a b may.1.id there.1.id e)
   one_item order other old (ref it) (heads head) may there e = absurd (ref_not_head it head e)
   one_item order other old (ref it) ends may there e = absurd (no_refs_at old.stage Last there (λ h. cc) (λ h. cc) may.0)
-  one_item order other old (heads head) begins may there e = absurd (no_refs_at old.stage First there (λ h. cc) (λ h. cc) may.0)
+  one_item order other old (heads head) (begins g) may there e = absurd (no_refs_at old.stage First there (λ h. cc) (λ h. cc) may.0)
   one_item order other old (heads head) (node entry) may there e = absurd (node_not_head entry head (sym e))
   one_item order other old (heads head) (ref it) may there e = absurd (ref_not_head it head (sym e))
-  one_item order other old (heads a) (heads b) may there e = ap heads (one_head a b may.1 there.1 e)
+  one_item order other old (heads a) (heads b) may there e = ap heads (one_head old.graph.format a b may.1 there.1 e)
   one_item order other old (heads head) ends may there e = absurd (no_refs_at old.stage Last there (λ h. cc) (λ h. cc) may.0)
-  one_item order other old ends begins may there e = let h = sym may ∙ there in cc
+  one_item order other old ends (begins g) may there e = let h = sym may ∙ there in cc
   one_item order other old ends (node entry) may there e = let h = sym may ∙ there.0 in cc
   one_item order other old ends (ref it) may there e = absurd (no_refs_at old.stage Last may (λ h. cc) (λ h. cc) there.0)
   one_item order other old ends (heads head) may there e = absurd (no_refs_at old.stage Last may (λ h. cc) (λ h. cc) there.0)
   one_item order other old ends ends may there e = refl
 
-  -- ---- what taking a node or a ref answers
+  -- ---- what taking a node answers
 
-  pub node_taken : {A : Type 0} (order : Order) (old : Reading A) (line : List ℕ) (graph : List (Entry A)) (entry : Entry A) (r : Result (Unit {0}) TextFault) → old.stage ≡ Nodes → line ≡ node_line entry → OnOk r (MayFollow order old.graph entry × (graph ≡ old.graph ++ entry ∷ [])) → OnOk r (ComesNext order old line (record old { graph = graph }))
-  node_taken {A} order old line graph entry (Ok u) here is (may, grown) =
-      let with_graph : List (Entry A) → Reading A = λ g. record old { graph = g } in
-      (node entry, is, (here, may), ap with_graph grown)
-  node_taken order old line graph entry (Err e) here is facts = tt
+  -- the id of a node's line is missing
+  pub no_node_id : {A : Type 0} (order : Order) (old : Reading A) (kind : Kind) (text : List ℕ) → old.stage ≡ Nodes → BeginsWithNoSpacedId old.graph.format text → NeverComes order old (letter kind ∷ text)
+  no_node_id {A} order old kind text here none = no_node_comes order old (letter kind ∷ text) kind text here refl never
+    where
+      never : (entry : Entry A) → letter kind ∷ text ≡ node_text entry → MayFollow order old.graph.format old.graph.entries entry → ⊥
+      never entry e may = none entry.id (ids_text entry.node.parents) may.ids.id (letters_one kind entry.node.kind text (ids_text (ids_of entry)) e).1
 
-  pub node_stopped : {A : Type 0} (order : Order) (old : Reading A) (line : List ℕ) (number : ℕ) (entry : Entry A) (r : Result (Unit {0}) TextFault) → old.stage ≡ Nodes → line ≡ node_line entry → HasIds entry → IfErr r (RefusesEntry order old.graph entry number) → IfErr r (RefusesLine order old line number)
-  node_stopped order old line number entry (Ok u) here is valid facts = tt
-  node_stopped order old line number entry (Err faults.Memory) here is valid facts = tt
-  node_stopped order old line number entry (Err (faults.Text at)) here is valid facts = (facts.0, node_refused Any old line entry here is valid facts.1)
-  node_stopped order old line number entry (Err (faults.ParentLater at)) here is valid facts = (facts.0, facts.1, node_refused ParentsFirst old line entry here is valid facts.3, node entry, is, (here, facts.2))
+  -- its parents are wrong
+  pub no_node_parents : {A : Type 0} (order : Order) (old : Reading A) (kind : Kind) (text id after : List ℕ) → old.stage ≡ Nodes → text ≡ codes " " ++ (id_text id ++ after) → IsIdOf old.graph.format id → IsNoParents old.graph.format after → NeverComes order old (letter kind ∷ text)
+  no_node_parents {A} order old kind text id after here is valid none = no_node_comes order old (letter kind ∷ text) kind text here refl never
+    where
+      never : (entry : Entry A) → letter kind ∷ text ≡ node_text entry → MayFollow order old.graph.format old.graph.entries entry → ⊥
+      never entry e may =
+          let same = sym is ∙ (letters_one kind entry.node.kind text (ids_text (ids_of entry)) e).1 in
+          let both = append_cancel_left (codes " ") (id_text id ++ after) (id_text entry.id ++ ids_text entry.node.parents) same in
+          none entry.node.parents may.ids.parents may.shaped.few (one_front laws old.graph.format id entry.id after (ids_text entry.node.parents) valid may.ids.id both).1
 
-  pub ref_taken : {A : Type 0} (order : Order) (old : Reading A) (line : List ℕ) (refs : List (List ℕ × List ℕ)) (it : List ℕ × List ℕ) (r : Result (Unit {0}) TextFault) → RefMayCome old.stage → line ≡ ref_line it → OnOk r (RefMayFollow old.refs it × (refs ≡ old.refs ++ it ∷ [])) → OnOk r (ComesNext order old line (record old { stage = Refs; refs = refs }))
-  ref_taken {A} order old line refs it (Ok u) due is (may, grown) =
-      let with_refs : List (List ℕ × List ℕ) → Reading A = λ rs. record old { stage = Refs; refs = rs } in
-      (ref it, is, (due, may), ap with_refs grown)
-  ref_taken order old line refs it (Err e) due is facts = tt
+  -- the line of a node
+  node_line_is : (A : Type 0) (kind : Kind) (text id after : List ℕ) (parents : List (List ℕ)) → text ≡ codes " " ++ (id_text id ++ after) → after ≡ ids_text parents → letter kind ∷ text ≡ node_text (entry_of {A = A} id (node_of kind parents))
+  node_line_is A kind text id after parents is are = ap (λ (t : List ℕ). letter kind ∷ t) (is ∙ ap (λ (t : List ℕ). codes " " ++ (id_text id ++ t)) are)
 
-  pub ref_stopped : {A : Type 0} (order : Order) (old : Reading A) (line : List ℕ) (number : ℕ) (it : List ℕ × List ℕ) (r : Result (Unit {0}) TextFault) → RefMayCome old.stage → line ≡ ref_line it → IsId it.1 → IfErr r (RefusesRef old.refs it number) → IfErr r (RefusesLine order old line number)
-  ref_stopped order old line number it (Ok u) due is valid facts = tt
-  ref_stopped order old line number it (Err faults.Memory) due is valid facts = tt
-  ref_stopped order old line number it (Err (faults.Text at)) due is valid facts = (facts.0, ref_refused Any old line it due is valid facts.1)
-  ref_stopped order old line number it (Err (faults.ParentLater at)) due is valid facts = absurd facts
+  module _ {A : Type 0} (order : Order) (old : Reading A) (kind : Kind) (text id after : List ℕ) (parents : List (List ℕ)) (here : old.stage ≡ Nodes) (is : text ≡ codes " " ++ (id_text id ++ after)) (are : after ≡ ids_text parents) where
+    abbrev this : Entry A
+    this = entry_of id (node_of kind parents)
+
+    pub node_taken : (graph : History A) (r : Result (Unit {0}) LoadFault) → OnOk r (MayFollow order old.graph.format old.graph.entries this × (graph ≡ with_entry old.graph this)) → OnOk r (ComesNext order old (letter kind ∷ text) (record old { graph = graph }))
+    node_taken graph (Ok u) (may, grown) =
+        let with_graph : History A → Reading A = λ g. record old { graph = g } in
+        (node this, node_line_is A kind text id after parents is are, (here, may), ap with_graph grown)
+    node_taken graph (Err e) facts = tt
+
+    refused : (other : Order) → HasIdsOf old.graph.format this → (MayFollow other old.graph.format old.graph.entries this → ⊥) → NeverComes other old (letter kind ∷ text)
+    refused other valid never = no_node_comes other old (letter kind ∷ text) kind text here refl (λ entry e may.
+        never (subst (λ (x : Entry A). MayFollow other old.graph.format old.graph.entries x) (one_entry old.graph.format entry this may.ids valid (sym e ∙ node_line_is A kind text id after parents is are)) may))
+
+    pub node_stopped : (number : ℕ) (r : Result (Unit {0}) LoadFault) → HasIdsOf old.graph.format this → IfErr r (RefusesEntry order old.graph this number) → IfErr r (RefusesLine order old (letter kind ∷ text) number)
+    node_stopped number (Ok u) valid facts = tt
+    node_stopped number (Err faults.Memory) valid facts = (node this, node_line_is A kind text id after parents is are, (here, facts), tt)
+    node_stopped number (Err (faults.Text at)) valid facts = (facts.0, refused Any valid facts.1)
+    node_stopped number (Err (faults.ParentLater at)) valid facts = (facts.0, facts.1, refused ParentsFirst valid facts.3, node this, node_line_is A kind text id after parents is are, (here, facts.2))
+
+  -- ---- what taking a ref answers
+
+  -- the id of a ref's line is missing, or the space after it
+  pub no_ref_parts : {A : Type 0} (order : Order) (old : Reading A) (line text : List ℕ) → RefMayCome old.stage → line ≡ codes "r " ++ text → BeginsWithNoRefId old.graph.format text → NeverComes order old line
+  no_ref_parts order old line text due is none = no_ref_comes order old line due text is (λ it e may.
+      none it.1 it.0 may.id (append_cancel_left (codes "r ") text (id_text it.1 ++ (codes " " ++ it.0)) (sym is ∙ e)))
+
+  module _ {A : Type 0} (order : Order) (old : Reading A) (line text : List ℕ) (it : List ℕ × List ℕ) (due : RefMayCome old.stage) (is : line ≡ codes "r " ++ text) (are : text ≡ id_text it.1 ++ (codes " " ++ it.0)) where
+    ref_line_is : line ≡ ref_line it
+    ref_line_is = is ∙ ap (λ (t : List ℕ). codes "r " ++ t) are
+
+    pub ref_taken : (refs : List (List ℕ × List ℕ)) (r : Result (Unit {0}) LoadFault) → OnOk r (RefMayFollow old.graph.format old.refs it × (refs ≡ old.refs ++ it ∷ [])) → OnOk r (ComesNext order old line (record old { stage = Refs; refs = refs }))
+    ref_taken refs (Ok u) (may, grown) =
+        let with_refs : List (List ℕ × List ℕ) → Reading A = λ rs. record old { stage = Refs; refs = rs } in
+        (ref it, ref_line_is, (due, may), ap with_refs grown)
+    ref_taken refs (Err e) facts = tt
+
+    pub ref_stopped : (number : ℕ) (r : Result (Unit {0}) LoadFault) → IsIdOf old.graph.format it.1 → IfErr r (RefusesRef old.graph.format old.refs it number) → IfErr r (RefusesLine order old line number)
+    ref_stopped number (Ok u) valid facts = tt
+    ref_stopped number (Err faults.Memory) valid facts = (ref it, ref_line_is, (due, facts), tt)
+    ref_stopped number (Err (faults.Text at)) valid facts = (
+      facts.0,
+      no_ref_comes Any old line due text is (λ other e may.
+          facts.1 (subst (λ (x : List ℕ × List ℕ). RefMayFollow old.graph.format old.refs x) (one_ref old.graph.format other it may.id valid (sym e ∙ ref_line_is)) may)),
+    )
+    ref_stopped number (Err (faults.ParentLater at)) valid facts = absurd facts

@@ -1,11 +1,18 @@
--- The table of faults: the number and the name of each.
+-- The tables of faults: the number and the name of each.
 use Rattle.std.specs.Prelude.{codes}
 use Rattle.gname.specs.Faults.{FaultRow}
-use Rattle.ggraph.specs.declared.fault.TextFault.{TextFault}
-use Rattle.ggraph.specs.declared.fault.TextFault.TheVariants as text
+use Rattle.ggraph.specs.declared.fault.LoadFault.{LoadFault}
+use Rattle.ggraph.specs.declared.fault.LoadFault.TheVariants as load
+use Rattle.ggraph.specs.declared.fault.SaveFault.{SaveFault}
+use Rattle.ggraph.specs.declared.fault.SaveFault.TheVariants as save
 
--- why a repository text was not loaded, or not saved
-abbrev pub text_fault_row : TextFault → FaultRow
-text_fault_row (text.Text line) = (67, codes "Text")
-text_fault_row (text.ParentLater line) = (68, codes "ParentLater")
-text_fault_row text.Memory = (64, codes "Memory")
+-- why a repository text was not loaded
+abbrev pub load_fault_row : LoadFault → FaultRow
+load_fault_row (load.Text line) = (67, codes "Text")
+load_fault_row (load.ParentLater line) = (68, codes "ParentLater")
+load_fault_row load.Memory = (64, codes "Memory")
+
+-- why a repository was not saved
+abbrev pub save_fault_row : SaveFault → FaultRow
+save_fault_row (save.OtherFormat id) = (75, codes "OtherFormat")
+save_fault_row save.Memory = (64, codes "Memory")

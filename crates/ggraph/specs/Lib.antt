@@ -1,11 +1,13 @@
 pub mod Faults
 pub mod Loading
+pub mod NoSuchPart
 pub mod Reading
 pub mod RepositoryText
 pub mod SafeRefs
+pub mod Saving
 pub mod TextLaws
-pub mod NoSuchPart
 pub use Rattle.gobject.specs.Objects
+pub use Rattle.gobject.specs.PlainPackText
 pub use Rattle.ghistory.specs.Graphs
 pub use Rattle.ghistory.specs.Reach
 pub use Rattle.ghistory.specs.Peeling

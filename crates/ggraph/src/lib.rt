@@ -4,24 +4,27 @@
 //!
 //! # Proved
 //!
-//! - [`load`] accepts exactly the texts of repositories: the text of a graph, refs and HEAD whose nodes
-//!   and refs may each follow those before it is read as these, or memory is missing. Any other text is
-//!   refused at the first line with which it begins no such text, or where it ends early; for a later
-//!   parent only where the line is right but for the order. Out of memory may be reported of any text.
-//! - [`save`] writes the one text of what it is given, which `load` reads back, or reports out of
-//!   memory.
+//! - [`load`] accepts exactly the texts of repositories, whose first line says the format of all their
+//!   ids: the text of a graph, refs and HEAD whose nodes and refs may each follow those before it is read
+//!   as these, or memory is missing. Any other text is refused at the first line with which it begins no
+//!   such text, or where it ends early; for a later parent only where the line is right but for the order.
+//! - Out of memory is reported only at a line of a node, a ref or a HEAD on a ref that is right, as the lines
+//!   before it are: a line that breaks a rule or passes a limit is refused for that.
+//! - [`save`] writes the one text of what it is given, which `load` reads back in any order of nodes. It is
+//!   refused for an id of another format than the graph's exactly where a ref or HEAD stands at one, with the
+//!   first, and else only out of memory.
 //! - Each fault has the number and the name of its row.
 //! - No call panics, overflows or reads out of bounds, and each returns.
 //!
 //! # Only tested
 //!
-//! The texts of the faults; that the largest repositories are loaded; that memory which is there is
-//! used, and that out of memory is not reported of a text that needs none.
+//! The texts of the faults; that large repositories are loaded and saved; that memory which is there is
+//! used.
 //!
 //! # What a body can still get away with
 //!
-//! It may report out of memory of any text, as often as it likes. It may take as long as it likes, and
-//! more memory than it needs.
+//! Loading may report out of memory at any line that is right and keeps something, and saving of anything
+//! that can be saved. A call may take as long as it likes, and more memory than it needs.
 //!
 //! # Stands on
 //!
@@ -32,9 +35,9 @@
 mod fault;
 mod text;
 
-pub use crate::fault::TextFault;
+pub use crate::fault::{LoadFault, SaveFault};
 pub use crate::text::{Order, Repository, load, save};
-pub use ghistory::{Count, Graph, GraphFault, MAX_NODES, laws};
+pub use ghistory::{Graph, GraphFault, IdHasher, MAX_NODES, laws};
 pub use gobject::{
     Entry, Faithful, IndexFault, Indexer, Kind, MAX_PARENTS, Node, PackFault, Packer, Parents,
     PlainPack, have_ids,

@@ -1,5 +1,5 @@
 -- What a graph keeps as entries come in.
-use Rattle.std.proofs.Common.{◌≡◌, ◌⊎◌, inl, inr, ℕ, zero, suc, ◌+◌, ◌<◌, ◌≤◌, false, List, [], ◌∷◌, ◌++◌, length, get_or, take, All, Contains, Option, Some, None, refl, sym, ap, ◌∙◌, subst, arith, IsSome, append_assoc, drop, add-one}
+use Rattle.std.proofs.Common.{◌≡◌, ◌⊎◌, inl, inr, ℕ, zero, suc, ◌+◌, ◌<◌, ◌≤◌, false, List, [], ◌∷◌, ◌++◌, length, get_or, take, All, Contains, None, refl, sym, ap, ◌∙◌, subst, arith, append_assoc, drop, add-one}
 use Rattle.std.proofs.lemmas.List.{length-append, append-nil, take_more, take-append-drop, length-take}
 use Rattle.std.proofs.Math.Seq.{take-append_seam, drop-cons}
 use Rattle.ghistory.specs.declared.fault.GraphFault.{GraphFault}
@@ -9,7 +9,7 @@ use Rattle.std.proofs.lemmas.Bool.{false≢true}
 use Rattle.gobject.specs.declared.node.Node.{Node}
 use Rattle.gobject.specs.declared.node.Entry.{Entry}
 use Rattle.gobject.specs.Objects.{has_id, node_at, IdsDiffer, IsShaped}
-use Rattle.ghistory.specs.Graphs.{History, IsNode, Holds, HasParent, HasIdsOf, IsGraph, max_nodes}
+use Rattle.ghistory.specs.Graphs.{History, IsNode, HasParent, HasIdsOf, IsGraph, max_nodes}
 use Rattle.ghistory.specs.Reach.{Reaches, here, onward, IsFull, Grows, Keeps}
 use Rattle.ghistory.specs.Insert.{ComesIn, Inserts, IsRefused, IsCause}
 use Rattle.gname.specs.declared.formats.Format.{Format}
@@ -26,13 +26,13 @@ node_in_front (entry ∷ g) more a node is =
       | inr other ↦ node_there entry (g ++ more) a other ∙ node_in_front g more a node (sym (node_there entry g a other) ∙ is)
     ]
 
-pub node_behind : {A : Type 0} (g more : List (Entry A)) (a : List ℕ) → node_at g a ≡ None → node_at (g ++ more) a ≡ node_at more a
-node_behind [] more a absent = refl
-node_behind (entry ∷ g) more a absent =
-    node_there entry (g ++ more) a (absent_head entry g a absent) ∙ node_behind g more a (absent_tail entry g a absent)
+pub node_after : {A : Type 0} (g more : List (Entry A)) (a : List ℕ) → node_at g a ≡ None → node_at (g ++ more) a ≡ node_at more a
+node_after [] more a absent = refl
+node_after (entry ∷ g) more a absent =
+    node_there entry (g ++ more) a (absent_head entry g a absent) ∙ node_after g more a (absent_tail entry g a absent)
 
 pub node_at_end : {A : Type 0} (g : List (Entry A)) (entry : Entry A) → node_at g entry.id ≡ None → IsNode (g ++ entry ∷ []) entry.id entry.node
-node_at_end g entry absent = node_behind g (entry ∷ []) entry.id absent ∙ node_here entry [] entry.id (is_has_id entry.id entry refl)
+node_at_end g entry absent = node_after g (entry ∷ []) entry.id absent ∙ node_here entry [] entry.id (is_has_id entry.id entry refl)
 
 pub other_id : {A : Type 0} (first entry : Entry A) → has_id entry.id first ≡ false → has_id first.id entry ≡ false
 other_id first entry other =
@@ -45,7 +45,7 @@ differ_push : {A : Type 0} (g : List (Entry A)) (entry : Entry A) → IdsDiffer 
 differ_push [] entry differ absent = (refl, tt)
 differ_push (first ∷ g) entry differ absent =
     let other = other_id first entry (absent_head first g entry.id absent) in (
-      node_behind g (entry ∷ []) first.id differ.0 ∙ node_there entry [] first.id other,
+      node_after g (entry ∷ []) first.id differ.0 ∙ node_there entry [] first.id other,
       differ_push g entry differ.1 (absent_tail first g entry.id absent),
     )
 

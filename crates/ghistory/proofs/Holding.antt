@@ -70,3 +70,7 @@ some_is (Some x) is = (x, refl)
 -- an id that is held has a node
 pub held_node : {A : Type 0} (g : List (Entry A)) (a : List ℕ) → Holds g a → (node : Node A) × IsNode g a node
 held_node g a held = some_is (node_at g a) held
+
+-- and one alone
+pub one_node : {A : Type 0} (g : List (Entry A)) (a : List ℕ) (m n : Node A) → IsNode g a m → IsNode g a n → m ≡ n
+one_node g a m n left right = same_Some m n (sym left ∙ right)

@@ -1,9 +1,8 @@
 -- Lists of ids: which ids they have, and which of others are new to them.
-use Rattle.std.proofs.Common.{◌≡◌, ◌⊎◌, ℕ, zero, suc, ◌<◌, ◌≤◌, ◌+◌, Bool, true, false, true≢false, cond, ◌||◌, List, [], ◌∷◌, ◌++◌, length, get_or, drop, Contains, flat_map, bytes_eq, refl, sym, ap, ap₂, subst, ◌∙◌, inl, inr, append_assoc, append-nil, arith}
+use Rattle.std.proofs.Common.{◌≡◌, ◌⊎◌, ℕ, zero, suc, ◌<◌, Bool, true, false, true≢false, cond, ◌||◌, List, [], ◌∷◌, ◌++◌, length, get_or, Contains, flat_map, bytes_eq, refl, sym, ap, ap₂, subst, ◌∙◌, inl, inr, append_assoc, append-nil, arith}
 use Rattle.std.specs.List.{list_any, IsDistinct}
 use Rattle.std.proofs.lemmas.Cmp.{nat_list_eq_equiv}
 use Rattle.std.proofs.lemmas.Slice.Eq.{bytes_eq-Decides}
-use Rattle.std.proofs.lemmas.List.{at_drop_more, at_drop_all}
 use Rattle.std.proofs.lemmas.List.Elements.{Contains-append_left, Contains-append_right, Contains-append_cases, Contains-push_cases}
 use Rattle.std.proofs.lemmas.Map.Keys.{IsDistinct-push}
 use Rattle.std.proofs.lemmas.Map.Views.{Contains-from_any, list_any-from_Contains}
@@ -77,16 +76,6 @@ with_new-old s x xs e = ap (λ l. s ++ l) (new_ids-old s x xs e)
 pub with_new-new : (s : List (List ℕ)) (x : List ℕ) (xs : List (List ℕ)) → is_in s x ≡ false → with_new s (x ∷ xs) ≡ with_new (s ++ x ∷ []) xs
 with_new-new s x xs e = ap (λ l. s ++ l) (new_ids-new s x xs e) ∙ (simp append_assoc)
 
-pub with_new-nil : (s : List (List ℕ)) → with_new s [] ≡ s
-with_new-nil s = append-nil s
-
-pub with_new-append : (s xs ys : List (List ℕ)) → with_new s (xs ++ ys) ≡ with_new (with_new s xs) ys
-with_new-append s [] ys = ap (λ l. with_new l ys) (sym (append-nil s))
-with_new-append s (x ∷ xs) ys =
-    either_way (is_in s x)
-    (λ e. with_new-old s x (xs ++ ys) e ∙ with_new-append s xs ys ∙ ap (λ l. with_new l ys) (sym (with_new-old s x xs e)))
-    (λ e. with_new-new s x (xs ++ ys) e ∙ with_new-append (s ++ x ∷ []) xs ys ∙ ap (λ l. with_new l ys) (sym (with_new-new s x xs e)))
-
 pub with_new-distinct : (s xs : List (List ℕ)) → IsDistinct bytes_eq s → IsDistinct bytes_eq (with_new s xs)
 with_new-distinct s [] d = subst (λ (l : List (List ℕ)). IsDistinct bytes_eq l) (sym (append-nil s)) d
 with_new-distinct s (x ∷ xs) d =
@@ -121,23 +110,6 @@ new_ids-has s (x ∷ xs) a h out =
           (elim (contains_cases x xs a h) [ inl same ↦ absurd (other same) | inr later ↦ later ])
           (λ c. elim (Contains-push_cases s x a c) [ inl before ↦ out before | inr same ↦ other same ]))
     ]))
-
--- ---- the loop that adds the new ids one by one
-
-pub adds_none : (s more : List (List ℕ)) (i : ℕ) (x : List ℕ) → i < length more → x ≡ get_or more i x → is_in s x ≡ true → (t : List (List ℕ)) → t ≡ s → (whole : List (List ℕ)) → with_new s (drop i more) ≡ whole → with_new t (drop (i + 1) more) ≡ whole
-adds_none s more i x inside item e t is whole keeps =
-    ap (λ l. with_new l (drop (i + 1) more)) is
-    ∙ sym (at_drop_more (λ l. with_new s l) more i x inside ∙ ap (λ y. with_new s (y ∷ drop (i + 1) more)) (sym item) ∙ with_new-old s x (drop (i + 1) more) e)
-    ∙ keeps
-
-pub adds_one : (s more : List (List ℕ)) (i : ℕ) (x : List ℕ) → i < length more → x ≡ get_or more i x → is_in s x ≡ false → (t : List (List ℕ)) → t ≡ s ++ x ∷ [] → (whole : List (List ℕ)) → with_new s (drop i more) ≡ whole → with_new t (drop (i + 1) more) ≡ whole
-adds_one s more i x inside item e t is whole keeps =
-    ap (λ l. with_new l (drop (i + 1) more)) is
-    ∙ sym (at_drop_more (λ l. with_new s l) more i x inside ∙ ap (λ y. with_new s (y ∷ drop (i + 1) more)) (sym item) ∙ with_new-new s x (drop (i + 1) more) e)
-    ∙ keeps
-
-pub adds_no_more : (s more : List (List ℕ)) (i : ℕ) → length more ≤ i → with_new s (drop i more) ≡ s
-adds_no_more s more i end = at_drop_all (λ l. with_new s l) more i end ∙ with_new-nil s
 
 -- ---- the ids that each of some ids gives
 

@@ -8,7 +8,7 @@ use Rattle.gobject.specs.declared.node.Node.{Node}
 use Rattle.gobject.specs.declared.node.Entry.{Entry}
 use Rattle.gobject.specs.Objects.{node_at, has_id}
 use Rattle.ghistory.specs.Graphs.{HasParent}
-use Rattle.ghistory.specs.Levels.{new_ids, parents_of, parents_of_each, level, levels_below, Steps, IsAtDistance, LevelsAreDistances}
+use Rattle.ghistory.specs.Levels.{new_ids, parents_of, parents_of_each, level, levels_below, Steps, IsAtDistance, AreDistances}
 use Rattle.ghistory.proofs.IdLists.{either_way, nothing_in_nil, in_or_not, any_from_contains, contains_from_any, new_ids-from, new_ids-has, with_new-distinct, flat_map-has, flat_map-from}
 
 -- ---- parents
@@ -159,7 +159,7 @@ module _ {A : Type 0} (g : List (Entry A)) (tips : List (List ℕ)) where
     | inr less ↦ empty_next k (levels_stay j k (omega arith) e)
   ]
 
-  pub levels_are_distances : LevelsAreDistances g tips
+  pub levels_are_distances : AreDistances g tips
   levels_are_distances = record {
     exact = λ k a. ((exact_at k).at a, (exact_at k).at_back a);
     once = levels_once;

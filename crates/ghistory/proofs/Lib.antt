@@ -1,11 +1,13 @@
+pub mod Causes
+pub mod Choosing
 pub mod ClosedLemmas
+pub mod CommonLaws
 pub mod Growing
 pub mod Holding
 pub mod IdLists
 pub mod LevelLaws
-pub mod LevelWalk
+pub mod LevelReach
 pub mod OfferLaws
-pub mod OfferLemmas
 pub mod OrderLemmas
 pub mod Ordering
 pub mod Pairs

@@ -1,10 +1,10 @@
 -- Each entry of a graph could come next after those before it.
-use Rattle.std.proofs.Common.{◌≡◌, ℕ, ◌<◌, List, [], ◌∷◌, ◌++◌, length, All, None, refl, ◌∙◌, arith, false}
+use Rattle.std.proofs.Common.{◌≡◌, ℕ, List, [], ◌∷◌, ◌++◌, All, None, refl, ◌∙◌, arith, false}
 use Rattle.std.proofs.lemmas.List.{length-append}
 use Rattle.std.proofs.lemmas.List.Elements.{All-head, All-tail}
 use Rattle.gobject.specs.declared.node.Entry.{Entry}
 use Rattle.gobject.specs.Objects.{IdsDiffer, IsShaped, has_id, node_at}
-use Rattle.ghistory.specs.Graphs.{HasIdsOf, IsGraph}
+use Rattle.ghistory.specs.Graphs.{HasIdsOf}
 use Rattle.ghistory.specs.Laws.{EntriesComeInOrder}
 use Rattle.ghistory.proofs.Growing.{other_id}
 use Rattle.ghistory.proofs.Holding.{absent_head, absent_tail, node_there}

@@ -1,5 +1,5 @@
 -- Graphs in which parents come first.
-use Rattle.std.proofs.Common.{◌≡◌, ◌⊎◌, inl, inr, ◌↔◌, ℕ, zero, suc, ◌<◌, ◌≤◌, Bool, true, false, List, [], ◌∷◌, ◌++◌, length, take, All, Contains, IsTrue, Option, Some, None, refl, sym, ap, ◌∙◌, subst, arith}
+use Rattle.std.proofs.Common.{◌≡◌, ◌⊎◌, inl, inr, ℕ, zero, suc, ◌<◌, ◌≤◌, List, [], ◌∷◌, ◌++◌, length, take, All, Contains, Option, Some, None, refl, sym, ap, ◌∙◌, subst, arith}
 use Rattle.std.specs.List.{slice_get}
 use Rattle.std.specs.Option.{option_map}
 use Rattle.std.proofs.lemmas.List.{take-append-le}
@@ -8,10 +8,10 @@ use Rattle.std.proofs.Math.Seq.{take-append_seam}
 use Rattle.std.proofs.lemmas.Option.{same_Some, none-some, slice_get_within}
 use Rattle.gobject.specs.declared.node.Node.{Node}
 use Rattle.gobject.specs.declared.node.Entry.{Entry}
-use Rattle.gobject.specs.Objects.{node_at, place_of, IdsDiffer}
+use Rattle.gobject.specs.Objects.{place_of, IdsDiffer}
 use Rattle.ghistory.specs.Graphs.{IsNode, Holds, HasParent, IsOrdered}
 use Rattle.ghistory.specs.Reach.{Reaches, here, onward, IsClosed}
-use Rattle.ghistory.proofs.Reaching.{node_at_place, node_at_none, held_at_place, place_at, place_of_node}
+use Rattle.ghistory.proofs.Reaching.{node_at_place, held_at_place, place_at, place_of_node}
 use Rattle.ghistory.proofs.Holding.{own_place}
 
 -- ---- one entry more

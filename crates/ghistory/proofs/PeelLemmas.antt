@@ -1,5 +1,5 @@
 -- Chains of tags: that they have one end, and that one which ends is no longer than the graph.
-use Rattle.std.proofs.Common.{◌≡◌, ℕ, zero, suc, ◌+◌, ◌≤◌, List, [], ◌∷◌, length, map, Bool, true, false, cond, ◌||◌, Some, None, refl, sym, ◌∙◌, ap, subst, arith}
+use Rattle.std.proofs.Common.{◌≡◌, ℕ, zero, suc, ◌+◌, ◌-◌, ◌<◌, ◌≤◌, List, [], ◌∷◌, length, map, Bool, true, false, cond, ◌||◌, Some, None, refl, sym, ◌∙◌, ap, subst, arith}
 use Rattle.std.specs.Str.{bytes_eq}
 use Rattle.std.specs.List.{AllByRecursion, IsDistinct, slice_get, find}
 use Rattle.std.specs.Set.{is_member}
@@ -12,20 +12,18 @@ use Rattle.gobject.specs.declared.node.Node.{Node}
 use Rattle.gobject.specs.declared.node.Entry.{Entry}
 use Rattle.gobject.specs.Objects.{has_id}
 use Rattle.ghistory.specs.Graphs.{IsNode}
+use Rattle.ghistory.proofs.Holding.{one_node}
 use Rattle.ghistory.specs.Peeling.{IsTagOf, IsCommit, Tags, PeelsTo}
 
 module _ {A : Type 0} (g : List (Entry A)) where
-  one_node : (a : List ℕ) (m n : Node A) → IsNode g a m → IsNode g a n → m ≡ n
-  one_node a m n hm hn = let both : Some m ≡ Some n = sym hm ∙ hn in cc
-
   no_tag : (a b : List ℕ) → IsCommit g a → IsTagOf g a b → ⊥
   no_tag a b commit tag =
-      let same = one_node a commit.node tag.node commit.held tag.held in
+      let same = one_node g a commit.node tag.node commit.held tag.held in
       let kinds = sym commit.commit ∙ ap (λ (n : Node A). n.kind) same ∙ tag.tag in cc
 
   one_next : (a b c : List ℕ) → IsTagOf g a b → IsTagOf g a c → b ≡ c
   one_next a b c tb tc =
-      let same = one_node a tb.node tc.node tb.held tc.held in
+      let same = one_node g a tb.node tc.node tb.held tc.held in
       let both : Some b ≡ Some c = sym tb.names ∙ ap (λ (n : Node A). slice_get n.parents 0) same ∙ tc.names in cc
 
   -- a chain that ends at a commit goes through each object to which fewer tags lead
@@ -60,15 +58,19 @@ module _ {A : Type 0} (g : List (Entry A)) where
       ends : (j : ℕ) × (m ≡ i + j) × Tags g j b c → ⊥
       ends (zero, e, end) =
           let at_b = subst (λ (x : List ℕ). IsNode g x commit.node) (sym end) commit.held in
-          let same = one_node b commit.node node at_b held in
+          let same = one_node g b commit.node node at_b held in
           let kinds = sym commit.commit ∙ ap (λ (n : Node A). n.kind) same ∙ tag in cc
       ends (suc j, e, (next, one, rest)) =
-          let same = one_node b one.node node one.held held in
+          let same = one_node g b one.node node one.held held in
           let clash = sym one.names ∙ ap (λ (n : Node A). slice_get n.parents 0) same ∙ none in cc
 
-  pub tags_more : (m : ℕ) (a b c : List ℕ) → Tags g m a b → IsTagOf g b c → Tags g (suc m) a c
+  tags_more : (m : ℕ) (a b c : List ℕ) → Tags g m a b → IsTagOf g b c → Tags g (suc m) a c
   tags_more zero a b c here tag = (c, subst (λ (x : List ℕ). IsTagOf g x c) (sym here) tag, refl)
   tags_more (suc m) a b c (next, first, rest) tag = (next, first, tags_more m next b c rest tag)
+
+  pub one_tag_more : (m : ℕ) (a b c : List ℕ) (node : Node A) → Tags g m a b → IsNode g b node → node.kind ≡ Tag → slice_get node.parents 0 ≡ Some c → Tags g (suc m) a c
+  one_tag_more m a b c node chain held tag names =
+      tags_more m a b c chain (record { node = node; held = held; tag = tag; names = names })
 
   -- no tag is on a chain from itself, where the chain ends
   no_cycle : (fuel m k : ℕ) (a c : List ℕ) → m ≤ fuel → Tags g m a c → IsCommit g c → Tags g (suc k) a a → ⊥
@@ -77,6 +79,24 @@ module _ {A : Type 0} (g : List (Entry A)) where
   no_cycle (suc fuel) m k a c le chain commit (next, tag, rest) =
       let more = onward m (suc k) a a c chain commit (next, tag, rest) in
       no_cycle fuel more.0 k a c (omega (arith, more.1)) more.2 commit (next, tag, rest)
+
+  -- what is left of a longer chain from the same id
+  rest_of : (i m d : ℕ) (a b c : List ℕ) → m ≡ i + d → Tags g i a b → Tags g m a c → Tags g d b c
+  rest_of zero m d a b c e here more =
+      let same : m ≡ d = omega (arith, e) in
+      subst (λ (x : List ℕ). Tags g d x c) here (subst (λ (k : ℕ). Tags g k a c) same more)
+  rest_of (suc i) zero d a b c e here more = absurd (omega (arith, e))
+  rest_of (suc i) (suc m) d a b c e (next, tag, rest) (next', tag', rest') =
+      let same = one_next a next' next tag' tag in
+      rest_of i m d next b c (omega (arith, e)) rest (subst (λ (x : List ℕ). Tags g m x c) same rest')
+
+  -- a chain that comes to an id again has no end
+  pub peel_round : (a b c : List ℕ) (i m : ℕ) → i < m → Tags g i a b → Tags g m a b → PeelsTo g a c → ⊥
+  peel_round a b c i m less here again (k, chain, commit) =
+      let d = m - suc i in
+      let round : Tags g (suc d) b b = rest_of i m (suc d) a b b (omega (arith, less)) here again in
+      let end = onward k i a b c chain commit here in
+      no_cycle end.0 end.0 d b c (omega arith) end.2 commit round
 
   -- the ids of a chain
   trail : (m : ℕ) (a c : List ℕ) → Tags g m a c → List (List ℕ)

@@ -1,32 +1,30 @@
 -- Graphs that agree, and what a list of entries brings from one to the other.
-use Rattle.std.proofs.Common.{◌≡◌, ◌⊎◌, inl, inr, ◌↔◌, ℕ, zero, suc, ◌<◌, ◌≤◌, true, false, List, [], ◌∷◌, ◌++◌, length, get_or, All, Contains, Option, IsSome, Some, None, refl, sym, ap, ◌∙◌, subst, arith}
+use Rattle.std.proofs.Common.{◌≡◌, ◌⊎◌, inl, inr, ℕ, zero, suc, List, [], ◌∷◌, ◌++◌, get_or, All, Contains, Option, Some, None, refl, sym, ap, ◌∙◌, subst, arith}
 use Rattle.std.specs.List.{slice_get}
 use Rattle.std.specs.Option.{is_some, option_map}
 use Rattle.std.proofs.lemmas.Option.{same_Some, none-some, slice_get-get_or, slice_get_within, get_or_from_slice_get}
 use Rattle.std.proofs.lemmas.Bool.{cases_Bool, false≢true}
-use Rattle.std.proofs.lemmas.List.Elements.{All-contains, All-head, All-tail, All-cons, All-nil, Contains-append_left, Contains-append_right, Contains-get_or}
+use Rattle.std.proofs.lemmas.List.Elements.{All-contains, Contains-append_right, Contains-get_or}
 use Rattle.gobject.specs.declared.node.Node.{Node}
 use Rattle.gobject.specs.declared.node.Entry.{Entry}
-use Rattle.gobject.specs.Objects.{has_id, node_at, entry_of, place_of, IdsDiffer, IsShaped}
+use Rattle.gobject.specs.Objects.{node_at, entry_of, IdsDiffer, IsShaped}
 use Rattle.gname.specs.declared.formats.Format.{Format}
 use Rattle.ghistory.specs.Graphs.{History, IsNode, IsGraph, Holds, HasIdsOf, HasParent}
-use Rattle.ghistory.specs.Reach.{Reaches, here, onward, SomeReaches, IsFull, IsClosed, Agree, Keeps, Grows}
-use Rattle.ghistory.specs.Insert.{Inserts, ComesIn, Lists, AddsOnly, AddsOnlyParents}
+use Rattle.ghistory.specs.Reach.{Reaches, here, onward, SomeReaches, IsFull, IsClosed, Agree, Keeps}
+use Rattle.ghistory.specs.Insert.{Inserts, Lists, AddsOnly, AddsOnlyParents}
 use Rattle.ghistory.specs.Peeling.{IsTagOf, IsCommit, Tags, PeelsTo}
 use Rattle.ghistory.specs.Selecting.{Selects, none, keep, skip}
-use Rattle.ghistory.specs.Sending.{IsNew, IsToSend, IsListToSend}
+use Rattle.ghistory.specs.Sending.{IsToSend, IsListToSend}
 use Rattle.ghistory.specs.Laws.{HasAll}
 use Rattle.ghistory.proofs.Reaching.{kept_along, reaches_parent, full_in_closed, place_at, node_at_place}
 use Rattle.ghistory.proofs.PeelLemmas.{peel_ends}
-use Rattle.ghistory.proofs.Holding.{held_node, own_place, has_id_is, id_cases, node_here, node_there, absent_head, absent_tail}
-use Rattle.ghistory.proofs.Growing.{grows_keeps, inserts_grows, inserts_held, node_in_front, node_behind, reached_before}
+use Rattle.ghistory.proofs.Holding.{one_node, held_node, own_place, has_id_is, id_cases, node_here, node_there, absent_head, absent_tail}
+use Rattle.ghistory.proofs.Choosing.{chosen_or_not, chosen_all, chosen_few}
+use Rattle.ghistory.proofs.Growing.{grows_keeps, inserts_grows, inserts_held, node_in_front, node_after, reached_before}
 
 -- a node that is there is held
 pub holds_node : {A : Type 0} (g : List (Entry A)) (a : List ℕ) (node : Node A) → IsNode g a node → Holds g a
 holds_node g a node is = ap is_some is
-
-pub one_node : {A : Type 0} (g : List (Entry A)) (a : List ℕ) (m n : Node A) → IsNode g a m → IsNode g a n → m ≡ n
-one_node g a m n left right = same_Some m n (sym left ∙ right)
 
 -- ---- closed, full, reached before
 
@@ -67,7 +65,7 @@ comes_only {A} old entry new entries a node (inr c) is = by (node_at old a) refl
     by : (o : Option (Node A)) → node_at old a ≡ o → IsNode old a node ⊎ Lists (entry ∷ entries) a node
     by (Some other) found = inl (found ∙ ap Some (one_node (old ++ entry ∷ []) a other node (node_in_front old (entry ∷ []) a other found) at_end))
     by None absent =
-        let last : node_at (entry ∷ []) a ≡ Some node = sym (node_behind old (entry ∷ []) a absent) ∙ at_end in
+        let last : node_at (entry ∷ []) a ≡ Some node = sym (node_after old (entry ∷ []) a absent) ∙ at_end in
         elim (id_cases a entry) [
           | inl same ↦ inr (listed_first entry entries a node (has_id_is a entry same) (same_Some entry.node node (sym (node_here entry [] a same) ∙ last)))
           | inr other ↦ absurd (none-some node (sym (node_there entry [] a other) ∙ last))
@@ -100,39 +98,6 @@ agree_inserted {A} g h entries new format agree theirs inserts a m n left right 
     ]
 
 -- ---- choosing
-
--- an element is chosen, or it has not P
-pub chosen_or_not : {X : Type 0} (P : X → Type 0) (xs ys : List X) (k : ℕ) (x : X) → Selects P xs ys → slice_get xs k ≡ Some x → Contains ys x ⊎ ¬ (P x)
-chosen_or_not P xs ys k x none at = absurd (none-some x at)
-chosen_or_not {X} P xs ys zero x (keep {x = first} {ys = more} p rest) at =
-    inl (0, omega arith, same_Some first x at)
-chosen_or_not {X} P xs ys (suc k) x (keep {x = first} {xs = others} {ys = more} p rest) at =
-    elim (chosen_or_not P others more k x rest at) [
-      | inl among ↦ inl (Contains-append_right (first ∷ []) more x among)
-      | inr left_out ↦ inr left_out
-    ]
-chosen_or_not {X} P xs ys zero x (skip {x = first} left_out rest) at = inr (subst (λ y. ¬ (P y)) (same_Some first x at) left_out)
-chosen_or_not {X} P xs ys (suc k) x (skip {x = first} {xs = others} left_out rest) at = chosen_or_not P others ys k x rest at
-
--- what holds of each element holds of each that is chosen
-pub chosen_all : {X : Type 0} (P Q : X → Type 0) (xs ys : List X) → Selects P xs ys → All Q xs → All Q ys
-chosen_all P Q xs ys none all = All-nil Q
-chosen_all P Q xs ys (keep {x = x} {xs = others} {ys = more} p rest) all =
-    All-cons Q x more (All-head Q x others all) (chosen_all P Q others more rest (All-tail Q x others all))
-chosen_all P Q xs ys (skip {x = x} {xs = others} left_out rest) all = chosen_all P Q others ys rest (All-tail Q x others all)
-
--- one list is chosen
-pub one_choice : {X : Type 0} (P : X → Type 0) (xs ys zs : List X) → Selects P xs ys → Selects P xs zs → ys ≡ zs
-one_choice P xs ys zs none none = refl
-one_choice P xs ys zs (keep {x = x} {xs = others} {ys = more} p rest) (keep {ys = less} q last) = ap (λ l. x ∷ l) (one_choice P others more less rest last)
-one_choice P xs ys zs (keep p rest) (skip left_out last) = absurd (left_out p)
-one_choice P xs ys zs (skip left_out rest) (keep p last) = absurd (left_out p)
-one_choice P xs ys zs (skip {xs = others} left_out rest) (skip other last) = one_choice P others ys zs rest last
-
-chosen_few : {X : Type 0} (P : X → Type 0) (xs ys : List X) → Selects P xs ys → length ys ≤ length xs
-chosen_few P xs ys none = omega arith
-chosen_few P xs ys (keep {xs = others} {ys = more} p rest) = let l = chosen_few P others more rest in omega arith
-chosen_few P xs ys (skip {xs = others} left_out rest) = let l = chosen_few P others ys rest in omega arith
 
 -- an id of no entry is none of a chosen one's
 chosen_absent : {A : Type 0} (P : Entry A → Type 0) (g list : List (Entry A)) (a : List ℕ) → Selects P g list → node_at g a ≡ None → node_at list a ≡ None

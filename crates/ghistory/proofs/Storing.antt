@@ -1,7 +1,5 @@
 -- A graph's entries as its map grows and is cut back.
-use Rattle.std.proofs.Common.{◌≡◌, ◌↔◌, ℕ, zero, suc, ◌<◌, Bool, nat_eq, List, [], ◌∷◌, ◌++◌, length, take, map, All, IsTrue, Option, Some, None, refl, sym, ap, ◌∙◌, subst, arith}
-use Rattle.std.specs.List.{slice_get}
-use Rattle.std.specs.Option.{option_map}
+use Rattle.std.proofs.Common.{◌≡◌, ◌↔◌, ℕ, ◌<◌, Bool, nat_eq, List, [], ◌∷◌, ◌++◌, length, take, All, IsTrue, None, sym, ap, ◌∙◌, subst}
 use Rattle.std.specs.Cmp.Lexicographic.{pointwise}
 use Rattle.std.proofs.lemmas.List.{map-append, take-map}
 use Rattle.indexmap.specs.IndexMap.{IndexMap, insert_entry}
@@ -10,7 +8,7 @@ use Rattle.gobject.specs.declared.node.Node.{Node}
 use Rattle.gobject.specs.declared.node.Entry.{Entry}
 use Rattle.gobject.specs.Objects.{entry_of, node_at, IsShaped}
 use Rattle.gname.specs.declared.formats.Format.{Format}
-use Rattle.ghistory.specs.Graphs.{History, IsGraph, IsOrdered, Holds, HasIdsOf, entries_of, max_nodes}
+use Rattle.ghistory.specs.Graphs.{IsGraph, IsOrdered, Holds, HasIdsOf, entries_of, max_nodes}
 use Rattle.ghistory.proofs.Growing.{graph_push, graph_take}
 use Rattle.ghistory.proofs.Ordering.{ordered_push, ordered_before, ordered_last}
 use Rattle.ghistory.proofs.Pairs.{node_at_pairs}

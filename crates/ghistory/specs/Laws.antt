@@ -1,13 +1,20 @@
 -- Laws of graphs, over all graphs and lists.
-use Rattle.std.specs.Prelude.{◌≡◌, ◌<◌, ◌≤◌, ◌⊎◌, ◌↔◌, ℕ, List, ◌∷◌, ◌++◌, length, All, None, Some}
+use Rattle.std.specs.Prelude.{◌≡◌, ◌<◌, ◌≤◌, ◌⊎◌, ◌↔◌, ℕ, List, ◌∷◌, ◌++◌, length, All, Contains, None, Some}
+use Rattle.std.specs.List.{IsDistinct}
+use Rattle.std.specs.Str.{bytes_eq}
 use Rattle.gobject.specs.declared.node.Entry.{Entry}
 use Rattle.gobject.specs.Objects.{node_at, place_of, IdsDiffer, IsShaped}
 use Rattle.gname.specs.declared.formats.Format.{Format}
+use Rattle.ghistory.specs.declared.fault.GraphFault.{GraphFault}
 use Rattle.ghistory.specs.Graphs.{History, Holds, IsNode, IsGraph, IsOrdered, HasIdsOf, max_nodes}
 use Rattle.ghistory.specs.Reach.{Reaches, IsFull, IsClosed, Agree, Keeps}
-use Rattle.ghistory.specs.Insert.{Inserts}
+use Rattle.ghistory.specs.Insert.{Inserts, IsCause}
 use Rattle.ghistory.specs.Peeling.{IsTagOf, PeelsTo}
 use Rattle.ghistory.specs.Sending.{IsListToSend}
+use Rattle.ghistory.specs.Reach.{SomeReaches}
+use Rattle.ghistory.specs.Levels.{level, AreDistances}
+use Rattle.ghistory.specs.Offer.{IsExact}
+use Rattle.ghistory.specs.Walks.{common_of}
 
 -- an entry may come next: its id is new, its ids are of the format, its node has its shape, and there is room
 pub record MayComeNext {A : Type 0} (format : Format) (g : List (Entry A)) (entry : Entry A) : Type 0 where
@@ -21,6 +28,12 @@ abbrev pub EntriesComeInOrder : Type 0 → Type 0
 EntriesComeInOrder A =
     (format : Format) (front : List (Entry A)) (entry : Entry A) (back : List (Entry A))
     → IsGraph (record { format = format; entries = front ++ entry ∷ back }) → MayComeNext format front entry
+
+-- an entry that can't come in has one cause
+abbrev pub OneCause : Type 0 → Type 0
+OneCause A =
+    (format : Format) (g : List (Entry A)) (entry : Entry A) (fault other : GraphFault)
+    → IsCause format g entry fault → IsCause format g entry other → fault ≡ other
 
 -- a graph is closed exactly where the whole ancestry of each id that it holds is held
 abbrev pub ClosedIsFull : Type 0 → Type 0
@@ -91,3 +104,26 @@ SendingIsEnough A =
     (s c list new : List (Entry A)) (wants commons tips : List (List ℕ)) (format : Format)
     → IdsDiffer s → IsClosed s → Agree s c → All (Holds s) wants → All (IsFull c) commons
     → IsListToSend s wants commons tips list → Inserts format c list new → HasAll s wants new
+
+-- ---- levels, offers and common ids
+
+-- each level has exactly the ids at its distance from the tips
+abbrev pub LevelsAreDistances : Type 0 → Type 0
+LevelsAreDistances A = (g : List (Entry A)) (tips : List (List ℕ)) → AreDistances g tips
+
+-- an id is at some level exactly where some tip reaches it
+abbrev pub LevelsAreReached : Type 0 → Type 0
+LevelsAreReached A =
+    (g : List (Entry A)) (tips : List (List ℕ)) (a : List ℕ)
+    → ((k : ℕ) × Contains (level g tips k) a) ↔ SomeReaches g tips a
+
+-- there is one offer, of the ids that it ought to have
+abbrev pub OffersAreExact : Type 0 → Type 0
+OffersAreExact A = (g : List (Entry A)) (tips commons sent : List (List ℕ)) (n : ℕ) → IsExact g tips commons sent n
+
+-- the common ids are the haves that are held, each once
+abbrev pub CommonsAreHeld : Type 0 → Type 0
+CommonsAreHeld A =
+    (g : List (Entry A)) (haves : List (List ℕ))
+    → IsDistinct bytes_eq (common_of g haves)
+    × ((a : List ℕ) → Contains (common_of g haves) a ↔ (Contains haves a × Holds g a))

@@ -71,7 +71,7 @@ pub record IsAtDistance {A : Type 0} (g : List (Entry A)) (tips : List (List ℕ
 
 -- level k has exactly the ids at that distance; no id comes twice, at one level or at two; all levels together have
 -- at most as many ids as there are tips and parents; so some level is empty, and those after it are
-pub record LevelsAreDistances {A : Type 0} (g : List (Entry A)) (tips : List (List ℕ)) : Type 0 where
+pub record AreDistances {A : Type 0} (g : List (Entry A)) (tips : List (List ℕ)) : Type 0 where
   pub exact : (k : ℕ) (a : List ℕ) → Contains (level g tips k) a ↔ IsAtDistance g tips k a
   pub once : (k : ℕ) → IsDistinct bytes_eq (levels_below g tips k)
   pub few : (k : ℕ) → length (levels_below g tips k) ≤ length tips + length (flat_map (λ entry. entry.node.parents) g)

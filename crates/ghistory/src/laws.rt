@@ -1,36 +1,18 @@
 // Laws of graphs. A call does nothing, and gives its caller's proof the law.
 #![tactic(auto)]
 
-ghost use Rattle.ghistory.specs.Laws.{EntriesComeInOrder, ClosedIsFull, ReachingGoesOn, FullStaysFull, PathsAreShared, AgreeingStays, PeelsToOne, PeelsAlongTags, OrderedIsClosed, ReachingGoesDown, OneListToSend, SentAreEntries, SendingIsEnough};
-ghost use Rattle.ghistory.specs.Levels.{LevelsAreDistances};
-ghost use Rattle.ghistory.specs.Offer.{OffersAreExact};
+ghost use Rattle.ghistory.specs.Laws.{EntriesComeInOrder, OneCause, ClosedIsFull, ReachingGoesOn, FullStaysFull, PathsAreShared, AgreeingStays, PeelsToOne, PeelsAlongTags, OrderedIsClosed, ReachingGoesDown, OneListToSend, SentAreEntries, SendingIsEnough, LevelsAreDistances, LevelsAreReached, OffersAreExact, CommonsAreHeld};
 
-use gname::Oid;
-use gobject::Entry;
 use std::alloc::Allocator;
-
-/// Level k has exactly the ids whose least number of steps to a parent, from a tip on, is k. No id is in
-/// two levels or twice in one; all levels together have at most as many ids as there are tips and
-/// parents; so from some level on all are empty.
-pub fn levels_are_distances<A: Allocator + Copy>(entries: &[Entry<A>], tips: &[Oid])
-    ensures { LevelsAreDistances entries.now tips.now }
-{}
-
-/// There is one offer for each request for haves. It has at most so many ids as were asked for, each
-/// once: ids to offer that a tip reaches. Where it has fewer, it has all of these.
-pub fn offers_are_exact<A: Allocator + Copy>(
-    entries: &[Entry<A>],
-    tips: &[Oid],
-    commons: &[Oid],
-    sent: &[Oid],
-    n: usize,
-)
-    ensures { OffersAreExact entries.now tips.now commons.now sent.now n }
-{}
 
 /// Each entry of a graph could have been added after those before it.
 pub fn entries_come_in_order<A: Allocator + Copy>()
     ensures { EntriesComeInOrder A }
+{}
+
+/// An entry that is refused has one cause: the first in the order of `Graph::insert_all`.
+pub fn one_cause<A: Allocator + Copy>()
+    ensures { OneCause A }
 {}
 
 /// No parent is missing exactly where the whole ancestry of each id that is held is held.
@@ -95,4 +77,27 @@ pub fn sent_are_entries<A: Allocator + Copy>()
 /// wants, and all that they reach in the server's.
 pub fn sending_is_enough<A: Allocator + Copy>()
     ensures { SendingIsEnough A }
+{}
+
+/// Level k has exactly the ids whose least number of steps to a parent, from a tip on, is k. No id is in
+/// two levels or twice in one; all levels together have at most as many ids as there are tips and
+/// parents; so from some level on all are empty.
+pub fn levels_are_distances<A: Allocator + Copy>()
+    ensures { LevelsAreDistances A }
+{}
+
+/// An id is at some level about some tips exactly where one of the tips reaches it.
+pub fn levels_are_reached<A: Allocator + Copy>()
+    ensures { LevelsAreReached A }
+{}
+
+/// There is one offer for each request for haves. It has at most so many ids as were asked for, each
+/// once: ids that may be offered and that a tip reaches. Where it has fewer, it has all of these.
+pub fn offers_are_exact<A: Allocator + Copy>()
+    ensures { OffersAreExact A }
+{}
+
+/// The common ids are the haves that are held, each once.
+pub fn commons_are_held<A: Allocator + Copy>()
+    ensures { CommonsAreHeld A }
 {}

@@ -10,24 +10,25 @@
 //! - `insert` and `insert_all` add each new object after the others, and nothing else; they refuse an entry
 //!   for its first cause alone, in a fixed order, and then the graph is as it was. Memory is a cause only
 //!   where an object is new and there is room for it.
-//! - `is_closed` answers whether no parent is missing.
+//! - `is_closed` answers whether no parent is missing. `peel` answers the commit at the end of a chain of
+//!   tags exactly where there is one. Neither takes memory.
 //! - `laws` speak of all graphs and lists: of reaching, of whole ancestries, of graphs that agree, of
-//!   peeling, and that a list to send, once it is inserted, makes the wants whole at the client.
+//!   peeling, of the levels about some tips, of the ids to offer, and that a list to send, once it is
+//!   inserted, makes the wants whole at the client.
 //!
 //! # Only tested
 //!
-//! That a call does the work at its first try where there is memory: `Memory` may come in place of any
-//! growth.
+//! That memory, where there is some, is found.
 //!
 //! # What a body can still get away with
 //!
 //! It may take as long as it likes, and more memory than it needs. It may report out of memory of any new
-//! object.
+//! object for which there is room.
 //!
 //! # Stands on
 //!
 //! `gname` for ids, `gobject` for nodes and entries, `indexmap` for the map from ids to nodes, and
-//! `thiserror` for the texts of faults.
+//! `thiserror` for the texts of faults; in tests `bumpalo`, for memory that ends.
 #![tactic(auto)]
 
 mod closed;
@@ -35,6 +36,7 @@ mod fault;
 mod graph;
 mod insert;
 pub mod laws;
+mod peel;
 #[cfg(test)]
 mod tests;
 

@@ -1,4 +1,7 @@
 //! What no clause says, and examples from outside the proofs.
 mod faults;
+mod limits;
 mod makers;
+mod memory;
+mod peeling;
 mod store;

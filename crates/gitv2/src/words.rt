@@ -13,7 +13,7 @@ pub(crate) enum Command {
 }
 
 /// The command that the words name, the first of which is the program's own. `None` where they name
-/// none, or ask for help, and where there is no memory to tell.
+/// none, or ask for help, and where there is no memory to read them.
 pub(crate) fn read(alloc: Global, words: &[String]) -> Option<Command> {
     if words.iter().any(|word| word.as_str() == "--") {
         return None;

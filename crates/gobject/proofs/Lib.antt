@@ -1,4 +1,5 @@
 pub mod PlainPackLines
+pub mod PlainPackFronts
 pub mod PlainPackReading
 pub mod PlainPackFeed
 pub mod PlainPackWriting

@@ -8,7 +8,6 @@ use Rattle.gobject.specs.declared.plain_pack.feed.PlainFeed.{PlainFeed}
 use Rattle.gname.specs.Laws.{IdTextsAreDigits}
 use Rattle.gobject.specs.PlainPackText.{IsPack, IsBadLine, IndexRefuses}
 use Rattle.gobject.specs.declared.plain_pack.read.Separator.{Separator}
-use Rattle.gobject.specs.declared.plain_pack.read.Next.{Next}
 use Rattle.gobject.specs.declared.plain_pack.read.Next.TheVariants.{Header}
 use Rattle.gobject.specs.PlainPackReading.{IsPart, separator_byte, line_number, HasRead, Reads, Finishes}
 use Rattle.gobject.specs.PlainPackFeed.{Fed, Feeds}

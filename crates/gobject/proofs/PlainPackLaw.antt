@@ -1,5 +1,5 @@
 -- A plain pack has one reading, a bad line has one place, and nothing is lost.
-use Rattle.std.proofs.Common.{ap₂, ◌≡◌, ◌≢◌, ◌⊎◌, inl, inr, ℕ, suc, ◌+◌, List, [], ◌∷◌, ◌++◌, length, decimal, map, refl, ap, sym, subst, ◌∙◌, append_assoc, arith}
+use Rattle.std.proofs.Common.{ap₂, ◌≡◌, ◌⊎◌, inl, inr, ℕ, ◌+◌, List, [], ◌∷◌, ◌++◌, length, decimal, map, refl, ap, sym, subst, ◌∙◌, append_assoc, arith}
 use Rattle.std.specs.List.{All}
 use Rattle.std.proofs.lemmas.List.Elements.{All-append, All-cons, All-head, All-nil, All-tail}
 use Rattle.std.proofs.lemmas.List.{append-nil}
@@ -12,9 +12,9 @@ use Rattle.gobject.specs.declared.fault.IndexFault.{IndexFault}
 use Rattle.gobject.specs.declared.fault.IndexFault.TheVariants as index_faults
 use Rattle.gobject.specs.Objects.{HasIds, entry_of, node_of}
 use Rattle.gobject.specs.Packs.{LosesNothing}
-use Rattle.gobject.specs.PlainPackText.{line, text_of, header, letter, ids_of, ids_text, node_text, end_text, pack_lines, pack_text, PackRefuses, IsInLine, IsIdsText, IsNodeText, AreNodeTexts, IsFront, MayCome, ArePackLines, IsPack, IsWrong, IsCut, IsFollowed, IsBadLine, IndexRefuses}
-use Rattle.gobject.proofs.PlainPackLines.{IsPart-nil, IsPart-id, IsPart-letter, letter_no_end, IsPart-decimal, IsPart-header, IsInLine-part, IsInLine-cons, IsInLine-append, not_in_line, line_parts, IsIdsText-one}
-use Rattle.gobject.proofs.PlainPackReading.{AreNodeTexts-length}
+use Rattle.gobject.specs.PlainPackText.{line, text_of, header, letter, ids_of, ids_text, node_text, end_text, pack_lines, pack_text, PackRefuses, IsInLine, IsIdsText, IsNodeText, AreNodeTexts, ArePackLines, IsPack, BeginsPack, IsWholePack, IsBadLine, IndexRefuses}
+use Rattle.gobject.proofs.PlainPackLines.{IsPart-nil, IsPart-id, IsPart-letter, IsPart-decimal, IsPart-header, IsInLine-part, IsInLine-cons, IsInLine-append, not_in_line, line_parts, text_of-push, IsIdsText-one}
+use Rattle.gobject.proofs.PlainPackFronts.{end_no_node}
 
 module _ (digits_law : IdTextsAreDigits) (one_law : TextsSpellOneId) where
   -- ---- what a line says
@@ -61,6 +61,11 @@ module _ (digits_law : IdTextsAreDigits) (one_law : TextsSpellOneId) where
   All-back [] back all = all
   All-back (first ∷ front) back all = All-back front back (All-tail IsInLine first (front ++ back) all)
 
+  All-front : (front back : List (List ℕ)) → All IsInLine (front ++ back) → All IsInLine front
+  All-front [] back all = All-nil IsInLine
+  All-front (first ∷ front) back all =
+      All-cons IsInLine first front (All-head IsInLine first (front ++ back) all) (All-front front back (All-tail IsInLine first (front ++ back) all))
+
   nodes_in_line : {A : Type 0} (nodes : List (List ℕ)) (list : List (Entry A)) → AreNodeTexts nodes list → All IsInLine nodes
   nodes_in_line [] [] h = All-nil IsInLine
   nodes_in_line (text ∷ nodes) (entry ∷ list) h = All-cons IsInLine text nodes (IsInLine-node text entry h.0) (nodes_in_line nodes list h.1)
@@ -73,11 +78,6 @@ module _ (digits_law : IdTextsAreDigits) (one_law : TextsSpellOneId) where
       (All-cons IsInLine header (h.nodes ++ end_text (length list) ∷ []) (IsInLine-part header IsPart-header)
       (All-append IsInLine h.nodes (end_text (length list) ∷ []) (nodes_in_line h.nodes list h.each)
       (All-cons IsInLine (end_text (length list)) [] (IsInLine-end (length list)) (All-nil IsInLine))))
-
-  front_in_line : (A : Type 0) (lines : List (List ℕ)) → IsFront A lines → All IsInLine lines
-  front_in_line A [] h = All-nil IsInLine
-  front_in_line A (first ∷ nodes) h =
-      All-cons IsInLine first nodes (subst IsInLine (sym h.0) (IsInLine-part header IsPart-header)) (nodes_in_line nodes h.1.0 h.1.1)
 
   -- where some lines are at the front of a text, they are the first of its lines
   more_lines : (lines whole : List (List ℕ)) (rest : List ℕ) → All IsInLine lines → All IsInLine whole → text_of whole ≡ text_of lines ++ rest
@@ -93,54 +93,6 @@ module _ (digits_law : IdTextsAreDigits) (one_law : TextsSpellOneId) where
       (further.0, ap (λ (l : List ℕ). l ∷ whole) parts.0 ∙ ap (λ (ls : List (List ℕ)). first ∷ ls) further.1, further.2)
 
   -- ---- what comes in a pack
-
-  -- the end is the line of no entry
-  end_no_node : {A : Type 0} (n : ℕ) (entry : Entry A) → IsNodeText (end_text n) entry → ⊥
-  end_no_node n entry h = let first : letter entry.node.kind ≡ 101 = (let is = h.1 in cc) in letter_no_end entry.node.kind first
-
-  -- after lines of entries comes one more, or the end
-  next_node : {A : Type 0} (nodes front : List (List ℕ)) (text : List ℕ) (more : List (List ℕ)) (list read : List (Entry A)) (n : ℕ)
-      → AreNodeTexts nodes list → AreNodeTexts front read → nodes ++ end_text n ∷ [] ≡ front ++ text ∷ more
-      → ((entry : Entry A) × IsNodeText text entry) ⊎ ((text ≡ end_text n) × (length front ≡ length nodes))
-  next_node [] [] text more list read n h k same = let is : end_text n ≡ text = cc in inr (sym is, refl)
-  next_node [] (first ∷ front) text more list [] n h k same = absurd k
-  next_node [] (first ∷ front) text more list (entry ∷ read) n h k same =
-      let is : end_text n ≡ first = cc in absurd (end_no_node n entry (subst (λ (t : List ℕ). IsNodeText t entry) (sym is) k.0))
-  next_node (node ∷ nodes) [] text more [] read n h k same = absurd h
-  next_node (node ∷ nodes) [] text more (entry ∷ list) read n h k same =
-      let is : node ≡ text = cc in inl (entry, subst (λ (t : List ℕ). IsNodeText t entry) is h.0)
-  next_node (node ∷ nodes) (first ∷ front) text more [] read n h k same = absurd h
-  next_node (node ∷ nodes) (first ∷ front) text more (entry ∷ list) [] n h k same = absurd k
-  next_node (node ∷ nodes) (first ∷ front) text more (entry ∷ list) (other ∷ read) n h k same =
-      let rest : nodes ++ end_text n ∷ [] ≡ front ++ text ∷ more = cc in
-      elim (next_node nodes front text more list read n h.1 k.1 rest) [
-        | inl comes ↦ inl comes
-        | inr ends ↦ inr (ends.0, ap suc ends.1)
-      ]
-
-  -- the line after a front of a pack may come there
-  comes_next : {A : Type 0} (front : List (List ℕ)) (text : List ℕ) (more lines : List (List ℕ)) (list : List (Entry A))
-      → IsFront A front → ArePackLines lines list → lines ≡ front ++ text ∷ more → MayCome A front text
-  comes_next [] text more lines list before h same = let whole = sym same ∙ h.are in cc
-  comes_next (first ∷ front) text more lines list before h same =
-      let whole : header ∷ (h.nodes ++ end_text (length list) ∷ []) ≡ first ∷ (front ++ text ∷ more) = sym h.are ∙ same in
-      let rest : h.nodes ++ end_text (length list) ∷ [] ≡ front ++ text ∷ more = cc in
-      elim (next_node h.nodes front text more list before.1.0 (length list) h.each before.1.1 rest) [
-        | inl comes ↦ inl comes
-        | inr ends ↦ inr (ends.0 ∙ ap end_text (sym (ends.1 ∙ AreNodeTexts-length h.nodes list h.each)))
-      ]
-
-  -- a whole pack is no front of one
-  last_no_node : {A : Type 0} (nodes : List (List ℕ)) (n : ℕ) (list : List (Entry A)) → AreNodeTexts (nodes ++ end_text n ∷ []) list → ⊥
-  last_no_node [] n [] h = h
-  last_no_node [] n (entry ∷ list) h = end_no_node n entry h.0
-  last_no_node (node ∷ nodes) n [] h = h
-  last_no_node (node ∷ nodes) n (entry ∷ list) h = last_no_node nodes n list h.1
-
-  whole_no_front : {A : Type 0} (lines : List (List ℕ)) (list : List (Entry A)) → ArePackLines lines list → IsFront A lines → ⊥
-  whole_no_front {A} lines list h before =
-      let front : IsFront A (header ∷ (h.nodes ++ end_text (length list) ∷ [])) = subst (IsFront A) h.are before in
-      last_no_node h.nodes (length list) front.1.0 front.1.1
 
   -- two packs of which one begins the other have the same entries, and nothing follows
   same_nodes : {A : Type 0} (nodes front more : List (List ℕ)) (list read : List (Entry A)) (n m : ℕ) → AreNodeTexts nodes list → AreNodeTexts front read
@@ -179,40 +131,6 @@ module _ (digits_law : IdTextsAreDigits) (one_law : TextsSpellOneId) where
       let left = more_lines k.lines h.lines [] (pack_in_line k.lines b k.are) (pack_in_line h.lines a h.are) (sym h.whole ∙ k.whole ∙ sym (append-nil (text_of k.lines))) in
       (same_packs h.lines k.lines left.0 a b h.are k.are left.1).0
 
-  no_wrong_line : {A : Type 0} (bytes : List ℕ) (at : ℕ) (list : List (Entry A)) → IsWrong A bytes at → IsPack bytes list → ⊥
-  no_wrong_line {A} bytes at list w h =
-      let left = more_lines w.front h.lines (line w.text ++ w.rest) (front_in_line A w.front w.before) (pack_in_line h.lines list h.are) (sym h.whole ∙ w.parts) in
-      stands left.0 left.1 left.2
-    where
-      stands : (more : List (List ℕ)) → h.lines ≡ w.front ++ more → line w.text ++ w.rest ≡ text_of more → ⊥
-      stands [] whole same = not_in_line w.text w.rest (subst IsInLine (sym same) (IsInLine-part [] IsPart-nil))
-      stands (first ∷ more) whole same =
-          let each = subst (All IsInLine) whole (pack_in_line h.lines list h.are) in
-          let first_in_line = All-head IsInLine first more (All-back w.front (first ∷ more) each) in
-          let is : w.text ≡ first = (line_parts w.text first w.rest (text_of more) w.in_line first_in_line same).0 in
-          w.wrong (comes_next w.front w.text more h.lines list w.before h.are (whole ∙ ap (λ (t : List ℕ). w.front ++ t ∷ more) (sym is)))
-
-  no_cut : {A : Type 0} (bytes : List ℕ) (at : ℕ) (list : List (Entry A)) → IsCut A bytes at → IsPack bytes list → ⊥
-  no_cut {A} bytes at list w h =
-      let left = more_lines w.front h.lines w.rest (front_in_line A w.front w.before) (pack_in_line h.lines list h.are) (sym h.whole ∙ w.parts) in
-      ends left.0 left.1 left.2
-    where
-      ends : (more : List (List ℕ)) → h.lines ≡ w.front ++ more → w.rest ≡ text_of more → ⊥
-      ends [] whole same = whole_no_front h.lines list h.are (subst (IsFront A) (sym (whole ∙ append-nil w.front)) w.before)
-      ends (first ∷ more) whole same = not_in_line first (text_of more) (subst IsInLine same w.in_line)
-
-  no_followed : {A : Type 0} (bytes : List ℕ) (at : ℕ) (list : List (Entry A)) → IsFollowed A bytes at → IsPack bytes list → ⊥
-  no_followed bytes at list k h =
-      let left = more_lines k.lines h.lines k.rest (pack_in_line k.lines k.list k.before) (pack_in_line h.lines list h.are) (sym h.whole ∙ k.parts) in
-      let nothing = (same_packs h.lines k.lines left.0 list k.list h.are k.before left.1).1 in
-      k.more (left.2 ∙ ap text_of nothing)
-
-  -- no line of a pack is wrong
-  pub IsPack-no_bad_line : {A : Type 0} (bytes : List ℕ) (at : ℕ) (list : List (Entry A)) → IsPack bytes list → IsBadLine A bytes at → ⊥
-  IsPack-no_bad_line bytes at list h (inl w) = no_wrong_line bytes at list w h
-  IsPack-no_bad_line bytes at list h (inr (inl w)) = no_cut bytes at list w h
-  IsPack-no_bad_line bytes at list h (inr (inr w)) = no_followed bytes at list w h
-
   -- ---- a bad line
 
   -- the line after some lines that go on in the other
@@ -237,77 +155,85 @@ module _ (digits_law : IdTextsAreDigits) (one_law : TextsSpellOneId) where
         | inr (inr h) ↦ inr (inr (h.0, h.1, h.2, ap (λ (l : List ℕ). l ∷ lines) parts.0 ∙ ap (λ (ls : List (List ℕ)). second ∷ ls) h.3, h.4))
       ]
 
-  -- no line that may come follows
-  abbrev Unfit : (A : Type 0) → List (List ℕ) → List ℕ → Type 0
-  Unfit A lines rest = (text more : List ℕ) → MayCome A lines text → rest ≡ line text ++ more → ⊥
-
-  -- reading stops after these lines: they are right, but no line that may come follows; or they are a pack
-  abbrev Halts : (A : Type 0) → List (List ℕ) → List ℕ → Type 0
-  Halts A lines rest = (IsFront A lines × Unfit A lines rest) ⊎ ((list : List (Entry A)) × ArePackLines lines list)
-
-  -- a line of an entry among others
-  middle_node : {A : Type 0} (nodes : List (List ℕ)) (text : List ℕ) (more : List (List ℕ)) (list : List (Entry A)) → AreNodeTexts (nodes ++ text ∷ more) list
-      → ((front : List (Entry A)) × AreNodeTexts nodes front) × ((entry : Entry A) × IsNodeText text entry)
-  middle_node [] text more [] h = absurd h
-  middle_node [] text more (entry ∷ list) h = (([], tt), (entry, h.0))
-  middle_node (node ∷ nodes) text more [] h = absurd h
-  middle_node (node ∷ nodes) text more (entry ∷ list) h =
-      let further = middle_node nodes text more list h.1 in ((entry ∷ further.0.0, (h.0, further.0.1)), further.1)
-
-  -- the line after a front of right lines may come there
-  front_next : (A : Type 0) (front : List (List ℕ)) (text : List ℕ) (more : List (List ℕ)) → IsFront A (front ++ text ∷ more) → IsFront A front × MayCome A front text
-  front_next A [] text more h = (tt, h.0)
-  front_next A (first ∷ nodes) text more h =
-      let node = middle_node nodes text more h.1.0 h.1.1 in ((h.0, (node.0.0, node.0.1)), inl node.1)
-
-  -- where reading stops, no other reading goes on
-  halts_here : {A : Type 0} (lines : List (List ℕ)) (rest : List ℕ) (others : List (List ℕ)) (more : List ℕ) → Halts A lines rest → Halts A others more
-      → Extends lines rest others → ⊥
-  halts_here {A} lines rest others more (inl h) (inl k) on =
-      let P : List (List ℕ) → Type 0 = λ ls. IsFront A ls in
-      h.1 on.0 on.2 (front_next A lines on.0 on.1 (subst P on.3 k.0)).1 on.4
-  halts_here lines rest others more (inl h) (inr k) on = h.1 on.0 on.2 (comes_next lines on.0 on.1 others k.0 h.0 k.1 on.3) on.4
-  halts_here {A} lines rest others more (inr h) (inl k) on =
-      let P : List (List ℕ) → Type 0 = λ ls. IsFront A ls in
-      whole_no_front lines h.0 h.1 (front_next A lines on.0 on.1 (subst P on.3 k.0)).0
-  halts_here lines rest others more (inr h) (inr k) on =
-      let nothing = (same_packs others lines (on.0 ∷ on.1) k.0 h.0 k.1 h.1 on.3).1 in cc
-
-  may_in_line : (A : Type 0) (lines : List (List ℕ)) (text : List ℕ) → MayCome A lines text → IsInLine text
-  may_in_line A [] text h = subst IsInLine (sym h) (IsInLine-part header IsPart-header)
-  may_in_line A (first ∷ nodes) text (inl h) = IsInLine-node text h.0 h.1
-  may_in_line A (first ∷ nodes) text (inr h) = subst IsInLine (sym h) (IsInLine-end (length nodes))
-
-  -- a bad line is the one after those where reading stops
-  record Bad (A : Type 0) (bytes : List ℕ) (at : ℕ) : Type 0 where
+  -- reading stops after these lines: they begin a pack, and no line that follows them does with them
+  record Stops (A : Type 0) (bytes : List ℕ) (at : ℕ) : Type 0 where
     lines : List (List ℕ)
     rest : List ℕ
     parts : bytes ≡ text_of lines ++ rest
     each : All IsInLine lines
-    halts : Halts A lines rest
+    begins : BeginsPack A lines
+    never : (text more : List ℕ) → IsInLine text → rest ≡ line text ++ more → BeginsPack A (lines ++ text ∷ []) → ⊥
+    goes : rest ≡ [] → IsWholePack A lines → ⊥
     place : at ≡ length lines + 1
 
-  Bad-of : {A : Type 0} (bytes : List ℕ) (at : ℕ) → IsBadLine A bytes at → Bad A bytes at
-  Bad-of {A} bytes at (inl w) =
-      let unfit : Unfit A w.front (line w.text ++ w.rest) = λ text more may same.
-      let P : List ℕ → Type 0 = λ t. MayCome A w.front t in
-      w.wrong (subst P (sym (line_parts w.text text w.rest more w.in_line (may_in_line A w.front text may) same).0) may) in
-      record { lines = w.front; rest = line w.text ++ w.rest; parts = w.parts; each = front_in_line A w.front w.before; halts = inl (w.before, unfit); place = w.place }
-  Bad-of {A} bytes at (inr (inl w)) =
-      let unfit : Unfit A w.front w.rest = λ text more may same. not_in_line text more (subst IsInLine same w.in_line) in
-      record { lines = w.front; rest = w.rest; parts = w.parts; each = front_in_line A w.front w.before; halts = inl (w.before, unfit); place = w.place }
-  Bad-of bytes at (inr (inr w)) =
-      record { lines = w.lines; rest = w.rest; parts = w.parts; each = pack_in_line w.lines w.list w.before; halts = inr (w.list, w.before); place = w.place }
+  begins_in_line : {A : Type 0} (lines : List (List ℕ)) → BeginsPack A lines → All IsInLine lines
+  begins_in_line lines h = All-front lines h.more (pack_in_line (lines ++ h.more) h.list h.are)
+
+  -- a bad line is the one after those
+  Stops-of : {A : Type 0} (bytes : List ℕ) (at : ℕ) → IsBadLine A bytes at → Stops A bytes at
+  Stops-of {A} bytes at (lines, place, begins, inl w) =
+      let P : List ℕ → Type 0 = λ t. BeginsPack A (lines ++ t ∷ []) in
+      record {
+        lines = lines;
+        rest = line w.0 ++ w.1.0;
+        parts = w.1.1 ∙ text_of-push lines w.0 w.1.0;
+        each = begins_in_line lines begins;
+        begins = begins;
+        never = λ text more in_line same on. w.2 (subst P (sym (line_parts w.0 text w.1.0 more w.1.2 in_line same).0) on);
+        goes = λ nothing all. not_in_line w.0 w.1.0 (subst IsInLine (sym nothing) (IsInLine-part [] IsPart-nil));
+        place = place;
+      }
+  Stops-of {A} bytes at (lines, place, begins, inr e) =
+      record {
+        lines = lines;
+        rest = e.0;
+        parts = e.1;
+        each = begins_in_line lines begins;
+        begins = begins;
+        never = λ text more in_line same on. not_in_line text more (subst IsInLine same e.2);
+        goes = e.3;
+        place = place;
+      }
+
+  -- no line of a pack is bad
+  pub IsPack-no_bad_line : {A : Type 0} (bytes : List ℕ) (at : ℕ) (list : List (Entry A)) → IsPack bytes list → IsBadLine A bytes at → ⊥
+  IsPack-no_bad_line {A} bytes at list h bad =
+      let left = more_lines s.lines h.lines s.rest s.each (pack_in_line h.lines list h.are) (sym h.whole ∙ s.parts) in
+      ends left.0 left.1 left.2
+    where
+      s : Stops A bytes at
+      s = Stops-of bytes at bad
+
+      P : List (List ℕ) → Type 0
+      P ls = ArePackLines ls list
+
+      ends : (more : List (List ℕ)) → h.lines ≡ s.lines ++ more → s.rest ≡ text_of more → ⊥
+      ends [] whole same = s.goes same (list, subst P (whole ∙ append-nil s.lines) h.are)
+      ends (first ∷ more) whole same =
+          let each = subst (All IsInLine) whole (pack_in_line h.lines list h.are) in
+          let in_line = All-head IsInLine first more (All-back s.lines (first ∷ more) each) in
+          s.never first (text_of more) in_line same
+          (record { list = list; more = more; are = subst P (whole ∙ sym (append_assoc s.lines (first ∷ []) more)) h.are })
+
+  -- where reading stops, it does not go on
+  stops_here : {A : Type 0} (bytes : List ℕ) (at : ℕ) (s : Stops A bytes at) (others : List (List ℕ)) → BeginsPack A others → Extends s.lines s.rest others → ⊥
+  stops_here {A} bytes at s others h on =
+      let P : List (List ℕ) → Type 0 = λ ls. ArePackLines ls h.list in
+      let each = subst (All IsInLine) on.3 (begins_in_line others h) in
+      let in_line = All-head IsInLine on.0 on.1 (All-back s.lines (on.0 ∷ on.1) each) in
+      let same : others ++ h.more ≡ (s.lines ++ on.0 ∷ []) ++ (on.1 ++ h.more) =
+      ap (λ (ls : List (List ℕ)). ls ++ h.more) on.3 ∙ simp append_assoc in
+      s.never on.0 on.2 in_line on.4 (record { list = h.list; more = on.1 ++ h.more; are = subst P same h.are })
 
   -- a bad line has one place
   pub IsBadLine-one : {A : Type 0} (bytes : List ℕ) (a b : ℕ) → IsBadLine A bytes a → IsBadLine A bytes b → a ≡ b
   IsBadLine-one {A} bytes a b h k =
-      let f : Bad A bytes a = Bad-of bytes a h in
-      let g : Bad A bytes b = Bad-of bytes b k in
+      let f : Stops A bytes a = Stops-of bytes a h in
+      let g : Stops A bytes b = Stops-of bytes b k in
       elim (lines_meet f.lines g.lines f.rest g.rest f.each g.each (sym f.parts ∙ g.parts)) [
         | inl is ↦ f.place ∙ ap (λ (ls : List (List ℕ)). length ls + 1) is ∙ sym g.place
-        | inr (inl on) ↦ absurd (halts_here f.lines f.rest g.lines g.rest f.halts g.halts on)
-        | inr (inr on) ↦ absurd (halts_here g.lines g.rest f.lines f.rest g.halts f.halts on)
+        | inr (inl on) ↦ absurd (stops_here bytes a f g.lines g.begins on)
+        | inr (inr on) ↦ absurd (stops_here bytes b g f.lines f.begins on)
       ]
 
 module _ (texts_law : IdsHaveTexts) (digits_law : IdTextsAreDigits) (one_law : TextsSpellOneId) where

@@ -54,7 +54,7 @@ few_digits Sha256 = omega arith
 pub length-id-most : (digits id : List ℕ) → IsIdText digits id → length digits ≤ 64
 length-id-most text id h = let few = few_digits (format_of id) in omega (arith, h.long, few)
 
--- the number of digits tells the format
+-- the number of digits gives the format
 format_of_digits-length : (format : Format) → format_of_digits (id_text_length format) ≡ format
 format_of_digits-length Sha1 = refl
 format_of_digits-length Sha256 = refl
@@ -298,7 +298,7 @@ ids_rest law text other (i ∷ a) (j ∷ b) x y h k same =
     let f = ids_first h.0 k.0 h.1 k.1 a b Space LineFeed x y (IsPart-id law h.0 i h.3) (IsPart-id law k.0 j k.3) h.4 k.4 inner in
     ids_rest law h.1 k.1 a b x y h.4 k.4 f.1
 
--- an id behind the text of others
+-- one more id after some
 pub IsIdsText-push : (front digits id : List ℕ) (ids : List (List ℕ)) → IsIdsText front ids → IsIdText digits id
     → IsIdsText (front ++ 32 ∷ digits) (ids ++ id ∷ [])
 IsIdsText-push front digits id [] h spelt =

@@ -1,18 +1,18 @@
 -- Reading a plain pack part by part: what is read stays right, and what is refused is a bad line.
-use Rattle.std.proofs.Common.{ap₂, ◌≡◌, ◌⊎◌, ⊎_elim, inl, inr, ℕ, suc, ◌+◌, ◌≤◌, ◌<◌, List, [], ◌∷◌, ◌++◌, length, length-append, codes, decimal, Option, None, Some, MatchOption, refl, ap, sym, subst, ◌∙◌, append_assoc, arith}
+use Rattle.std.proofs.Common.{ap₂, ◌≡◌, ◌⊎◌, ⊎_elim, inl, inr, ℕ, ◌+◌, ◌≤◌, ◌<◌, List, [], ◌∷◌, ◌++◌, length, length-append, codes, decimal, Option, None, Some, MatchOption, refl, ap, sym, subst, ◌∙◌, append_assoc, arith}
 use Rattle.std.proofs.lemmas.List.{append-nil}
 use Rattle.gname.specs.Ids.{IsIdText}
 use Rattle.gname.specs.Laws.{IdTextsAreDigits}
 use Rattle.gobject.specs.declared.node.Kind.{Kind}
-use Rattle.gobject.specs.declared.node.Kind.TheVariants.{Commit, Tag}
 use Rattle.gobject.specs.declared.node.Entry.{Entry}
 use Rattle.gobject.specs.declared.plain_pack.read.Separator.{Separator}
 use Rattle.gobject.specs.declared.plain_pack.read.Separator.TheVariants.{Space, LineFeed}
 use Rattle.gobject.specs.declared.plain_pack.read.Next.{Next}
 use Rattle.gobject.specs.declared.plain_pack.read.Next.TheVariants.{Header, Word, Id, Parent, Count, Nothing}
 use Rattle.gobject.specs.Objects.{entry_of, node_of}
-use Rattle.gobject.specs.PlainPackText.{line, text_of, header, letter, ids_of, end_text, IsNodeText, AreNodeTexts, IsFront, MayCome, IsPack, IsBadLine}
-use Rattle.gobject.specs.PlainPackReading.{IsPart, separator_byte, with_parent, EndsId, Leads, NeverLeads, line_number, HasRead}
+use Rattle.gobject.specs.PlainPackText.{line, text_of, header, letter, ids_of, end_text, IsNodeText, AreNodeTexts, ArePackLines, IsPack, BeginsPack, IsWrongLine, EndsEarly, IsBadLine, TakesMemory}
+use Rattle.gobject.specs.PlainPackReading.{IsPart, separator_byte, with_parent, EndsId, IsKept, Leads, NeverLeads, line_number, HasRead}
+use Rattle.gobject.proofs.PlainPackFronts.{AreNodeTexts-length, IsFront, MayCome, BeginsPack-front, IsFront-pack, comes_next, whole_no_front}
 use Rattle.gobject.proofs.PlainPackLines.{IsPart-id, IsPart-letter, letter_no_end, IsPart-end, IsPart-decimal, IsPart-header, length-decimal-most, length-id-most, part_one, part_long, part_none, first_line, text_of-push, id_follows, ids_rest, IsIdsText-push}
 
 -- ---- one part more
@@ -27,12 +27,6 @@ ends : (before : List ℕ) (front : List (List ℕ)) (opening part : List ℕ) �
 ends before front opening part h =
     let moved : (text : List ℕ) → (text ++ opening) ++ (part ++ 10 ∷ []) ≡ text ++ (line (opening ++ part) ++ []) = λ text. simp (append_assoc, append-nil) in
     ap (λ (b : List ℕ). b ++ (part ++ 10 ∷ [])) h ∙ moved (text_of front) ∙ sym (text_of-push front (opening ++ part) [])
-
-pub AreNodeTexts-length : {A : Type 0} (nodes : List (List ℕ)) (list : List (Entry A)) → AreNodeTexts nodes list → length nodes ≡ length list
-AreNodeTexts-length [] [] h = refl
-AreNodeTexts-length (text ∷ nodes) (entry ∷ list) h = ap suc (AreNodeTexts-length nodes list h.1)
-AreNodeTexts-length [] (entry ∷ list) h = absurd h
-AreNodeTexts-length (text ∷ nodes) [] h = absurd h
 
 -- one more line of an entry
 AreNodeTexts-push : {A : Type 0} (nodes : List (List ℕ)) (text : List ℕ) (list : List (Entry A)) (entry : Entry A) → AreNodeTexts nodes list
@@ -136,6 +130,43 @@ HasRead-part Header after list new before part Space h l = absurd l
 HasRead-part Word after list new before part LineFeed h l = absurd l
 HasRead-part Count after list new before part Space h l = absurd l
 HasRead-part Nothing after list new before part end h l = absurd l
+
+-- what ends a part is a space or a line feed
+separator_is : (end : Separator) → (separator_byte end ≡ 32) ⊎ (separator_byte end ≡ 10)
+separator_is Space = inl refl
+separator_is LineFeed = inr refl
+
+-- an id of an entry, and the beginning of its line, are there to be kept
+TakesMemory-id : {A : Type 0} (list : List (Entry A)) (entry : Entry A) (before : List ℕ) (front : List (List ℕ)) (opening part : List ℕ) (end : Separator) (more : List ℕ)
+    → before ≡ text_of front ++ opening → (nodes : List (List ℕ)) → front ≡ header ∷ nodes → AreNodeTexts nodes list → IsNodeText (opening ++ part) entry
+    → TakesMemory A ((before ++ (part ++ separator_byte end ∷ [])) ++ more)
+TakesMemory-id list entry before front opening part end more parts nodes begins each node =
+    let last = separator_byte end in
+    let moved : (text : List ℕ) → ((text ++ opening) ++ (part ++ last ∷ [])) ++ more ≡ text ++ ((opening ++ part) ++ last ∷ more) = λ text. simp append_assoc in
+    record {
+      nodes = nodes;
+      list = list;
+      text = opening ++ part;
+      entry = entry;
+      end = last;
+      rest = more;
+      parts = ap (λ (b : List ℕ). (b ++ (part ++ last ∷ [])) ++ more) parts ∙ moved (text_of front)
+          ∙ ap (λ (f : List (List ℕ)). text_of f ++ ((opening ++ part) ++ last ∷ more)) begins;
+      before = each;
+      node = node;
+      ends = separator_is end;
+    }
+
+pub TakesMemory-part : {A : Type 0} (next : Next A) (list : List (Entry A)) (before part : List ℕ) (end : Separator) (more : List ℕ) → HasRead next list before
+    → IsKept next part → TakesMemory A ((before ++ (part ++ separator_byte end ∷ [])) ++ more)
+TakesMemory-part {A} (Id kind) list before part end more h k =
+    TakesMemory-id list (entry_of k.0 (node_of kind [])) before h.front h.opening part end more h.parts h.lines.0 h.lines.1 h.lines.2 (IsNodeText-first A h.opening part k.0 kind h.opens k.1)
+TakesMemory-part (Parent entry) list before part end more h k =
+    TakesMemory-id list (with_parent entry k.0) before h.front h.opening part end more h.parts h.lines.0 h.lines.1 h.lines.2 (IsNodeText-parent h.opening h.opens.0 part k.0 entry h.opens.1 h.opens.2 k.1)
+TakesMemory-part Header list before part end more h k = absurd k
+TakesMemory-part Word list before part end more h k = absurd k
+TakesMemory-part Count list before part end more h k = absurd k
+TakesMemory-part Nothing list before part end more h k = absurd k
 
 -- a pack that has ended is read
 pub IsPack-read : {A : Type 0} (next : Next A) (list : List (Entry A)) (before part : List ℕ) → HasRead next list before → next ≡ Nothing → part ≡ []
@@ -261,16 +292,28 @@ module _ (digits_law : IdTextsAreDigits) where
   rest_of : (before x front opening : List ℕ) → before ≡ front ++ opening → before ++ x ≡ front ++ (opening ++ x)
   rest_of before x front opening h = ap (λ (b : List ℕ). b ++ x) h ∙ append_assoc front opening x
 
+  next_parts : (whole : List ℕ) (front : List (List ℕ)) (text rest more : List ℕ) → whole ≡ text_of front ++ rest → rest ≡ line text ++ more
+      → whole ≡ text_of (front ++ text ∷ []) ++ more
+  next_parts whole front text rest more parts split =
+      parts ∙ ap (λ (r : List ℕ). text_of front ++ r) split ∙ sym (text_of-push front text more)
+
   -- where no line that may come begins the rest, the line is bad
   bad_line : {A : Type 0} (whole : List ℕ) (front : List (List ℕ)) (rest : List ℕ) (at : ℕ) → whole ≡ text_of front ++ rest → IsFront A front
       → ((t more : List ℕ) → MayCome A front t → rest ≡ line t ++ more → ⊥) → at ≡ length front + 1 → IsBadLine A whole at
-  bad_line whole front rest at parts before none place =
+  bad_line {A} whole front rest at parts before none place =
+      let why : IsWrongLine A whole front ⊎ EndsEarly A whole front =
       elim (first_line rest) [
-        | inl one ↦ inr (inl (record { front = front; rest = rest; parts = parts; before = before; in_line = one; place = place }))
+        | inl one ↦ inr (rest, parts, one, λ nothing all. whole_no_front front all.0 all.1 before)
         | inr found ↦
-            let split : whole ≡ text_of front ++ (line found.0 ++ found.1) = parts ∙ ap (λ (r : List ℕ). text_of front ++ r) found.2 in
-            inl (record { front = front; text = found.0; rest = found.1; parts = split; before = before; in_line = found.3; wrong = λ may. none found.0 found.1 may found.2; place = place })
-      ]
+            inl (
+              found.0,
+              (found.1, next_parts whole front found.0 rest found.1 parts found.2, found.3),
+              λ begins.
+                  none found.0 found.1
+                  (comes_next front found.0 begins.more _ begins.list before begins.are (append_assoc front (found.0 ∷ []) begins.more)) found.2,
+            )
+      ] in
+      (front, place, BeginsPack-front A front before, why)
 
   -- in the first line
   bad_first : {A : Type 0} (whole : List ℕ) (front : List (List ℕ)) (rest : List ℕ) → whole ≡ text_of front ++ rest → front ≡ []
@@ -310,12 +353,26 @@ module _ (digits_law : IdTextsAreDigits) where
   bad_part Count list before x whole h is goes none =
       bad_next whole h.front h.lines.0 list (h.opening ++ x) (is ∙ rest_of before x (text_of h.front) h.opening h.parts) h.lines.1 h.lines.2
       (λ t more may same. none (may_count list h.opening x t more h.opens may same))
-  bad_part Nothing list before x whole h is goes none =
+  bad_part {A} Nothing list before x whole h is goes none =
       let parts : whole ≡ text_of h.front ++ x = is ∙ ap (λ (b : List ℕ). b ++ x) (h.parts ∙ ap (λ (o : List ℕ). text_of h.front ++ o) h.opens ∙ append-nil (text_of h.front)) in
       let count = ap (λ (f : List (List ℕ)). length f) h.lines.are in
       let long = AreNodeTexts-length h.lines.nodes list h.lines.each in
       let last = length-append h.lines.nodes (end_text (length list) ∷ []) in
-      inr (inr (record { lines = h.front; list = list; rest = x; parts = parts; before = h.lines; more = goes refl; place = omega (arith, count, long, last) }))
+      let P : List (List ℕ) → Type 0 = λ ls. ArePackLines ls list in
+      let begins : BeginsPack A h.front = record { list = list; more = []; are = subst P (sym (append-nil h.front)) h.lines } in
+      let why : IsWrongLine A whole h.front ⊎ EndsEarly A whole h.front =
+      elim (first_line x) [
+        | inl one ↦ inr (x, parts, one, λ nothing all. goes refl nothing)
+        | inr found ↦
+            inl (
+              found.0,
+              (found.1, next_parts whole h.front found.0 x found.1 parts found.2, found.3),
+              λ more.
+                  whole_no_front h.front list h.lines
+                  (IsFront-pack h.front found.0 more.more _ more.list more.are (append_assoc h.front (found.0 ∷ []) more.more)),
+            )
+      ] in
+      (h.front, (let place : line_number {A = A} Nothing (length list) ≡ length h.front + 1 = omega (arith, count, long, last) in place), begins, why)
 
   not_nil : (a : List ℕ) (byte : ℕ) (x : List ℕ) → a ++ byte ∷ x ≡ [] → ⊥
   not_nil [] byte x h = cc

@@ -1,20 +1,13 @@
 -- What is written piece by piece.
-use Rattle.std.proofs.Common.{◌≡◌, ℕ, ◌+◌, ◌<◌, List, [], ◌∷◌, ◌++◌, length, map, get_or, take, drop, refl, ap, sym, ◌∙◌, append_assoc, length-append, arith}
+use Rattle.std.proofs.Common.{◌≡◌, ℕ, ◌+◌, ◌<◌, List, [], ◌∷◌, ◌++◌, length, decimal, map, get_or, take, drop, refl, ap, sym, ◌∙◌, append_assoc, length-append, arith}
 use Rattle.std.specs.List.{flat_map}
 use Rattle.std.proofs.lemmas.List.{append-nil, flat_map_more, take_more, take-append-drop}
 use Rattle.std.proofs.lemmas.List.Concat.{flat_map-append}
-use Rattle.gobject.specs.declared.fault.PackFault.{PackFault}
-use Rattle.gobject.specs.declared.fault.PackFault.TheVariants.{Memory, TooLarge, Other}
+use Rattle.gname.specs.Ids.{id_text}
 use Rattle.gobject.specs.declared.node.Entry.{Entry}
-use Rattle.gobject.specs.PlainPackText.{PackRefuses, line, text_of, header, node_text, end_text, pack_text}
+use Rattle.gobject.specs.PlainPackText.{line, text_of, ids_text, ids_of, header, node_text, end_text, pack_text}
 use Rattle.gobject.specs.PlainPackWriting.{nodes_text}
 use Rattle.gobject.proofs.PlainPackLines.{text_of-push}
-
--- what is refused is refused with more after it
-pub PackRefuses-front : (text more : List ℕ) (fault : PackFault) → PackRefuses text fault → PackRefuses (text ++ more) fault
-PackRefuses-front text more Memory h = h
-PackRefuses-front text more TooLarge h = omega (arith, h, length-append text more)
-PackRefuses-front text more Other h = h
 
 -- the pieces of a list up to a place, and the piece at that place
 pub pieces_more : {X : Type 0} (f : X → List ℕ) (xs : List X) (i : ℕ) (x : X) (old : List ℕ) → i < length xs → x ≡ get_or xs i x
@@ -29,11 +22,27 @@ pieces_split f xs i old =
     ap (λ ys. old ++ flat_map f ys) (sym (take-append-drop i xs)) ∙ ap (λ ys. old ++ ys) (flat_map-append f (take i xs) (drop i xs))
     ∙ sym (append_assoc old (flat_map f (take i xs)) (flat_map f (drop i xs)))
 
--- where a piece of a list is refused, the whole list is
-pub PackRefuses-at : {X : Type 0} (f : X → List ℕ) (xs : List X) (i : ℕ) (x : X) (old : List ℕ) (fault : PackFault) → i < length xs
-    → x ≡ get_or xs i x → PackRefuses ((old ++ flat_map f (take i xs)) ++ f x) fault → PackRefuses (old ++ flat_map f xs) fault
-PackRefuses-at f xs i x old fault lt is h =
-    rw (pieces_split f xs (i + 1) old, ← pieces_more f xs i x old lt is) (PackRefuses-front _ _ fault h)
+-- ---- room
+
+-- a piece more
+pub left_more : {X : Type 0} (f : X → List ℕ) (xs : List X) (i : ℕ) (x : X) (room left rest : ℕ) → i < length xs → x ≡ get_or xs i x
+    → left + length (flat_map f (take i xs)) ≡ room → rest + length (f x) ≡ left → rest + length (flat_map f (take (i + 1) xs)) ≡ room
+left_more f xs i x room left rest lt is before here =
+    let whole = ap (λ (t : List ℕ). length t) (pieces_more f xs i x [] lt is) in
+    let parts = length-append (flat_map f (take i xs)) (f x) in
+    omega (arith, before, here, whole, parts)
+
+-- and one that is too long
+pub left_none : {X : Type 0} (f : X → List ℕ) (xs : List X) (i : ℕ) (x : X) (room left : ℕ) → i < length xs → x ≡ get_or xs i x
+    → left + length (flat_map f (take i xs)) ≡ room → left < length (f x) → room < length (flat_map f xs)
+left_none f xs i x room left lt is before over =
+    let front = ap (λ (t : List ℕ). length t) (pieces_more f xs i x [] lt is) in
+    let parts = length-append (flat_map f (take i xs)) (f x) in
+    let whole = ap (λ (t : List ℕ). length t) (pieces_split f xs (i + 1) []) in
+    let others = length-append (flat_map f (take (i + 1) xs)) (flat_map f (drop (i + 1) xs)) in
+    omega (arith, before, over, front, parts, whole, others)
+
+-- ---- the text
 
 nodes_text-is : {A : Type 0} (list : List (Entry A)) → text_of (map node_text list) ≡ nodes_text list
 nodes_text-is [] = refl
@@ -48,3 +57,23 @@ pack_text-is list =
     ∙ text_of-push (header ∷ map node_text list) last []
     ∙ ap (λ (text : List ℕ). text_of (header ∷ map node_text list) ++ text) (append-nil (line last))
     ∙ ap (λ (text : List ℕ). (line header ++ text) ++ line last) (nodes_text-is list)
+
+-- how long they are
+pub length-id : (id : List ℕ) (digits : ℕ) → length (id_text id) ≡ digits → length (ids_text (id ∷ [])) ≡ digits + 1
+length-id id digits h = let one = ap (λ (t : List ℕ). length t) (append-nil (32 ∷ id_text id)) in omega (arith, one, h)
+
+pub length-node : {A : Type 0} (entry : Entry A)
+    → length (line (node_text entry)) ≡ 2 + length (ids_text (entry.id ∷ [])) + length (ids_text entry.node.parents)
+length-node entry =
+    let ids = length-append (32 ∷ id_text entry.id) (ids_text entry.node.parents) in
+    let one = ap (λ (t : List ℕ). length t) (append-nil (32 ∷ id_text entry.id)) in
+    let last = length-append (ids_text (ids_of entry)) (10 ∷ []) in
+    omega (arith, ids, one, last)
+
+pub length-pack : {A : Type 0} (list : List (Entry A)) → length (pack_text list) ≡ 10 + length (decimal (length list)) + length (nodes_text list)
+length-pack list =
+    let whole = ap (λ (t : List ℕ). length t) (pack_text-is list) in
+    let back = length-append (line header ++ nodes_text list) (line (end_text (length list))) in
+    let front = length-append (line header) (nodes_text list) in
+    let last = length-append (decimal (length list)) (10 ∷ []) in
+    omega (arith, whole, back, front, last)

@@ -1,7 +1,7 @@
 -- The text of a plain pack: lines, each ended by a line feed, whose parts are separated by one space. The first is
 -- `GPK1`; then one for each entry, `c` for a commit or `t` for a tag, its id and those of its parents; at last
 -- `end` and how many entries there are.
-use Rattle.std.specs.Prelude.{◌≡◌, ◌≢◌, ◌⊎◌, ⊤, ℕ, ◌+◌, ◌<◌, List, [], ◌∷◌, ◌++◌, length, map, slice_index, codes}
+use Rattle.std.specs.Prelude.{◌≡◌, ◌≢◌, ◌⊎◌, ⊤, ℕ, ◌+◌, ◌<◌, ◌≤◌, List, [], ◌∷◌, ◌++◌, length, map, slice_index, codes}
 use Rattle.std.specs.Prelude.{decimal}
 use Rattle.std.specs.List.{flat_map}
 use Rattle.gname.specs.Ids.{IsIdText, id_text}
@@ -58,9 +58,9 @@ pack_lines list = header ∷ (map node_text list ++ end_text (length list) ∷ [
 unfoldable pub pack_text : {A : Type 0} → List (Entry A) → List ℕ
 pack_text list = text_of (pack_lines list)
 
--- why a text is not packed: it has too many bytes, or there is no memory
+-- why a text is not packed: it has too many bytes, or it has not, and there is no memory
 abbrev pub PackRefuses : List ℕ → PackFault → Type 0
-PackRefuses text pack_faults.Memory = Unit {0}
+PackRefuses text pack_faults.Memory = length text ≤ max_pack
 PackRefuses text pack_faults.TooLarge = max_pack < length text
 PackRefuses text pack_faults.Other = ⊥
 
@@ -101,52 +101,50 @@ pub record IsPack {A : Type 0} (bytes : List ℕ) (list : List (Entry A)) : Type
 abbrev pub IsInLine : List ℕ → Type 0
 IsInLine text = (at : ℕ) → slice_index text at ≢ 10
 
--- lines that a pack may begin with, before its end: the header, and a line of each of some entries
-abbrev pub IsFront : Type 0 → List (List ℕ) → Type 0
-IsFront A [] = ⊤
-IsFront A (first ∷ nodes) = (first ≡ header) × ((list : List (Entry A)) × AreNodeTexts nodes list)
-
--- the line that may come after these: the header first, then a line of an entry, or the end that counts them
-abbrev pub MayCome : Type 0 → List (List ℕ) → List ℕ → Type 0
-MayCome A [] text = text ≡ header
-MayCome A (first ∷ nodes) text = ((entry : Entry A) × IsNodeText text entry) ⊎ (text ≡ end_text (length nodes))
-
--- the lines before are right, and this one is not
-pub record IsWrong (A : Type 0) (bytes : List ℕ) (at : ℕ) : Type 0 where
-  pub front : List (List ℕ)
-  pub text : List ℕ
-  pub rest : List ℕ
-  pub parts : bytes ≡ text_of front ++ (line text ++ rest)
-  pub before : IsFront A front
-  pub in_line : IsInLine text
-  pub wrong : MayCome A front text → ⊥
-  pub place : at ≡ length front + 1
-
--- the lines before are right, and the input ends in this one, or before it
-pub record IsCut (A : Type 0) (bytes : List ℕ) (at : ℕ) : Type 0 where
-  pub front : List (List ℕ)
-  pub rest : List ℕ
-  pub parts : bytes ≡ text_of front ++ rest
-  pub before : IsFront A front
-  pub in_line : IsInLine rest
-  pub place : at ≡ length front + 1
-
--- a pack comes to its end in the line before, and more bytes follow
-pub record IsFollowed (A : Type 0) (bytes : List ℕ) (at : ℕ) : Type 0 where
-  pub lines : List (List ℕ)
+-- the lines are the first of a pack's, or all of them
+pub record BeginsPack (A : Type 0) (lines : List (List ℕ)) : Type 0 where
   pub list : List (Entry A)
-  pub rest : List ℕ
-  pub parts : bytes ≡ text_of lines ++ rest
-  pub before : ArePackLines lines list
-  pub more : rest ≢ []
-  pub place : at ≡ length lines + 1
+  pub more : List (List ℕ)
+  pub are : ArePackLines (lines ++ more) list
 
--- the first line, counted from 1, that is not as it has to be
+-- the lines are all of a pack's
+abbrev pub IsWholePack : (A : Type 0) → List (List ℕ) → Type 0
+IsWholePack A lines = (list : List (Entry A)) × ArePackLines lines list
+
+-- after the lines the bytes go on with this one
+abbrev pub GoesOn : List ℕ → List (List ℕ) → List ℕ → Type 0
+GoesOn bytes lines next = (rest : List ℕ) × (bytes ≡ text_of (lines ++ next ∷ []) ++ rest) × IsInLine next
+
+-- the next line comes after these in no pack
+abbrev pub IsWrongLine : (A : Type 0) → List ℕ → List (List ℕ) → Type 0
+IsWrongLine A bytes lines = (next : List ℕ) × GoesOn bytes lines next × ¬ (BeginsPack A (lines ++ next ∷ []))
+
+-- after the lines the bytes have no line feed: they end in a line, or before the last line
+abbrev pub EndsEarly : (A : Type 0) → List ℕ → List (List ℕ) → Type 0
+EndsEarly A bytes lines =
+    (rest : List ℕ) × (bytes ≡ text_of lines ++ rest) × IsInLine rest × (rest ≡ [] → ¬ (IsWholePack A lines))
+
+-- the number, counted from 1, of the first line that is wrong, or is not there: the lines before it begin a pack
 abbrev pub IsBadLine : (A : Type 0) → List ℕ → ℕ → Type 0
-IsBadLine A bytes at = IsWrong A bytes at ⊎ IsCut A bytes at ⊎ IsFollowed A bytes at
+IsBadLine A bytes at =
+    (lines : List (List ℕ)) × (at ≡ length lines + 1) × BeginsPack A lines
+    × (IsWrongLine A bytes lines ⊎ EndsEarly A bytes lines)
 
--- why bytes are not read: a line is wrong, or there is no memory
+-- lines that begin a pack are followed by a line of an entry, or by the ids at its beginning: there is an entry to keep
+pub record TakesMemory (A : Type 0) (bytes : List ℕ) : Type 0 where
+  pub nodes : List (List ℕ)
+  pub list : List (Entry A)
+  pub text : List ℕ
+  pub entry : Entry A
+  pub end : ℕ
+  pub rest : List ℕ
+  pub parts : bytes ≡ text_of (header ∷ nodes) ++ (text ++ end ∷ rest)
+  pub before : AreNodeTexts nodes list
+  pub node : IsNodeText text entry
+  pub ends : (end ≡ 32) ⊎ (end ≡ 10)
+
+-- why bytes are not read: a line is wrong, or there is no memory for an entry
 abbrev pub IndexRefuses : (A : Type 0) → List ℕ → IndexFault → Type 0
-IndexRefuses A bytes index_faults.Memory = Unit {0}
+IndexRefuses A bytes index_faults.Memory = TakesMemory A bytes
 IndexRefuses A bytes (index_faults.Bad at) = IsBadLine A bytes at
 IndexRefuses A bytes index_faults.Other = ⊥

@@ -1,14 +1,12 @@
--- What a call that writes a piece of a plain pack does.
-use Rattle.std.specs.Prelude.{◌≡◌, ℕ, List, ◌++◌, Result, MatchResult}
+-- What the parts of a plain pack take of the room that there is for it.
+use Rattle.std.specs.Prelude.{◌≡◌, ℕ, ◌+◌, ◌<◌, List, Option, MatchOption}
 use Rattle.std.specs.List.{flat_map}
-use Rattle.gobject.specs.declared.fault.PackFault.{PackFault}
 use Rattle.gobject.specs.declared.node.Entry.{Entry}
-use Rattle.gobject.specs.PlainPackText.{PackRefuses, line, node_text}
+use Rattle.gobject.specs.PlainPackText.{line, node_text}
 
--- the piece comes after what was written, or the two together are refused
-abbrev pub Writes : List ℕ → List ℕ → Result (Unit {0}) PackFault → List ℕ → Type 0
-Writes old new result piece =
-    MatchResult result (λ _. new ≡ old ++ piece) (PackRefuses (old ++ piece))
+-- the room that a text of this length leaves, none where the text is longer
+abbrev pub Leaves : ℕ → Option ℕ → ℕ → Type 0
+Leaves room result taken = MatchOption result (room < taken) (λ left. left + taken ≡ room)
 
 -- the lines of some entries
 abbrev pub nodes_text : {A : Type 0} → List (Entry A) → List ℕ

@@ -9,6 +9,8 @@
 //! - [`PlainPack`] writes the one text of a list, of at most `gname::MAX_PACK` bytes, and refuses as
 //!   too large exactly the lists whose text is longer. It reads exactly such texts, with ids in either
 //!   case, and reports of any other bytes the first line that is wrong; in pieces, cut anywhere, as whole.
+//!   Out of memory comes of no list whose text is too long, and of bytes only after right lines and an id
+//!   of one more entry.
 //! - What an indexer owes of a pack that comes in pieces is in the clauses of [`Indexer`]; `index` of a
 //!   whole pack follows from them.
 //! - Bytes have one bad line at most, and a pack has none: [`laws`].
@@ -24,13 +26,15 @@
 //!
 //! # What a body can still get away with
 //!
-//! It may report out of memory of any list and of any pack, and of any copy, as often as it likes. It
-//! may take as long as it likes, and more memory than it needs.
+//! It may report out of memory of any list whose text is not too long, of any bytes in which an entry is
+//! there to keep, and of any copy, as often as it likes. It may take as long as it likes, and more memory
+//! than it needs.
 //!
 //! # Stands on
 //!
 //! `gname` for ids, `memchr` for the ends of parts, `arrayvec` for a part that is cut, `itoa` for the
-//! count in a pack, `thiserror` for the texts of faults; the proofs cite `hex`.
+//! count in a pack, `thiserror` for the texts of faults; the proofs cite `hex`. In tests `bumpalo`, for
+//! memory that ends.
 #![tactic(auto)]
 
 mod entry_ids;

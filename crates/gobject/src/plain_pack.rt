@@ -31,7 +31,8 @@ use std::alloc::Allocator;
 /// the line after the end where bytes follow, and where the input ends early the line that it ends
 /// in, whose number is one more than that of the line feeds.
 ///
-/// Both fail with `Memory` where there is no memory.
+/// Both fail with `Memory` where there is no memory: `pack` for no list whose pack is too large, and
+/// `index` only after right lines and an id of one more entry.
 #[derive(Clone, Copy, Debug, PartialEq, Eq, Drop)]
 pub struct PlainPack;
 

@@ -7,9 +7,9 @@ use Rattle.gpkt.specs.LineReading.{Reader, Reads, IsReaderAfter, HasRead, IsRead
 use Rattle.gpkt.specs.Change.{change_of}
 use Rattle.gpkt.specs.Heads.{IsNewFault, is_io}
 
-module _ {S : Type 0} (remaining_of : S → Option (List ℕ)) (is_down : S → Bool) (seat_of : S → List ℕ) where
+module _ {S : Type 0} (remaining_of : S → Option (List ℕ)) (is_down : S → Bool) (loans_of : S → List ℕ) where
   IsReaderAfter-at_fault : (old new : Reader S) (fault : LineFault) → old.failed ≡ false → new.failed ≡ true
-      → IsNewFault fault → is_down new.source ≡ is_io {A = Option Head} (Err fault) → IsReaderAfter remaining_of is_down seat_of old new (Err fault)
+      → IsNewFault fault → is_down new.source ≡ is_io {A = Option Head} (Err fault) → IsReaderAfter remaining_of is_down loans_of old new (Err fault)
   IsReaderAfter-at_fault old new BadDigits was now can down = (was, now, down)
   IsReaderAfter-at_fault old new Reserved was now can down = (was, now, down)
   IsReaderAfter-at_fault old new TooLong was now can down = (was, now, down)
@@ -20,11 +20,11 @@ module _ {S : Type 0} (remaining_of : S → Option (List ℕ)) (is_down : S → 
 
   pub HasRead-at_fault : (old new : Reader S) (fault : LineFault) → old.failed ≡ false → new.failed ≡ true → IsNewFault fault
       → is_down new.source ≡ is_io {A = Option Head} (Err fault) → Reads (change_of remaining_of old.source new.source) (Err fault)
-      → seat_of new.source ≡ seat_of old.source → HasRead remaining_of is_down seat_of old new (Err fault)
+      → loans_of new.source ≡ loans_of old.source → HasRead remaining_of is_down loans_of old new (Err fault)
   HasRead-at_fault old new fault was now can down bytes same = record {
     bytes = bytes;
     after = IsReaderAfter-at_fault old new fault was now can down;
-    seat = same;
+    loans = same;
   }
 
 pub IsReadFault-of_new : (fault : LineFault) → IsNewFault fault → IsReadFault fault

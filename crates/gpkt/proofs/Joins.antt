@@ -38,12 +38,12 @@ IsSome-kept None b kept known = absurd (false≢true known)
 IsSome-kept (Some x) None kept known = absurd kept
 IsSome-kept (Some x) (Some y) kept known = refl
 
-module _ {W : Type 0} (contents passed_on : W → Option (List ℕ)) (is_down : W → Bool) (seat : W → List ℕ) where
-  pub writes_join : WritesJoin contents passed_on is_down seat
+module _ {W : Type 0} (contents passed_on : W → Option (List ℕ)) (is_down : W → Bool) (loans : W → List ℕ) where
+  pub writes_join : WritesJoin contents passed_on is_down loans
   writes_join old mid new bytes more (Ok done) first second fits = record {
     outcome = ((first.outcome.0.0, second.outcome.0.1, second.outcome.0.2), Appends-trans _ _ _ bytes more first.outcome.1 second.outcome.1);
     passed_on = Keeps-trans _ _ _ first.passed_on second.passed_on;
-    seat = second.seat ∙ first.seat;
+    loans = second.loans ∙ first.loans;
   }
   writes_join old mid new bytes more (Err Io) first second fits = record {
     outcome = (
@@ -51,21 +51,21 @@ module _ {W : Type 0} (contents passed_on : W → Option (List ℕ)) (is_down : 
       AppendsFront-after _ _ _ bytes more first.outcome.1 second.outcome.1,
     );
     passed_on = Keeps-trans _ _ _ first.passed_on second.passed_on;
-    seat = second.seat ∙ first.seat;
+    loans = second.loans ∙ first.loans;
   }
   writes_join old mid new bytes more (Err Payload) first second fits = absurd (fits refl)
   writes_join old mid new bytes more (Err Failed) first second fits = absurd (false≢true (sym first.outcome.0.1 ∙ second.outcome.0))
 
-  pub fails_of_more : FailsOfMore contents passed_on is_down seat
+  pub fails_of_more : FailsOfMore contents passed_on is_down loans
   fails_of_more old new bytes more Io h fits = record {
     outcome = (h.outcome.0, AppendsFront-more _ _ bytes more h.outcome.1);
     passed_on = h.passed_on;
-    seat = h.seat;
+    loans = h.loans;
   }
   fails_of_more old new bytes more Payload h fits = absurd (fits refl)
-  fails_of_more old new bytes more Failed h fits = record { outcome = h.outcome; passed_on = h.passed_on; seat = h.seat }
+  fails_of_more old new bytes more Failed h fits = record { outcome = h.outcome; passed_on = h.passed_on; loans = h.loans }
 
-  pub pushes_written : PushesWritten contents passed_on is_down seat
+  pub pushes_written : PushesWritten contents passed_on is_down loans
   pushes_written old mid new bytes (Ok done) wrote pushed =
       (Appends-kept _ _ _ bytes wrote.outcome.1 pushed.written, λ known. pushed.outcome.1 (IsSome-kept _ _ wrote.passed_on known))
   pushes_written old mid new bytes (Err fault) wrote pushed = (Appends-kept _ _ _ bytes wrote.outcome.1 pushed.written, tt)

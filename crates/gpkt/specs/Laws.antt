@@ -116,27 +116,30 @@ ReadsJoin =
     (old mid new : Option (List ℕ)) (lines more : List Packet) → ReadsLines (record { old = old; new = mid }) lines
     → ReadsLines (record { old = mid; new = new }) more → ReadsLines (record { old = old; new = new }) (lines ++ more)
 
-module _ {W : Type 0} (contents_of passed_on_of : W → Option (List ℕ)) (is_down : W → Bool) (seat_of : W → List ℕ) where
-  -- one call of a writer that was to write the bytes
-  abbrev pub Writes : Writer W → Writer W → Result Unit WriteFault → List ℕ → Type 0
-  Writes old new result bytes = HasWritten contents_of passed_on_of is_down seat_of old new result bytes
+module _
+    {W : Type 0} (contents_of passed_on_of : W → Option (List ℕ)) (is_down : W → Bool)
+    (loans_of : W → List ℕ)
+  where
+    -- one call of a writer that was to write the bytes
+    abbrev pub Writes : Writer W → Writer W → Result Unit WriteFault → List ℕ → Type 0
+    Writes old new result bytes = HasWritten contents_of passed_on_of is_down loans_of old new result bytes
 
-  -- after a write that succeeded, a write is one of all the bytes
-  abbrev pub WritesJoin : Type 0
-  WritesJoin =
-      (old mid new : Writer W) (bytes more : List ℕ) (result : Result Unit WriteFault) → Writes old mid (Ok tt) bytes
-      → Writes mid new result more → result ≢ Err write_fault.Payload → Writes old new result (bytes ++ more)
+    -- after a write that succeeded, a write is one of all the bytes
+    abbrev pub WritesJoin : Type 0
+    WritesJoin =
+        (old mid new : Writer W) (bytes more : List ℕ) (result : Result Unit WriteFault) → Writes old mid (Ok tt) bytes
+        → Writes mid new result more → result ≢ Err write_fault.Payload → Writes old new result (bytes ++ more)
 
-  -- a write that failed was one of more bytes, too
-  abbrev pub FailsOfMore : Type 0
-  FailsOfMore =
-      (old new : Writer W) (bytes more : List ℕ) (fault : WriteFault) → Writes old new (Err fault) bytes
-      → fault ≢ write_fault.Payload → Writes old new (Err fault) (bytes ++ more)
+    -- a write that failed was one of more bytes, too
+    abbrev pub FailsOfMore : Type 0
+    FailsOfMore =
+        (old new : Writer W) (bytes more : List ℕ) (fault : WriteFault) → Writes old new (Err fault) bytes
+        → fault ≢ write_fault.Payload → Writes old new (Err fault) (bytes ++ more)
 
-  -- what is written stays written when it is pushed, and a push that succeeds passes all of it on
-  abbrev pub PushesWritten : Type 0
-  PushesWritten =
-      (old mid new : Writer W) (bytes : List ℕ) (result : Result Unit WriteFault) → Writes old mid (Ok tt) bytes
-      → HasPushed contents_of passed_on_of is_down seat_of mid new result
-      → Appends (contents_of old.sink) (contents_of new.sink) bytes
-      × OnOk result (PassesAll (contents_of new.sink) (change_of passed_on_of old.sink new.sink))
+    -- what is written stays written when it is pushed, and a push that succeeds passes all of it on
+    abbrev pub PushesWritten : Type 0
+    PushesWritten =
+        (old mid new : Writer W) (bytes : List ℕ) (result : Result Unit WriteFault) → Writes old mid (Ok tt) bytes
+        → HasPushed contents_of passed_on_of is_down loans_of mid new result
+        → Appends (contents_of old.sink) (contents_of new.sink) bytes
+        × OnOk result (PassesAll (contents_of new.sink) (change_of passed_on_of old.sink new.sink))

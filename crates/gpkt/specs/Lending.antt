@@ -10,8 +10,8 @@ use Rattle.gpkt.specs.LineReading.{Reader, HasRead, read_of}
 
 module _
     (S A : RattleType) (alloc : Ghosts A.Denot) (remaining_of : S.Denot → Option (List ℕ)) (is_down : S.Denot → Bool)
-    (seat_of : S.Denot → List ℕ)
+    (loans_of : S.Denot → List ℕ)
   where
     abbrev pub LendsLine : MutBor (Reader S.Denot) → Result (Option Line) LineFault → Fml
     LendsLine reader result =
-        Rests (the_row S A alloc) reader (λ new. HasRead remaining_of is_down seat_of reader.now new (read_of result))
+        Rests (the_row S A alloc) reader (λ new. HasRead remaining_of is_down loans_of reader.now new (read_of result))

@@ -69,7 +69,7 @@ abbrev pub IsReadFault : LineFault → Type 0
 IsReadFault Memory = ⊥
 IsReadFault _ = Unit {0}
 
-module _ {S : Type 0} (remaining_of : S → Option (List ℕ)) (is_down : S → Bool) (seat_of : S → List ℕ) where
+module _ {S : Type 0} (remaining_of : S → Option (List ℕ)) (is_down : S → Bool) (loans_of : S → List ℕ) where
   -- the reader had not failed; whether it has failed now, and whether its source is down
   abbrev pub SetsReader : Reader S → Reader S → Bool → Bool → Type 0
   SetsReader old new failed down = (old.failed ≡ false) × (new.failed ≡ failed) × (is_down new.source ≡ down)
@@ -89,4 +89,4 @@ module _ {S : Type 0} (remaining_of : S → Option (List ℕ)) (is_down : S → 
   pub record HasRead (old new : Reader S) (result : Result (Option Packet) LineFault) : Type 0 where
     pub bytes : Reads (change_of remaining_of old.source new.source) result
     pub after : IsReaderAfter old new result
-    pub seat : seat_of new.source ≡ seat_of old.source
+    pub loans : loans_of new.source ≡ loans_of old.source

@@ -24,41 +24,45 @@ AppendsFront written bytes =
     (front : List ℕ) × (rest : List ℕ) × (bytes ≡ front ++ rest) × (0 < length rest)
     × Appends written.old written.new front
 
-module _ {W : Type 0} (contents_of passed_on_of : W → Option (List ℕ)) (is_down : W → Bool) (seat_of : W → List ℕ) where
-  -- the writer had not failed; whether it has failed now, and its sink is then down
-  abbrev pub SetsWriter : Writer W → Writer W → Bool → Type 0
-  SetsWriter old new failed = (old.failed ≡ false) × (new.failed ≡ failed) × (is_down new.sink ≡ failed)
+module _
+    {W : Type 0} (contents_of passed_on_of : W → Option (List ℕ)) (is_down : W → Bool)
+    (loans_of : W → List ℕ)
+  where
+    -- the writer had not failed; whether it has failed now, and its sink is then down
+    abbrev pub SetsWriter : Writer W → Writer W → Bool → Type 0
+    SetsWriter old new failed = (old.failed ≡ false) × (new.failed ≡ failed) × (is_down new.sink ≡ failed)
 
-  -- what was written
-  abbrev pub written_by : Writer W → Writer W → Change
-  written_by old new = change_of contents_of old.sink new.sink
+    -- what was written
+    abbrev pub written_by : Writer W → Writer W → Change
+    written_by old new = change_of contents_of old.sink new.sink
 
-  -- what was passed on of it
-  abbrev pub passed_on_by : Writer W → Writer W → Change
-  passed_on_by old new = change_of passed_on_of old.sink new.sink
+    -- what was passed on of it
+    abbrev pub passed_on_by : Writer W → Writer W → Change
+    passed_on_by old new = change_of passed_on_of old.sink new.sink
 
-  -- what a call that was to write the bytes did, by its result
-  abbrev pub Wrote : Writer W → Writer W → Result Unit WriteFault → List ℕ → Type 0
-  Wrote old new (Ok done) bytes = SetsWriter old new false × Appends (contents_of old.sink) (contents_of new.sink) bytes
-  Wrote old new (Err Io) bytes = SetsWriter old new true × AppendsFront (written_by old new) bytes
-  Wrote old new (Err Payload) bytes = (old.failed ≡ false) × (new ≡ old)
-  Wrote old new (Err Failed) bytes = (old.failed ≡ true) × (new ≡ old)
+    -- what a call that was to write the bytes did, by its result
+    abbrev pub Wrote : Writer W → Writer W → Result Unit WriteFault → List ℕ → Type 0
+    Wrote old new (Ok done) bytes =
+        SetsWriter old new false × Appends (contents_of old.sink) (contents_of new.sink) bytes
+    Wrote old new (Err Io) bytes = SetsWriter old new true × AppendsFront (written_by old new) bytes
+    Wrote old new (Err Payload) bytes = (old.failed ≡ false) × (new ≡ old)
+    Wrote old new (Err Failed) bytes = (old.failed ≡ true) × (new ≡ old)
 
-  -- one call of a writer that was to write the bytes; nothing more was passed on
-  pub record HasWritten (old new : Writer W) (result : Result Unit WriteFault) (bytes : List ℕ) : Type 0 where
-    pub outcome : Wrote old new result bytes
-    pub passed_on : Keeps (passed_on_of old.sink) (passed_on_of new.sink)
-    pub seat : seat_of new.sink ≡ seat_of old.sink
+    -- one call of a writer that was to write the bytes; nothing more was passed on
+    pub record HasWritten (old new : Writer W) (result : Result Unit WriteFault) (bytes : List ℕ) : Type 0 where
+      pub outcome : Wrote old new result bytes
+      pub passed_on : Keeps (passed_on_of old.sink) (passed_on_of new.sink)
+      pub loans : loans_of new.sink ≡ loans_of old.sink
 
-  -- what a call that was to pass on all that was written did, by its result
-  abbrev pub Pushed : Writer W → Writer W → Result Unit WriteFault → Type 0
-  Pushed old new (Ok done) = SetsWriter old new false × PassesAll (contents_of new.sink) (passed_on_by old new)
-  Pushed old new (Err Io) = SetsWriter old new true
-  Pushed old new (Err Payload) = ⊥
-  Pushed old new (Err Failed) = (old.failed ≡ true) × (new ≡ old)
+    -- what a call that was to pass on all that was written did, by its result
+    abbrev pub Pushed : Writer W → Writer W → Result Unit WriteFault → Type 0
+    Pushed old new (Ok done) = SetsWriter old new false × PassesAll (contents_of new.sink) (passed_on_by old new)
+    Pushed old new (Err Io) = SetsWriter old new true
+    Pushed old new (Err Payload) = ⊥
+    Pushed old new (Err Failed) = (old.failed ≡ true) × (new ≡ old)
 
-  -- one call of a writer that passed on what its sink held back
-  pub record HasPushed (old new : Writer W) (result : Result Unit WriteFault) : Type 0 where
-    pub outcome : Pushed old new result
-    pub written : Keeps (contents_of old.sink) (contents_of new.sink)
-    pub seat : seat_of new.sink ≡ seat_of old.sink
+    -- one call of a writer that passed on what its sink held back
+    pub record HasPushed (old new : Writer W) (result : Result Unit WriteFault) : Type 0 where
+      pub outcome : Pushed old new result
+      pub written : Keeps (contents_of old.sink) (contents_of new.sink)
+      pub loans : loans_of new.sink ≡ loans_of old.sink

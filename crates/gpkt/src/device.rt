@@ -25,7 +25,7 @@ pub trait Source {
     ghost is_down: { Self → Bool };
 
     // The names of the loans through which it is reached, the outermost first.
-    ghost seat: { Self → List ℕ };
+    ghost loans: { Self → List ℕ };
 
     /// Reads bytes into the front of `buf`, and answers how many. It answers none only at the end of
     /// the input, or where `buf` has no room.
@@ -34,7 +34,7 @@ pub trait Source {
         ensures bytes { ReadConsumes (remaining self.old) (remaining self.new) result buf.new }
         ensures down { is_down self.new ≡ is_err result }
         ensures stays_down { AnswersDown (is_down self.old) result }
-        ensures seat { seat self.new ≡ seat self.old };
+        ensures loans { loans self.new ≡ loans self.old };
 }
 
 /// A device that bytes are written to.
@@ -51,7 +51,7 @@ pub trait Sink {
     ghost is_down: { Self → Bool };
 
     // The names of the loans through which it is reached, the outermost first.
-    ghost seat: { Self → List ℕ };
+    ghost loans: { Self → List ℕ };
 
     /// Writes bytes from the front of `buf`, and answers how many. Of some bytes it never takes none.
     fn write(&mut self, buf: &[u8]) -> Result<usize, Down>
@@ -61,7 +61,7 @@ pub trait Sink {
         ensures passed_on { Keeps (passed_on self.old) (passed_on self.new) }
         ensures down { is_down self.new ≡ is_err result }
         ensures stays_down { AnswersDown (is_down self.old) result }
-        ensures seat { seat self.new ≡ seat self.old };
+        ensures loans { loans self.new ≡ loans self.old };
 
     /// Passes on what was written and is still held back.
     fn flush(&mut self) -> Result<(), Down>
@@ -70,7 +70,7 @@ pub trait Sink {
             (PassesAll (contents self.new) (change_of passed_on self.old self.new)) }
         ensures down { is_down self.new ≡ is_err result }
         ensures stays_down { AnswersDown (is_down self.old) result }
-        ensures seat { seat self.new ≡ seat self.old };
+        ensures loans { loans self.new ≡ loans self.old };
 }
 
 impl<S: Source> Source for &mut S {
@@ -78,7 +78,7 @@ impl<S: Source> Source for &mut S {
 
     ghost is_down = { λ s. S.is_down s.now };
 
-    ghost seat = { λ s. s.ghost_name ∷ S.seat s.now };
+    ghost loans = { λ s. s.ghost_name ∷ S.loans s.now };
 
     fn read(&mut self, buf: &mut [u8]) -> Result<usize, Down> {
         (**self).read(buf)
@@ -92,7 +92,7 @@ impl<W: Sink> Sink for &mut W {
 
     ghost is_down = { λ w. W.is_down w.now };
 
-    ghost seat = { λ w. w.ghost_name ∷ W.seat w.now };
+    ghost loans = { λ w. w.ghost_name ∷ W.loans w.now };
 
     fn write(&mut self, buf: &[u8]) -> Result<usize, Down> {
         (**self).write(buf)

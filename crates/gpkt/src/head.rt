@@ -31,7 +31,7 @@ fn fill<S: Source>(source: &mut S, buf: &mut [u8]) -> Result<usize, Down>
     ensures err { OnErr result
         (ConsumesBelow (change_of S.remaining source.old source.new) (length buf.new)) }
     ensures down { S.is_down source.new ≡ is_err result }
-    ensures seat { S.seat source.new ≡ S.seat source.old }
+    ensures loans { S.loans source.new ≡ S.loans source.old }
 {
     let mut at = 0;
     while at < buf.len() {
@@ -82,7 +82,7 @@ fn classify(digits: &[u8]) -> Result<Head, LineFault>
 fn read_head<S: Source>(source: &mut S) -> Result<Option<Head>, LineFault>
     ensures bytes { ReadsHead (change_of S.remaining source.old source.new) result }
     ensures down { S.is_down source.new ≡ is_io result }
-    ensures seat { S.seat source.new ≡ S.seat source.old }
+    ensures loans { S.loans source.new ≡ S.loans source.old }
 {
     let mut digits = [0u8; DIGITS];
     match fill(source, &mut digits) {
@@ -102,7 +102,7 @@ fn read_payload<S: Source>(source: &mut S, payload: &mut [u8]) -> Result<(), Lin
     ensures bytes { ReadsPayload (change_of S.remaining source.old source.new)
         result payload.new }
     ensures down { S.is_down source.new ≡ is_io result }
-    ensures seat { S.seat source.new ≡ S.seat source.old }
+    ensures loans { S.loans source.new ≡ S.loans source.old }
 {
     if payload.is_empty() {
         return Ok(());
@@ -125,7 +125,7 @@ pub(crate) fn read_into<S: Source>(
     ensures room { IfOk result (λ found. IfSome found (λ head. payload_len head ≤ max_payload)) }
     ensures faults { IfErr result IsNewFault }
     ensures down { S.is_down source.new ≡ is_io result }
-    ensures seat { S.seat source.new ≡ S.seat source.old }
+    ensures loans { S.loans source.new ≡ S.loans source.old }
 {
     let found = read_head(source)?;
     if let Some(Head::Data(len)) = found {

@@ -73,7 +73,7 @@ pub fn reads_join()
 
 /// Writes one after the other are one write of all the bytes, and a push passes all of them on.
 pub fn writes_join<W: Sink>()
-    ensures join { WritesJoin W.contents W.passed_on W.is_down W.seat }
-    ensures failed { FailsOfMore W.contents W.passed_on W.is_down W.seat }
-    ensures pushed { PushesWritten W.contents W.passed_on W.is_down W.seat }
+    ensures join { WritesJoin W.contents W.passed_on W.is_down W.loans }
+    ensures failed { FailsOfMore W.contents W.passed_on W.is_down W.loans }
+    ensures pushed { PushesWritten W.contents W.passed_on W.is_down W.loans }
 {}

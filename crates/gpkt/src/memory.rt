@@ -42,7 +42,7 @@ impl Source for SliceSource<'_> {
 
     ghost is_down = { λ _. false };
 
-    ghost seat = { λ _. [] };
+    ghost loans = { λ _. [] };
 
     fn read(&mut self, buf: &mut [u8]) -> Result<usize, Down> {
         let rest = self.rest;
@@ -147,7 +147,7 @@ impl<A: Allocator + Copy> Sink for VecSink<A> {
 
     ghost is_down = { λ s. s.down };
 
-    ghost seat = { λ _. [] };
+    ghost loans = { λ _. [] };
 
     fn write(&mut self, buf: &[u8]) -> Result<usize, Down> {
         if self.down.is_down() {
@@ -252,7 +252,7 @@ impl<S: Source> Source for Limited<S> {
 
     ghost is_down = { λ h. h.down };
 
-    ghost seat = { λ h. S.seat h.inner };
+    ghost loans = { λ h. S.loans h.inner };
 
     fn read(&mut self, buf: &mut [u8]) -> Result<usize, Down> {
         if self.down.is_down() || !goes_on(&mut self.calls_left) {
@@ -273,7 +273,7 @@ impl<W: Sink> Sink for Limited<W> {
 
     ghost is_down = { λ h. h.down };
 
-    ghost seat = { λ h. W.seat h.inner };
+    ghost loans = { λ h. W.loans h.inner };
 
     fn write(&mut self, buf: &[u8]) -> Result<usize, Down> {
         if self.down.is_down() || !goes_on(&mut self.calls_left) {

@@ -21,7 +21,7 @@ pub fn write_all<W: Sink>(sink: &mut W, bytes: &[u8]) -> Result<(), Down>
     ensures asked { 0 < length bytes.now → W.is_down sink.new ≡ is_err result }
     ensures up { W.is_down sink.old ≡ false → W.is_down sink.new ≡ is_err result }
     ensures stays_down { W.is_down sink.old ≡ true → W.is_down sink.new ≡ true }
-    ensures seat { W.seat sink.new ≡ W.seat sink.old }
+    ensures loans { W.loans sink.new ≡ W.loans sink.old }
 {
     let mut rest = bytes;
     while !rest.is_empty() {
@@ -48,7 +48,7 @@ pub(crate) fn put_line<W: Sink>(
         (AppendsFront (change_of W.contents sink.old sink.new) (digits.now ++ (first.now ++ second.now ++ end.now))) }
     ensures passed_on { Keeps (W.passed_on sink.old) (W.passed_on sink.new) }
     ensures down { W.is_down sink.new ≡ is_err result }
-    ensures seat { W.seat sink.new ≡ W.seat sink.old }
+    ensures loans { W.loans sink.new ≡ W.loans sink.old }
 {
     write_all(sink, digits)?;
     write_all(sink, first)?;
@@ -56,8 +56,8 @@ pub(crate) fn put_line<W: Sink>(
     write_all(sink, end)
 }
 
-/// The length of a payload in three pieces, where a line can carry it.
-pub(crate) fn payload_len(first: &[u8], second: &[u8], end: &[u8]) -> Option<usize>
+/// How many bytes the three pieces of a payload have, where a line can carry them.
+pub(crate) fn joined_len(first: &[u8], second: &[u8], end: &[u8]) -> Option<usize>
     ensures { MatchOption result
         (max_payload < length (first.now ++ second.now ++ end.now))
         (λ len. (len ≡ length (first.now ++ second.now ++ end.now)) × (len ≤ max_payload)) }

@@ -78,7 +78,7 @@ impl<S: Source, A: Allocator + Copy> LineReader<S, A> {
             (λ line. IfSome line (λ found. length (payload_of (packet_of found)) ≤ max_payload)) }
         ensures faults { IfErr result IsReadFault }
         ensures* rests { sem 𝓛 (LendsLine S.row A.row A.Allocator S.remaining
-            S.is_down S.seat self.entry result) }
+            S.is_down S.loans self.entry result) }
     {
         if self.failed {
             return Err(LineFault::Failed);

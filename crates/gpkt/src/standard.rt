@@ -42,7 +42,7 @@ impl<R: Read> Source for FromRead<'_, R> {
 
     ghost is_down = { λ s. s.down };
 
-    ghost seat = { λ s. s.reader.ghost_name ∷ [] };
+    ghost loans = { λ s. s.reader.ghost_name ∷ [] };
 
     fn read(&mut self, buf: &mut [u8]) -> Result<usize, Down> {
         if self.down.is_down() {
@@ -95,7 +95,7 @@ impl<W: Write> Sink for ToWrite<'_, W> {
 
     ghost is_down = { λ s. s.down };
 
-    ghost seat = { λ s. s.writer.ghost_name ∷ [] };
+    ghost loans = { λ s. s.writer.ghost_name ∷ [] };
 
     fn write(&mut self, buf: &[u8]) -> Result<usize, Down> {
         if self.down.is_down() {

@@ -10,7 +10,7 @@ use crate::band::Band;
 use crate::device::Sink;
 use crate::fault::WriteFault;
 use crate::line::DIGITS;
-use crate::put::{digits_of, payload_len, put_line};
+use crate::put::{digits_of, joined_len, put_line};
 use std::marker::Model;
 
 /// Writes packet lines to a sink, with lower-case digits. It takes no memory.
@@ -49,7 +49,7 @@ impl<W: Sink> LineWriter<W> {
 
     /// Writes one data line. An empty payload is written as `0004`, which is no flush.
     pub fn put(&mut self, payload: &[u8]) -> Result<(), WriteFault>
-        ensures written { HasWritten W.contents W.passed_on W.is_down W.seat self.old self.new result
+        ensures written { HasWritten W.contents W.passed_on W.is_down W.loans self.old self.new result
             (canonical (packets.Data payload.now)) }
         ensures too_long { IsErrOf result WriteFault.Payload
             ↔ ((self.old.failed ≡ false) × (max_payload < length payload.now)) }
@@ -59,7 +59,7 @@ impl<W: Sink> LineWriter<W> {
 
     /// Writes one data line of both pieces.
     pub fn put2(&mut self, first: &[u8], second: &[u8]) -> Result<(), WriteFault>
-        ensures written { HasWritten W.contents W.passed_on W.is_down W.seat self.old self.new result
+        ensures written { HasWritten W.contents W.passed_on W.is_down W.loans self.old self.new result
             (canonical (packets.Data (first.now ++ second.now))) }
         ensures too_long { IsErrOf result WriteFault.Payload
             ↔ ((self.old.failed ≡ false) × (max_payload < length (first.now ++ second.now))) }
@@ -69,7 +69,7 @@ impl<W: Sink> LineWriter<W> {
 
     /// Writes one text line: the text and a line feed.
     pub fn text(&mut self, text: &[u8]) -> Result<(), WriteFault>
-        ensures written { HasWritten W.contents W.passed_on W.is_down W.seat self.old self.new result
+        ensures written { HasWritten W.contents W.passed_on W.is_down W.loans self.old self.new result
             (canonical (packets.Data (text.now ++ line_feed ∷ []))) }
         ensures too_long { IsErrOf result WriteFault.Payload
             ↔ ((self.old.failed ≡ false) × (max_payload < length (text.now ++ line_feed ∷ []))) }
@@ -79,7 +79,7 @@ impl<W: Sink> LineWriter<W> {
 
     /// Writes one text line: both pieces and a line feed.
     pub fn text2(&mut self, first: &[u8], second: &[u8]) -> Result<(), WriteFault>
-        ensures written { HasWritten W.contents W.passed_on W.is_down W.seat self.old self.new result
+        ensures written { HasWritten W.contents W.passed_on W.is_down W.loans self.old self.new result
             (canonical (packets.Data (first.now ++ second.now ++ line_feed ∷ []))) }
         ensures too_long { IsErrOf result WriteFault.Payload
             ↔ ((self.old.failed ≡ false) × (max_payload < length (first.now ++ second.now ++ line_feed ∷ []))) }
@@ -89,7 +89,7 @@ impl<W: Sink> LineWriter<W> {
 
     /// Writes one data line of the band's byte and its bytes, which are at most [`MAX_BAND`](crate::MAX_BAND).
     pub fn put_band(&mut self, band: &Band<'_>) -> Result<(), WriteFault>
-        ensures written { HasWritten W.contents W.passed_on W.is_down W.seat self.old self.new result
+        ensures written { HasWritten W.contents W.passed_on W.is_down W.loans self.old self.new result
             (canonical (packets.Data (band_payload (band_packet band.now)))) }
         ensures too_long { IsErrOf result WriteFault.Payload
             ↔ ((self.old.failed ≡ false) × (max_band < length (band_bytes (band_packet band.now)))) }
@@ -100,7 +100,7 @@ impl<W: Sink> LineWriter<W> {
 
     /// Writes a flush, `0000`, which ends a message. It is never [`Payload`](WriteFault::Payload).
     pub fn flush_pkt(&mut self) -> Result<(), WriteFault>
-        ensures written { HasWritten W.contents W.passed_on W.is_down W.seat self.old self.new result
+        ensures written { HasWritten W.contents W.passed_on W.is_down W.loans self.old self.new result
             (canonical packets.Flush) }
         ensures fits { IfErr result (λ fault. fault ≢ WriteFault.Payload) }
     {
@@ -109,7 +109,7 @@ impl<W: Sink> LineWriter<W> {
 
     /// Writes a delimiter, `0001`, which separates the sections of a message.
     pub fn delim(&mut self) -> Result<(), WriteFault>
-        ensures written { HasWritten W.contents W.passed_on W.is_down W.seat self.old self.new result
+        ensures written { HasWritten W.contents W.passed_on W.is_down W.loans self.old self.new result
             (canonical packets.Delim) }
         ensures fits { IfErr result (λ fault. fault ≢ WriteFault.Payload) }
     {
@@ -118,7 +118,7 @@ impl<W: Sink> LineWriter<W> {
 
     /// Writes a response-end, `0002`, which ends a response on a stateless connection.
     pub fn response_end(&mut self) -> Result<(), WriteFault>
-        ensures written { HasWritten W.contents W.passed_on W.is_down W.seat self.old self.new result
+        ensures written { HasWritten W.contents W.passed_on W.is_down W.loans self.old self.new result
             (canonical packets.ResponseEnd) }
         ensures fits { IfErr result (λ fault. fault ≢ WriteFault.Payload) }
     {
@@ -127,7 +127,7 @@ impl<W: Sink> LineWriter<W> {
 
     /// Flushes the sink, so that what was written is passed on.
     pub fn push(&mut self) -> Result<(), WriteFault>
-        ensures { HasPushed W.contents W.passed_on W.is_down W.seat self.old self.new result }
+        ensures { HasPushed W.contents W.passed_on W.is_down W.loans self.old self.new result }
     {
         if self.failed {
             return Err(WriteFault::Failed);
@@ -151,7 +151,7 @@ impl<W: Sink> LineWriter<W> {
 
     // Writes one data line whose payload is the three pieces.
     fn put_parts(&mut self, first: &[u8], second: &[u8], end: &[u8]) -> Result<(), WriteFault>
-        ensures written { HasWritten W.contents W.passed_on W.is_down W.seat self.old self.new result
+        ensures written { HasWritten W.contents W.passed_on W.is_down W.loans self.old self.new result
             (canonical (packets.Data (first.now ++ second.now ++ end.now))) }
         ensures too_long { IsErrOf result WriteFault.Payload
             ↔ ((self.old.failed ≡ false) × (max_payload < length (first.now ++ second.now ++ end.now))) }
@@ -159,7 +159,7 @@ impl<W: Sink> LineWriter<W> {
         if self.failed {
             return Err(WriteFault::Failed);
         }
-        match payload_len(first, second, end) {
+        match joined_len(first, second, end) {
             None => Err(WriteFault::Payload),
             Some(len) => self.put_pieces(&digits_of((DIGITS + len) as u16), first, second, end),
         }
@@ -174,7 +174,7 @@ impl<W: Sink> LineWriter<W> {
         end: &[u8],
     ) -> Result<(), WriteFault>
         requires { 0 < length digits.now }
-        ensures written { HasWritten W.contents W.passed_on W.is_down W.seat self.old self.new result
+        ensures written { HasWritten W.contents W.passed_on W.is_down W.loans self.old self.new result
             (digits.now ++ (first.now ++ second.now ++ end.now)) }
         ensures fits { IfErr result (λ fault. fault ≢ WriteFault.Payload) }
     {

@@ -1,7 +1,7 @@
 -- Refs in order: what a search finds, and what an edit at that place does.
-use Rattle.std.proofs.Common.{◌≡◌, ◌≢◌, ℕ, zero, suc, ◌<◌, ◌≤◌, List, [], ◌∷◌, ◌++◌, length, get_or, set, Bool, true, false, cond, Option, Some, None, Result, Ok, Err, MatchResult, refl, sym, ◌∙◌, ap, subst, arith, take, drop, ◌-◌}
+use Rattle.std.proofs.Common.{ap₂, ◌≡◌, ◌≢◌, ℕ, zero, suc, ◌<◌, ◌≤◌, List, [], ◌∷◌, ◌++◌, length, get_or, set, Bool, true, false, cond, Option, Some, None, Result, Ok, Err, MatchResult, ◌⊎◌, inl, inr, ◌+◌, refl, sym, ◌∙◌, ap, subst, arith, take, drop, ◌-◌}
 use Rattle.std.specs.Str.{bytes_eq}
-use Rattle.std.specs.List.{AllByRecursion, AllWithin, insert, find, slice_get}
+use Rattle.std.specs.List.{All, AllByRecursion, AllWithin, Contains, insert, find, slice_get}
 use Rattle.std.specs.List.Sorted.{IsStrictlySortedBy, IsNonDecreasingBy, IsBinarySearchResult, IsSearchInRange}
 use Rattle.std.specs.Map.{keys_of}
 use Rattle.std.specs.Option.{option_map}
@@ -15,9 +15,10 @@ use Rattle.std.proofs.lemmas.Map.Lookups.{exact_bytes}
 use Rattle.std.proofs.lemmas.Map.Keys.{sorted_head, sorted_tail}
 use Rattle.std.proofs.lemmas.Option.{same_Some}
 use Rattle.std.proofs.lemmas.Slice.Eq.{bytes_eq-Decides}
-use Rattle.std.proofs.lemmas.List.Elements.{All-append, All-take, All-drop, All-cons, All-set, All-nil, All-push}
+use Rattle.std.proofs.lemmas.List.Elements.{All-append, All-contains_itself, All-head, All-tail, All-weaker, All-take, All-drop, All-cons, All-set, All-nil, All-push}
 use Rattle.std.proofs.lemmas.List.Edits.{length-insert}
 use Rattle.std.proofs.lemmas.List.{length-set, length-append}
+use Rattle.gname.specs.Names.{head_name}
 use Rattle.grefs.specs.RefLists.{RefList, has_name, ref_at, AreBelow, IsBelowRefs, IsRefs, SetsRef, max_refs}
 use Rattle.grefs.specs.RefPlaces.{IsFound, IsGap}
 
@@ -60,9 +61,21 @@ ref_at-skip ref refs name h = rw h refl
 pub ref_at-hit : (ref : List ℕ × List ℕ) (refs : RefList) (name : List ℕ) → bytes_eq ref.0 name ≡ true → ref_at (ref ∷ refs) name ≡ Some ref.1
 ref_at-hit ref refs name h = rw h refl
 
+-- HEAD is no ref
+head_not_below : IsBelowRefs head_name → ⊥
+head_not_below h = let below = h.below in cc
+
+pub ref_at-head : (refs : RefList) → All (λ ref. IsBelowRefs ref.0) refs → ref_at refs head_name ≡ None
+ref_at-head [] all = refl
+ref_at-head (ref ∷ refs) all =
+    let P : List ℕ × List ℕ → Type 0 = λ r. IsBelowRefs r.0 in
+    ref_at-skip ref refs head_name
+    (other_false ref.0 head_name (bytes_eq ref.0 head_name) refl (λ same. head_not_below (subst IsBelowRefs (sym same) (All-head P ref refs all))))
+    ∙ ref_at-head refs (All-tail P ref refs all)
+
 -- ---- order
 
-above_lower : (low high : List ℕ) (keys : List (List ℕ)) → order low high ≡ Less → AllByRecursion (λ y. order high y ≡ Less) keys → AllByRecursion (λ y. order low y ≡ Less) keys
+pub above_lower : (low high : List ℕ) (keys : List (List ℕ)) → order low high ≡ Less → AllByRecursion (λ y. order high y ≡ Less) keys → AllByRecursion (λ y. order low y ≡ Less) keys
 above_lower low high [] h all = tt
 above_lower low high (key ∷ keys) h all = (nat_list_cmp_total.trans low high key h all.0, above_lower low high keys h all.1)
 
@@ -74,9 +87,62 @@ sorted_none : IsStrictlySortedBy order []
 unfolding IsStrictlySortedBy
 sorted_none = tt
 
-none_above : (refs : RefList) (name : List ℕ) → AllByRecursion (λ y. order name y ≡ Less) (keys_of refs) → ref_at refs name ≡ None
+pub none_above : (refs : RefList) (name : List ℕ) → AllByRecursion (λ y. order name y ≡ Less) (keys_of refs) → ref_at refs name ≡ None
 none_above [] name all = refl
 none_above (ref ∷ refs) name all = ref_at-skip ref refs name (higher_differs name ref.0 all.0) ∙ none_above refs name all.1
+
+-- refs whose look-ups are equal are the same
+
+abbrev AreAlike : RefList → RefList → Type 0
+AreAlike a b = (name : List ℕ) → ref_at a name ≡ ref_at b name
+
+-- a name below all of some refs is in no refs like them
+unlike : (ref : List ℕ × List ℕ) (refs others : RefList) → ref_at others ref.0 ≡ None → ref_at (ref ∷ refs) ref.0 ≡ ref_at others ref.0 → ⊥
+unlike ref refs others none same = let there = ref_at-hit ref refs ref.0 (bytes_eq-itself ref.0) in let clash = sym there ∙ same ∙ none in cc
+
+alike_tails : (x : List ℕ × List ℕ) (a b : RefList) (y : List ℕ × List ℕ) → x.0 ≡ y.0 → IsStrictlySortedBy order (keys_of (x ∷ a)) → IsStrictlySortedBy order (keys_of (y ∷ b))
+    → AreAlike (x ∷ a) (y ∷ b) → AreAlike a b
+alike_tails x a b y one here there alike name = at_name (bytes_eq x.0 name) refl
+  where
+    at_name : (found : Bool) → bytes_eq x.0 name ≡ found → ref_at a name ≡ ref_at b name
+    at_name true h =
+        let is : x.0 ≡ name = (bytes_eq-Decides x.0 name).0 h in
+        let no_a = none_above a x.0 (sorted_head order x.0 (keys_of a) here) in
+        let no_b = none_above b y.0 (sorted_head order y.0 (keys_of b) there) in
+        let at_a : ref_at a name ≡ None = subst (λ (n : List ℕ). ref_at a n ≡ None) is no_a in
+        let at_b : ref_at b name ≡ None = subst (λ (n : List ℕ). ref_at b n ≡ None) (sym one ∙ is) no_b in
+        at_a ∙ sym at_b
+    at_name false h =
+        let other : bytes_eq y.0 name ≡ false = subst (λ (n : List ℕ). bytes_eq n name ≡ false) one h in
+        sym (ref_at-skip x a name h) ∙ alike name ∙ ref_at-skip y b name other
+
+alike_heads : (x : List ℕ × List ℕ) (a b : RefList) (y : List ℕ × List ℕ) → x.0 ≡ y.0 → AreAlike (x ∷ a) (y ∷ b) → x ≡ y
+alike_heads x a b y one alike =
+    let here = ref_at-hit x a x.0 (bytes_eq-itself x.0) in
+    let there = ref_at-hit y b x.0 ((bytes_eq-Decides y.0 x.0).1 (sym one)) in
+    let ids : x.1 ≡ y.1 = same_Some x.1 y.1 (sym here ∙ alike x.0 ∙ there) in
+    ap₂ (λ (name id : List ℕ). (name, id)) one ids
+
+alike_met : (x : List ℕ × List ℕ) (a b : RefList) (y : List ℕ × List ℕ) (o : Ordering) → order x.0 y.0 ≡ o → IsStrictlySortedBy order (keys_of (x ∷ a))
+    → IsStrictlySortedBy order (keys_of (y ∷ b)) → AreAlike (x ∷ a) (y ∷ b) → (AreAlike a b → a ≡ b) → x ∷ a ≡ y ∷ b
+alike_met x a b y Less h here there alike tails =
+    let none = none_above (y ∷ b) x.0 (h, above_lower x.0 y.0 (keys_of b) h (sorted_head order y.0 (keys_of b) there)) in
+    absurd (unlike x a (y ∷ b) none (alike x.0))
+alike_met x a b y Greater h here there alike tails =
+    let below = unflipped x.0 y.0 h in
+    let none = none_above (x ∷ a) y.0 (below, above_lower y.0 x.0 (keys_of a) below (sorted_head order x.0 (keys_of a) here)) in
+    absurd (unlike y b (x ∷ a) none (sym (alike y.0)))
+alike_met x a b y Equal h here there alike tails =
+    let one : x.0 ≡ y.0 = (bytes_eq-Decides x.0 y.0).0 (sym (is_eq-slice_cmp x.0 y.0) ∙ ap is_eq h) in
+    ap₂ (λ (ref : List ℕ × List ℕ) (refs : RefList). ref ∷ refs) (alike_heads x a b y one alike) (tails (alike_tails x a b y one here there alike))
+
+pub alike_same : (a b : RefList) → IsStrictlySortedBy order (keys_of a) → IsStrictlySortedBy order (keys_of b) → AreAlike a b → a ≡ b
+alike_same [] [] here there alike = refl
+alike_same [] (y ∷ b) here there alike = absurd (unlike y b [] refl (sym (alike y.0)))
+alike_same (x ∷ a) [] here there alike = absurd (unlike x a [] refl (alike x.0))
+alike_same (x ∷ a) (y ∷ b) here there alike =
+    alike_met x a b y (order x.0 y.0) refl here there alike
+    (λ tails. alike_same a b (sorted_tail order x.0 (keys_of a) here) (sorted_tail order y.0 (keys_of b) there) tails)
 
 -- ---- what is at a place
 
@@ -158,17 +224,41 @@ reads_set (ref ∷ refs) name id (suc place) found other =
     ∙ swapped (bytes_eq ref.0 other) (bytes_eq name other) (Some ref.1) (Some id) (ref_at refs other) (not_both ref.0 name other (lower_differs ref.0 name found.0))
     ∙ ap (λ o. cond (bytes_eq name other) (Some id) o) (sym (ref_at-cons ref refs other))
 
-sets_from_reads : (old new : RefList) (name id : List ℕ) → Reads old new name id → SetsRef old new name id
-sets_from_reads old new name id reads = record {
+-- the refs of the new list are the one that was set and some of the old
+abbrev OneOr : RefList → List ℕ → List ℕ → List ℕ × List ℕ → Type 0
+OneOr old name id ref = (ref ≡ (name, id)) ⊎ Contains old ref
+
+old_or : (old : RefList) (name id : List ℕ) → All (OneOr old name id) old
+old_or old name id =
+    let some : (ref : List ℕ × List ℕ) → Contains old ref → OneOr old name id ref = λ ref h. inr h in
+    All-weaker (Contains old) (OneOr old name id) some old (All-contains_itself old)
+
+sets_from_reads : (old new : RefList) (name id : List ℕ) → Reads old new name id → All (OneOr old name id) new
+    → (ref_at old name ≡ None → length new ≡ length old + 1) → (ref_at old name ≢ None → length new ≡ length old) → SetsRef old new name id
+sets_from_reads old new name id reads each one_more as_many = record {
+  each = each;
+  one_more = one_more;
+  as_many = as_many;
   this_name = reads name ∙ ap (λ b. cond b (Some id) (ref_at old name)) (bytes_eq-itself name);
   others = λ other differs. reads other ∙ ap (λ b. cond b (Some id) (ref_at old other)) (other_false name other (bytes_eq name other) refl differs);
 }
 
-pub sets_insert : (refs : RefList) (name id : List ℕ) (place : ℕ) → IsGap refs name place → SetsRef refs (insert refs place (name, id)) name id
-sets_insert refs name id place gap = sets_from_reads refs (insert refs place (name, id)) name id (reads_insert refs name id place gap)
+pub sets_insert : (refs : RefList) (name id : List ℕ) (place : ℕ) → IsRefs refs → IsGap refs name place → SetsRef refs (insert refs place (name, id)) name id
+sets_insert refs name id place valid gap =
+    let P : List ℕ × List ℕ → Type 0 = OneOr refs name id in
+    let each = All-append P (take place refs) ((name, id) ∷ drop place refs) (All-take P place refs (old_or refs name id))
+    (All-cons P (name, id) (drop place refs) (inl refl) (All-drop P place refs (old_or refs name id))) in
+    sets_from_reads refs (insert refs place (name, id)) name id (reads_insert refs name id place gap) each
+    (λ new. length-insert refs place (name, id) (gap_inside refs name place gap))
+    (λ held. absurd (held (ref_at-gap refs name place valid.ascending gap)))
 
 pub sets_set : (refs : RefList) (name id : List ℕ) (place : ℕ) → IsFound refs name place → SetsRef refs (set refs place (name, id)) name id
-sets_set refs name id place found = sets_from_reads refs (set refs place (name, id)) name id (reads_set refs name id place found)
+sets_set refs name id place found =
+    let there = ref_at-found refs name place (name, id) found in
+    sets_from_reads refs (set refs place (name, id)) name id (reads_set refs name id place found)
+    (All-set (OneOr refs name id) refs place (name, id) (inl refl) (old_or refs name id))
+    (λ new. (let clash = sym there ∙ new in cc))
+    (λ held. length-set refs place (name, id))
 
 keys_set : (refs : RefList) (name id : List ℕ) (place : ℕ) → IsFound refs name place → keys_of (set refs place (name, id)) ≡ keys_of refs
 keys_set [] name id place found = absurd found

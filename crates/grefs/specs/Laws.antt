@@ -1,6 +1,6 @@
 -- What follows from the definition of refs.
-use Rattle.std.specs.Prelude.{◌<◌, ℕ, List, ◌∷◌, ◌++◌, length}
-use Rattle.grefs.specs.RefLists.{RefList, AreBelow, IsBelowRefs, IsRefs, max_refs}
+use Rattle.std.specs.Prelude.{◌≡◌, ◌<◌, ℕ, List, ◌∷◌, ◌++◌, length}
+use Rattle.grefs.specs.RefLists.{RefList, AreBelow, IsBelowRefs, IsRefs, max_refs, ref_at}
 
 -- a name may come next: it is below refs/ and above the names that are there, and there is room
 pub record MayComeNext (refs : RefList) (name : List ℕ) : Type 0 where
@@ -12,3 +12,7 @@ pub record MayComeNext (refs : RefList) (name : List ℕ) : Type 0 where
 abbrev pub RefsComeInOrder : Type 0
 RefsComeInOrder = (front : RefList) (ref : List ℕ × List ℕ) (back : RefList) →
     IsRefs (front ++ ref ∷ back) → MayComeNext front ref.0
+
+-- refs of which each name stands at the same id are the same
+abbrev pub RefsAreTheirLookUps : Type 0
+RefsAreTheirLookUps = (a b : RefList) → IsRefs a → IsRefs b → ((name : List ℕ) → ref_at a name ≡ ref_at b name) → a ≡ b

@@ -1,7 +1,7 @@
 -- Refs: names below refs/ with the ids that they stand at, in the byte order of the names
 -- (git-check-ref-format(1), git-show-ref(1)).
-use Rattle.std.specs.Prelude.{◌≡◌, ◌≢◌, ◌⊎◌, ℕ, ◌≤◌, true, Bool, List, length, find, All, codes, nat_eq, Option, Some}
-use Rattle.std.specs.Prelude.{None}
+use Rattle.std.specs.Prelude.{◌≡◌, ◌≢◌, ◌⊎◌, ℕ, ◌+◌, ◌≤◌, true, Bool, List, length, find, All, Contains, codes, nat_eq}
+use Rattle.std.specs.Prelude.{Option, Some, None}
 use Rattle.std.specs.Str.{bytes_eq}
 use Rattle.std.specs.List.{AllByRecursion, starts_with}
 use Rattle.std.specs.declared.cmp.Ordering.TheVariants.{Less}
@@ -48,10 +48,14 @@ pub record IsRefs (refs : RefList) : Type 0 where
   pub ascending : IsStrictlySortedBy (slice_cmp nat_cmp) (keys_of refs)
   pub few : length refs ≤ max_refs
 
--- the name stands at the id, and every other name where it stood
+-- the name stands at the id, and every other name where it stood; no other ref comes, and one more where the name
+-- is new
 pub record SetsRef (old new : RefList) (name id : List ℕ) : Type 0 where
   pub this_name : ref_at new name ≡ Some id
   pub others : (other : List ℕ) → other ≢ name → ref_at new other ≡ ref_at old other
+  pub each : All (λ ref. (ref ≡ (name, id)) ⊎ Contains old ref) new
+  pub one_more : ref_at old name ≡ None → length new ≡ length old + 1
+  pub as_many : ref_at old name ≢ None → length new ≡ length old
 
 -- a ref can't be set: the name is HEAD, or it is new where there are as many as can be
 abbrev pub CannotSet : RefList → List ℕ → Type 0

@@ -1,13 +1,14 @@
 // What HEAD stands at.
 #![tactic(auto)]
 
-ghost use Rattle.std.specs.Prelude.{◌≡◌, ◌≢◌, MatchOption};
+ghost use Rattle.std.specs.Prelude.{◌≡◌, ◌≢◌, IfOk, MatchOption};
 ghost use Rattle.gname.specs.Names.{head_name};
 ghost use Rattle.grefs.specs.RefLists.{IsBelowRefs};
 
+use crate::refs::copy_name;
 use gname::laws::names_are_clean;
 use gname::{Oid, RefName};
-use std::alloc::{Allocator, Global};
+use std::alloc::{AllocError, Allocator, Global};
 use std::marker::Model;
 
 /// A name that HEAD can point at: any below `refs/`.
@@ -39,6 +40,14 @@ impl<A: Allocator + Copy> Target<A> {
         Some(Target { name })
     }
 
+    /// A target like this one. It fails where there is no memory.
+    pub fn copy_in(&self, alloc: A) -> Result<Target<A>, AllocError>
+        ensures { IfOk result (λ target. target ≡ self.now) }
+    {
+        let name = copy_name(alloc, &self.name)?;
+        Ok(Target { name })
+    }
+
     /// The name.
     pub fn name(&self) -> &RefName<A>
         ensures name { result.now ≡ self.now }
@@ -54,4 +63,17 @@ pub enum Head<A: Allocator + Copy = Global> {
     None,
     Id(Oid),
     Symref(Target<A>),
+}
+
+impl<A: Allocator + Copy> Head<A> {
+    /// A head like this one. It fails where there is no memory.
+    pub fn copy_in(&self, alloc: A) -> Result<Head<A>, AllocError>
+        ensures { IfOk result (λ head. head ≡ self.now) }
+    {
+        match self {
+            Head::None => Ok(Head::None),
+            Head::Id(id) => Ok(Head::Id(*id)),
+            Head::Symref(target) => Ok(Head::Symref(target.copy_in(alloc)?)),
+        }
+    }
 }

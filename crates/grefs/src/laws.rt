@@ -1,9 +1,14 @@
 // Laws of refs. A call does nothing, and gives its caller's proof the law.
 #![tactic(auto)]
 
-ghost use Rattle.grefs.specs.Laws.{RefsComeInOrder};
+ghost use Rattle.grefs.specs.Laws.{RefsAreTheirLookUps, RefsComeInOrder};
 
 /// Each ref could have been added after those before it.
 pub fn refs_come_in_order()
     ensures { RefsComeInOrder }
+{}
+
+/// Refs of which each name stands at the same id are the same.
+pub fn refs_are_their_look_ups()
+    ensures { RefsAreTheirLookUps }
 {}

@@ -5,13 +5,16 @@
 //!
 //! - [`Refs`] are in strictly ascending order of their names' bytes, at most [`MAX_REFS`] of them, and
 //!   no name is `HEAD`. Look-ups answer the id of the name, or that there is none.
-//! - [`Refs::set`] puts one name at an id and leaves all others, or changes nothing. It answers `Refs`
-//!   exactly for `HEAD` and for one name too many.
+//! - [`Refs::set`] puts one name at an id, leaves all others and adds no other ref, or changes nothing. It
+//!   answers `Refs` exactly for `HEAD` and for one name too many, and is never refused for a name that
+//!   is there.
+//! - A copy of refs, of a target or of a head is the same.
 //! - A [`Target`] is a name below `refs/`: any but `HEAD`.
 //! - Each fault has the number and the name of its row.
 //! - No call panics, overflows or reads out of bounds, and each returns.
 //!
-//! [`laws`] say that each ref could have been added after those before it.
+//! [`laws`] say that each ref could have been added after those before it, and that refs of which each name
+//! stands at the same id are the same.
 //!
 //! # Only tested
 //!
@@ -19,12 +22,12 @@
 //!
 //! # What a body can still get away with
 //!
-//! Setting or adding a new name may report out of memory as often as it likes. Each call may take as
-//! long as it likes, and more memory than it needs.
+//! Setting or adding a new name, and copying, may report out of memory as often as they like. Each call may
+//! take as long as it likes, and more memory than it needs.
 //!
 //! # Stands on
 //!
-//! `gname` for names and ids, `thiserror` for the texts of faults.
+//! `gname` for names and ids, `thiserror` for the texts of faults; in tests `bumpalo`, for memory that ends.
 #![tactic(auto)]
 
 mod fault;

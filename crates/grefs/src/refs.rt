@@ -1,7 +1,7 @@
 // Refs, and what HEAD stands at.
 #![tactic(auto)]
 
-ghost use Rattle.std.specs.Prelude.{◌≡◌, ◌≤◌, ◌↔◌, [], length, IsTrue, IsErrOf, OnOk, OnErr, IfErr, ◌⊎◌, MatchOption, MatchResult, slice_get, ◌<◌, ◌++◌, ◌∷◌};
+ghost use Rattle.std.specs.Prelude.{◌≡◌, ◌≤◌, ◌↔◌, [], length, IsTrue, IsErrOf, OnOk, OnErr, IfOk, IfErr, ◌⊎◌, ◌≢◌, None, is_ok, MatchOption, MatchResult, slice_get, ◌<◌, ◌++◌, ◌∷◌};
 ghost use Rattle.grefs.specs.RefLists.{AreBelow, CannotSet, IsBelowRefs, IsRefs, SetsRef, max_refs, ref_at};
 ghost use Rattle.grefs.specs.RefPlaces.{IsFound, IsGap};
 
@@ -42,7 +42,8 @@ impl<A: Allocator + Copy> Refs<A> {
 
     /// How many refs there are.
     pub fn len(&self) -> usize
-        ensures { result ≡ length self.now }
+        ensures count { result ≡ length self.now }
+        ensures valid { IsRefs self.now }
     {
         self.refs.len()
     }
@@ -62,6 +63,14 @@ impl<A: Allocator + Copy> Refs<A> {
         self.refs.as_slice()
     }
 
+    /// Refs like these. It fails where there is no memory.
+    pub fn copy_in(&self, alloc: A) -> Result<Refs<A>, AllocError>
+        ensures { IfOk result (λ refs. refs ≡ self.now) }
+    {
+        let refs = copy_refs(alloc, self.refs.as_slice())?;
+        Ok(Refs { refs })
+    }
+
     /// The id at which a name stands.
     pub fn get(&self, name: &RefName<A>) -> Option<Oid>
         ensures { result ≡ ref_at self.now name.now }
@@ -74,19 +83,20 @@ impl<A: Allocator + Copy> Refs<A> {
 
     /// The ref at a place of the names' order, which counts from 0.
     pub fn at(&self, place: usize) -> Option<(&RefName<A>, Oid)>
-        ensures { MatchOption result (length self.now ≤ place) (λ pair.
+        ensures pair { MatchOption result (length self.now ≤ place) (λ pair.
             slice_get self.now place ≡ Some (pair.0.now, pair.1)) }
+        ensures valid { IsRefs self.now }
     {
         let pair = self.refs.get(place)?;
         Some((&pair.0, pair.1))
     }
 
-    /// Whether the name is above every name of the refs.
-    pub fn are_below(&self, name: &RefName<A>) -> bool
+    /// Whether a name of these bytes is above every name of the refs.
+    pub fn are_below(&self, name: &[u8]) -> bool
         ensures { IsTrue result ↔ AreBelow self.now name.now }
     {
         match self.refs.last() {
-            Some(last) => last.0 < *name,
+            Some(last) => last.0.as_bytes().cmp(name).is_lt(),
             None => true,
         }
     }
@@ -106,14 +116,17 @@ impl<A: Allocator + Copy> Refs<A> {
     /// Puts a name at an id.
     ///
     /// It fails with `Refs` where the name is HEAD, or is new where there are `MAX_REFS` refs, and
-    /// with `Memory`. The refs are then as before.
+    /// with `Memory` where there is none for another new name. The refs are then as before. A name
+    /// that is there takes no memory.
     pub fn set(&mut self, name: RefName<A>, id: Oid) -> Result<(), RefsFault>
         ensures ok { OnOk result (SetsRef self.old self.new name id) }
+        ensures held { ref_at self.old name ≢ None → IsTrue (is_ok result) }
         ensures refused { IsErrOf result RefsFault.Refs ↔ CannotSet self.old name }
         ensures faults { IfErr result (λ fault. (fault ≡ RefsFault.Refs) ⊎ (fault ≡ RefsFault.Memory)) }
         ensures err { OnErr result (self.new ≡ self.old) }
     {
         names_are_clean();
+        let count = self.refs.len();
         if name.is_head() {
             return Err(RefsFault::Refs);
         }
@@ -123,7 +136,7 @@ impl<A: Allocator + Copy> Refs<A> {
                 Ok(())
             }
             Err(place) => {
-                if self.refs.len() == MAX_REFS {
+                if count == MAX_REFS {
                     return Err(RefsFault::Refs);
                 }
                 self.refs.insert(place, (name, id))?;
@@ -138,6 +151,34 @@ pub fn is_below_refs<A: Allocator + Copy>(name: &RefName<A>) -> bool
     ensures { IsTrue result ↔ IsBelowRefs name.now }
 {
     name.as_bytes().starts_with(b"refs/")
+}
+
+/// Refs like these. It fails where there is no memory.
+fn copy_refs<A: Allocator + Copy>(
+    alloc: A,
+    refs: &[(RefName<A>, Oid)],
+) -> Result<Vec<(RefName<A>, Oid), A>, AllocError>
+    ensures { IfOk result (λ copies. copies.items ≡ refs.now) }
+{
+    let mut copies = Vec::new(alloc);
+    for pair in refs {
+        let name = copy_name(alloc, &pair.0)?;
+        copies.push((name, pair.1))?;
+    }
+    Ok(copies)
+}
+
+/// A name like this one. It fails where there is no memory.
+pub(crate) fn copy_name<A: Allocator + Copy>(
+    alloc: A,
+    name: &RefName<A>,
+) -> Result<RefName<A>, AllocError>
+    ensures { IfOk result (λ copy. copy ≡ name.now) }
+{
+    match RefName::new(alloc, name.as_bytes()) {
+        Ok(copy) => Ok(copy),
+        Err(_) => Err(AllocError),
+    }
 }
 
 // Where the name is, or where it would go.

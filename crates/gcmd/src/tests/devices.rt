@@ -77,6 +77,18 @@ impl Writer {
     }
 }
 
+impl Writer {
+    /// Just these bytes were written, and all of them passed on.
+    pub(super) fn has_passed(&self, due: &[u8]) -> bool {
+        self.written.as_slice() == due && self.passed_on == due.len()
+    }
+
+    /// Just these bytes were written, in so many calls, and none of them passed on.
+    pub(super) fn has_held(&self, due: &[u8], calls: usize) -> bool {
+        self.written.as_slice() == due && self.passed_on == 0 && self.calls == calls
+    }
+}
+
 impl Write for Writer {
     fn write(&mut self, buf: &[u8]) -> io::Result<usize> {
         let most = take_turn(&mut self.calls, self.hindrance)?;
@@ -106,6 +118,13 @@ pub(super) struct Ran {
     /// The bytes that were not read, and the calls that read the others.
     pub(super) left: usize,
     pub(super) reads: usize,
+}
+
+impl Ran {
+    /// This was written, this was printed, and this is the status.
+    pub(super) fn has(&self, written: &[u8], printed: &[u8], status: u8) -> bool {
+        self.output.has_passed(written) && self.errors.has_passed(printed) && self.status == status
+    }
 }
 
 /// A program that is run.

@@ -1,6 +1,6 @@
 // Whole runs of the programs: what they write and print, how they end, and that they stop at the first failure of a
 // device.
-use crate::tests::devices::{FREE, Hindrances, Program, SLOW, Writer, failing_at, run};
+use crate::tests::devices::{FREE, Hindrance, Hindrances, Program, SLOW, Writer, failing_at, run};
 use crate::tests::requests::{ANSWERED, Case, OF_TAGS, REFUSED};
 use crate::tests::samples::{
     CHILD_FIRST, EMPTY, HEAD_MISSING, OPEN, REF_MISSING, SAMPLE, TAGGED, UNSAFE, id_of,
@@ -66,61 +66,68 @@ type Row<'a> = (Program, &'a [u8], Case);
 fn check_whole(rt: &impl Abort, alloc: Global, row: Row<'_>, hindrances: Hindrances) {
     let (program, file, (input, written, printed)) = row;
     let ran = run(alloc, program, file, input, hindrances);
-    assert_eq!(rt; ran.output.written.as_slice(), written, "{program:?}");
-    assert_eq!(rt; ran.output.passed_on, written.len(), "{program:?}");
-    assert_eq!(rt; ran.errors.written.as_slice(), printed, "{program:?}");
-    assert_eq!(rt; ran.errors.passed_on, printed.len(), "{program:?}");
-    assert_eq!(rt; ran.status, status_of(printed), "{program:?}");
+    assert!(rt;
+        ran.has(written, printed, status_of(printed)),
+        "{program:?}"
+    );
+}
+
+// How many calls write these bytes at once, and pass them on.
+fn calls_at_once(bytes: &[u8]) -> usize {
+    if bytes.is_empty() { 0 } else { 2 }
+}
+
+// How many calls write them one byte a call, and pass them on.
+fn slow_calls(bytes: &[u8]) -> usize {
+    if bytes.is_empty() {
+        0
+    } else {
+        bytes.len().saturating_add(1)
+    }
+}
+
+// What is printed is written in one call, and so is what `check` writes.
+fn check_calls(rt: &impl Abort, alloc: Global, row: Row<'_>) {
+    let (program, file, (input, written, printed)) = row;
+    let ran = run(alloc, program, file, input, [FREE, FREE, FREE]);
+    assert_eq!(rt; ran.errors.calls, calls_at_once(printed));
+    if matches!(program, Program::Check) {
+        assert_eq!(rt; ran.output.calls, calls_at_once(written));
+    }
 }
 
 // The writer failed at this call: a beginning stands, and nothing was tried again.
 fn check_failed(rt: &impl Abort, writer: &Writer, due: &[u8], call: usize) {
-    assert_eq!(rt;
-        writer.written.as_slice(),
-        &due[..call.min(due.len())],
-        "at {call}"
-    );
-    assert_eq!(rt; writer.passed_on, 0, "at {call}");
-    assert_eq!(rt; writer.calls, call.saturating_add(1), "at {call}");
+    let stood = &due[..call.min(due.len())];
+    assert!(rt; writer.has_held(stood, call.saturating_add(1)), "at {call}");
 }
 
 // Each write of the output, and its flush, fails in turn; the failed write is printed once.
 fn check_writes(rt: &impl Abort, alloc: Global, row: Row<'_>) {
     let (program, file, (input, written, _)) = row;
-    let calls = if written.is_empty() {
-        0
-    } else {
-        written.len().saturating_add(1)
-    };
-    for call in 0..calls {
+    for call in 0..slow_calls(written) {
         let ran = run(alloc, program, file, input, [FREE, failing_at(call), FREE]);
         check_failed(rt, &ran.output, written, call);
-        assert!(rt; ran.errors.written.as_slice() == WRITE_FAILED, "at {call}");
-        assert_eq!(rt; ran.errors.passed_on, WRITE_FAILED.len(), "at {call}");
-        assert_eq!(rt; ran.status, 1, "at {call}");
+        assert!(rt; ran.errors.has_passed(WRITE_FAILED), "at {call}");
+        assert_eq!(rt; ran.status, 1);
     }
 }
 
 // Each write of the errors, and its flush, fails in turn; the output and the status are as ever.
 fn check_prints(rt: &impl Abort, alloc: Global, row: Row<'_>) {
     let (program, file, (input, written, printed)) = row;
-    let calls = if printed.is_empty() {
-        0
-    } else {
-        printed.len().saturating_add(1)
-    };
-    for call in 0..calls {
+    for call in 0..slow_calls(printed) {
         let ran = run(alloc, program, file, input, [FREE, FREE, failing_at(call)]);
         check_failed(rt, &ran.errors, printed, call);
-        assert_eq!(rt; ran.output.written.as_slice(), written, "at {call}");
-        assert_eq!(rt; ran.output.passed_on, written.len(), "at {call}");
-        assert_eq!(rt; ran.status, 1, "at {call}");
+        assert!(rt; ran.output.has_passed(written), "at {call}");
+        assert_eq!(rt; ran.status, 1);
     }
 }
 
 fn check_row(rt: &impl Abort, alloc: Global, row: Row<'_>) {
     check_whole(rt, alloc, row, [FREE, FREE, FREE]);
     check_whole(rt, alloc, row, [SLOW, SLOW, SLOW]);
+    check_calls(rt, alloc, row);
     check_writes(rt, alloc, row);
     check_prints(rt, alloc, row);
 }
@@ -173,22 +180,21 @@ fn own_faults_are_printed(rt: HostRuntime) {
     }
 }
 
+// The last eight bytes of the input are left.
+fn check_left(rt: &impl Abort, alloc: Global, input: &[u8], read: Hindrance) {
+    let ran = run(alloc, Program::Ls, SAMPLE, input, [read, FREE, FREE]);
+    assert_eq!(rt; (ran.left, ran.status), (8, 0));
+}
+
 // Nothing that follows a request is read, and nothing before its end is left.
 #[test]
 fn requests_are_read_to_their_end(rt: HostRuntime) -> Result<(), Fail> {
-    for (input, _, _) in ANSWERED.iter().filter(|case| !case.0.is_empty()) {
-        let mut bytes = Vec::from_slice(rt.alloc(), input)?;
-        bytes.extend_from_slice(b"0014more")?;
-        for most in [FREE, SLOW] {
-            let ran = run(
-                rt.alloc(),
-                Program::Ls,
-                SAMPLE,
-                bytes.as_slice(),
-                [most, FREE, FREE],
-            );
-            assert_eq!(rt; ran.left, 8);
-            assert_eq!(rt; ran.status, 0);
+    for (input, _, _) in ANSWERED {
+        if !input.is_empty() {
+            let mut bytes = Vec::from_slice(rt.alloc(), input)?;
+            bytes.extend_from_slice(b"0014more")?;
+            check_left(&rt, rt.alloc(), bytes.as_slice(), FREE);
+            check_left(&rt, rt.alloc(), bytes.as_slice(), SLOW);
         }
     }
     Ok(())
@@ -205,6 +211,14 @@ const FRAMES: &[(&[u8], &[usize])] = &[
     (b"", &[]),
 ];
 
+// The read that fails is the last, and is reported to the peer and printed.
+fn check_read(rt: &impl Abort, alloc: Global, input: &[u8], call: usize, printed: &[u8]) {
+    let hindrances = [failing_at(call), FREE, FREE];
+    let ran = run(alloc, Program::Ls, SAMPLE, input, hindrances);
+    assert!(rt; ran.has(READ_FAILED, printed, 1), "at {call}");
+    assert_eq!(rt; ran.reads, call.saturating_add(1));
+}
+
 // Each read fails in turn, that of the end too.
 #[test]
 fn failing_reads_are_reported(rt: HostRuntime) -> Result<(), Fail> {
@@ -216,23 +230,9 @@ fn failing_reads_are_reported(rt: HostRuntime) -> Result<(), Fail> {
             input.len().saturating_add(1)
         };
         for call in 0..reads {
-            let ran = run(
-                rt.alloc(),
-                Program::Ls,
-                SAMPLE,
-                input,
-                [failing_at(call), FREE, FREE],
-            );
             let frame = ends.iter().filter(|end| **end <= call).count();
             let printed = format!(in rt.alloc(); "gitv2: fault 24 Io frame {frame}\n")?;
-            assert_eq!(rt; ran.output.written.as_slice(), READ_FAILED, "at {call}");
-            assert_eq!(rt;
-                ran.errors.written.as_slice(),
-                printed.as_bytes(),
-                "at {call}"
-            );
-            assert_eq!(rt; ran.reads, call.saturating_add(1), "at {call}");
-            assert_eq!(rt; ran.status, 1, "at {call}");
+            check_read(&rt, rt.alloc(), input, call, printed.as_bytes());
         }
     }
     Ok(())

@@ -26,7 +26,7 @@ pub(super) const ANSWERED: &[Case] = &[
         b"0032cccccccccccccccccccccccccccccccccccccccc HEAD\n003dcccccccccccccccccccccccccccccccccccccccc refs/heads/main\n0000",
         b"",
     ),
-    // Both capabilities, and no argument behind the delimiter.
+    // Both capabilities, and no argument after the delimiter.
     (
         b"0014command=ls-refs\n0015agent=git/2.43.0\n0017object-format=sha1\n00010000",
         b"0032cccccccccccccccccccccccccccccccccccccccc HEAD\n003dcccccccccccccccccccccccccccccccccccccccc refs/heads/main\n0000",

@@ -1,7 +1,6 @@
 //! Each limit of a text, met and passed by one.
-use super::makers::{fault_of, name, read};
-use crate::{Order, Refs};
-use gname::RefName;
+use super::makers::fault_of;
+use crate::Order;
 use std::process::Abort;
 
 // A text with one commit with so many parents.
@@ -44,49 +43,4 @@ fn loads_names_of_1000_bytes_and_no_more(rt: HostRuntime) {
             "{length} bytes"
         );
     }
-}
-
-fn is_name_at(refs: &Refs, place: usize, wanted: &RefName) -> bool {
-    match refs.at(place) {
-        Some((name, _)) => name == wanted,
-        None => false,
-    }
-}
-
-// The name with this number.
-fn numbered(rt: &(impl Abort + AllocGlobal), number: usize) -> RefName {
-    let text = format!(in rt.alloc(); "refs/{number:05}").expect(rt, "memory");
-    name(rt, text.as_str())
-}
-
-// There are as many refs, and at a place that with its number.
-fn check_most_refs(rt: &(impl Abort + AllocGlobal), refs: &Refs) {
-    assert_eq!(rt; refs.len(), 65_536);
-    for place in [0, 1, 40_000, 65_535] {
-        assert!(rt; is_name_at(refs, place, &numbered(rt, place)), "at {place}");
-    }
-}
-
-// A text with so many refs.
-fn refs_text(rt: &(impl Abort + AllocGlobal), count: usize) -> String {
-    let mut text = String::new(rt.alloc());
-    text.push_str("gitv2 1\n").expect(rt, "memory");
-    for number in 0..count {
-        let line = format!(in rt.alloc(); "r T refs/{number:05}\n").expect(rt, "memory");
-        text.push_str(line.as_str()).expect(rt, "memory");
-    }
-    text.push_str("h none\nend\n").expect(rt, "memory");
-    text
-}
-
-#[test]
-fn loads_65536_refs_and_no_more(rt: HostRuntime) {
-    let most = refs_text(&rt, 65_536);
-    let it = read(&rt, most.as_str(), Order::Any).expect(&rt, "the most refs");
-    check_most_refs(&rt, &it.refs);
-    let more = refs_text(&rt, 65_537);
-    assert_eq!(rt;
-        fault_of(&rt, more.as_str(), Order::Any),
-        Some((67, 65_538))
-    );
 }

@@ -12,6 +12,8 @@ pub(crate) fn text_laws()
     laws::ids_have_texts();
     laws::id_texts_are_digits();
     laws::texts_spell_one_id();
+    laws::ids_have_one_format();
     laws::texts_have_one_reading();
     laws::names_are_clean();
+    laws::rules_never_report_memory();
 }

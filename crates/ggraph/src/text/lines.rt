@@ -1,96 +1,81 @@
 // The lines of a repository text, one kind at a time.
 #![tactic(auto)]
 
-ghost use Rattle.std.specs.Prelude.{◌≡◌, MatchOption, IfOk, ◌∷◌};
-ghost use Rattle.gobject.specs.Objects.{HasIds};
-ghost use Rattle.ggraph.specs.RepositoryText.{IsHead, node_line, ref_line, head_line, spaced_ids};
+ghost use Rattle.std.specs.Prelude.{◌≡◌, ◌++◌, ◌∷◌, MatchOption, MatchResult, codes};
+ghost use Rattle.gobject.specs.PlainPackText.{letter};
 ghost use Rattle.grefs.specs.RefLists.{IsBelowRefs};
-ghost use Rattle.ggraph.specs.NoSuchPart.{IsNoNode, IsNoEntry, IsNoRef, IsNoHead, IsNoIdText, IsHeadAt, IsHeadOn};
-ghost use Rattle.gname.specs.Ids.{IsId};
+ghost use Rattle.ggraph.specs.RepositoryText.{IsHead, first_line, head_line};
+ghost use Rattle.ggraph.specs.NoSuchPart.{BeginsWithNoRefId, IsNoNode, IsNoHead, IsNoIdText, IsHeadAt, IsHeadOn, IsSymrefLine};
+ghost use Rattle.gname.specs.Ids.{IsIdOf, id_text};
+ghost use Rattle.gname.specs.declared.formats.Format.{Format};
 
 use crate::text::laws::text_laws;
-use crate::text::parts::{ids_of, name_of, take_id, take_spaced};
-use gname::{Oid, RefName};
-use gobject::{Entry, Kind, Node};
+use crate::text::parts::{name_of, take_id};
+use gname::{Format, Oid};
+use gobject::Kind;
 use grefs::{Head, Target};
 use std::alloc::{AllocError, Allocator};
 
-/// The node that a line is, if it is one.
-pub(crate) fn node_of<A: Allocator + Copy>(
-    alloc: A,
-    line: &[u8],
-) -> Result<Option<Entry<A>>, AllocError>
-    ensures { IfOk result (λ found. MatchOption found (IsNoNode A line.now) (λ entry.
-        (line.now ≡ node_line entry) × HasIds entry)) }
+/// The format of a text's ids, which its first line says.
+pub(crate) fn format_of(line: &[u8]) -> Option<Format>
+    ensures { MatchOption result
+        (((format : Format) → line.now ≡ first_line format → ⊥))
+        (λ format. line.now ≡ first_line format) }
+{
+    if line == b"gitv2 1".as_slice() {
+        Some(Format::Sha1)
+    } else if line == b"gitv2 2 sha256".as_slice() {
+        Some(Format::Sha256)
+    } else {
+        None
+    }
+}
+
+/// The kind of a node's line, and what follows its letter.
+pub(crate) fn node_parts(line: &[u8]) -> Option<(Kind, &[u8])>
+    ensures { MatchOption result (IsNoNode line.now) (λ parts. line.now ≡ letter parts.0 ∷ parts.1.now) }
 {
     if let Some(ids) = line.strip_prefix(b"c") {
-        return entry_of(alloc, Kind::Commit, ids);
+        return Some((Kind::Commit, ids));
     }
     if let Some(ids) = line.strip_prefix(b"t") {
-        return entry_of(alloc, Kind::Tag, ids);
+        return Some((Kind::Tag, ids));
     }
-    Ok(None)
+    None
 }
 
-// The node of a kind whose id and parents these are.
-fn entry_of<A: Allocator + Copy>(
-    alloc: A,
-    kind: Kind,
-    ids: &[u8],
-) -> Result<Option<Entry<A>>, AllocError>
-    ensures { IfOk result (λ found. MatchOption found (IsNoEntry A ids.now) (λ entry.
-        (ids.now ≡ spaced_ids (entry.id ∷ entry.node.parents)) × (entry.node.kind ≡ kind) × HasIds entry)) }
+/// The id of a ref's line, and the text after the space that follows it.
+pub(crate) fn ref_parts(format: Format, text: &[u8]) -> Option<(Oid, &[u8])>
+    ensures { MatchOption result (BeginsWithNoRefId format text.now) (λ parts.
+        (text.now ≡ id_text parts.0 ++ (codes " " ++ parts.1.now)) × IsIdOf format parts.0) }
 {
     text_laws();
-    let Some(first) = take_spaced(ids) else {
-        return Ok(None);
+    let Some(first) = take_id(format, text) else {
+        return None;
     };
-    let Some(parents) = ids_of(alloc, first.1)? else {
-        return Ok(None);
+    let Some(name) = first.1.strip_prefix(b" ") else {
+        return None;
     };
-    Ok(Some(Entry {
-        id: first.0,
-        node: Node { kind, parents },
-    }))
+    Some((first.0, name))
 }
 
-/// The ref that a line is, if it is one.
-pub(crate) fn ref_of<A: Allocator + Copy>(
-    alloc: A,
-    line: &[u8],
-) -> Result<Option<(RefName<A>, Oid)>, AllocError>
-    ensures { IfOk result (λ found. MatchOption found (IsNoRef line.now) (λ ref.
-        (line.now ≡ ref_line ref) × IsId ref.1 × IsBelowRefs ref.0)) }
-{
-    text_laws();
-    let Some(parts) = line.strip_prefix(b"r ") else {
-        return Ok(None);
-    };
-    let Some(first) = take_id(parts) else {
-        return Ok(None);
-    };
-    let Some(text) = first.1.strip_prefix(b" ") else {
-        return Ok(None);
-    };
-    let Some(name) = name_of(alloc, text)? else {
-        return Ok(None);
-    };
-    Ok(Some((name, first.0)))
-}
-
-/// What HEAD stands at by a line, if it is that of HEAD.
+/// What HEAD stands at by a line, if it is that of HEAD. It fails where there is no memory for the name
+/// of the ref that HEAD is on.
 pub(crate) fn head_of<A: Allocator + Copy>(
     alloc: A,
+    format: Format,
     line: &[u8],
 ) -> Result<Option<Head<A>>, AllocError>
-    ensures { IfOk result (λ found. MatchOption found (IsNoHead A line.now) (λ head.
-        (line.now ≡ head_line head) × IsHead head)) }
+    ensures { MatchResult result
+        (λ found. MatchOption found (IsNoHead A format line.now) (λ head.
+        (line.now ≡ head_line head) × IsHead format head))
+        (λ _. IsSymrefLine A line.now) }
 {
     if line == b"h none".as_slice() {
         return Ok(Some(Head::None));
     }
     if let Some(digits) = line.strip_prefix(b"h id ") {
-        return Ok(head_at(digits));
+        return Ok(head_at(format, digits));
     }
     if let Some(text) = line.strip_prefix(b"h ref ") {
         return head_on(alloc, text);
@@ -99,11 +84,11 @@ pub(crate) fn head_of<A: Allocator + Copy>(
 }
 
 // HEAD at the id whose digits these are.
-fn head_at<A: Allocator + Copy>(digits: &[u8]) -> Option<Head<A>>
-    ensures { MatchOption result (IsNoIdText digits.now) (λ head. IsHeadAt digits.now head) }
+fn head_at<A: Allocator + Copy>(format: Format, digits: &[u8]) -> Option<Head<A>>
+    ensures { MatchOption result (IsNoIdText format digits.now) (λ head. IsHeadAt format digits.now head) }
 {
     text_laws();
-    match take_id(digits) {
+    match take_id(format, digits) {
         Some(found) => {
             if found.1.is_empty() {
                 Some(Head::Id(found.0))
@@ -117,7 +102,9 @@ fn head_at<A: Allocator + Copy>(digits: &[u8]) -> Option<Head<A>>
 
 // HEAD on the ref with this name.
 fn head_on<A: Allocator + Copy>(alloc: A, text: &[u8]) -> Result<Option<Head<A>>, AllocError>
-    ensures { IfOk result (λ found. MatchOption found (¬ (IsBelowRefs text.now)) (λ head. IsHeadOn text.now head)) }
+    ensures { MatchResult result
+        (λ found. MatchOption found (¬ (IsBelowRefs text.now)) (λ head. IsHeadOn text.now head))
+        (λ _. IsBelowRefs text.now) }
 {
     let Some(name) = name_of(alloc, text)? else {
         return Ok(None);

@@ -1,11 +1,12 @@
 // Loading a repository text.
 #![tactic(auto)]
 
-ghost use Rattle.std.specs.Prelude.{◌≡◌, ◌++◌, MatchOption, IfOk, IfErr, codes};
-ghost use Rattle.ggraph.specs.Loading.{Accepts, HasNoLf, StopsAt};
+ghost use Rattle.std.specs.Prelude.{◌≡◌, ◌++◌, MatchOption, IfOk, IfErr};
+ghost use Rattle.gobject.specs.PlainPackText.{IsInLine, line};
+ghost use Rattle.ggraph.specs.Loading.{AcceptsText, StopsAt};
 ghost use Rattle.ggraph.specs.RepositoryText.{IsLoadable, repository_text};
 
-use crate::fault::TextFault;
+use crate::fault::LoadFault;
 use crate::text::laws::text_laws;
 use crate::text::reading::{Reading, Stage};
 use crate::text::{Order, Repository};
@@ -14,21 +15,22 @@ use grefs::{Head, Refs};
 use memchr::memchr;
 use std::alloc::Allocator;
 
-/// Reads the text that keeps a repository.
+/// Reads the text that keeps a repository, whose first line says the format of its ids.
 ///
 /// It fails with `Text` at the first line that is not as the format says, at a line past a limit, or
 /// where the text ends early, and under `Order::ParentsFirst` with `ParentLater` at the first line
 /// that names a parent which is on no earlier line; of both with the one at the earlier line, and at
-/// one line with `Text`. `Memory` may come at any line.
+/// one line with `Text`. `Memory` comes where there is none for what a right line says: for a node, a
+/// ref, or a HEAD on a ref.
 pub fn load<A: Allocator + Copy>(
     alloc: A,
     text: &[u8],
     order: Order,
-) -> Result<Repository<A>, TextFault>
+) -> Result<Repository<A>, LoadFault>
     ensures ok { IfOk result (λ it.
         (text.now ≡ repository_text it.graph it.refs it.head) × IsLoadable order it.graph it.refs it.head) }
     ensures refused { IfErr result (StopsAt A order text.now) }
-    ensures accepts { Accepts A order text.now result }
+    ensures accepts { AcceptsText A order text.now result }
 {
     text_laws();
     let mut reading = Reading::new(alloc);
@@ -40,7 +42,7 @@ pub fn load<A: Allocator + Copy>(
         number += 1;
     }
     if !rest.is_empty() || reading.stage != Stage::Done {
-        return Err(TextFault::Text { line: number });
+        return Err(LoadFault::Text { line: number });
     }
     Ok(Repository {
         graph: reading.graph,
@@ -51,8 +53,8 @@ pub fn load<A: Allocator + Copy>(
 
 // The first line, without its LF, and what follows the LF.
 fn split_line(text: &[u8]) -> Option<(&[u8], &[u8])>
-    ensures { MatchOption result (HasNoLf text.now) (λ pair.
-        (text.now ≡ pair.0.now ++ (codes "\n" ++ pair.1.now)) × HasNoLf pair.0.now) }
+    ensures { MatchOption result (IsInLine text.now) (λ pair.
+        (text.now ≡ line pair.0.now ++ pair.1.now) × IsInLine pair.0.now) }
 {
     match memchr(b'\n', text) {
         Some(end) => Some((&text[..end], &text[end + 1..])),

@@ -1,28 +1,30 @@
 // The parts of a line: ids in lower case, and names.
 #![tactic(auto)]
 
-ghost use Rattle.std.specs.Prelude.{◌≡◌, ◌++◌, MatchOption, IfOk, All, IsTrue, ◌↔◌, codes};
-ghost use Rattle.gname.specs.Ids.{IsId, id_text};
+ghost use Rattle.std.specs.Prelude.{◌≡◌, ◌++◌, ◌≤◌, MatchOption, MatchResult, All, IsTrue, ◌↔◌, codes, take};
+ghost use Rattle.gname.specs.Ids.{IsIdOf, id_text};
+ghost use Rattle.gobject.specs.Objects.{max_parents};
+ghost use Rattle.gobject.specs.PlainPackText.{ids_text};
 ghost use Rattle.grefs.specs.RefLists.{IsBelowRefs};
-ghost use Rattle.ggraph.specs.RepositoryText.{spaced_ids};
-ghost use Rattle.ggraph.specs.NoSuchPart.{BeginsWithNoId, BeginsWithNoSpacedId, IsNoIds};
+ghost use Rattle.ggraph.specs.NoSuchPart.{BeginsWithNoId, BeginsWithNoSpacedId, IsNoParents};
 
 use crate::text::laws::text_laws;
-use gname::{ID_TEXT_LENGTH, NameFault, Oid, RefName};
-use gobject::Parents;
-use grefs::is_below_refs;
+use gname::{Format, MAX_ID_TEXT, NameFault, Oid, RefName};
+use gobject::MAX_PARENTS;
 use std::alloc::{AllocError, Allocator};
 
-/// The id whose forty digits are at the front, and what follows them.
-pub(crate) fn take_id(text: &[u8]) -> Option<(Oid, &[u8])>
-    ensures { MatchOption result (BeginsWithNoId text.now) (λ pair. (text.now ≡ id_text pair.0 ++ pair.1.now) × IsId pair.0) }
+/// The id of the format whose digits are at the front, and what follows them.
+pub(crate) fn take_id(format: Format, text: &[u8]) -> Option<(Oid, &[u8])>
+    ensures { MatchOption result (BeginsWithNoId format text.now) (λ pair.
+        (text.now ≡ id_text pair.0 ++ pair.1.now) × IsIdOf format pair.0) }
 {
     text_laws();
-    if text.len() < ID_TEXT_LENGTH {
+    let length = format.id_text_length();
+    if text.len() < length {
         return None;
     }
-    let (digits, rest) = text.split_at(ID_TEXT_LENGTH);
-    match Oid::from_hex(digits) {
+    let (digits, rest) = text.split_at(length);
+    match Oid::from_hex_in(format, digits) {
         Ok(id) => {
             if is_lower(&id, digits) {
                 Some((id, rest))
@@ -38,56 +40,62 @@ pub(crate) fn take_id(text: &[u8]) -> Option<(Oid, &[u8])>
 fn is_lower(id: &Oid, digits: &[u8]) -> bool
     ensures { IsTrue result ↔ (digits.now ≡ id_text id.now) }
 {
-    let mut out = [0; ID_TEXT_LENGTH];
-    id.to_hex(&mut out);
-    digits == out.as_slice()
-}
-
-/// The ids of a text that is ids alone, a space before each.
-pub(crate) fn ids_of<A: Allocator + Copy>(
-    alloc: A,
-    text: &[u8],
-) -> Result<Option<Parents<A>>, AllocError>
-    ensures { IfOk result (λ found. MatchOption found (IsNoIds text.now) (λ ids.
-        (text.now ≡ spaced_ids ids) × All IsId ids)) }
-{
-    text_laws();
-    let mut ids = Parents::new(alloc);
-    let mut rest = text;
-    while !rest.is_empty() {
-        let Some(found) = take_spaced(rest) else {
-            return Ok(None);
-        };
-        ids.push(found.0)?;
-        rest = found.1;
-    }
-    Ok(Some(ids))
+    let mut out = [0; MAX_ID_TEXT];
+    let length = id.to_hex(&mut out);
+    digits == &out[..length]
 }
 
 /// The id at the front after a space, and what follows it.
-pub(crate) fn take_spaced(text: &[u8]) -> Option<(Oid, &[u8])>
-    ensures { MatchOption result (BeginsWithNoSpacedId text.now) (λ pair.
-        (text.now ≡ codes " " ++ (id_text pair.0 ++ pair.1.now)) × IsId pair.0) }
+pub(crate) fn take_spaced(format: Format, text: &[u8]) -> Option<(Oid, &[u8])>
+    ensures { MatchOption result (BeginsWithNoSpacedId format text.now) (λ pair.
+        (text.now ≡ codes " " ++ (id_text pair.0 ++ pair.1.now)) × IsIdOf format pair.0) }
 {
-    take_id(text.strip_prefix(b" ")?)
+    take_id(format, text.strip_prefix(b" ")?)
 }
 
-/// The name, if it is one below `refs/`.
+/// Reads the ids of a node's parents, a space before each, into the first places of the array, and
+/// answers how many they are. `None` where the text is not such ids alone.
+pub(crate) fn read_parents(
+    format: Format,
+    text: &[u8],
+    ids: &mut [Oid; MAX_PARENTS],
+) -> Option<usize>
+    ensures { MatchOption result (IsNoParents format text.now) (λ count.
+        (text.now ≡ ids_text (take count ids.new)) × All (IsIdOf format) (take count ids.new)
+        × (count ≤ max_parents)) }
+{
+    text_laws();
+    let mut rest = text;
+    let mut count = 0;
+    while !rest.is_empty() {
+        let Some(found) = take_spaced(format, rest) else {
+            return None;
+        };
+        if count == MAX_PARENTS {
+            return None;
+        }
+        ids[count] = found.0;
+        count += 1;
+        rest = found.1;
+    }
+    Some(count)
+}
+
+/// The name, if it is one below `refs/`. It fails where there is no memory for such a name.
 pub(crate) fn name_of<A: Allocator + Copy>(
     alloc: A,
     text: &[u8],
 ) -> Result<Option<RefName<A>>, AllocError>
-    ensures { IfOk result (λ found. MatchOption found (¬ (IsBelowRefs text.now)) (λ name.
-        (name ≡ text.now) × IsBelowRefs text.now)) }
+    ensures { MatchResult result
+        (λ found. MatchOption found (¬ (IsBelowRefs text.now)) (λ name. (name ≡ text.now) × IsBelowRefs text.now))
+        (λ _. IsBelowRefs text.now) }
 {
+    text_laws();
+    if !text.starts_with(b"refs/") {
+        return Ok(None);
+    }
     match RefName::new(alloc, text) {
-        Ok(name) => {
-            if is_below_refs(&name) {
-                Ok(Some(name))
-            } else {
-                Ok(None)
-            }
-        }
+        Ok(name) => Ok(Some(name)),
         Err(NameFault::Memory) => Err(AllocError),
         Err(_) => Ok(None),
     }

@@ -1,21 +1,22 @@
 // A repository text, read so far.
 #![tactic(auto)]
 
-ghost use Rattle.std.specs.Prelude.{◌≡◌, ◌++◌, ◌∷◌, [], IfErr, OnOk, OnErr, IsTrue, ◌↔◌, All};
-ghost use Rattle.gname.specs.Ids.{IsId};
-ghost use Rattle.gobject.specs.Objects.{HasIds};
-ghost use Rattle.ghistory.specs.Graphs.{Holds};
-ghost use Rattle.grefs.specs.RefLists.{IsBelowRefs};
+ghost use Rattle.std.specs.Prelude.{◌≡◌, ◌++◌, ◌∷◌, [], IfErr, OnOk, IsTrue, ◌↔◌, All, codes};
+ghost use Rattle.gname.specs.Ids.{IsIdOf};
+ghost use Rattle.gobject.specs.Objects.{IsShaped, entry_of, node_of};
+ghost use Rattle.gobject.specs.PlainPackText.{letter};
+ghost use Rattle.ghistory.specs.Graphs.{HasIdsOf};
 ghost use Rattle.ggraph.specs.RepositoryText.{MayFollow, RefMayFollow};
-ghost use Rattle.ggraph.specs.Reading.{RefusesEntry, RefusesRef};
+ghost use Rattle.ggraph.specs.Reading.{RefusesEntry, RefusesRef, with_entry};
 
-use crate::fault::TextFault;
+use crate::fault::LoadFault;
 use crate::text::Order;
 use crate::text::laws::text_laws;
-use crate::text::lines::{head_of, node_of, ref_of};
+use crate::text::lines::{format_of, head_of, node_parts, ref_parts};
+use crate::text::parts::{name_of, read_parents, take_spaced};
 use ghistory::{Graph, MAX_NODES};
-use gname::{Oid, RefName};
-use gobject::Entry;
+use gname::{Format, Oid};
+use gobject::{Entry, Kind, MAX_PARENTS, Node, Parents};
 use grefs::{Head, MAX_REFS, Refs};
 use std::alloc::Allocator;
 
@@ -46,6 +47,7 @@ pub(crate) struct Reading<A: Allocator + Copy> {
 impl<A: Allocator + Copy> Reading<A> {
     ghost use Rattle.ggraph.specs.Reading.{RefusesLine, ComesNext, RefMayCome, nothing_read};
     ghost use Rattle.ggraph.specs.NoSuchPart.{IsNoNode, IsNoRef};
+    ghost use Rattle.ggraph.specs.declared.text.Order.{Order};
 
     /// No line was read. It takes no memory.
     pub(crate) fn new(alloc: A) -> Reading<A>
@@ -59,138 +61,186 @@ impl<A: Allocator + Copy> Reading<A> {
         }
     }
 
-    /// ComesNext the next line, which is the one of the text with this number.
+    /// Takes the next line, which is the one of the text with this number.
     pub(crate) fn take(
         &mut self,
         alloc: A,
         order: Order,
         line: &[u8],
         number: usize,
-    ) -> Result<(), TextFault>
+    ) -> Result<(), LoadFault>
         ensures ok { OnOk result (ComesNext order self.old line.now self.new) }
         ensures refused { IfErr result (RefusesLine order self.old line.now number) }
     {
         match self.stage {
-            Stage::First => {
-                if line != b"gitv2 1".as_slice() {
-                    return Err(TextFault::Text { line: number });
-                }
-                self.stage = Stage::Nodes;
-                Ok(())
-            }
-            Stage::Nodes => self.take_node(alloc, order, line, number),
-            Stage::Refs => self.take_ref(alloc, order, line, number),
-            Stage::Last => {
-                if line != b"end".as_slice() {
-                    return Err(TextFault::Text { line: number });
-                }
-                self.stage = Stage::Done;
-                Ok(())
-            }
-            Stage::Done => Err(TextFault::Text { line: number }),
+            Stage::First => self.take_first(alloc, line, number),
+            Stage::Nodes => match node_parts(line) {
+                Some(parts) => self.take_node(alloc, order, parts.0, parts.1, number),
+                None => self.take_ref(alloc, line, number),
+            },
+            Stage::Refs => self.take_ref(alloc, line, number),
+            Stage::Last => self.take_last(line, number),
+            Stage::Done => Err(LoadFault::Text { line: number }),
         }
     }
 
+    fn take_first(&mut self, alloc: A, line: &[u8], number: usize) -> Result<(), LoadFault>
+        requires { self.old.stage ≡ Stage.First }
+        ensures ok { ((order : Order) → OnOk result (ComesNext order self.old line.now self.new)) }
+        ensures refused { ((order : Order) → IfErr result (RefusesLine order self.old line.now number)) }
+    {
+        match format_of(line) {
+            Some(format) => {
+                self.stage = Stage::Nodes;
+                self.graph = Graph::new_in(alloc, format);
+                Ok(())
+            }
+            None => Err(LoadFault::Text { line: number }),
+        }
+    }
+
+    fn take_last(&mut self, line: &[u8], number: usize) -> Result<(), LoadFault>
+        requires { self.old.stage ≡ Stage.Last }
+        ensures ok { ((order : Order) → OnOk result (ComesNext order self.old line.now self.new)) }
+        ensures refused { ((order : Order) → IfErr result (RefusesLine order self.old line.now number)) }
+    {
+        if line != b"end".as_slice() {
+            return Err(LoadFault::Text { line: number });
+        }
+        self.stage = Stage::Done;
+        Ok(())
+    }
+
+    // Takes the line of a node: the letter of its kind, and then this text.
     fn take_node(
         &mut self,
         alloc: A,
         order: Order,
-        line: &[u8],
+        kind: Kind,
+        text: &[u8],
         number: usize,
-    ) -> Result<(), TextFault>
+    ) -> Result<(), LoadFault>
         requires { self.old.stage ≡ Stage.Nodes }
-        ensures ok { OnOk result (ComesNext order self.old line.now self.new) }
-        ensures refused { IfErr result (RefusesLine order self.old line.now number) }
+        ensures ok { OnOk result (ComesNext order self.old (letter kind ∷ text.now) self.new) }
+        ensures refused { IfErr result (RefusesLine order self.old (letter kind ∷ text.now) number) }
     {
         text_laws();
-        match node_of(alloc, line)? {
-            Some(entry) => add_node(&mut self.graph, entry, order, number),
-            None => self.take_ref(alloc, order, line, number),
-        }
+        let format = self.graph.format();
+        let Some(first) = take_spaced(format, text) else {
+            return Err(LoadFault::Text { line: number });
+        };
+        let mut ids = [first.0; MAX_PARENTS];
+        let Some(count) = read_parents(format, first.1, &mut ids) else {
+            return Err(LoadFault::Text { line: number });
+        };
+        add_node(
+            &mut self.graph,
+            alloc,
+            order,
+            kind,
+            first.0,
+            &ids[..count],
+            number,
+        )
     }
 
-    fn take_ref(
-        &mut self,
-        alloc: A,
-        order: Order,
-        line: &[u8],
-        number: usize,
-    ) -> Result<(), TextFault>
+    // Takes the line of a ref or of HEAD.
+    fn take_ref(&mut self, alloc: A, line: &[u8], number: usize) -> Result<(), LoadFault>
         requires due { RefMayCome self.old.stage }
-        requires no_node { self.old.stage ≡ Stage.Nodes → IsNoNode A line.now }
-        ensures ok { OnOk result (ComesNext order self.old line.now self.new) }
-        ensures refused { IfErr result (RefusesLine order self.old line.now number) }
+        requires no_node { self.old.stage ≡ Stage.Nodes → IsNoNode line.now }
+        ensures ok { ((order : Order) → OnOk result (ComesNext order self.old line.now self.new)) }
+        ensures refused { ((order : Order) → IfErr result (RefusesLine order self.old line.now number)) }
     {
         text_laws();
-        match ref_of(alloc, line)? {
-            Some(pair) => {
-                self.stage = Stage::Refs;
-                add_ref(&mut self.refs, pair.0, pair.1, number)
-            }
-            None => self.take_head(alloc, order, line, number),
-        }
+        let Some(text) = line.strip_prefix(b"r ") else {
+            return self.take_head(alloc, line, number);
+        };
+        let format = self.graph.format();
+        let Some(parts) = ref_parts(format, text) else {
+            return Err(LoadFault::Text { line: number });
+        };
+        self.stage = Stage::Refs;
+        add_ref(&mut self.refs, alloc, format, parts.0, parts.1, number)
     }
 
-    fn take_head(
-        &mut self,
-        alloc: A,
-        order: Order,
-        line: &[u8],
-        number: usize,
-    ) -> Result<(), TextFault>
+    fn take_head(&mut self, alloc: A, line: &[u8], number: usize) -> Result<(), LoadFault>
         requires due { RefMayCome self.old.stage }
-        requires no_node { self.old.stage ≡ Stage.Nodes → IsNoNode A line.now }
+        requires no_node { self.old.stage ≡ Stage.Nodes → IsNoNode line.now }
         requires no_ref { IsNoRef line.now }
-        ensures ok { OnOk result (ComesNext order self.old line.now self.new) }
-        ensures refused { IfErr result (RefusesLine order self.old line.now number) }
+        ensures ok { ((order : Order) → OnOk result (ComesNext order self.old line.now self.new)) }
+        ensures refused { ((order : Order) → IfErr result (RefusesLine order self.old line.now number)) }
     {
-        match head_of(alloc, line)? {
+        match head_of(alloc, self.graph.format(), line)? {
             Some(head) => {
                 self.head = head;
                 self.stage = Stage::Last;
                 Ok(())
             }
-            None => Err(TextFault::Text { line: number }),
+            None => Err(LoadFault::Text { line: number }),
         }
     }
 }
 
-/// Adds the node of a line to the graph.
-pub(crate) fn add_node<A: Allocator + Copy>(
+// Adds the node of a line to the graph. Memory is asked for last.
+fn add_node<A: Allocator + Copy>(
     graph: &mut Graph<A>,
-    entry: Entry<A>,
+    alloc: A,
     order: Order,
+    kind: Kind,
+    id: Oid,
+    parents: &[Oid],
     number: usize,
-) -> Result<(), TextFault>
-    requires { HasIds entry }
-    ensures ok { OnOk result (MayFollow order graph.old entry × (graph.new ≡ graph.old ++ entry ∷ [])) }
-    ensures refused { IfErr result (RefusesEntry order graph.old entry number) }
+) -> Result<(), LoadFault>
+    requires { HasIdsOf graph.old.format (entry_of {A = A} id (node_of kind parents.now)) }
+    ensures ok { OnOk result (MayFollow order graph.old.format graph.old.entries (entry_of id (node_of kind parents.now))
+        × (graph.new ≡ with_entry graph.old (entry_of id (node_of kind parents.now)))) }
+    ensures refused { IfErr result (RefusesEntry order graph.old (entry_of id (node_of kind parents.now)) number) }
 {
-    if graph.len() >= MAX_NODES || !entry.node.is_shaped() || graph.contains(&entry.id) {
-        return Err(TextFault::Text { line: number });
+    if graph.len() >= MAX_NODES || !is_shaped(kind, parents) || graph.contains(&id) {
+        return Err(LoadFault::Text { line: number });
     }
-    if order == Order::ParentsFirst && !graph.contains_all(entry.node.parents.as_slice()) {
-        return Err(TextFault::ParentLater { line: number });
+    if order == Order::ParentsFirst && !graph.contains_all(parents) {
+        return Err(LoadFault::ParentLater { line: number });
     }
-    graph.push(entry)?;
-    Ok(())
+    let parents = Parents::from_slice(alloc, parents)?;
+    let node = Node { kind, parents };
+    match graph.push(Entry { id, node }) {
+        Ok(()) => Ok(()),
+        Err(_) => Err(LoadFault::Memory),
+    }
 }
 
-/// Adds the ref of a line to the refs.
-pub(crate) fn add_ref<A: Allocator + Copy>(
-    refs: &mut Refs<A>,
-    name: RefName<A>,
-    id: Oid,
-    number: usize,
-) -> Result<(), TextFault>
-    requires id { IsId id }
-    requires name { IsBelowRefs name }
-    ensures ok { OnOk result (RefMayFollow refs.old (name, id) × (refs.new ≡ refs.old ++ (name, id) ∷ [])) }
-    ensures refused { IfErr result (RefusesRef refs.old (name, id) number) }
+// Whether a node of the kind may have these parents.
+fn is_shaped(kind: Kind, parents: &[Oid]) -> bool
+    ensures { IsTrue result ↔ IsShaped {A = Unit {0}} (node_of kind parents.now) }
 {
-    if refs.len() >= MAX_REFS || !refs.are_below(&name) {
-        return Err(TextFault::Text { line: number });
+    match kind {
+        Kind::Commit => parents.len() <= MAX_PARENTS,
+        Kind::Tag => parents.len() == 1,
     }
-    refs.push(name, id)?;
-    Ok(())
+}
+
+// Adds the ref of a line to the refs. Memory is asked for last.
+fn add_ref<A: Allocator + Copy>(
+    refs: &mut Refs<A>,
+    alloc: A,
+    format: Format,
+    id: Oid,
+    name: &[u8],
+    number: usize,
+) -> Result<(), LoadFault>
+    requires id { IsIdOf format id }
+    ensures ok { OnOk result (RefMayFollow format refs.old (name.now, id) × (refs.new ≡ refs.old ++ (name.now, id) ∷ [])) }
+    ensures refused { IfErr result (RefusesRef format refs.old (name.now, id) number) }
+{
+    if refs.len() >= MAX_REFS || !refs.are_below(name) {
+        return Err(LoadFault::Text { line: number });
+    }
+    match name_of(alloc, name)? {
+        Some(name) => {
+            refs.push(name, id)?;
+            Ok(())
+        }
+        None => Err(LoadFault::Text { line: number }),
+    }
 }

@@ -1,35 +1,96 @@
 // Writing a repository text.
 #![tactic(auto)]
 
-ghost use Rattle.std.specs.Prelude.{◌≡◌, ◌++◌, All, IfOk, OnOk, MatchResult, map, codes};
-ghost use Rattle.gname.specs.Ids.{IsId, id_text};
-ghost use Rattle.gobject.specs.Objects.{HasIds};
-ghost use Rattle.grefs.specs.RefLists.{StandsAtId};
-ghost use Rattle.ggraph.specs.RepositoryText.{IsHead, IsLoadable, head_line, node_line, ref_line, repository_text, spaced_ids, text_of};
+ghost use Rattle.std.specs.Prelude.{◌≡◌, ◌++◌, All, IfOk, IsTrue, ◌↔◌, ◌∷◌, ◌<◌, [], MatchOption, MatchResult, OnOk, Some, length, map, slice_get};
+ghost use Rattle.ghistory.specs.Graphs.{IsGraph};
+ghost use Rattle.gobject.specs.declared.node.Entry.{Entry};
+ghost use Rattle.gname.specs.Ids.{IsIdOf, id_text};
+ghost use Rattle.gobject.specs.PlainPackText.{ids_text, line, node_text, text_of};
+ghost use Rattle.ggraph.specs.RepositoryText.{IsLoadable, head_line, first_line, ref_line, repository_text};
+ghost use Rattle.ggraph.specs.Saving.{IsFirstOther, PointsBelowRefs, SaveRefuses, head_ids, named_ids, ref_ids};
 
-use crate::fault::TextFault;
+use crate::fault::SaveFault;
 use crate::text::Order;
 use ghistory::Graph;
-use gname::{ID_TEXT_LENGTH, Oid, RefName};
+use gname::{Format, MAX_ID_TEXT, Oid, RefName};
 use gobject::{Entry, Kind};
 use grefs::{Head, Refs};
 use std::alloc::{AllocError, Allocator};
 
-/// Writes the one text that keeps these, which `load` reads back in any order of nodes. It fails where
-/// there is no memory, and then with `Memory`.
+/// Writes the one text that keeps these, which `load` reads back in any order of nodes.
+///
+/// It fails with `OtherFormat` with the first id at which a ref stands, in name order, or else HEAD,
+/// that has another format than the graph; else with `Memory` where there is none.
 pub fn save<A: Allocator + Copy>(
     alloc: A,
     graph: &Graph<A>,
     refs: &Refs<A>,
     head: &Head<A>,
-) -> Result<Vec<u8, A>, TextFault>
+) -> Result<Vec<u8, A>, SaveFault>
     ensures text { MatchResult result (λ text. text.items ≡ repository_text graph.now refs.now head.now)
-        (λ fault. fault ≡ TextFault.Memory) }
+        (SaveRefuses graph.now.format refs.now head.now) }
     ensures loadable { IfOk result (λ text. IsLoadable Order.Any graph.now refs.now head.now) }
 {
-    match written(alloc, graph, refs, head) {
-        Ok(text) => Ok(text),
-        Err(_) => Err(TextFault::Memory),
+    ghistory::laws::entries_come_in_order::<A>();
+    grefs::laws::refs_come_in_order();
+    if let Some(id) = other_id(graph.format(), refs.as_slice(), head) {
+        return Err(SaveFault::OtherFormat { id });
+    }
+    let text = written(alloc, graph, refs, head)?;
+    Ok(text)
+}
+
+// The first id at which a ref stands, or else HEAD, that is not of the format.
+fn other_id<A: Allocator + Copy>(
+    format: Format,
+    refs: &[(RefName<A>, Oid)],
+    head: &Head<A>,
+) -> Option<Oid>
+    ensures { MatchOption result (All (IsIdOf format) (named_ids refs.now head.now))
+        (IsFirstOther format (named_ids refs.now head.now)) }
+{
+    match other_ref(format, refs) {
+        Some(id) => Some(id),
+        None => other_head(format, head),
+    }
+}
+
+// The first id at which a ref stands that is not of the format.
+fn other_ref<A: Allocator + Copy>(format: Format, refs: &[(RefName<A>, Oid)]) -> Option<Oid>
+    ensures { MatchOption result (All (IsIdOf format) (ref_ids refs.now)) (IsFirstOther format (ref_ids refs.now)) }
+{
+    for pair in refs {
+        if !is_of(format, &pair.1) {
+            return Some(pair.1);
+        }
+    }
+    None
+}
+
+// The id at which HEAD stands, if it is not of the format.
+fn other_head<A: Allocator + Copy>(format: Format, head: &Head<A>) -> Option<Oid>
+    ensures { MatchOption result (All (IsIdOf format) (head_ids head.now)) (IsFirstOther format (head_ids head.now)) }
+{
+    match head {
+        Head::Id(id) => { if is_of(format, id) { None } else { Some(*id) } }
+        _ => None,
+    }
+}
+
+// Whether the id is of the format.
+fn is_of(format: Format, id: &Oid) -> bool
+    ensures { IsTrue result ↔ IsIdOf format id.now }
+{
+    id.format() == format
+}
+
+// The line that says the format of the ids.
+fn line_of(format: Format) -> &'static [u8]
+    ensures { result.now ≡ line (first_line format) }
+{
+    match format {
+        Format::Sha1 => b"gitv2 1\n",
+        Format::Sha256 => b"gitv2 2 sha256\n",
     }
 }
 
@@ -39,73 +100,79 @@ fn written<A: Allocator + Copy>(
     refs: &Refs<A>,
     head: &Head<A>,
 ) -> Result<Vec<u8, A>, AllocError>
+    ensures graph { IfOk result (λ _. IsGraph graph.now) }
+    ensures head { IfOk result (λ _. PointsBelowRefs head.now) }
     ensures text { IfOk result (λ text. text.items ≡ repository_text graph.now refs.now head.now) }
-    ensures loadable { IfOk result (λ text. IsLoadable Order.Any graph.now refs.now head.now) }
 {
-    ghistory::laws::entries_come_in_order::<A>();
-    grefs::laws::refs_come_in_order();
     let mut text = Vec::new(alloc);
-    text.extend_from_slice(b"gitv2 1\n")?;
-    put_nodes(&mut text, graph.entries())?;
+    text.extend_from_slice(line_of(graph.format()))?;
+    put_nodes(&mut text, graph)?;
     put_refs(&mut text, refs.as_slice())?;
     put_head(&mut text, head)?;
     text.extend_from_slice(b"end\n")?;
     Ok(text)
 }
 
-fn put_nodes<A: Allocator + Copy>(
-    text: &mut Vec<u8, A>,
-    entries: &[Entry<A>],
-) -> Result<(), AllocError>
-    ensures text { OnOk result (text.new.items ≡ text.old.items ++ text_of (map node_line entries.now)) }
-    ensures ids { OnOk result (All HasIds entries.now) }
+fn put_nodes<A: Allocator + Copy>(text: &mut Vec<u8, A>, graph: &Graph<A>) -> Result<(), AllocError>
+    ensures text { OnOk result (text.new.items ≡ text.old.items ++ text_of (map node_text graph.now.entries)) }
+    ensures graph { IsGraph graph.now }
 {
-    for entry in entries {
-        put_node(text, entry)?;
+    for place in 0..graph.len() {
+        put_node(text, graph, place)?;
     }
     Ok(())
 }
 
-fn put_node<A: Allocator + Copy>(text: &mut Vec<u8, A>, entry: &Entry<A>) -> Result<(), AllocError>
-    ensures text { OnOk result (text.new.items ≡ text.old.items ++ (node_line entry.now ++ codes "\n")) }
-    ensures ids { OnOk result (HasIds entry.now) }
+fn put_node<A: Allocator + Copy>(
+    text: &mut Vec<u8, A>,
+    graph: &Graph<A>,
+    place: usize,
+) -> Result<(), AllocError>
+    requires { place < length graph.now.entries }
+    ensures { OnOk result (((entry : Entry A) → slice_get graph.now.entries place ≡ Some entry →
+        text.new.items ≡ text.old.items ++ line (node_text entry))) }
 {
-    match entry.node.kind {
-        Kind::Commit => text.extend_from_slice(b"c ")?,
-        Kind::Tag => text.extend_from_slice(b"t ")?,
+    let (id, node) = graph.at(place).unwrap();
+    match node.kind {
+        Kind::Commit => text.extend_from_slice(b"c")?,
+        Kind::Tag => text.extend_from_slice(b"t")?,
     }
-    put_id(text, &entry.id)?;
-    put_ids(text, entry.node.parents.as_slice())?;
+    put_spaced(text, id)?;
+    put_ids(text, node.parents.as_slice())?;
     text.extend_from_slice(b"\n")
 }
 
 // The ids, a space before each.
 fn put_ids<A: Allocator + Copy>(text: &mut Vec<u8, A>, ids: &[Oid]) -> Result<(), AllocError>
-    ensures text { OnOk result (text.new.items ≡ text.old.items ++ spaced_ids ids.now) }
-    ensures ids { OnOk result (All IsId ids.now) }
+    ensures { OnOk result (text.new.items ≡ text.old.items ++ ids_text ids.now) }
 {
     for id in ids {
-        text.extend_from_slice(b" ")?;
-        put_id(text, id)?;
+        put_spaced(text, id)?;
     }
     Ok(())
 }
 
-fn put_id<A: Allocator + Copy>(text: &mut Vec<u8, A>, id: &Oid) -> Result<(), AllocError>
-    ensures text { OnOk result (text.new.items ≡ text.old.items ++ id_text id.now) }
-    ensures id { IsId id.now }
+// The id, a space before it.
+fn put_spaced<A: Allocator + Copy>(text: &mut Vec<u8, A>, id: &Oid) -> Result<(), AllocError>
+    ensures { OnOk result (text.new.items ≡ text.old.items ++ ids_text (id.now ∷ [])) }
 {
-    let mut digits = [0; ID_TEXT_LENGTH];
-    id.to_hex(&mut digits);
-    text.extend_from_slice(&digits)
+    text.extend_from_slice(b" ")?;
+    put_id(text, id)
+}
+
+fn put_id<A: Allocator + Copy>(text: &mut Vec<u8, A>, id: &Oid) -> Result<(), AllocError>
+    ensures { OnOk result (text.new.items ≡ text.old.items ++ id_text id.now) }
+{
+    let mut digits = [0; MAX_ID_TEXT];
+    let length = id.to_hex(&mut digits);
+    text.extend_from_slice(&digits[..length])
 }
 
 fn put_refs<A: Allocator + Copy>(
     text: &mut Vec<u8, A>,
     refs: &[(RefName<A>, Oid)],
 ) -> Result<(), AllocError>
-    ensures text { OnOk result (text.new.items ≡ text.old.items ++ text_of (map ref_line refs.now)) }
-    ensures ids { OnOk result (All StandsAtId refs.now) }
+    ensures { OnOk result (text.new.items ≡ text.old.items ++ text_of (map ref_line refs.now)) }
 {
     for pair in refs {
         put_ref(text, pair)?;
@@ -117,8 +184,7 @@ fn put_ref<A: Allocator + Copy>(
     text: &mut Vec<u8, A>,
     pair: &(RefName<A>, Oid),
 ) -> Result<(), AllocError>
-    ensures text { OnOk result (text.new.items ≡ text.old.items ++ (ref_line pair.now ++ codes "\n")) }
-    ensures id { OnOk result (IsId pair.now.1) }
+    ensures { OnOk result (text.new.items ≡ text.old.items ++ line (ref_line pair.now)) }
 {
     text.extend_from_slice(b"r ")?;
     put_id(text, &pair.1)?;
@@ -128,8 +194,8 @@ fn put_ref<A: Allocator + Copy>(
 }
 
 fn put_head<A: Allocator + Copy>(text: &mut Vec<u8, A>, head: &Head<A>) -> Result<(), AllocError>
-    ensures text { OnOk result (text.new.items ≡ text.old.items ++ (head_line head.now ++ codes "\n")) }
-    ensures head { OnOk result (IsHead head.now) }
+    ensures text { OnOk result (text.new.items ≡ text.old.items ++ line (head_line head.now)) }
+    ensures below { OnOk result (PointsBelowRefs head.now) }
 {
     match head {
         Head::None => text.extend_from_slice(b"h none\n"),

@@ -1,7 +1,8 @@
-//! Graphs for tests. An id is a number below 256, as forty or sixty-four digits.
+//! Graphs for tests. An id is a number below 2^24, as forty or sixty-four digits.
 use crate::{Graph, GraphFault};
 use gname::{Format, Oid};
 use gobject::{Entry, Kind, Node, Parents};
+use std::alloc::Allocator;
 use std::process::Abort;
 
 const DIGITS: [u8; 16] = *b"0123456789abcdef";
@@ -11,25 +12,38 @@ pub(super) type Row = (Kind, usize, &'static [usize]);
 
 pub(super) fn id_in(rt: &impl Abort, format: Format, number: usize) -> Oid {
     let mut text = [b'0'; 64];
-    text[0] = DIGITS[number / 16 % 16];
-    text[1] = DIGITS[number % 16];
-    let text = match format {
-        Format::Sha1 => &text[..40],
-        Format::Sha256 => &text[..],
+    let mut rest = number;
+    for place in 0..6 {
+        text[place] = DIGITS[rest % 16];
+        rest /= 16;
+    }
+    let digits = match format {
+        Format::Sha1 => 40,
+        Format::Sha256 => 64,
     };
-    Oid::from_hex_in(format, text).expect(rt, "an id")
+    Oid::from_hex_in(format, &text[..digits]).expect(rt, "an id")
 }
 
 pub(super) fn id(rt: &impl Abort, number: usize) -> Oid {
     id_in(rt, Format::Sha1, number)
 }
 
-pub(super) fn ids_of(rt: &(impl Abort + AllocGlobal), numbers: &[usize]) -> Vec<Oid> {
-    let mut ids = Vec::new(rt.alloc());
+pub(super) fn entry_in<A: Allocator + Copy>(
+    rt: &impl Abort,
+    alloc: A,
+    kind: Kind,
+    number: usize,
+    numbers: &[usize],
+) -> Entry<A> {
+    let mut parents = Parents::new(alloc);
     for number in numbers {
-        ids.push(id(rt, *number)).expect(rt, "memory");
+        parents.push(id(rt, *number)).expect(rt, "memory");
     }
-    ids
+    let node = Node { kind, parents };
+    Entry {
+        id: id(rt, number),
+        node,
+    }
 }
 
 pub(super) fn entry(
@@ -38,19 +52,17 @@ pub(super) fn entry(
     number: usize,
     parents: &[usize],
 ) -> Entry {
-    let ids = ids_of(rt, parents);
-    let parents = Parents::from_slice(rt.alloc(), ids.as_slice()).expect(rt, "memory");
-    let node = Node { kind, parents };
-    Entry {
-        id: id(rt, number),
-        node,
-    }
+    entry_in(rt, rt.alloc(), kind, number, parents)
 }
 
-fn entries_of(rt: &(impl Abort + AllocGlobal), rows: &[Row]) -> Vec<Entry> {
-    let mut entries = Vec::new(rt.alloc());
+pub(super) fn entries_in<A: Allocator + Copy>(
+    rt: &impl Abort,
+    alloc: A,
+    rows: &[Row],
+) -> Vec<Entry<A>, A> {
+    let mut entries = Vec::new(alloc);
     for (kind, number, parents) in rows {
-        let next = entry(rt, *kind, *number, parents);
+        let next = entry_in(rt, alloc, *kind, *number, parents);
         entries.push(next).expect(rt, "memory");
     }
     entries
@@ -69,7 +81,7 @@ pub(super) fn check_insert(
     rows: &[Row],
     wanted: Result<usize, GraphFault>,
 ) {
-    let entries = entries_of(rt, rows);
+    let entries = entries_in(rt, rt.alloc(), rows);
     let answer = graph.insert_all(entries.as_slice());
     assert_eq!(rt; answer, wanted);
 }

@@ -117,6 +117,21 @@ fn numbers_and_the_map_follow_the_store_order(rt: HostRuntime) -> Result<(), Fai
     Ok(())
 }
 
+#[test]
+fn each_place_has_its_entry(rt: HostRuntime) -> Result<(), Fail> {
+    let graph = graph_of(&rt, DANGLING);
+    for place in 0..graph.len() {
+        let (kind, number, parents) = DANGLING.get(place).ok_or("a row")?;
+        let wanted = entry(&rt, *kind, *number, parents);
+        assert_eq!(rt; *graph.id_at(place), wanted.id);
+        assert_eq!(rt; graph.parents(place), wanted.node.parents.as_slice());
+        let copy = graph.entry_in(place, rt.alloc())?;
+        assert_eq!(rt; copy.id, wanted.id);
+        assert!(rt; copy.node.is_same(&wanted.node));
+    }
+    Ok(())
+}
+
 const PARENTS_FIRST: &[Row] = &[
     (Kind::Commit, 1, &[]),
     (Kind::Commit, 2, &[1]),
@@ -172,26 +187,39 @@ const FORMATS: [(Format, Format, Format, usize, bool); 8] = [
     (Format::Sha256, Format::Sha256, Format::Sha1, 2, false),
 ];
 
+// A commit under an id of the one format, with so many parents of the other.
+fn mixed(
+    rt: &(impl Abort + AllocGlobal),
+    own: Format,
+    other: Format,
+    count: usize,
+) -> Result<Entry, Fail> {
+    let mut parents = Parents::new(rt.alloc());
+    for _ in 0..count {
+        parents.push(id_in(rt, other, 7))?;
+    }
+    let id = id_in(rt, own, 1);
+    let kind = Kind::Commit;
+    Ok(Entry {
+        id,
+        node: Node { kind, parents },
+    })
+}
+
 #[test]
 fn a_graph_takes_ids_of_its_format(rt: HostRuntime) -> Result<(), Fail> {
     for (format, own, other, count, taken) in FORMATS {
-        let mut parents = Parents::new(rt.alloc());
-        for _ in 0..count {
-            parents.push(id_in(&rt, other, 7))?;
-        }
-        let id = id_in(&rt, own, 1);
-        let node = Node {
-            kind: Kind::Commit,
-            parents,
+        let fault = GraphFault::OtherFormat {
+            id: id_in(&rt, own, 1),
         };
         let mut graph = Graph::new_in(rt.alloc(), format);
         assert_eq!(rt; graph.format(), format);
-        let wanted = if taken {
-            Ok(1)
-        } else {
-            Err(GraphFault::OtherFormat { id })
-        };
-        assert_eq!(rt; graph.insert_all(&[Entry { id, node }]), wanted);
+        let answer = graph.insert_all(&[mixed(&rt, own, other, count)?]);
+        assert_eq!(rt; answer, if taken { Ok(1) } else { Err(fault) });
+        assert_eq!(rt; graph.is_empty(), !taken);
+        let mut graph = Graph::new_in(rt.alloc(), format);
+        let answer = graph.insert(mixed(&rt, own, other, count)?);
+        assert_eq!(rt; answer, if taken { Ok(true) } else { Err(fault) });
         assert_eq!(rt; graph.is_empty(), !taken);
     }
     Ok(())

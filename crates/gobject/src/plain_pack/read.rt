@@ -1,10 +1,10 @@
 // Reading a plain pack part by part.
 #![tactic(auto)]
 
-ghost use Rattle.std.specs.Prelude.{◌≡◌, [], ℕ, ◌+◌, List, length, decimal, MatchOption, IfOk, IsTrue, ◌↔◌};
+ghost use Rattle.std.specs.Prelude.{◌≡◌, [], ℕ, ◌+◌, List, length, decimal, MatchOption, IfOk, OnErr, IsTrue, ◌↔◌};
 ghost use Rattle.gname.specs.Ids.{IsIdText};
 ghost use Rattle.gobject.specs.Objects.{entry_of, node_of};
-ghost use Rattle.gobject.specs.PlainPackReading.{IsPart, SplitsPart, format_of_digits, NoId, Leads, NeverLeads, EndsId, with_parent, line_number, Reads, Finishes};
+ghost use Rattle.gobject.specs.PlainPackReading.{IsPart, SplitsPart, format_of_digits, NoId, Leads, NeverLeads, EndsId, with_parent, IsKept, line_number, Reads, Finishes};
 
 use crate::fault::IndexFault;
 use crate::node::{Entry, Kind, Node, Parents};
@@ -162,9 +162,10 @@ fn after_part<A: Allocator + Copy>(
     part: &[u8],
     separator: Separator,
 ) -> Result<Option<Next<A>>, AllocError>
-    ensures { IfOk result (λ found. MatchOption found
+    ensures ok { IfOk result (λ found. MatchOption found
         (NeverLeads next entries.old.items part.now separator)
         (λ after. Leads next entries.old.items part.now separator after entries.new.items)) }
+    ensures err { OnErr result (IsKept next part.now) }
 {
     match next {
         Next::Header => Ok(after_header(part, separator)),

@@ -1,114 +1,123 @@
-// Writing a plain pack.
+// Writing a plain pack: its length is known before memory is taken.
 #![tactic(auto)]
 
-ghost use Rattle.std.specs.Prelude.{◌≡◌, ◌≤◌, ◌++◌, ◌∷◌, [], ℕ, length, MatchResult, IfOk};
+ghost use Rattle.std.specs.Prelude.{◌≡◌, ◌≤◌, ◌++◌, ◌∷◌, [], length, IsTrue, ◌↔◌, OnOk, MatchResult, IfOk};
 ghost use Rattle.gobject.specs.Packs.{max_pack};
 ghost use Rattle.gobject.specs.PlainPackText.{letter, line, ids_text, node_text, end_text, pack_text, PackRefuses};
-ghost use Rattle.gobject.specs.PlainPackWriting.{Writes, nodes_text};
+ghost use Rattle.gobject.specs.PlainPackWriting.{Leaves, nodes_text};
 
 use crate::fault::PackFault;
 use crate::node::{Entry, Kind};
+use gname::laws::ids_have_texts;
 use gname::{MAX_ID_TEXT, MAX_PACK, Oid};
 use itoa::Buffer;
-use std::alloc::Allocator;
-use std::marker::Model;
+use std::alloc::{AllocError, Allocator};
 
-/// The text written so far, of at most `MAX_PACK` bytes.
-#[derive(Drop)]
-pub struct Writer<A: Allocator + Copy> {
-    bytes: Vec<u8, A>,
+/// The room that is left after an id and the space before it.
+fn room_after_id(room: usize, id: &Oid) -> Option<usize>
+    ensures { Leaves room result (length (ids_text (id.now ∷ []))) }
+{
+    ids_have_texts();
+    let _bytes = id.as_bytes();
+    room.checked_sub(id.format().id_text_length() + 1)
 }
 
-impl<A: Allocator + Copy> Model for Writer<A> {
-    ghost use Rattle.std.specs.Prelude.{List, ℕ, ◌≤◌, length};
-    ghost use Rattle.gobject.specs.Packs.{max_pack};
-
-    ghost Value = { List ℕ };
-
-    ghost view = { λ writer. writer.bytes.items };
-
-    ghost invariant = { λ writer. length writer.bytes.items ≤ max_pack };
+/// The room that is left after ids, a space before each.
+fn room_after_ids(room: usize, ids: &[Oid]) -> Option<usize>
+    ensures { Leaves room result (length (ids_text ids.now)) }
+{
+    let mut left = room;
+    for id in ids {
+        left = room_after_id(left, id)?;
+    }
+    Some(left)
 }
 
-impl<A: Allocator + Copy> Writer<A> {
-    /// Nothing is written yet.
-    pub fn new(alloc: A) -> Writer<A>
-        ensures { result ≡ [] }
-    {
-        Writer {
-            bytes: Vec::new(alloc),
-        }
-    }
+/// The room that is left after the line of an entry.
+fn room_after_node<A: Allocator + Copy>(room: usize, entry: &Entry<A>) -> Option<usize>
+    ensures { Leaves room result (length (line (node_text entry.now))) }
+{
+    let left = room.checked_sub(2)?;
+    let left = room_after_id(left, &entry.id)?;
+    room_after_ids(left, entry.node.parents.as_slice())
+}
 
-    /// Writes some bytes at the end.
-    pub fn put(&mut self, text: &[u8]) -> Result<(), PackFault>
-        ensures { Writes self.old self.new result text.now }
-    {
-        if text.len() > MAX_PACK - self.bytes.len() {
-            return Err(PackFault::TooLarge);
-        }
-        self.bytes.extend_from_slice(text)?;
-        Ok(())
+/// The room that is left after the lines of some entries.
+fn room_after_nodes<A: Allocator + Copy>(room: usize, entries: &[Entry<A>]) -> Option<usize>
+    ensures { Leaves room result (length (nodes_text entries.now)) }
+{
+    let mut left = room;
+    for entry in entries {
+        left = room_after_node(left, entry)?;
     }
+    Some(left)
+}
 
-    /// Writes an id after a space.
-    fn put_id(&mut self, id: &Oid) -> Result<(), PackFault>
-        ensures { Writes self.old self.new result (ids_text (id.now ∷ [])) }
-    {
-        let mut text = [0; MAX_ID_TEXT];
-        let length = id.to_hex(&mut text);
-        self.put(b" ")?;
-        self.put(&text[..length])
+/// Whether the pack of some entries has at most `MAX_PACK` bytes.
+fn fits<A: Allocator + Copy>(entries: &[Entry<A>]) -> bool
+    ensures { IsTrue result ↔ (length (pack_text entries.now) ≤ max_pack) }
+{
+    let mut digits = Buffer::new();
+    let others = b"GPK1\nend \n".len() + digits.format(entries.len()).len();
+    match room_after_nodes(MAX_PACK, entries) {
+        Some(left) => others <= left,
+        None => false,
     }
+}
 
-    /// Writes ids, each after a space.
-    fn put_ids(&mut self, ids: &[Oid]) -> Result<(), PackFault>
-        ensures { Writes self.old self.new result (ids_text ids.now) }
-    {
-        for id in ids {
-            self.put_id(id)?;
-        }
-        Ok(())
-    }
+/// Writes an id after a space.
+fn put_id<A: Allocator + Copy>(text: &mut Vec<u8, A>, id: &Oid) -> Result<(), AllocError>
+    ensures { OnOk result (text.new.items ≡ text.old.items ++ ids_text (id.now ∷ [])) }
+{
+    let mut digits = [0; MAX_ID_TEXT];
+    let length = id.to_hex(&mut digits);
+    text.push(b' ')?;
+    text.extend_from_slice(&digits[..length])
+}
 
-    /// Writes the line of an entry.
-    fn put_node(&mut self, entry: &Entry<A>) -> Result<(), PackFault>
-        ensures { Writes self.old self.new result (line (node_text entry.now)) }
-    {
-        self.put(&[letter_of(entry.node.kind)])?;
-        self.put_id(&entry.id)?;
-        self.put_ids(entry.node.parents.as_slice())?;
-        self.put(b"\n")
+/// Writes ids, each after a space.
+fn put_ids<A: Allocator + Copy>(text: &mut Vec<u8, A>, ids: &[Oid]) -> Result<(), AllocError>
+    ensures { OnOk result (text.new.items ≡ text.old.items ++ ids_text ids.now) }
+{
+    for id in ids {
+        put_id(text, id)?;
     }
+    Ok(())
+}
 
-    /// Writes the lines of some entries.
-    pub fn put_nodes(&mut self, entries: &[Entry<A>]) -> Result<(), PackFault>
-        ensures { Writes self.old self.new result (nodes_text entries.now) }
-    {
-        for entry in entries {
-            self.put_node(entry)?;
-        }
-        Ok(())
-    }
+/// Writes the line of an entry.
+fn put_node<A: Allocator + Copy>(text: &mut Vec<u8, A>, entry: &Entry<A>) -> Result<(), AllocError>
+    ensures { OnOk result (text.new.items ≡ text.old.items ++ line (node_text entry.now)) }
+{
+    text.push(letter_of(entry.node.kind))?;
+    put_id(text, &entry.id)?;
+    put_ids(text, entry.node.parents.as_slice())?;
+    text.push(b'\n')?;
+    Ok(())
+}
 
-    /// Writes the last line.
-    pub fn put_end(&mut self, count: usize) -> Result<(), PackFault>
-        ensures { Writes self.old self.new result (line (end_text count)) }
-    {
-        let mut digits = Buffer::new();
-        self.put(b"end ")?;
-        self.put(digits.format(count).as_bytes())?;
-        self.put(b"\n")
+/// Writes the lines of some entries.
+fn put_nodes<A: Allocator + Copy>(
+    text: &mut Vec<u8, A>,
+    entries: &[Entry<A>],
+) -> Result<(), AllocError>
+    ensures { OnOk result (text.new.items ≡ text.old.items ++ nodes_text entries.now) }
+{
+    for entry in entries {
+        put_node(text, entry)?;
     }
+    Ok(())
+}
 
-    /// The text.
-    pub fn into_bytes(self) -> Vec<u8, A>
-        ensures text { result.items ≡ self }
-        ensures bounded { length self ≤ max_pack }
-    {
-        let Writer { bytes } = self;
-        bytes
-    }
+/// Writes the last line.
+fn put_end<A: Allocator + Copy>(text: &mut Vec<u8, A>, count: usize) -> Result<(), AllocError>
+    ensures { OnOk result (text.new.items ≡ text.old.items ++ line (end_text count)) }
+{
+    let mut digits = Buffer::new();
+    text.extend_from_slice(b"end ")?;
+    text.extend_from_slice(digits.format(count).as_bytes())?;
+    text.push(b'\n')?;
+    Ok(())
 }
 
 /// The letter of a kind.
@@ -121,14 +130,25 @@ fn letter_of(kind: Kind) -> u8
     }
 }
 
+/// Writes the text of the pack of some entries, however long it is.
+fn put_pack<A: Allocator + Copy>(alloc: A, entries: &[Entry<A>]) -> Result<Vec<u8, A>, AllocError>
+    ensures { IfOk result (λ pack. pack.items ≡ pack_text entries.now) }
+{
+    let mut text = Vec::new(alloc);
+    text.extend_from_slice(b"GPK1\n")?;
+    put_nodes(&mut text, entries)?;
+    put_end(&mut text, entries.len())?;
+    Ok(text)
+}
+
 /// Writes the pack of some entries.
 pub fn write<A: Allocator + Copy>(alloc: A, entries: &[Entry<A>]) -> Result<Vec<u8, A>, PackFault>
     ensures packed { MatchResult result (λ pack. pack.items ≡ pack_text entries.now) (PackRefuses (pack_text entries.now)) }
     ensures bounded { IfOk result (λ pack. length pack.items ≤ max_pack) }
 {
-    let mut writer = Writer::new(alloc);
-    writer.put(b"GPK1\n")?;
-    writer.put_nodes(entries)?;
-    writer.put_end(entries.len())?;
-    Ok(writer.into_bytes())
+    if !fits(entries) {
+        return Err(PackFault::TooLarge);
+    }
+    let pack = put_pack(alloc, entries)?;
+    Ok(pack)
 }

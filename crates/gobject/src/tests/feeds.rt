@@ -15,9 +15,9 @@ const SHA256: &[u8; 342] =
 const MIXTURE: &[u8; 335] =
     b"GPK1\nc aaaaaaaaaaaaaaaaaaaaaaaaaaaaaaaaaaaaaaaaaaaaaaaaaaaaaaaaaaaaaaaa\nc bbbbbbbbbbbbbbbbbbbbbbbbbbbbbbbbbbbbbbbb aaaaaaaaaaaaaaaaaaaaaaaaaaaaaaaaaaaaaaaaaaaaaaaaaaaaaaaaaaaaaaaa aaaaaaaaaaaaaaaaaaaaaaaaaaaaaaaaaaaaaaaa\nt dddddddddddddddddddddddddddddddddddddddd cccccccccccccccccccccccccccccccccccccccccccccccccccccccccccccccc\nend 3\n";
 
-// A tag, with another byte in place of the first LF.
+// A commit, with another byte in place of the first LF.
 const NO_FEED: &[u8; 95] =
-    b"GPK1xt dddddddddddddddddddddddddddddddddddddddd cccccccccccccccccccccccccccccccccccccccc\nend 1\n";
+    b"GPK1xc cccccccccccccccccccccccccccccccccccccccc bbbbbbbbbbbbbbbbbbbbbbbbbbbbbbbbbbbbbbbb\nend 1\n";
 
 const PACKS: [&[u8]; 7] = [THREE, TWO, ONE, NONE, FIRST, SHA256, MIXTURE];
 

@@ -1,8 +1,9 @@
 //! Plain packs as bytes.
-use super::makers::{entry, id};
+use super::makers::entry;
 use crate::{
     Entry, Faithful, IndexFault, Indexer, Kind, Node, PackFault, Packer, Parents, PlainPack,
 };
+use gname::{Format, Oid};
 use std::alloc::Global;
 use std::process::Abort;
 
@@ -218,34 +219,44 @@ fn reads_each_change_of_a_byte_as_it_stands(rt: HostRuntime) {
     }
 }
 
-// So many entries, the last of them with so many parents.
-fn entries_of(rt: &(impl Abort + AllocGlobal), count: usize, parents: usize) -> Vec<Entry> {
+// An entry with so many parents, with ids of 64 digits.
+fn wide_entry(rt: &(impl Abort + AllocGlobal), parents: usize) -> Entry {
+    let id = Oid::from_hex_in(Format::Sha256, &[b'2'; 64]).expect(rt, "an id");
+    let ids = vec![in rt.alloc(); id; parents].expect(rt, "memory");
+    let parents = Parents::from_slice(rt.alloc(), ids.as_slice()).expect(rt, "memory");
+    let kind = Kind::Tag;
+    let node = Node { kind, parents };
+    Entry { id, node }
+}
+
+// 1,031 entries with 1,000 parents, so many without, and one with so many.
+fn entries_of(rt: &(impl Abort + AllocGlobal), small: usize, parents: usize) -> Vec<Entry> {
     let mut list = Vec::new(rt.alloc());
-    for _ in 1..count {
-        list.push(entry(rt, Kind::Commit, b'1', b""))
-            .expect(rt, "memory");
+    let wide = wide_entry(rt, 1_000);
+    for _ in 0..1_031 {
+        let copy = wide.copy_in(rt.alloc()).expect(rt, "memory");
+        list.push(copy).expect(rt, "memory");
     }
-    let ids = vec![in rt.alloc(); id(rt, b'2'); parents].expect(rt, "memory");
-    let last = Parents::from_slice(rt.alloc(), ids.as_slice()).expect(rt, "memory");
-    let node = Node {
-        kind: Kind::Tag,
-        parents: last,
-    };
-    let id = id(rt, b'3');
-    list.push(Entry { id, node }).expect(rt, "memory");
+    for _ in 0..small {
+        let next = entry(rt, Kind::Commit, b'1', b"");
+        list.push(next).expect(rt, "memory");
+    }
+    list.push(wide_entry(rt, parents)).expect(rt, "memory");
     list
 }
 
-// Numbers of entries and parents, and how long the pack is: the longest, and one byte more.
-const LIMITS: [(usize, usize, Option<usize>); 2] = [
-    (6, 1_636_795, Some(67_108_864)),
-    (47, 1_636_752, None),
+// Numbers of entries without parents and of parents of the last, and how long the pack is: the longest, one with
+// an entry more, and one with a byte more.
+const LIMITS: [(usize, usize, Option<usize>); 3] = [
+    (47, 349, Some(67_108_864)),
+    (48, 349, None),
+    (44, 351, None),
 ];
 
 #[test]
 fn packs_67108864_bytes_and_no_more(rt: HostRuntime) {
-    for (count, parents, length) in LIMITS {
-        let list = entries_of(&rt, count, parents);
+    for (small, parents, length) in LIMITS {
+        let list = entries_of(&rt, small, parents);
         check_length(&rt, list.as_slice(), length);
     }
 }
@@ -256,27 +267,6 @@ fn check_length(rt: &(impl Abort + AllocGlobal), list: &[Entry], length: Option<
         (Ok(pack), Some(length)) => assert_eq!(rt; pack.len(), length),
         (Err(fault), None) => assert_eq!(rt; fault, PackFault::TooLarge),
         _ => assert!(rt; false, "a pack of {} entries", list.len()),
-    }
-}
-
-// Numbers of entries with 1,000 parents, and how long the pack is: the most, and one more.
-const ENTRY_LIMITS: [(usize, Option<usize>); 2] = [(1_635, Some(67_105_319)), (1_636, None)];
-
-#[test]
-fn packs_the_most_entries_and_none_more(rt: HostRuntime) {
-    let ids = [id(&rt, b'2'); 1_000];
-    let parents = Parents::from_slice(rt.alloc(), &ids).expect(&rt, "memory");
-    let kind = Kind::Commit;
-    let node = Node { kind, parents };
-    let id = id(&rt, b'1');
-    let entry = Entry { id, node };
-    for (count, length) in ENTRY_LIMITS {
-        let mut list = Vec::new(rt.alloc());
-        for _ in 0..count {
-            list.push(entry.copy_in(rt.alloc()).expect(&rt, "memory"))
-                .expect(&rt, "memory");
-        }
-        check_length(&rt, list.as_slice(), length);
     }
 }
 

@@ -33,49 +33,80 @@ fn answer_for(len: usize) -> Result<(), WriteFault> {
     }
 }
 
-// What was written are lines with this payload, so many, or none where a line cannot carry it.
+// The bytes are so many lines with this payload, or none where a line cannot carry it.
 fn check_lines(
     rt: &impl Abort,
     alloc: Global,
-    writer: LineWriter<VecSink>,
+    bytes: &[u8],
     payload: &[u8],
     lines: usize,
 ) -> Result<(), Fail> {
-    let sink = writer.into_inner();
-    assert_eq!(rt; sink.passed_on(), sink.written());
-    let mut reader = LineReader::new(alloc, SliceSource::new(sink.written()))?;
+    let mut reader = LineReader::new(alloc, SliceSource::new(bytes))?;
     if payload.len() <= MOST_PAYLOAD {
         for _ in 0..lines {
-            assert_eq!(rt; reader.next()?, Some(Line::Data(payload)));
+            assert!(rt; reader.next()? == Some(Line::Data(payload)));
         }
     }
-    assert_eq!(rt; reader.next()?, None);
-    assert_eq!(rt; reader.into_inner().rest(), b"".as_slice());
+    assert!(rt; reader.next()? == None);
     Ok(())
+}
+
+// All that was written, and passed on.
+fn passed_on(rt: &impl Abort, mut writer: LineWriter<VecSink>) -> Result<Vec<u8>, Fail> {
+    writer.push()?;
+    let sink = writer.into_inner();
+    assert!(rt; sink.passed_on() == sink.written());
+    Ok(sink.into_written())
+}
+
+// Both pieces as data lines.
+fn check_data(
+    rt: &impl Abort,
+    alloc: Global,
+    first: &[u8],
+    second: &[u8],
+    payload: &[u8],
+) -> Result<(), Fail> {
+    let mut writer = LineWriter::new(VecSink::new(alloc));
+    let answer = answer_for(payload.len());
+    assert!(rt; writer.put(payload) == answer);
+    assert!(rt; writer.put2(first, second) == answer);
+    let bytes = passed_on(rt, writer)?;
+    check_lines(rt, alloc, bytes.as_slice(), payload, 2)
+}
+
+// Both pieces as text lines, whose payload is the line.
+fn check_text(
+    rt: &impl Abort,
+    alloc: Global,
+    first: &[u8],
+    second: &[u8],
+    line: &[u8],
+) -> Result<(), Fail> {
+    let mut writer = LineWriter::new(VecSink::new(alloc));
+    let answer = answer_for(line.len());
+    assert!(rt; writer.text(text_of(line)) == answer);
+    assert!(rt; writer.text2(first, second) == answer);
+    let bytes = passed_on(rt, writer)?;
+    check_lines(rt, alloc, bytes.as_slice(), line, 2)
 }
 
 // Both pieces as data lines and as text lines.
 fn check_pieces(rt: &impl Abort, alloc: Global, first: &[u8], second: &[u8]) -> Result<(), Fail> {
-    let mut payload = Vec::new(alloc);
-    payload.extend_from_slice(first)?;
+    let mut payload = Vec::from_slice(alloc, first)?;
     payload.extend_from_slice(second)?;
+    check_data(rt, alloc, first, second, payload.as_slice())?;
+    payload.push(b'\n')?;
+    check_text(rt, alloc, first, second, payload.as_slice())
+}
+
+// The bytes on a band.
+fn check_band(rt: &impl Abort, alloc: Global, payload: &[u8], band: Band<'_>) -> Result<(), Fail> {
+    assert!(rt; band_of(payload) == Ok(band));
     let mut writer = LineWriter::new(VecSink::new(alloc));
-    let answer = answer_for(payload.len());
-    assert_eq!(rt; writer.put(payload.as_slice()), answer);
-    assert_eq!(rt; writer.put2(first, second), answer);
-    writer.push()?;
-    check_lines(rt, alloc, writer, payload.as_slice(), 2)?;
-    let mut line = Vec::new(alloc);
-    line.extend_from_slice(payload.as_slice())?;
-    line.push(b'\n')?;
-    let mut writer = LineWriter::new(VecSink::new(alloc));
-    let answer = answer_for(line.len());
-    assert_eq!(rt; writer.text(payload.as_slice()), answer);
-    assert_eq!(rt; writer.text2(first, second), answer);
-    writer.push()?;
-    check_lines(rt, alloc, writer, line.as_slice(), 2)?;
-    assert_eq!(rt; text_of(line.as_slice()), payload.as_slice());
-    Ok(())
+    assert!(rt; writer.put_band(&band) == answer_for(payload.len()));
+    let bytes = passed_on(rt, writer)?;
+    check_lines(rt, alloc, bytes.as_slice(), payload, 1)
 }
 
 // The bytes on each band.
@@ -86,14 +117,9 @@ fn check_bands(rt: &impl Abort, alloc: Global, bytes: &[u8]) -> Result<(), Fail>
         (b'\x03', Band::Fatal(bytes)),
     ];
     for (first, band) in bands {
-        let mut payload = Vec::new(alloc);
-        payload.push(first)?;
+        let mut payload = vec![in alloc; first; 1]?;
         payload.extend_from_slice(bytes)?;
-        assert_eq!(rt; band_of(payload.as_slice()), Ok(band));
-        let mut writer = LineWriter::new(VecSink::new(alloc));
-        assert_eq!(rt; writer.put_band(&band), answer_for(payload.len()));
-        writer.push()?;
-        check_lines(rt, alloc, writer, payload.as_slice(), 1)?;
+        check_band(rt, alloc, payload.as_slice(), band)?;
     }
     Ok(())
 }

@@ -121,15 +121,27 @@ const READS: &[(usize, usize)] = &[(1, 12), (2, 7), (3, 6), (100, 4)];
 // How many calls read the first line and both lines.
 const READS_OF_LINES: &[(usize, usize, usize)] = &[(1, 7, 11), (2, 4, 6), (3, 3, 5), (100, 2, 3)];
 
+// These lines are read, and then the end.
+fn check_read(
+    rt: &impl Abort,
+    alloc: Global,
+    device: &mut Counted<'_>,
+    lines: &[Line<'_>],
+) -> Result<(), Fail> {
+    let mut reader = LineReader::new(alloc, FromRead::new(device))?;
+    for line in lines {
+        assert!(rt; reader.next()? == Some(*line));
+    }
+    assert!(rt; reader.next()? == None);
+    Ok(())
+}
+
 #[test]
 fn reads_are_counted(rt: HostRuntime) -> Result<(), Fail> {
     for (most, calls) in READS {
         let mut device = Counted::new(INPUT, *most);
-        let mut reader = LineReader::new(rt.alloc(), FromRead::new(&mut device))?;
-        assert_eq!(rt; reader.next()?, Some(Line::Data(b"abc")));
-        assert_eq!(rt; reader.next()?, Some(Line::Flush));
-        assert_eq!(rt; reader.next()?, None);
-        drop(reader);
+        let lines = [Line::Data(b"abc"), Line::Flush];
+        check_read(&rt, rt.alloc(), &mut device, &lines)?;
         assert_eq!(rt; device.calls, *calls, "by {most}");
     }
     Ok(())
@@ -144,13 +156,13 @@ fn check_failing_read(
 ) -> Result<(), Fail> {
     let mut reader = LineReader::new(alloc, FromRead::new(device))?;
     if lines > 0 {
-        assert_eq!(rt; reader.next()?, Some(Line::Data(b"abc")));
+        assert!(rt; reader.next()? == Some(Line::Data(b"abc")));
     }
     if lines > 1 {
-        assert_eq!(rt; reader.next()?, Some(Line::Flush));
+        assert!(rt; reader.next()? == Some(Line::Flush));
     }
-    assert_eq!(rt; reader.next(), Err(LineFault::Io));
-    assert_eq!(rt; reader.next(), Err(LineFault::Failed));
+    assert!(rt; reader.next() == Err(LineFault::Io));
+    assert!(rt; reader.next() == Err(LineFault::Failed));
     Ok(())
 }
 
@@ -184,20 +196,24 @@ fn each_read_fails_in_turn(rt: HostRuntime) -> Result<(), Fail> {
 #[test]
 fn end_is_asked_for_again(rt: HostRuntime) -> Result<(), Fail> {
     let mut device = Counted::new(b"", 100);
-    let mut source = FromRead::new(&mut device);
-    let mut buf = [0u8; 8];
-    assert_eq!(rt; source.read(&mut buf), Ok(0));
-    assert_eq!(rt; source.read(&mut buf), Ok(0));
-    let mut reader = LineReader::new(rt.alloc(), source)?;
-    assert_eq!(rt; reader.next()?, None);
-    assert_eq!(rt; reader.next()?, None);
+    for calls in 1..=2 {
+        assert!(rt; FromRead::new(&mut device).read(&mut [0u8; 8]) == Ok(0));
+        assert!(rt; device.calls == calls);
+    }
+    let mut reader = LineReader::new(rt.alloc(), FromRead::new(&mut device))?;
+    assert!(rt; reader.next()? == None);
+    assert!(rt; reader.next()? == None);
     let left = reader.into_inner().into_inner();
-    assert_eq!(rt; left.calls, 4);
+    assert!(rt; left.calls == 4);
     left.rest = b"0001";
-    let mut reader = LineReader::new(rt.alloc(), FromRead::new(left))?;
-    assert_eq!(rt; reader.next()?, Some(Line::Delim));
-    assert_eq!(rt; reader.next()?, None);
-    Ok(())
+    check_read(&rt, rt.alloc(), left, &[Line::Delim])
+}
+
+// Writes two lines, and does not push them.
+fn put_both(device: &mut Kept, payload: &[u8]) -> Result<(), WriteFault> {
+    let mut writer = LineWriter::new(ToWrite::new(device));
+    writer.put(b"a")?;
+    writer.put(payload)
 }
 
 // A line of the longest payload, in and out, in one call a part, and no flush until the push.
@@ -205,23 +221,14 @@ fn end_is_asked_for_again(rt: HostRuntime) -> Result<(), Fail> {
 fn long_lines_pass(rt: HostRuntime) -> Result<(), Fail> {
     let payload = vec![in rt.alloc(); b'x'; MAX_PAYLOAD]?;
     let mut device = Kept::new(rt.alloc(), usize::MAX);
-    let mut writer = LineWriter::new(ToWrite::new(&mut device));
-    writer.put(b"a")?;
-    writer.put(payload.as_slice())?;
-    drop(writer);
-    assert_eq!(rt; device.calls, 4);
-    assert_eq!(rt; device.flushes, 0);
-    let mut writer = LineWriter::new(ToWrite::new(&mut device));
-    writer.push()?;
-    drop(writer);
-    assert_eq!(rt; device.flushes, 1);
+    put_both(&mut device, payload.as_slice())?;
+    assert!(rt; device.calls == 4 && device.flushes == 0);
+    LineWriter::new(ToWrite::new(&mut device)).push()?;
+    assert!(rt; device.flushes == 1);
     let mut device = Counted::new(device.written.as_slice(), usize::MAX);
-    let mut reader = LineReader::new(rt.alloc(), FromRead::new(&mut device))?;
-    assert_eq!(rt; reader.next()?, Some(Line::Data(b"a")));
-    assert_eq!(rt; reader.next()?, Some(Line::Data(payload.as_slice())));
-    assert_eq!(rt; reader.next()?, None);
-    drop(reader);
-    assert_eq!(rt; device.calls, 5);
+    let lines = [Line::Data(b"a"), Line::Data(payload.as_slice())];
+    check_read(&rt, rt.alloc(), &mut device, &lines)?;
+    assert!(rt; device.calls == 5);
     Ok(())
 }
 
@@ -240,38 +247,47 @@ fn write_two<W: Sink>(writer: &mut LineWriter<W>) -> Result<(), WriteFault> {
 fn writes_are_counted(rt: HostRuntime) -> Result<(), Fail> {
     for (most, calls) in WRITES {
         let mut device = Kept::new(rt.alloc(), *most);
-        let mut writer = LineWriter::new(ToWrite::new(&mut device));
-        write_two(&mut writer)?;
-        drop(writer);
-        assert_eq!(rt; device.written.as_slice(), OUTPUT, "by {most}");
-        assert_eq!(rt; device.calls, *calls, "by {most}");
-        assert_eq!(rt; device.flushes, 1, "by {most}");
+        write_two(&mut LineWriter::new(ToWrite::new(&mut device)))?;
+        assert!(rt; device.written.as_slice() == OUTPUT, "by {most}");
+        assert!(rt; device.calls == *calls && device.flushes == 1);
     }
     Ok(())
 }
 
+// The writer fails, and its later calls ask the device for nothing.
+fn check_failing_write(rt: &impl Abort, device: &mut Kept) {
+    let mut writer = LineWriter::new(ToWrite::new(device));
+    assert!(rt; write_two(&mut writer) == Err(WriteFault::Io));
+    assert!(rt; writer.put(b"a") == Err(WriteFault::Failed));
+    assert!(rt; writer.push() == Err(WriteFault::Failed));
+}
+
+// This call is the last, and fails.
+fn check_failing_call(
+    rt: &impl Abort,
+    alloc: Global,
+    most: usize,
+    fails_at: usize,
+    kind: ErrorKind,
+) {
+    let mut device = Kept::new(alloc, most).failing_at(fails_at, kind);
+    check_failing_write(rt, &mut device);
+    assert!(rt;
+        device.calls == fails_at && device.flushes == 0,
+        "call {fails_at}"
+    );
+    assert!(rt; OUTPUT.starts_with(device.written.as_slice()));
+}
+
 #[test]
-fn each_write_and_the_flush_fail_in_turn(rt: HostRuntime) -> Result<(), Fail> {
+fn each_write_and_the_flush_fail_in_turn(rt: HostRuntime) {
     for kind in KINDS {
         for (most, calls) in WRITES {
             for fails_at in 1..=*calls {
-                let mut device = Kept::new(rt.alloc(), *most).failing_at(fails_at, *kind);
-                let mut writer = LineWriter::new(ToWrite::new(&mut device));
-                assert_eq!(rt;
-                    write_two(&mut writer),
-                    Err(WriteFault::Io),
-                    "call {fails_at}"
-                );
-                assert_eq!(rt; writer.put(b"a"), Err(WriteFault::Failed));
-                assert_eq!(rt; writer.push(), Err(WriteFault::Failed));
-                drop(writer);
-                assert_eq!(rt; device.calls, fails_at);
-                assert_eq!(rt; device.flushes, 0);
-                assert!(rt; OUTPUT.starts_with(device.written.as_slice()));
+                check_failing_call(&rt, rt.alloc(), *most, fails_at, *kind);
             }
         }
     }
-    Ok(())
 }
 
 // A writer that takes none of some bytes has failed, and is not asked again.

@@ -1,4 +1,7 @@
 use crate::{BandFault, Down, LineFault, WriteFault};
+use std::alloc::Global;
+use std::fmt;
+use std::process::Abort;
 use std::test::Fail;
 
 // Each fault, its number, its name and its text.
@@ -43,29 +46,48 @@ const BAND_FAULTS: &[(BandFault, u32, &str, &str)] = &[
     (BandFault::BadBand, 30, "BadBand", "bad band"),
 ];
 
-#[test]
-fn faults_have_number_name_and_text(rt: HostRuntime) -> Result<(), Fail> {
-    for (fault, number, name, text) in LINE_FAULTS {
-        assert_eq!(rt; fault.code(), *number);
-        assert_eq!(rt; fault.name(), *name);
-        assert_eq!(rt; format!(in rt.alloc(); "{fault}")?.as_str(), *text);
-        assert_eq!(rt; format!(in rt.alloc(); "{fault:?}")?.as_str(), *name);
-    }
-    for (fault, number, name, text) in WRITE_FAULTS {
-        assert_eq!(rt; fault.code(), *number);
-        assert_eq!(rt; fault.name(), *name);
-        assert_eq!(rt; format!(in rt.alloc(); "{fault}")?.as_str(), *text);
-        assert_eq!(rt; format!(in rt.alloc(); "{fault:?}")?.as_str(), *name);
-    }
-    for (fault, number, name, text) in BAND_FAULTS {
-        assert_eq!(rt; fault.code(), *number);
-        assert_eq!(rt; fault.name(), *name);
-        assert_eq!(rt; format!(in rt.alloc(); "{fault}")?.as_str(), *text);
-        assert_eq!(rt; format!(in rt.alloc(); "{fault:?}")?.as_str(), *name);
-    }
-    assert_eq!(rt;
-        format!(in rt.alloc(); "{}", Down)?.as_str(),
-        "the device failed"
-    );
+// The text of a fault, and its name as `Debug` has it.
+fn check_texts<T: fmt::Display + fmt::Debug>(
+    rt: &impl Abort,
+    alloc: Global,
+    fault: &T,
+    text: &str,
+    name: &str,
+) -> Result<(), Fail> {
+    let shown = format!(in alloc; "{fault}")?;
+    let debug = format!(in alloc; "{fault:?}")?;
+    assert!(rt; shown.as_str() == text && debug.as_str() == name, "{name}");
     Ok(())
+}
+
+#[test]
+fn faults_of_lines_have_number_name_and_text(rt: HostRuntime) -> Result<(), Fail> {
+    for (fault, number, name, text) in LINE_FAULTS {
+        assert!(rt; fault.code() == *number && fault.name() == *name);
+        check_texts(&rt, rt.alloc(), fault, text, name)?;
+    }
+    Ok(())
+}
+
+#[test]
+fn faults_of_writing_have_number_name_and_text(rt: HostRuntime) -> Result<(), Fail> {
+    for (fault, number, name, text) in WRITE_FAULTS {
+        assert!(rt; fault.code() == *number && fault.name() == *name);
+        check_texts(&rt, rt.alloc(), fault, text, name)?;
+    }
+    Ok(())
+}
+
+#[test]
+fn faults_of_bands_have_number_name_and_text(rt: HostRuntime) -> Result<(), Fail> {
+    for (fault, number, name, text) in BAND_FAULTS {
+        assert!(rt; fault.code() == *number && fault.name() == *name);
+        check_texts(&rt, rt.alloc(), fault, text, name)?;
+    }
+    Ok(())
+}
+
+#[test]
+fn failed_device_has_a_text(rt: HostRuntime) -> Result<(), Fail> {
+    check_texts(&rt, rt.alloc(), &Down, "the device failed", "Down")
 }

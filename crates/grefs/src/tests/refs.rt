@@ -1,8 +1,9 @@
 //! Every call of refs, on 0 to 5 names set in many orders, and at the limit.
 use super::makers::{id, name};
-use crate::{MAX_REFS, Refs, RefsFault, Target, is_below_refs, laws};
-use gname::RefName;
+use crate::{Head, MAX_REFS, Refs, RefsFault, Target, is_below_refs, laws};
+use gname::{Format, Oid, RefName};
 use std::process::Abort;
+use std::test::Fail;
 
 const NAMES: [&str; 5] = ["refs/a", "refs/a/b", "refs/ab", "refs/b", "refs/c"];
 
@@ -67,11 +68,11 @@ fn refs_are_pushed_in_order(rt: HostRuntime) {
     let mut refs = Refs::new(rt.alloc());
     for place in 0..NAMES.len() {
         let next = nth_name(&rt, place);
-        assert!(rt; is_below_refs(&next) && refs.are_below(&next));
-        if is_below_refs(&next) && refs.are_below(&next) && refs.len() < MAX_REFS {
+        assert!(rt; is_below_refs(&next) && refs.are_below(next.as_bytes()));
+        if is_below_refs(&next) && refs.are_below(next.as_bytes()) && refs.len() < MAX_REFS {
             assert!(rt; refs.push(next, id(&rt, nth_digit(place))).is_ok());
         }
-        assert!(rt; !refs.are_below(&nth_name(&rt, place)));
+        assert!(rt; !refs.are_below(nth_name(&rt, place).as_bytes()));
     }
     check_refs(&rt, &refs, &[0, 1, 2, 3, 4]);
 }
@@ -95,6 +96,37 @@ fn head_is_no_ref_and_no_target(rt: HostRuntime) {
 #[test]
 fn laws_can_be_called() {
     laws::refs_come_in_order();
+    laws::refs_are_their_look_ups();
+}
+
+#[test]
+fn ids_are_of_either_format(rt: HostRuntime) -> Result<(), Fail> {
+    let long = Oid::from_hex_in(Format::Sha256, &[b'a'; 64])?;
+    let mut refs = Refs::new(rt.alloc());
+    for (text, id) in [
+        ("refs/a", id(&rt, b'a')),
+        ("refs/b", long),
+        ("refs/a", long),
+    ] {
+        assert_eq!(rt; refs.set(name(&rt, text), id), Ok(()));
+        assert_eq!(rt; refs.get(&name(&rt, text)), Some(id));
+    }
+    assert_eq!(rt; refs.len(), 2);
+    Ok(())
+}
+
+#[test]
+fn heads_are_copied(rt: HostRuntime) -> Result<(), Fail> {
+    let target = Target::new(name(&rt, "refs/b")).expect(&rt, "a target");
+    for head in [Head::None, Head::Id(id(&rt, b'1')), Head::Symref(target)] {
+        match (&head, head.copy_in(rt.alloc())?) {
+            (Head::None, Head::None) => {}
+            (Head::Id(id), Head::Id(copy)) => assert_eq!(rt; *id, copy),
+            (Head::Symref(target), Head::Symref(copy)) => assert!(rt; target.name() == copy.name()),
+            _ => assert!(rt; false, "another head"),
+        }
+    }
+    Ok(())
 }
 
 // Whether the name is at the place.

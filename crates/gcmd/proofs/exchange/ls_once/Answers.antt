@@ -11,10 +11,10 @@ returns-in-Ok-Some-Ls-clause-exchange g c =
     let said = c.in-Ok-Some-Ls.field-0-is ∙ ap (λ (request : Request g.row.A.Denot). Some request) c.in-Ok-Some-Ls.field-0-0-is in
     let input = input_of g.S.Source.remaining g.S.Source.is_down c.args.source.now c.take_request.new.source in
     let taken = subst (λ (request : Option (Request g.row.A.Denot)). TakesRequest input (Ok request)) said c.in-Ok-Some-Ls.ensures.read in
-    Exchanges-replied repo.graph repo.refs repo.head _ _ c.in-Ok-Some-Ls.asked c.answer.result taken c.answer.ensures.replies
+    Exchanges-replied repo.graph.entries repo.refs repo.head _ _ c.in-Ok-Some-Ls.asked c.answer.result taken c.answer.ensures.replies
 
 pub returns-in-Err-clause-exchange : goal.returns-in-Err-clause-exchange
 returns-in-Err-clause-exchange g c =
     let repo = c.args.repo.now in
-    Exchanges-refused repo.graph repo.refs repo.head _ _ c.in-Err.fault c.refuse.result
+    Exchanges-refused repo.graph.entries repo.refs repo.head _ _ c.in-Err.fault c.refuse.result
     (TakesRequest-refusal g.row.A.Denot _ c.in-Err.fault c.in-Err.ensures.read) c.refuse.ensures.refused

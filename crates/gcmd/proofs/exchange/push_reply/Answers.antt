@@ -3,8 +3,8 @@ use Rattle.gcmd.proofs.exchange.push_reply.Goals as goal
 
 pub returns-in-Ok-clause-sent : goal.returns-in-Ok-clause-sent
 returns-in-Ok-clause-sent g c =
-    HasSent-pushed g.W.Sink.contents g.W.Sink.passed_on g.W.Sink.is_down g.W.Sink.seat _ _ _ _ c.push.result c.in-Ok.ensures.written c.push.ensures
+    HasSent-pushed g.W.Sink.contents g.W.Sink.passed_on g.W.Sink.is_down g.W.Sink.loans c.writes_join.ensures.pushed _ _ _ _ c.push.result c.in-Ok.ensures.written c.push.ensures
 
 pub returns-in-Err-clause-sent : goal.returns-in-Err-clause-sent
 returns-in-Err-clause-sent g c =
-    HasSent-failed g.W.Sink.contents g.W.Sink.passed_on g.W.Sink.is_down g.W.Sink.seat _ _ _ c.in-Err.fault c.requires c.in-Err.ensures.fits c.in-Err.ensures.written
+    HasSent-failed g.W.Sink.contents g.W.Sink.passed_on g.W.Sink.is_down g.W.Sink.loans _ _ _ c.in-Err.fault c.requires c.in-Err.ensures.fits c.in-Err.ensures.written

@@ -12,24 +12,24 @@ returns-in-Ok-None-clause-read g c =
 
 pub returns-in-Err-clause-device : goal.returns-in-Err-clause-device
 returns-in-Err-clause-device g c =
-    read_failure g.S.Source.remaining g.S.Source.is_down g.S.Source.seat _ _ _ c.in-Err.fault c.loop-frame.invariant.2
-    (subst (HasRead g.S.Source.remaining g.S.Source.is_down g.S.Source.seat _ _) (ap read_of c.in-Err.is) c.next.follows.holds-at-none)
+    read_failure g.S.Source.remaining g.S.Source.is_down g.S.Source.loans _ _ _ c.in-Err.fault c.loop-frame.invariant.2
+    (subst (HasRead g.S.Source.remaining g.S.Source.is_down g.S.Source.loans _ _) (ap read_of c.in-Err.is) c.next.follows.holds-at-none)
 
-pub returns-in-Ok-Ends-clause-read : goal.returns-in-Ok-Ends-clause-read
-returns-in-Ok-Ends-clause-read g c =
+pub returns-in-Ok-Completes-clause-read : goal.returns-in-Ok-Completes-clause-read
+returns-in-Ok-Completes-clause-read g c =
     let going = c.loop-frame.invariant.0 in
-    ends_there g.M.Message.judge g.M.Message.holds _ _ _ _ _ _ (packet_of c.in-Ok-Some.line) going
+    ends_there g.M.Message.judge g.M.Message.holds c.reads_join.ensures.next _ _ _ _ _ _ (packet_of c.in-Ok-Some.line) going
     (subst (Reads _) (read_some _ _ _ c.in-Ok-Some.is c.in-Ok-Some.field-0-is) c.next.follows.holds-at-none.bytes)
-    (subst (TakesPacket g.M.Message.judge g.M.Message.holds going.lines (packet_of c.in-Ok-Some.line) c.take.new.self) (c.in-Ok-Ends.is ∙ ap (λ x. Ok x) c.in-Ok-Ends.field-0-is) (c.take.ensures.takes going.lines going.goes going.held))
+    (subst (TakesPacket g.M.Message.judge g.M.Message.holds going.lines (packet_of c.in-Ok-Some.line) c.take.new.self) (c.in-Ok-Completes.is ∙ ap (λ x. Ok x) c.in-Ok-Completes.field-0-is) (c.take.ensures.takes going.lines going.goes going.held))
 
 pub loop-frame-preserved : goal.loop-frame-preserved
 loop-frame-preserved g c =
     let going = c.loop-frame.invariant.0 in (
-      goes_on g.M.Message.judge g.M.Message.holds _ _ _ _ _ _ (packet_of c.in-Ok-Some.line) going
+      goes_on g.M.Message.judge g.M.Message.holds c.reads_join.ensures.next _ _ _ _ _ _ (packet_of c.in-Ok-Some.line) going
           (subst (Reads _) (read_some _ _ _ c.in-Ok-Some.is c.in-Ok-Some.field-0-is) c.next.follows.holds-at-none.bytes)
           (subst (TakesPacket g.M.Message.judge g.M.Message.holds going.lines (packet_of c.in-Ok-Some.line) c.take.new.self) (c.in-Ok-Goes.is ∙ ap (λ x. Ok x) c.in-Ok-Goes.field-0-is) (c.take.ensures.takes going.lines going.goes going.held)),
-      c.next.follows.holds-at-none.seat ∙ c.loop-frame.invariant.1,
-      not_failed g.S.Source.remaining g.S.Source.is_down g.S.Source.seat _ _ (packet_of c.in-Ok-Some.line)
-          (subst (HasRead g.S.Source.remaining g.S.Source.is_down g.S.Source.seat _ _) (read_some _ _ _ c.in-Ok-Some.is c.in-Ok-Some.field-0-is) c.next.follows.holds-at-none),
+      c.next.follows.holds-at-none.loans ∙ c.loop-frame.invariant.1,
+      not_failed g.S.Source.remaining g.S.Source.is_down g.S.Source.loans _ _ (packet_of c.in-Ok-Some.line)
+          (subst (HasRead g.S.Source.remaining g.S.Source.is_down g.S.Source.loans _ _) (read_some _ _ _ c.in-Ok-Some.is c.in-Ok-Some.field-0-is) c.next.follows.holds-at-none),
       omega (arith, c.take.ensures.bounded going.lines going.goes, going.count),
     )

@@ -53,8 +53,8 @@ loop-frame-preserved g c =
       (takes_as g.M.Message.holds g.M.Message.left _ _ _ _ _ _ _ _ c.loop-frame.invariant.1 c.loop-frame.invariant.2 c.take.ensures.takes going.lines going.goes going.held)),
       c.take.ensures.judge ∙ c.loop-frame.invariant.1,
       c.take.ensures.brings ∙ c.loop-frame.invariant.2,
-      c.next.follows.holds-at-none.seat ∙ c.loop-frame.invariant.3,
-      not_failed g.S.Source.remaining g.S.Source.is_down g.S.Source.seat _ _ (packet_of c.in-Ok-Some.line)
-          (subst (HasRead g.S.Source.remaining g.S.Source.is_down g.S.Source.seat _ _) (read_some _ _ _ c.in-Ok-Some.is c.in-Ok-Some.field-0-is) c.next.follows.holds-at-none),
+      c.next.follows.holds-at-none.loans ∙ c.loop-frame.invariant.3,
+      not_failed g.S.Source.remaining g.S.Source.is_down g.S.Source.loans _ _ (packet_of c.in-Ok-Some.line)
+          (subst (HasRead g.S.Source.remaining g.S.Source.is_down g.S.Source.loans _ _) (read_some _ _ _ c.in-Ok-Some.is c.in-Ok-Some.field-0-is) c.next.follows.holds-at-none),
       omega (arith, c.laws.ensures.bounded c.args.message.now going.lines going.goes, going.count),
     )

@@ -8,6 +8,6 @@ invariant-loop-frame g l =
     IsGoing (g.M.Message.judge l.initial.message) g.M.Message.holds (g.S.Source.remaining l.initial.reader.source) (g.S.Source.remaining l.reader.source) l.message l.frame
     × (g.M.Message.judge l.message ≡ g.M.Message.judge l.initial.message)
     × (g.M.Message.brings l.message ≡ g.M.Message.brings l.initial.message)
-    × (g.S.Source.seat l.reader.source ≡ g.S.Source.seat l.initial.reader.source)
+    × (g.S.Source.loans l.reader.source ≡ g.S.Source.loans l.initial.reader.source)
     × (l.reader.failed ≡ true → l.initial.reader.failed ≡ true)
     × (l.frame ≤ 2 ^ 60)

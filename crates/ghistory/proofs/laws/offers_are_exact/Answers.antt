@@ -2,4 +2,4 @@ use Rattle.ghistory.proofs.OfferLaws as laws
 use Rattle.ghistory.proofs.laws.offers_are_exact.Goals as goal
 
 pub returns : goal.returns
-returns g c = laws.offers_are_exact _ _ _ _ _
+returns g c = λ h tips commons sent n. laws.offers_are_exact h tips commons sent n

@@ -1,4 +1,4 @@
-use Rattle.ghistory.proofs.Sharing.{one_choice}
+use Rattle.ghistory.proofs.Choosing.{one_choice}
 use Rattle.ghistory.proofs.laws.one_list_to_send.Goals as goal
 
 pub returns : goal.returns

@@ -12,5 +12,5 @@ loop-at-preserved g c = record {
       subst (Consumes _ _) (sym (take-put_mid_front _ _ _ _ _ c.loop-at.invariant.within c.in-Ok.ensures.bound.0))
       (Consumes-trans _ _ _ _ _ c.loop-at.invariant.consumed c.in-Ok.ensures.bytes.0);
   asked = λ h. c.in-Ok.ensures.down;
-  same_seat = search rules;
+  same_loans = search rules;
 }

@@ -8,7 +8,7 @@ invariant-loop-at g l = record {
   within : l.at ≤ length l.buf;
   consumed : Consumes (g.S.Source.remaining l.initial.source) (g.S.Source.remaining l.source) (take l.at l.buf);
   asked : 0 < l.at → g.S.Source.is_down l.source ≡ false;
-  same_seat : g.S.Source.seat l.source ≡ g.S.Source.seat l.initial.source;
+  same_loans : g.S.Source.loans l.source ≡ g.S.Source.loans l.initial.source;
 }
 
 abbrev pub decreases-loop-at : goal.decreases-loop-at

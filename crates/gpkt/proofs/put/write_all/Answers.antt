@@ -15,5 +15,5 @@ loop-rest-preserved g c =
       asked = λ h. c.in-Ok.ensures.down;
       up = λ h. c.in-Ok.ensures.down;
       stays = λ h. absurd (false≢true (c.in-Ok.ensures.stays_down (c.loop-rest.invariant.stays h)));
-      same_seat = search rules;
+      same_loans = search rules;
     }

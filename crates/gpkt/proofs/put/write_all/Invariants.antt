@@ -9,7 +9,7 @@ invariant-loop-rest g l = record {
   asked : length l.rest < length l.initial.rest → g.W.Sink.is_down l.sink ≡ false;
   up : g.W.Sink.is_down l.initial.sink ≡ false → g.W.Sink.is_down l.sink ≡ false;
   stays : g.W.Sink.is_down l.initial.sink ≡ true → g.W.Sink.is_down l.sink ≡ true;
-  same_seat : g.W.Sink.seat l.sink ≡ g.W.Sink.seat l.initial.sink;
+  same_loans : g.W.Sink.loans l.sink ≡ g.W.Sink.loans l.initial.sink;
 }
 
 abbrev pub decreases-loop-rest : goal.decreases-loop-rest

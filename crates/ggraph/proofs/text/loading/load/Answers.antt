@@ -3,7 +3,7 @@ use Rattle.std.proofs.lemmas.Result.{err_from_is_err_and}
 use denote.Enum.Bare.{same_true}
 use Rattle.ggraph.specs.contracts.text.reading.Stage.{the_type}
 use Rattle.ggraph.specs.declared.text.reading.Stage.TheVariants.{Done}
-use Rattle.ggraph.specs.declared.fault.TextFault.TheVariants.{Text}
+use Rattle.ggraph.specs.declared.fault.LoadFault.TheVariants.{Text}
 use Rattle.ggraph.proofs.LoadLemmas.{progress_more, progress_done}
 use Rattle.ggraph.proofs.WholeLemmas.{whole_read}
 use Rattle.ggraph.proofs.Stopping.{accepts_err, accepts_ok, stops_early, stops_refused}

@@ -1,4 +1,4 @@
-use Rattle.std.proofs.Common.{◌≡◌, ◌∙◌, ◌↔◌, List, take, IsTrue, sym, ap, subst}
+use Rattle.std.proofs.Common.{◌∙◌, ◌↔◌, List, take, IsTrue, sym, ap, subst}
 use Rattle.gobject.specs.declared.node.Entry.{Entry}
 use Rattle.ghistory.specs.Graphs.{History, IsOrdered, entries_of}
 use Rattle.ghistory.proofs.Storing.{taken_pairs, cut}

@@ -1,7 +1,6 @@
-use Rattle.std.proofs.Common.{◌≡◌, ◌∙◌, ◌≤◌, length, take, All, IsTrue, refl, sym, arith}
+use Rattle.std.proofs.Common.{◌∙◌, ◌≤◌, length, refl, sym, arith}
 use Rattle.std.proofs.lemmas.Bool.{false≢true}
 use Rattle.std.proofs.lemmas.List.{take_all}
-use Rattle.ghistory.specs.Reach.{HoldsParents}
 use Rattle.ghistory.proofs.ClosedLemmas.{holds_at, holds_more}
 use Rattle.ghistory.proofs.graph.Graph.holds_parents.Goals as goal
 

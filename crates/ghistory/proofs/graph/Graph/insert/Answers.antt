@@ -1,4 +1,4 @@
-use Rattle.std.proofs.Common.{List, ap, ◌∙◌}
+use Rattle.std.proofs.Common.{ap, ◌∙◌}
 use Rattle.gobject.specs.Objects.{node_at}
 use Rattle.ghistory.proofs.Growing.{node_at_end}
 use Rattle.ghistory.proofs.graph.Graph.insert.Goals as goal

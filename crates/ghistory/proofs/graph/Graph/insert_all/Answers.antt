@@ -3,7 +3,7 @@ use Rattle.std.proofs.lemmas.List.{append-nil, take_all}
 use Rattle.gobject.specs.declared.node.Entry.{Entry}
 use Rattle.gname.specs.declared.formats.Format.{Format}
 use Rattle.ghistory.specs.Graphs.{History, IsGraph, IsOrdered}
-use Rattle.ghistory.specs.Reach.{Reaches, IsFull, Grows, Keeps}
+use Rattle.ghistory.specs.Reach.{Reaches, IsFull, Keeps}
 use Rattle.ghistory.specs.Insert.{ComesIn, IsCause, Inserts, AddsOnly, AddsOnlyParents}
 use Rattle.ghistory.proofs.Growing.{take_one, inserts_more, inserts_grows, inserts_held, grows_keeps, grows_length, keeps_reaching, keeps_full, cut_off, cut_back_again, refused}
 use Rattle.ghistory.proofs.Sharing.{adds_only, adds_only_parents}

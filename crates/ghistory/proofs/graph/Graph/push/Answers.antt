@@ -1,7 +1,7 @@
 use Rattle.std.proofs.Common.{◌≡◌, ◌∙◌, ◌<◌, ◌↔◌, List, [], ◌∷◌, ◌++◌, length, All, IsTrue, None, sym, ap, subst}
 use Rattle.gobject.specs.declared.node.Entry.{Entry}
 use Rattle.gobject.specs.Objects.{node_at}
-use Rattle.ghistory.specs.Graphs.{History, IsGraph, IsOrdered, Holds, HasIdsOf, entries_of, max_nodes}
+use Rattle.ghistory.specs.Graphs.{History, IsOrdered, Holds, HasIdsOf, entries_of, max_nodes}
 use Rattle.ghistory.proofs.Storing.{pushed_pairs, pushed}
 use Rattle.ghistory.proofs.graph.Graph.push.Goals as goal
 

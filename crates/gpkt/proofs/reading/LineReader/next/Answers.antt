@@ -10,7 +10,7 @@ returns-in-Err g c =
       (
         refl,
         (λ _. tt),
-        rw (← c.self.view_is) (HasRead-at_fault _ _ _ _ _ _ was refl said.faults said.down said.bytes said.seat),
+        rw (← c.self.view_is) (HasRead-at_fault _ _ _ _ _ _ was refl said.faults said.down said.bytes said.loans),
       ),
       record {
         refused = (λ e. absurd (IsNewFault-other _ said.faults cc), λ e. let open_was : c.args.self.now.failed ≡ false = sym (ap (λ (r : Reader g.row.S.Denot). r.failed) c.self.view_is) ∙ was in cc);

@@ -1,7 +1,7 @@
 use Rattle.std.proofs.Common.{◌≡◌, ◌≢◌, arith, subst, refl, inl, inr, List, ℕ, Some}
 use Rattle.gname.specs.Names.{IsRefName, head_name}
 use Rattle.grefs.specs.RefLists.{CannotSet, RefList, ref_at}
-use Rattle.grefs.proofs.RefLemmas.{ref_at-found, ref_at-gap, found_inside, gap_inside, refs_insert, refs_set, sets_insert, sets_set}
+use Rattle.grefs.proofs.RefLemmas.{ref_at-found, ref_at-gap, ref_at-head, found_inside, gap_inside, refs_insert, refs_set, sets_insert, sets_set}
 use Rattle.grefs.proofs.refs.Refs.set.Goals as goal
 
 -- a name that stands somewhere and is not HEAD can be set
@@ -18,8 +18,23 @@ invariant_of-self g c =
     let valid : IsRefName c.args.name = subst IsRefName c.name.view_is c.name.invariant in
     refs_set _ c.args.name c.args.id c.in-Ok.place c.self.invariant (record { well_formed = valid; below = (c.names_are_clean.ensures c.args.name valid).below differs }) (rw (← c.as_slice.ensures.value) c.in-Ok.ensures)
 
-pub returns-then-len-eq-MAX_REFS-clause-refused : goal.returns-then-len-eq-MAX_REFS-clause-refused
-returns-then-len-eq-MAX_REFS-clause-refused g c =
+pub returns-then-is_head-clause-held : goal.returns-then-is_head-clause-held
+returns-then-is_head-clause-held g c = λ held.
+    let is : c.args.name ≡ head_name = c.is_head.ensures.0 c.if-is_head.true in
+    absurd (held (rw (is, ← c.self.view_is) (ref_at-head _ c.self.invariant.names)))
+
+pub returns-then-count-eq-MAX_REFS-clause-held : goal.returns-then-count-eq-MAX_REFS-clause-held
+returns-then-count-eq-MAX_REFS-clause-held g c = λ held.
+    let missing = ref_at-gap c.as_slice.result.now c.args.name c.in-Err.place (rw c.as_slice.ensures.value c.self.invariant.ascending) c.in-Err.ensures in
+    absurd (held (rw (← c.self.view_is, ← c.as_slice.ensures.value) missing))
+
+pub returns-in_err-insert-in-Err-clause-held : goal.returns-in_err-insert-in-Err-clause-held
+returns-in_err-insert-in-Err-clause-held g c = λ held.
+    let missing = ref_at-gap c.as_slice.result.now c.args.name c.in-Err.place (rw c.as_slice.ensures.value c.self.invariant.ascending) c.in-Err.ensures in
+    absurd (held (rw (← c.self.view_is, ← c.as_slice.ensures.value) missing))
+
+pub returns-then-count-eq-MAX_REFS-clause-refused : goal.returns-then-count-eq-MAX_REFS-clause-refused
+returns-then-count-eq-MAX_REFS-clause-refused g c =
     let missing = ref_at-gap c.as_slice.result.now c.args.name c.in-Err.place (rw c.as_slice.ensures.value c.self.invariant.ascending) c.in-Err.ensures in (
       λ _. inr (rw (← c.self.view_is, ← c.as_slice.ensures.value) missing, rw (← c.self.view_is) (omega arith)),
       λ _. refl,
@@ -50,4 +65,4 @@ returns-in-Ok-clause-refused g c =
 pub returns-in_ok-insert-in-Err-clause-ok : goal.returns-in_ok-insert-in-Err-clause-ok
 returns-in_ok-insert-in-Err-clause-ok g c =
     rw (c.in_ok-insert-in-Err.ensures.items, ← c.self.view_is)
-    (sets_insert _ c.args.name c.args.id c.in-Err.place (rw (← c.as_slice.ensures.value) c.in-Err.ensures))
+    (sets_insert _ c.args.name c.args.id c.in-Err.place c.self.invariant (rw (← c.as_slice.ensures.value) c.in-Err.ensures))

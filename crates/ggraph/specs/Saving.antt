@@ -1,0 +1,40 @@
+-- Saving a repository's text: for what it is refused.
+use Rattle.std.specs.Prelude.{◌≡◌, ⊤, ℕ, List, [], ◌∷◌, ◌++◌, map, All}
+use Rattle.gname.specs.declared.formats.Format.{Format}
+use Rattle.gname.specs.Ids.{IsIdOf}
+use Rattle.grefs.specs.declared.head.Head.{Head}
+use Rattle.grefs.specs.declared.head.Head.TheVariants.{Id, Symref}
+use Rattle.grefs.specs.RefLists.{RefList, IsBelowRefs}
+use Rattle.ggraph.specs.declared.fault.SaveFault.{SaveFault}
+use Rattle.ggraph.specs.declared.fault.SaveFault.TheVariants.{Memory, OtherFormat}
+
+-- the id at which HEAD stands, if it stands at one
+abbrev pub head_ids : {A : Type 0} → Head A → List (List ℕ)
+head_ids (Id id) = id ∷ []
+head_ids _ = []
+
+-- the ids at which the refs stand, in name order
+abbrev pub ref_ids : RefList → List (List ℕ)
+ref_ids refs = map (λ ref. ref.1) refs
+
+-- these, and then HEAD's
+abbrev pub named_ids : {A : Type 0} → RefList → Head A → List (List ℕ)
+named_ids refs head = ref_ids refs ++ head_ids head
+
+-- a ref that HEAD is on is below refs/
+abbrev pub PointsBelowRefs : {A : Type 0} → Head A → Type 0
+PointsBelowRefs (Symref target) = IsBelowRefs target
+PointsBelowRefs _ = ⊤
+
+-- the first of the ids that is not of the format
+pub record IsFirstOther (format : Format) (ids : List (List ℕ)) (id : List ℕ) : Type 0 where
+  pub front : List (List ℕ)
+  pub rest : List (List ℕ)
+  pub parts : ids ≡ front ++ id ∷ rest
+  pub before : All (IsIdOf format) front
+  pub other : ¬ (IsIdOf format id)
+
+-- why refs and HEAD are not saved with a graph of the format: an id of another format comes first
+abbrev pub SaveRefuses : {A : Type 0} → Format → RefList → Head A → SaveFault → Type 0
+SaveRefuses format refs head (OtherFormat id) = IsFirstOther format (named_ids refs head) id
+SaveRefuses format refs head Memory = All (IsIdOf format) (named_ids refs head)

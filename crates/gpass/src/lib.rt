@@ -1,0 +1,39 @@
+//! Passes over a graph in which each object came after all its parents: one way down or up the store, in its
+//! order, so that a fetch costs what is new and not the whole history.
+//!
+//! # Proved
+//!
+//! - `send_list` answers the objects to send in store order: what some want reaches and no common id does, and
+//!   the tags on the chains of tags that lead from the tips to such commits.
+//! - `ready` answers whether there are common ids and each want reaches one of them. Without common ids it takes
+//!   no memory.
+//! - `reaches` answers whether one id reaches another.
+//! - Each of them fails with `Memory` alone, and may be called only where `Graph::is_ordered` holds.
+//! - The pass down takes a further step only while something below is wanted and not known.
+//!
+//! # Only tested
+//!
+//! How far a pass goes: where one commit of a long history is new, the pass down looks at that one alone, and it
+//! looks at each object once, however many paths lead there. That memory, where there is some, is found.
+//!
+//! # What a body can still get away with
+//!
+//! It may look at an object more often than once, and use more memory than it needs: a pass clears a byte or two
+//! for each object up to the last id that it starts from, whether it gets there or not. It may report out of
+//! memory at any time.
+//!
+//! # Stands on
+//!
+//! `ghistory` for the graph, `gobject` for entries and `gname` for ids.
+#![tactic(auto)]
+
+mod down;
+mod marks;
+mod send;
+mod tags;
+#[cfg(test)]
+mod tests;
+mod up;
+
+pub use crate::send::send_list;
+pub use crate::up::{reaches, ready};

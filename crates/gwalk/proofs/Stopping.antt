@@ -1,0 +1,84 @@
+-- The graph whose marked objects have no parents.
+use Rattle.std.proofs.Common.{◌≡◌, inl, inr, ℕ, zero, suc, ◌<◌, ◌≤◌, Bool, true, false, cond, List, [], ◌∷◌, length, get_or, All, Option, Some, None, refl, sym, ap, ◌∙◌, subst, arith}
+use Rattle.std.specs.List.{position_or_len, slice_get}
+use Rattle.std.specs.Option.{option_map}
+use Rattle.std.proofs.lemmas.Option.{none-some, slice_get_within, get_or_from_slice_get, slice_get_cases}
+use Rattle.gobject.specs.declared.node.Entry.{Entry}
+use Rattle.gobject.specs.Objects.{has_id, place_of, entry_of, node_of, IsShaped}
+use Rattle.gwalk.specs.Marks.{stop_at}
+
+-- an entry whose node has no parents
+abbrev pub bare : {A : Type 0} → Entry A → Entry A
+bare entry = entry_of entry.id (node_of entry.node.kind [])
+
+abbrev pub bare_if : {A : Type 0} → Bool → Entry A → Entry A
+bare_if mark entry = cond mark (bare entry) entry
+
+pub stop_length : {A : Type 0} (marks : List Bool) (g : List (Entry A)) → length (stop_at marks g) ≡ length g
+stop_length [] g = refl
+stop_length (mark ∷ marks) [] = refl
+stop_length (mark ∷ marks) (entry ∷ g) = let e = stop_length marks g in omega (arith, e)
+
+same_test : {A : Type 0} (mark : Bool) (a : List ℕ) (entry : Entry A) → has_id a (bare_if mark entry) ≡ has_id a entry
+same_test true a entry = refl
+same_test false a entry = refl
+
+stop_position : {A : Type 0} (marks : List Bool) (g : List (Entry A)) (a : List ℕ) → position_or_len (has_id a) (stop_at marks g) ≡ position_or_len (has_id a) g
+stop_position [] g a = refl
+stop_position (mark ∷ marks) [] a = refl
+stop_position (mark ∷ marks) (entry ∷ g) a =
+    let e = stop_position marks g a in
+    rw (same_test mark a entry, e) refl
+
+pub stop_place : {A : Type 0} (marks : List Bool) (g : List (Entry A)) (a : List ℕ) → place_of (stop_at marks g) a ≡ place_of g a
+stop_place marks g a = rw (stop_position marks g a, stop_length marks g) refl
+
+none_marked : (p : ℕ) → get_or [] p false ≡ false
+none_marked zero = refl
+none_marked (suc p) = refl
+
+same_entry : {A : Type 0} (o : Option (Entry A)) (mark : Bool) → mark ≡ false → o ≡ option_map (bare_if mark) o
+same_entry None mark e = refl
+same_entry (Some entry) mark e = rw e refl
+
+pub stop_slice : {A : Type 0} (marks : List Bool) (g : List (Entry A)) (p : ℕ) → slice_get (stop_at marks g) p ≡ option_map (bare_if (get_or marks p false)) (slice_get g p)
+stop_slice [] g p = same_entry (slice_get g p) (get_or [] p false) (none_marked p)
+stop_slice (mark ∷ marks) [] p = refl
+stop_slice (mark ∷ marks) (entry ∷ g) zero = refl
+stop_slice (mark ∷ marks) (entry ∷ g) (suc p) = stop_slice marks g p
+
+narrow_if : {A : Type 0} (mark : Bool) (entry : Entry A) → length entry.node.parents ≤ 64 → length (bare_if mark entry).node.parents ≤ 64
+narrow_if true entry few = omega arith
+narrow_if false entry few = few
+
+mapped : {X Y : Type 0} (f : X → Y) (o : Option X) (y : Y) → option_map f o ≡ Some y → (x : X) × (o ≡ Some x) × (f x ≡ y)
+mapped f None y e = absurd (none-some y e)
+mapped f (Some x) y e = (x, refl, let e2 : Some (f x) ≡ Some y = e in cc)
+
+-- what stands at a place here is the entry that stands there, perhaps without parents
+pub stopped_entry : {A : Type 0} (marks : List Bool) (g : List (Entry A)) (p : ℕ) (entry : Entry A) → slice_get (stop_at marks g) p ≡ Some entry → (whole : Entry A) × (slice_get g p ≡ Some whole) × (bare_if (get_or marks p false) whole ≡ entry)
+stopped_entry marks g p entry at = mapped (bare_if (get_or marks p false)) (slice_get g p) entry (sym (stop_slice marks g p) ∙ at)
+
+pub shaped_narrow : {A : Type 0} (g : List (Entry A)) → All (λ entry. IsShaped entry.node) g → (p : ℕ) (entry : Entry A) → slice_get g p ≡ Some entry → length entry.node.parents ≤ 64
+shaped_narrow {A} g shaped p entry at =
+    let inside = slice_get_within g p entry at in
+    (subst (λ (e : Entry A). IsShaped e.node) (get_or_from_slice_get g p entry entry at) (shaped p entry inside)).few
+
+pub stop_narrow : {A : Type 0} (marks : List Bool) (g : List (Entry A)) → All (λ entry. IsShaped entry.node) g → (p : ℕ) (entry : Entry A) → slice_get (stop_at marks g) p ≡ Some entry → length entry.node.parents ≤ 64
+stop_narrow {A} marks g shaped p entry at =
+    let w = stopped_entry marks g p entry at in
+    subst (λ (e : Entry A). length e.node.parents ≤ 64) w.2 (narrow_if (get_or marks p false) w.0 (shaped_narrow g shaped p w.0 w.1))
+
+-- ---- the parents that are lent
+
+pub lends_none : {A : Type 0} (marks : List Bool) (g : List (Entry A)) (p : ℕ) → get_or marks p false ≡ true → p < length g → option_map (λ (entry : Entry A). entry.node.parents) (slice_get (stop_at marks g) p) ≡ Some []
+lends_none {A} marks g p marked inside =
+    elim (slice_get_cases g p).1 [
+      | inl w ↦ rw (stop_slice marks g p, marked, w.2) refl
+      | inr w ↦ absurd (omega (arith, w.0))
+    ]
+
+pub lends_all : {A : Type 0} (marks : List Bool) (g : List (Entry A)) (p : ℕ) (parents : List (List ℕ)) → get_or marks p false ≡ false → option_map (λ (entry : Entry A). entry.node.parents) (slice_get g p) ≡ Some parents → option_map (λ (entry : Entry A). entry.node.parents) (slice_get (stop_at marks g) p) ≡ Some parents
+lends_all {A} marks g p parents free are =
+    let w = mapped (λ (entry : Entry A). entry.node.parents) (slice_get g p) parents are in
+    rw (stop_slice marks g p, free, w.1) (ap Some w.2)

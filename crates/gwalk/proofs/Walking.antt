@@ -1,0 +1,324 @@
+-- What a walk keeps as it goes.
+use Rattle.std.proofs.Common.{◌≡◌, inl, inr, ℕ, zero, suc, ◌+◌, ◌<◌, ◌≤◌, Bool, true, false, List, [], ◌∷◌, ◌++◌, length, get_or, set, take, Contains, Option, Some, None, refl, sym, ap, ◌∙◌, subst, arith, replicate, append-nil, append_assoc, length-append, unwrap_or}
+use Rattle.std.specs.List.{slice_get, cons_option}
+use Rattle.std.specs.Option.{option_map}
+use Rattle.std.proofs.Math.Seq.{get_or-append_seam}
+use Rattle.std.proofs.lemmas.List.{nil_from_length, get_or-set_same, get_or-set_other, length-set, length-replicate, take_more}
+use Rattle.std.proofs.lemmas.Option.{none-some, slice_get_cases}
+use Rattle.std.proofs.lemmas.Bool.{false≢true, cases_eq}
+use Rattle.std.proofs.lemmas.List.Elements.{Contains-append_left, Contains-push, Contains-push_cases, filter_map-append}
+use Rattle.gobject.specs.declared.node.Node.{Node}
+use Rattle.gobject.specs.declared.node.Entry.{Entry}
+use Rattle.gobject.specs.Objects.{node_at, place_of}
+use Rattle.ghistory.specs.Graphs.{IsNode, Holds}
+use Rattle.ghistory.specs.Levels.{is_in, new_ids, parents_of, AreLevels}
+use Rattle.gwalk.specs.Walks.{HasMet, IsLost, IsWalk, places}
+use Rattle.gwalk.proofs.Counting.{count_none, count_more, count_less, parents_none, parents_more}
+use Rattle.gwalk.proofs.IdLists.{either_way, nothing_in_nil, in_or_not, in_from_contains, new_ids-old, new_ids-new, contains_from_in, with_new, with_new-nil, with_new-append}
+use Rattle.gwalk.proofs.LevelWalk.{IsWalked, walk_begins, walk_goes, walk_ends}
+use Rattle.gwalk.proofs.Reaching.{place_inside, place_same, node_at_place, node_at_none, held_at_place}
+
+-- ---- the start
+
+none_marked : (n p : ℕ) → get_or (replicate n false) p false ≡ false
+none_marked zero p = refl
+none_marked (suc n) zero = refl
+none_marked (suc n) (suc p) = none_marked n p
+
+pub meets_nothing : {A : Type 0} (g : List (Entry A)) (n : ℕ) → n ≡ length g → HasMet g [] (replicate n false) [] None 0
+meets_nothing g n long = record {
+  long = length-replicate n false ∙ long;
+  marked = λ a p e. (λ t. absurd (false≢true (sym (none_marked n p) ∙ t)), λ c. nothing_in_nil a c);
+  met_are = refl;
+  once = sym (count_none n);
+  lost_is = λ a c. nothing_in_nil a c;
+  parents_are = sym (parents_none g n);
+}
+
+-- ---- one id
+
+old_id : (ids : List (List ℕ)) (a : List ℕ) → Contains ids a → with_new ids (a ∷ []) ≡ ids
+old_id ids a c = ap (λ l. ids ++ l) (new_ids-old ids a [] (in_from_contains ids a c)) ∙ append-nil ids
+
+new_id : (ids : List (List ℕ)) (a : List ℕ) → ¬ (Contains ids a) → with_new ids (a ∷ []) ≡ ids ++ a ∷ []
+new_id ids a out =
+    either_way (is_in ids a)
+    (λ e. absurd (out (contains_from_in ids a e)))
+    (λ e. ap (λ l. ids ++ l) (new_ids-new ids a [] e))
+
+Some-same : {p q : ℕ} → Some p ≡ Some q → p ≡ q
+Some-same e = cc
+
+places_push : {A : Type 0} (g : List (Entry A)) (ids : List (List ℕ)) (a : List ℕ) (o : Option ℕ) → place_of g a ≡ o → places g (ids ++ a ∷ []) ≡ places g ids ++ cons_option o []
+places_push g ids a o e = filter_map-append (place_of g) ids (a ∷ []) ∙ ap (λ p. places g ids ++ cons_option p []) e
+
+module _ {A : Type 0} (g : List (Entry A)) (ids : List (List ℕ)) (marks : List Bool) (met : List ℕ) (lost : Option (List ℕ)) (parents : ℕ) (old : HasMet g ids marks met lost parents) (a : List ℕ) where
+  -- an id that is not held
+  pub meets_lost : place_of g a ≡ None → HasMet g (with_new ids (a ∷ [])) marks met (Some a) parents
+  meets_lost e =
+      let P : List (List ℕ) → Type 0 = λ l. HasMet g l marks met (Some a) parents in
+      elim (in_or_not ids a) [
+        | inl c ↦ subst P (sym (old_id ids a c)) record {
+          long = old.long;
+          marked = old.marked;
+          met_are = old.met_are;
+          once = old.once;
+          lost_is = (c, node_at_none g a e);
+          parents_are = old.parents_are;
+        }
+        | inr out ↦ subst P (sym (new_id ids a out)) record {
+          long = old.long;
+          marked = λ b p at. (
+            λ t. Contains-append_left ids (a ∷ []) b ((old.marked b p at).0 t),
+            λ c. elim (Contains-push_cases ids a b c) [
+              | inl before ↦ (old.marked b p at).1 before
+              | inr same ↦ absurd (none-some p (sym e ∙ ap (place_of g) same ∙ at))
+            ],
+          );
+          met_are = old.met_are ∙ sym (append-nil (places g ids)) ∙ sym (places_push g ids a None e);
+          once = old.once;
+          lost_is = (Contains-push ids a, node_at_none g a e);
+          parents_are = old.parents_are;
+        }
+      ]
+
+  -- an id that was met before
+  pub meets_again : (p : ℕ) → place_of g a ≡ Some p → get_or marks p false ≡ true → HasMet g (with_new ids (a ∷ [])) marks met lost parents
+  meets_again p e t =
+      let P : List (List ℕ) → Type 0 = λ l. HasMet g l marks met lost parents in
+      subst P (sym (old_id ids a ((old.marked a p e).0 t))) old
+
+  lost_more : (o : Option (List ℕ)) (p : ℕ) → place_of g a ≡ Some p → IsLost g ids o → IsLost g (ids ++ a ∷ []) o
+  lost_more None p e none = λ b c.
+      elim (Contains-push_cases ids a b c) [
+        | inl before ↦ none b before
+        | inr same ↦ subst (λ (x : List ℕ). Holds g x) same (held_at_place g a p e)
+      ]
+  lost_more (Some b) p e some = (Contains-append_left ids (a ∷ []) b some.0, some.1)
+
+  -- an id that is held and new
+  pub meets_new : (p : ℕ) (more : List (List ℕ)) → place_of g a ≡ Some p → get_or marks p false ≡ false → option_map (λ entry. entry.node.parents) (slice_get g p) ≡ Some more → HasMet g (with_new ids (a ∷ [])) (set marks p true) (met ++ p ∷ []) lost (parents + length more)
+  meets_new p more e free are =
+      let P : List (List ℕ) → Type 0 = λ l. HasMet g l (set marks p true) (met ++ p ∷ []) lost (parents + length more) in
+      let inside : p < length marks = let h = place_inside g a p e in let l = old.long in omega arith in
+      let out : ¬ (Contains ids a) = λ c. false≢true (sym free ∙ (old.marked a p e).1 c) in
+      let counted = count_more marks p inside free in
+      let summed = parents_more g marks p more inside free are in
+      let before = old.parents_are in let once = old.once in
+      let long = length-append met (p ∷ []) in
+      subst P (sym (new_id ids a out)) record {
+        long = length-set marks p true ∙ old.long;
+        marked = λ b q at.
+            elim (cases_eq p q) [
+              | inl same ↦
+                  let is : a ≡ b = place_same g a b p e (at ∙ ap Some (sym same)) in (
+                    λ t. subst (λ (x : List ℕ). Contains (ids ++ a ∷ []) x) is (Contains-push ids a),
+                    λ c. ap (λ i. get_or (set marks p true) i false) (sym same) ∙ get_or-set_same marks p true false inside,
+                  )
+              | inr other ↦
+                  let kept : get_or (set marks p true) q false ≡ get_or marks q false = get_or-set_other marks p q true false (λ h. other (sym h)) in (
+                    λ t. Contains-append_left ids (a ∷ []) b ((old.marked b q at).0 (sym kept ∙ t)),
+                    λ c. kept ∙ elim (Contains-push_cases ids a b c) [
+                      | inl first ↦ (old.marked b q at).1 first
+                      | inr is ↦ absurd (other (Some-same (sym e ∙ ap (place_of g) is ∙ at)))
+                    ],
+                  )
+            ];
+        met_are = ap (λ l. l ++ p ∷ []) old.met_are ∙ sym (places_push g ids a (Some p) e);
+        once = omega arith;
+        lost_is = lost_more lost p e old.lost_is;
+        parents_are = omega arith;
+      }
+
+-- ---- ids in order
+
+pub with_one_more : (before ids : List (List ℕ)) (i : ℕ) (x : List ℕ) → i < length ids → x ≡ get_or ids i x → with_new before (take (i + 1) ids) ≡ with_new (with_new before (take i ids)) (x ∷ [])
+with_one_more before ids i x inside is =
+    ap (λ l. with_new before l) (take_more ids i x inside ∙ ap (λ y. take i ids ++ y ∷ []) (sym is)) ∙ with_new-append before (take i ids) (x ∷ [])
+
+-- ---- the walk: the ids of the front were taken up, those of the back were not
+
+pub record IsUnderway {A : Type 0} (g : List (Entry A)) (starts front back : List (List ℕ)) (marks : List Bool) (met : List ℕ) (lost : Option (List ℕ)) (parents at : ℕ) : Type 0 where
+  pub walked : IsWalked g starts (front ++ back) (length front)
+  pub has_met : HasMet g (front ++ back) marks met lost parents
+  pub place : length (places g front) ≡ at
+
+-- at most as many were met as there are entries
+pub met_few : {A : Type 0} (g : List (Entry A)) (ids : List (List ℕ)) (marks : List Bool) (met : List ℕ) (lost : Option (List ℕ)) (parents : ℕ) → HasMet g ids marks met lost parents → length met ≤ length g
+met_few g ids marks met lost parents h =
+    let c = count_less marks in let o = h.once in let l = h.long in omega (arith, c, o, l)
+
+pub underway : {A : Type 0} (g : List (Entry A)) (starts : List (List ℕ)) (marks : List Bool) (met : List ℕ) (lost : Option (List ℕ)) (parents : ℕ) → HasMet g (with_new [] starts) marks met lost parents → IsUnderway g starts [] (with_new [] starts) marks met lost parents 0
+underway g starts marks met lost parents h = record {
+  walked = walk_begins g starts (with_new [] starts) refl;
+  has_met = h;
+  place = refl;
+}
+
+no_parents : {A : Type 0} (g : List (Entry A)) (a : List ℕ) → place_of g a ≡ None → parents_of g a ≡ []
+no_parents g a e = rw (node_at_none g a e) refl
+
+-- the next id to take up: those of the back before it are not held
+pub record IsNext {A : Type 0} (g : List (Entry A)) (starts front back : List (List ℕ)) (x : ℕ) : Type 0 where
+  pub mid : List (List ℕ)
+  pub id : List ℕ
+  pub rest : List (List ℕ)
+  pub parts : back ≡ mid ++ id ∷ rest
+  pub absent : places g mid ≡ []
+  pub place : place_of g id ≡ Some x
+  pub walked : IsWalked g starts (front ++ back) (length front + length mid)
+
+module _ {A : Type 0} (g : List (Entry A)) (starts : List (List ℕ)) where
+  -- an id that is not held is passed
+  pass : (ids : List (List ℕ)) (at : ℕ) (b : List ℕ) → IsWalked g starts ids at → at < length ids → b ≡ get_or ids at b → place_of g b ≡ None → IsWalked g starts ids (at + 1)
+  pass ids at b walked inside is e =
+      walk_goes g starts ids at walked inside b is ids (sym (ap (λ l. with_new ids l) (no_parents g b e) ∙ with_new-nil ids))
+
+  regroup : (front : List (List ℕ)) (b : List ℕ) (bs : List (List ℕ)) → (front ++ b ∷ []) ++ bs ≡ front ++ b ∷ bs
+  regroup front b bs = simp append_assoc
+
+  pass_one : (front : List (List ℕ)) (b : List ℕ) (bs : List (List ℕ)) → IsWalked g starts (front ++ b ∷ bs) (length front) → place_of g b ≡ None → IsWalked g starts ((front ++ b ∷ []) ++ bs) (length (front ++ b ∷ []))
+  pass_one front b bs walked e =
+      let long = length-append front (b ∷ bs) in
+      let longer : length front + 1 ≡ length (front ++ b ∷ []) = let l = length-append front (b ∷ []) in omega (arith, l) in
+      let inside : length front < length (front ++ b ∷ bs) = omega (arith, long) in
+      let next = pass (front ++ b ∷ bs) (length front) b walked inside (sym (get_or-append_seam front b bs b)) e in
+      subst (λ (l : List (List ℕ)). IsWalked g starts l (length (front ++ b ∷ []))) (sym (regroup front b bs))
+      (subst (λ (i : ℕ). IsWalked g starts (front ++ b ∷ bs) i) longer next)
+
+  find_next : (front back : List (List ℕ)) (x : ℕ) (xs : List ℕ) → IsWalked g starts (front ++ back) (length front) → places g back ≡ x ∷ xs → IsNext g starts front back x
+  find_next front [] x xs walked are = absurd (let e : [] ≡ x ∷ xs = are in cc)
+  find_next front (b ∷ bs) x xs walked are = by (place_of g b) refl (find_next (front ++ b ∷ []) bs x xs)
+    where
+      by : (o : Option ℕ) → place_of g b ≡ o → (IsWalked g starts ((front ++ b ∷ []) ++ bs) (length (front ++ b ∷ [])) → places g bs ≡ x ∷ xs → IsNext g starts (front ++ b ∷ []) bs x) → IsNext g starts front (b ∷ bs) x
+      by None e more =
+          let later : places g bs ≡ x ∷ xs = sym (ap (λ o. cons_option o (places g bs)) e) ∙ are in
+          let n = more (pass_one front b bs walked e) later in
+          let l = length-append front (b ∷ []) in
+          record {
+            mid = b ∷ n.mid;
+            id = n.id;
+            rest = n.rest;
+            parts = ap (λ t. b ∷ t) n.parts;
+            absent = ap (λ o. cons_option o (places g n.mid)) e ∙ n.absent;
+            place = n.place;
+            walked = let same : length (front ++ b ∷ []) + length n.mid ≡ length front + length (b ∷ n.mid) = omega (arith, l) in
+                subst (λ (i : ℕ). IsWalked g starts (front ++ b ∷ bs) i) same
+                (subst (λ (t : List (List ℕ)). IsWalked g starts t (length (front ++ b ∷ []) + length n.mid)) (regroup front b bs) n.walked);
+          }
+      by (Some p) e more =
+          let all : p ∷ places g bs ≡ x ∷ xs = sym (ap (λ o. cons_option o (places g bs)) e) ∙ are in
+          let same : p ≡ x = cc in
+          record {
+            mid = [];
+            id = b;
+            rest = bs;
+            parts = refl;
+            absent = refl;
+            place = e ∙ ap Some same;
+            walked = let z : length front ≡ length front + 0 = omega arith in subst (λ (i : ℕ). IsWalked g starts (front ++ b ∷ bs) i) z walked;
+          }
+
+  pass_all : (front back : List (List ℕ)) → IsWalked g starts (front ++ back) (length front) → places g back ≡ [] → IsWalked g starts (front ++ back) (length (front ++ back))
+  pass_all front [] walked are =
+      let l = length-append front [] in let same : length front ≡ length (front ++ []) = omega (arith, l) in
+      subst (λ (i : ℕ). IsWalked g starts (front ++ []) i) same walked
+  pass_all front (b ∷ bs) walked are = by (place_of g b) refl (pass_all (front ++ b ∷ []) bs)
+    where
+      by : (o : Option ℕ) → place_of g b ≡ o → (IsWalked g starts ((front ++ b ∷ []) ++ bs) (length (front ++ b ∷ [])) → places g bs ≡ [] → IsWalked g starts ((front ++ b ∷ []) ++ bs) (length ((front ++ b ∷ []) ++ bs))) → IsWalked g starts (front ++ b ∷ bs) (length (front ++ b ∷ bs))
+      by None e more =
+          let later : places g bs ≡ [] = sym (ap (λ o. cons_option o (places g bs)) e) ∙ are in
+          subst (λ (l : List (List ℕ)). IsWalked g starts l (length l)) (regroup front b bs) (more (pass_one front b bs walked e) later)
+      by (Some p) e more = absurd (let some : p ∷ places g bs ≡ [] = sym (ap (λ o. cons_option o (places g bs)) e) ∙ are in cc)
+
+module _ {A : Type 0} (g : List (Entry A)) (starts front back : List (List ℕ)) (marks : List Bool) (met : List ℕ) (lost : Option (List ℕ)) (parents at : ℕ) (now : IsUnderway g starts front back marks met lost parents at) where
+  met_parts : met ≡ places g front ++ places g back
+  met_parts = now.has_met.met_are ∙ filter_map-append (place_of g) front back
+
+  first_of : (before after : List ℕ) (i x : ℕ) → length before ≡ i → i < length (before ++ after) → x ≡ get_or (before ++ after) i x → (xs : List ℕ) × (after ≡ x ∷ xs)
+  first_of before [] i x long inside is = absurd (let l = length-append before [] in omega (arith, l))
+  first_of before (y ∷ ys) i x long inside is =
+      let same : x ≡ y = is ∙ ap (λ k. get_or (before ++ y ∷ ys) k x) (sym long) ∙ get_or-append_seam before y ys x in
+      (ys, ap (λ z. z ∷ ys) (sym same))
+
+  pub next : (x : ℕ) → at < length met → x ≡ get_or met at x → IsNext g starts front back x
+  next x inside is =
+      let parts = met_parts in
+      let inside2 : at < length (places g front ++ places g back) = subst (λ (l : List ℕ). at < length l) parts inside in
+      let first = first_of (places g front) (places g back) at x now.place inside2 (is ∙ ap (λ l. get_or l at x) parts) in
+      find_next g starts front back x first.0 now.walked first.1
+
+  pub none_left : length met ≤ at → places g back ≡ []
+  none_left end =
+      let parts = ap length met_parts in
+      let l = length-append (places g front) (places g back) in
+      let place = now.place in
+      nil_from_length (places g back) (omega arith)
+
+  -- all were taken up
+  pub ends_levels : length met ≤ at → AreLevels g starts (front ++ back)
+  ends_levels end =
+      walk_ends g starts (front ++ back) (length (front ++ back)) (pass_all g starts front back now.walked (none_left end)) (omega arith)
+
+  pub finishes : length met ≤ at → IsWalk g starts marks met lost parents
+  finishes end = record { ids = front ++ back; levels = ends_levels end; has_met = now.has_met }
+
+  -- the parents of the next id were met
+  pub goes : (x : ℕ) (n : IsNext g starts front back x) (more : List (List ℕ)) → more ≡ parents_of g n.id → (marks2 : List Bool) (met2 : List ℕ) (lost2 : Option (List ℕ)) (parents2 : ℕ) → HasMet g (with_new (front ++ back) more) marks2 met2 lost2 parents2 → IsUnderway g starts (front ++ (n.mid ++ n.id ∷ [])) (n.rest ++ new_ids (front ++ back) more) marks2 met2 lost2 parents2 (at + 1)
+  goes x n more are marks2 met2 lost2 parents2 then =
+      let i = length front + length n.mid in
+      let whole : front ++ back ≡ (front ++ n.mid) ++ n.id ∷ n.rest = ap (λ l. front ++ l) n.parts ∙ (simp append_assoc) in
+      let long1 = ap length whole in
+      let long2 = length-append (front ++ n.mid) (n.id ∷ n.rest) in
+      let long3 = length-append front n.mid in
+      let long4 = length-append front (n.mid ++ n.id ∷ []) in
+      let long5 = length-append n.mid (n.id ∷ []) in
+      let inside : i < length (front ++ back) = omega arith in
+      let at_i : n.id ≡ get_or (front ++ back) i n.id =
+      sym (ap (λ l. get_or l i n.id) whole ∙ ap (λ k. get_or ((front ++ n.mid) ++ n.id ∷ n.rest) k n.id) (sym long3) ∙ get_or-append_seam (front ++ n.mid) n.id n.rest n.id) in
+      let went = walk_goes g starts (front ++ back) i n.walked inside n.id at_i (with_new (front ++ back) more) (ap (λ l. with_new (front ++ back) l) are) in
+      let again : with_new (front ++ back) more ≡ (front ++ (n.mid ++ n.id ∷ [])) ++ (n.rest ++ new_ids (front ++ back) more) =
+      ap (λ l. l ++ new_ids (front ++ back) more) whole ∙ (simp append_assoc) in
+      let count : i + 1 ≡ length (front ++ (n.mid ++ n.id ∷ [])) = omega arith in
+      let p1 = filter_map-append (place_of g) front (n.mid ++ n.id ∷ []) in
+      let p2 = places_push g n.mid n.id (Some x) n.place in
+      let p3 : places g (front ++ (n.mid ++ n.id ∷ [])) ≡ places g front ++ x ∷ [] = p1 ∙ ap (λ l. places g front ++ l) (p2 ∙ ap (λ l. l ++ x ∷ []) n.absent) in
+      let p4 = ap length p3 in
+      let p5 = length-append (places g front) (x ∷ []) in
+      let p6 = now.place in
+      record {
+        walked = subst (λ (l : List (List ℕ)). IsWalked g starts l (length (front ++ (n.mid ++ n.id ∷ [])))) again
+            (subst (λ (k : ℕ). IsWalked g starts (with_new (front ++ back) more) k) count went);
+        has_met = subst (λ (l : List (List ℕ)). HasMet g l marks2 met2 lost2 parents2) again then;
+        place = omega arith;
+      }
+
+-- ---- the parents that are lent
+
+Some-same_of : {X : Type 0} (x y : X) → Some x ≡ Some y → x ≡ y
+Some-same_of x y e = cc
+
+-- the parents at the place of an id are those of its node
+pub parents_are : {A : Type 0} (g : List (Entry A)) (a : List ℕ) (p : ℕ) (parents : List (List ℕ)) → place_of g a ≡ Some p → option_map (λ entry. entry.node.parents) (slice_get g p) ≡ Some parents → (node : Node A) × IsNode g a node × (node.parents ≡ parents)
+parents_are {A} g a p parents e are =
+    elim (slice_get_cases g p).1 [
+      | inl w ↦
+          let node : Node A = (w.0).node in
+          let is : node_at g a ≡ Some node = node_at_place g a p e ∙ ap (option_map (λ (entry : Entry A). entry.node)) w.2 in
+          let same : Some node.parents ≡ Some parents = ap (option_map (λ (entry : Entry A). entry.node.parents)) (sym w.2) ∙ are in
+          (node, is, Some-same_of node.parents parents same)
+      | inr w ↦ absurd (none-some p (let h = place_inside g a p e in absurd (omega (arith, w.0))))
+    ]
+
+pub lent_parents : {A : Type 0} (g : List (Entry A)) (a : List ℕ) (p : ℕ) (parents : List (List ℕ)) → place_of g a ≡ Some p → option_map (λ entry. entry.node.parents) (slice_get g p) ≡ Some parents → parents ≡ parents_of g a
+lent_parents {A} g a p parents e are =
+    let n = parents_are g a p parents e are in
+    sym (ap (λ (o : Option (Node A)). unwrap_or (option_map (λ (node : Node A). node.parents) o) []) n.1 ∙ n.2)
+
+pub is_none : {X : Type 0} (o : Option X) → ((p : X) → o ≡ Some p → ⊥) → o ≡ None
+is_none None never = refl
+is_none (Some p) never = absurd (never p refl)
+
+-- the place of an id is inside the marks, and the mark there was read
+pub mark_inside : {A : Type 0} (g : List (Entry A)) (ids : List (List ℕ)) (marks : List Bool) (met : List ℕ) (lost : Option (List ℕ)) (parents : ℕ) (a : List ℕ) (p : ℕ) → HasMet g ids marks met lost parents → place_of g a ≡ Some p → p < length marks
+mark_inside g ids marks met lost parents a p h e = let i = place_inside g a p e in let l = h.long in omega arith

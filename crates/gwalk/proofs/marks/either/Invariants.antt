@@ -1,0 +1,5 @@
+use Rattle.gwalk.proofs.Marking.{IsEither}
+use Rattle.gwalk.proofs.marks.either.Given as goal
+
+abbrev pub invariant-loop-number : goal.invariant-loop-number
+invariant-loop-number g l = IsEither l.fn.reached.items l.old l.marks.items l.number

@@ -1,0 +1,5 @@
+use Rattle.gwalk.proofs.sending.send_list.Goals as goal
+
+pub returns-clause-entries : goal.returns-clause-entries
+returns-clause-entries g c =
+    c.sent_are_entries.ensures c.args.graph.now c.in_ok-list_to_send.field-0.items c.args.wants.now c.args.commons.now _ c.in_ok-list_to_send.ensures.graph c.in_ok-list_to_send.ensures.list

@@ -1,0 +1,4 @@
+pub mod Common
+pub mod Marks
+pub mod Tags
+pub mod Walks

@@ -1,0 +1,94 @@
+// What is missing of the ancestries of some ids.
+#![tactic(auto)]
+
+ghost use Rattle.std.specs.Prelude.{◌≡◌, IfOk, IfErr, MatchOption, All, Contains, None};
+ghost use Rattle.gobject.specs.Objects.{node_at};
+ghost use Rattle.ghistory.specs.Graphs.{Holds};
+ghost use Rattle.ghistory.specs.Walks.{Misses, CountsReached};
+ghost use Rattle.ghistory.specs.declared.fault.GraphFault.TheVariants.{Memory};
+ghost use Rattle.gwalk.specs.Marks.{AreFull, stop_at};
+
+use crate::marks::FullMarks;
+use crate::walk::walk_past;
+use ghistory::{Graph, GraphFault};
+use gname::Oid;
+use std::alloc::Allocator;
+
+/// How much a walk took up.
+#[derive(Clone, Copy, Debug, PartialEq, Eq)]
+pub struct Count {
+    /// How many ids it took up. No id is taken up twice.
+    pub ids: u64,
+    /// How many parents their nodes have.
+    pub parents: u64,
+}
+
+/// What is missing of the ancestries of some ids: `None` where every id that one of them reaches is
+/// held, the ids themselves too, and else one such id that is not held.
+///
+/// In an ordered graph it looks the ids up, and takes no memory. It fails with `Memory` alone.
+pub fn missing<A: Allocator + Copy>(
+    graph: &Graph<A>,
+    ids: &[Oid],
+) -> Result<Option<Oid>, GraphFault>
+    ensures answer { IfOk result (Misses graph.now.entries ids.now) }
+    ensures fault { IfErr result (λ fault. fault ≡ Memory) }
+{
+    if graph.is_ordered() {
+        ghistory::laws::ordered_is_closed::<A>();
+        ghistory::laws::closed_is_full::<A>();
+        return Ok(first_absent(graph, ids));
+    }
+    let (missing, _count) = missing_counted(graph, ids)?;
+    Ok(missing)
+}
+
+/// What `missing` answers, and how many held ids the ids reach, with how many parents.
+///
+/// It fails with `Memory` alone.
+pub fn missing_counted<A: Allocator + Copy>(
+    graph: &Graph<A>,
+    ids: &[Oid],
+) -> Result<(Option<Oid>, Count), GraphFault>
+    ensures answer { IfOk result (λ pair. Misses graph.now.entries ids.now pair.0) }
+    ensures count { IfOk result (λ pair. CountsReached graph.now.entries ids.now pair.1.ids pair.1.parents) }
+    ensures fault { IfErr result (λ fault. fault ≡ Memory) }
+{
+    missing_known(graph, ids, &FullMarks::new(graph.allocator()))
+}
+
+/// What `missing` answers, by a walk that doesn't go on from marked ids; and how many held ids the ids
+/// reach by steps that leave unmarked ids, with how many parents the unmarked ones of these have.
+///
+/// It fails with `Memory` alone.
+pub fn missing_known<A: Allocator + Copy>(
+    graph: &Graph<A>,
+    ids: &[Oid],
+    known: &FullMarks<A>,
+) -> Result<(Option<Oid>, Count), GraphFault>
+    requires { AreFull graph.now.entries known.now }
+    ensures answer { IfOk result (λ pair. Misses graph.now.entries ids.now pair.0) }
+    ensures count { IfOk result (λ pair.
+        CountsReached (stop_at known.now graph.now.entries) ids.now pair.1.ids pair.1.parents) }
+    ensures fault { IfErr result (λ fault. fault ≡ Memory) }
+{
+    let walk = walk_past(graph, known.as_slice(), ids)?;
+    let count = Count {
+        ids: walk.met.len() as u64,
+        parents: walk.parents,
+    };
+    Ok((walk.lost, count))
+}
+
+// The first of the ids that is not held.
+fn first_absent<A: Allocator + Copy>(graph: &Graph<A>, ids: &[Oid]) -> Option<Oid>
+    ensures { MatchOption result (All (Holds graph.now.entries) ids.now) (λ id.
+        Contains ids.now id × (node_at graph.now.entries id ≡ None)) }
+{
+    for id in ids {
+        if !graph.contains(id) {
+            return Some(*id);
+        }
+    }
+    None
+}

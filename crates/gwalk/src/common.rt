@@ -1,0 +1,193 @@
+// What both ends have, and what reaches it.
+#![tactic(auto)]
+
+ghost use Rattle.std.specs.Prelude.{◌≡◌, ◌↔◌, ◌<◌, [], ℕ, List, Ok, Some, length, not, is_some, filter, IfOk, IfErr, IsTrue, false, All, Contains};
+ghost use Rattle.std.specs.List.{Any};
+ghost use Rattle.gobject.specs.Objects.{node_at};
+ghost use Rattle.ghistory.specs.Levels.{new_ids};
+ghost use Rattle.ghistory.specs.Reach.{Reaches};
+ghost use Rattle.ghistory.specs.Walks.{IsReady, common_of};
+ghost use Rattle.ghistory.specs.declared.fault.GraphFault.TheVariants.{Memory};
+ghost use Rattle.gwalk.specs.Common.{AreGoals, ids_at};
+ghost use Rattle.gwalk.specs.Walks.{HasMet};
+
+use crate::walk::Walk;
+use ghistory::{Graph, GraphFault};
+use gname::Oid;
+use std::alloc::{AllocError, Allocator};
+
+/// The common ids (gitprotocol-v2(5), "fetch": `ACK`): the distinct haves that are held, in the order in
+/// which each comes first.
+///
+/// It fails with `Memory` alone.
+pub fn common_ids<A: Allocator + Copy>(
+    graph: &Graph<A>,
+    haves: &[Oid],
+) -> Result<Vec<Oid, A>, GraphFault>
+    ensures answer { IfOk result (λ ids. ids.items ≡ common_of graph.now.entries haves.now) }
+    ensures fault { IfErr result (λ fault. fault ≡ Memory) }
+{
+    let walk = met_of(graph, haves)?;
+    Ok(ids_at(graph, walk.met.as_slice())?)
+}
+
+/// Whether the first id reaches the second: whether they are one id, or a parent of the first, which is
+/// then held, reaches the second.
+///
+/// In an ordered graph it passes once over the objects from the second id to the first. In any other it walks
+/// from the first id no further than to the second. It fails with `Memory` alone.
+pub fn reaches<A: Allocator + Copy>(graph: &Graph<A>, a: &Oid, b: &Oid) -> Result<bool, GraphFault>
+    ensures answer { IfOk result (λ answer. IsTrue answer ↔ Reaches graph.now.entries a.now b.now) }
+    ensures fault { IfErr result (λ fault. fault ≡ Memory) }
+{
+    if graph.is_ordered() {
+        return gpass::reaches(graph, a, b);
+    }
+    let goals = Goals::new(graph, &[*b])?;
+    Ok(goals.reached_by(graph, a)?)
+}
+
+/// Whether enough is common for a pack (gitprotocol-v2(5), "fetch": `ready`): there are common ids, and
+/// each want reaches one of them. Where there are none it takes no memory.
+///
+/// In an ordered graph it passes once over the objects from the first common id to the last want. In any
+/// other it walks from each want no further than to the first common id that it meets. It fails with
+/// `Memory` alone.
+pub fn ready<A: Allocator + Copy>(
+    graph: &Graph<A>,
+    wants: &[Oid],
+    commons: &[Oid],
+) -> Result<bool, GraphFault>
+    ensures answer { IfOk result (λ answer. IsTrue answer ↔ IsReady graph.now.entries wants.now commons.now) }
+    ensures nothing { commons.now ≡ [] → result ≡ Ok false }
+    ensures fault { IfErr result (λ fault. fault ≡ Memory) }
+{
+    if graph.is_ordered() {
+        return gpass::ready(graph, wants, commons);
+    }
+    if commons.is_empty() {
+        return Ok(false);
+    }
+    Ok(all_reach(graph, wants, commons)?)
+}
+
+// Whether each of the ids reaches one of the goals.
+fn all_reach<A: Allocator + Copy>(
+    graph: &Graph<A>,
+    ids: &[Oid],
+    goals: &[Oid],
+) -> Result<bool, AllocError>
+    ensures { IfOk result (λ answer. IsTrue answer ↔
+        All (λ id. Any (Reaches graph.now.entries id) goals.now) ids.now) }
+{
+    let goals = Goals::new(graph, goals)?;
+    for id in ids {
+        if !goals.reached_by(graph, id)? {
+            return Ok(false);
+        }
+    }
+    Ok(true)
+}
+
+// The walk that has met the ids and went no further.
+pub fn met_of<A: Allocator + Copy>(graph: &Graph<A>, ids: &[Oid]) -> Result<Walk<A>, AllocError>
+    ensures { IfOk result (λ walk. HasMet graph.now.entries (new_ids [] ids.now)
+        walk.marks.items walk.met.items walk.lost walk.parents) }
+{
+    let mut walk = Walk::new(graph)?;
+    walk.meet_all(graph, &[], ids)?;
+    Ok(walk)
+}
+
+// The ids with some numbers.
+fn ids_at<A: Allocator + Copy>(
+    graph: &Graph<A>,
+    numbers: &[usize],
+) -> Result<Vec<Oid, A>, AllocError>
+    requires { All (λ number. number < length graph.now.entries) numbers.now }
+    ensures { IfOk result (λ ids. ids.items ≡ ids_at graph.now.entries numbers.now) }
+{
+    let mut ids = Vec::new(graph.allocator());
+    for number in numbers {
+        ids.push(*graph.id_at(*number))?;
+    }
+    Ok(ids)
+}
+
+// Whether the id is not held.
+fn is_absent<A: Allocator + Copy>(graph: &Graph<A>, id: &Oid) -> bool
+    ensures { result ≡ not (is_some (node_at graph.now.entries id.now)) }
+{
+    graph.node(id).is_none()
+}
+
+// Those of the ids that are not held.
+fn absent_of<A: Allocator + Copy>(graph: &Graph<A>, ids: &[Oid]) -> Result<Vec<Oid, A>, AllocError>
+    ensures { IfOk result (λ absent.
+        absent.items ≡ filter (λ a. not (is_some (node_at graph.now.entries a))) ids.now) }
+{
+    ids.iter()
+        .copied()
+        .filter(|id| is_absent(graph, id))
+        .collect(graph.allocator())
+}
+
+// Whether one of the ids is on the list.
+fn has_one(list: &[Oid], ids: &[Oid]) -> bool
+    ensures { IsTrue result ↔ Any (Contains list.now) ids.now }
+{
+    for id in ids {
+        if list.contains(id) {
+            return true;
+        }
+    }
+    false
+}
+
+// Ids that a walk looks for: a mark at the number of each that is held, and the others.
+#[derive(Drop)]
+struct Goals<A: Allocator + Copy> {
+    marks: Vec<bool, A>,
+    absent: Vec<Oid, A>,
+}
+
+impl<A: Allocator + Copy> Goals<A> {
+    fn new(graph: &Graph<A>, ids: &[Oid]) -> Result<Goals<A>, AllocError>
+        ensures { IfOk result (λ goals. AreGoals graph.now.entries ids.now goals.marks.items goals.absent.items) }
+    {
+        let walk = met_of(graph, ids)?;
+        let absent = absent_of(graph, ids)?;
+        Ok(Goals {
+            marks: walk.marks,
+            absent,
+        })
+    }
+
+    // Whether the id reaches one of the goals.
+    fn reached_by(&self, graph: &Graph<A>, start: &Oid) -> Result<bool, AllocError>
+        requires { (ids : List (List ℕ)) × AreGoals graph.now.entries ids self.now.marks.items self.now.absent.items }
+        ensures { IfOk result (λ answer. (ids : List (List ℕ)) →
+            AreGoals graph.now.entries ids self.now.marks.items self.now.absent.items →
+            IsTrue answer ↔ Any (Reaches graph.now.entries start.now) ids) }
+    {
+        if self.absent.contains(start) {
+            return Ok(true);
+        }
+        let mut walk = Walk::new(graph)?;
+        walk.meet(graph, &[], start)?;
+        let mut at = 0;
+        while at < walk.met.len() {
+            let place = walk.met[at];
+            let parents = graph.parents(place);
+            if self.marks[place] {
+                return Ok(true);
+            }
+            if has_one(self.absent.as_slice(), parents) {
+                return Ok(true);
+            }
+            walk.meet_all(graph, &[], parents)?;
+            at += 1;
+        }
+        Ok(false)
+    }
+}

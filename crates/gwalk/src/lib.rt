@@ -1,0 +1,53 @@
+//! Walks over the graph of a repository's commits and tags: which objects some ids lead to, which of these are
+//! missing, which to send, and which ids to offer.
+//!
+//! # Proved
+//!
+//! - [`missing`] answers `None` where the whole ancestry of each id is held, and else an id that one of the
+//!   given ids reaches and that is not held.
+//! - [`missing_counted`] answers the same, and exactly how many held ids the given ones reach, with how many
+//!   parents. No id counts twice.
+//! - [`mark_full`] marks the ids that the given ones reach, and leaves all other marks. Where there is no
+//!   memory, [`FullMarks`] stay as they were. Marks of ids whose whole ancestry is held are such marks after it,
+//!   and where objects come to the graph ([`laws`]).
+//! - [`missing_known`] answers what `missing` does by a walk that doesn't go on from marked ids, and counts
+//!   exactly the ids that are reached by steps that leave unmarked ids.
+//! - [`common_ids`], [`reaches`] and [`ready`] answer exactly what is common, reached and ready.
+//! - [`send_list`] and [`send_list_tags`] answer the list to send, without tags and with those of the refs. Its
+//!   entries are a graph's: their ids differ and are of the graph's format.
+//! - [`haves`] answers the offer: the first so many held ids of the levels about the tips that no common id
+//!   reaches and that were not sent.
+//! - `Memory` is the only fault. No call panics, overflows or reads out of bounds, and each returns.
+//!
+//! # Only tested
+//!
+//! That memory which is there is used, that `missing` takes none in an ordered graph, and that a walk takes
+//! time linear in the objects and parents that it meets. That `ready` walks no further from a want than to a
+//! common id, and `haves` no further than to the level where it has enough.
+//!
+//! # What a body can still get away with
+//!
+//! Where several ids are missing it may answer any. It may report out of memory as often as it likes. It may
+//! take as long as it likes, and more memory than it needs.
+//!
+//! # Stands on
+//!
+//! `ghistory` for graphs, `gobject` for their objects, `gname` for ids, `grefs` for the refs whose tags are sent;
+//! in tests `bumpalo`, for memory that ends.
+#![tactic(auto)]
+
+mod ancestry;
+mod common;
+pub mod laws;
+mod marks;
+mod offer;
+mod sending;
+#[cfg(test)]
+mod tests;
+mod walk;
+
+pub use crate::ancestry::{Count, missing, missing_counted, missing_known};
+pub use crate::common::{common_ids, reaches, ready};
+pub use crate::marks::{FullMarks, mark_full};
+pub use crate::offer::haves;
+pub use crate::sending::{send_list, send_list_tags};

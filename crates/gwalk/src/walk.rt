@@ -1,0 +1,136 @@
+// The walk from some objects to their parents, and on to theirs.
+#![tactic(auto)]
+
+ghost use Rattle.std.specs.Prelude.{◌≡◌, ◌<◌, ◌∷◌, ◌++◌, [], ℕ, Bool, List, slice_get, length, IfOk, OnOk, Some};
+ghost use Rattle.std.specs.Option.{option_map};
+ghost use Rattle.ghistory.specs.Graphs.{IsGraph};
+ghost use Rattle.ghistory.specs.Levels.{new_ids};
+ghost use Rattle.gwalk.specs.Marks.{stop_at};
+ghost use Rattle.gwalk.specs.Walks.{HasMet, IsWalk};
+
+use crate::marks::is_marked;
+use ghistory::Graph;
+use gname::Oid;
+use std::alloc::{AllocError, Allocator};
+
+// What a walk has met so far: the numbers of the held ids, level by level, and one id that is not held, where
+// there is one. Each number is taken up once.
+#[derive(Drop)]
+pub struct Walk<A: Allocator + Copy> {
+    pub marks: Vec<bool, A>,
+    pub met: Vec<usize, A>,
+    pub lost: Option<Oid>,
+    pub parents: u64,
+}
+
+// The parents of the node at a place; none where the place is marked as known.
+pub fn parents_past<'a, A: Allocator + Copy>(
+    graph: &'a Graph<A>,
+    known: &[bool],
+    place: usize,
+) -> &'a [Oid]
+    requires { place < length graph.now.entries }
+    ensures { option_map (λ entry. entry.node.parents) (slice_get (stop_at known.now graph.now.entries) place)
+        ≡ Some result.now }
+{
+    if is_marked(known, place) {
+        return &[];
+    }
+    graph.parents(place)
+}
+
+impl<A: Allocator + Copy> Walk<A> {
+    // A walk that has met nothing.
+    pub fn new(graph: &Graph<A>) -> Result<Walk<A>, AllocError>
+        ensures graph { IsGraph graph.now }
+        ensures met { IfOk result (λ walk. (known : List Bool) →
+            HasMet (stop_at known graph.now.entries) [] walk.marks.items walk.met.items walk.lost walk.parents) }
+    {
+        let alloc = graph.allocator();
+        let marks = vec![in alloc; false; graph.len()]?;
+        Ok(Walk {
+            marks,
+            met: Vec::new(alloc),
+            lost: None,
+            parents: 0,
+        })
+    }
+
+    // Meets an id.
+    pub fn meet(&mut self, graph: &Graph<A>, known: &[bool], id: &Oid) -> Result<(), AllocError>
+        requires graph { IsGraph graph.now }
+        requires has { (ids : List (List ℕ)) × HasMet (stop_at known.now graph.now.entries) ids
+            self.old.marks.items self.old.met.items self.old.lost self.old.parents }
+        ensures { OnOk result ((ids : List (List ℕ)) →
+            HasMet (stop_at known.now graph.now.entries) ids
+            self.old.marks.items self.old.met.items self.old.lost self.old.parents →
+            HasMet (stop_at known.now graph.now.entries) (ids ++ new_ids ids (id.now ∷ []))
+            self.new.marks.items self.new.met.items self.new.lost self.new.parents) }
+    {
+        let Some(place) = graph.number(id) else {
+            self.lost = Some(*id);
+            return Ok(());
+        };
+        if !self.marks[place] {
+            self.met.push(place)?;
+            self.marks[place] = true;
+            self.parents += parents_past(graph, known, place).len() as u64;
+        }
+        Ok(())
+    }
+
+    // Meets some ids, in order.
+    pub fn meet_all(
+        &mut self,
+        graph: &Graph<A>,
+        known: &[bool],
+        ids: &[Oid],
+    ) -> Result<(), AllocError>
+        requires graph { IsGraph graph.now }
+        requires has { (before : List (List ℕ)) × HasMet (stop_at known.now graph.now.entries) before
+            self.old.marks.items self.old.met.items self.old.lost self.old.parents }
+        ensures { OnOk result ((before : List (List ℕ)) →
+            HasMet (stop_at known.now graph.now.entries) before
+            self.old.marks.items self.old.met.items self.old.lost self.old.parents →
+            HasMet (stop_at known.now graph.now.entries) (before ++ new_ids before ids.now)
+            self.new.marks.items self.new.met.items self.new.lost self.new.parents) }
+    {
+        for id in ids {
+            self.meet(graph, known, id)?;
+        }
+        Ok(())
+    }
+}
+
+// Walks from the ids to all that they reach by steps that leave places which are not known.
+pub fn walk_past<A: Allocator + Copy>(
+    graph: &Graph<A>,
+    known: &[bool],
+    starts: &[Oid],
+) -> Result<Walk<A>, AllocError>
+    ensures graph { IsGraph graph.now }
+    ensures walk { IfOk result (λ walk. IsWalk (stop_at known.now graph.now.entries) starts.now
+        walk.marks.items walk.met.items walk.lost walk.parents) }
+{
+    let mut walk = Walk::new(graph)?;
+    walk.meet_all(graph, known, starts)?;
+    let mut at = 0;
+    while at < walk.met.len() {
+        let place = walk.met[at];
+        walk.meet_all(graph, known, parents_past(graph, known, place))?;
+        at += 1;
+    }
+    Ok(walk)
+}
+
+// Walks from the ids to all that they reach.
+pub fn walk_from<A: Allocator + Copy>(
+    graph: &Graph<A>,
+    starts: &[Oid],
+) -> Result<Walk<A>, AllocError>
+    ensures graph { IsGraph graph.now }
+    ensures walk { IfOk result (λ walk. IsWalk graph.now.entries starts.now
+        walk.marks.items walk.met.items walk.lost walk.parents) }
+{
+    walk_past(graph, &[], starts)
+}
