@@ -1,7 +1,7 @@
 -- Facts on open and whole lists of packet lines, for every judge.
 use Rattle.std.proofs.Common.{◌≡◌, List, [], ◌∷◌, ◌++◌, ◌⊎◌, inl, inr, refl, sym, ap, subst, ◌∙◌, append_assoc}
 use Rattle.gpkt.specs.Packets.{Packet}
-use Rattle.ggrammar.specs.Grammar.{Judge, Open, Whole, Refused, IsOpen, IsUnfinished, IsWhole, Begins, HasEndings, LawsOf, OpenIsUnfinished, RefusesFirstMisfits, IsPrefixFree}
+use Rattle.ggrammar.specs.Grammar.{Judge, Open, Whole, Refused, IsOpen, HasEndings, LawsOf, OpenIsUnfinished, RefusesFirstMisfits, IsPrefixFree}
 use Rattle.ggrammar.specs.declared.fault.Why.{Why}
 
 -- an empty list has no place

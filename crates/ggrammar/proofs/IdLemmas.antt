@@ -1,5 +1,5 @@
 -- Reading an id answers what its text spells.
-use Rattle.std.proofs.Common.{◌≡◌, ℕ, List, length, true, false, cond, None, Some, Option, Result, Ok, Err, inl, inr, refl, sym, ap, ◌∙◌, ◌==◌}
+use Rattle.std.proofs.Common.{◌≡◌, ℕ, List, length, None, Some, Result, Ok, Err, inl, inr, refl, sym, ap, ◌∙◌, ◌==◌}
 use Rattle.std.proofs.lemmas.Bool.{cond-true, cond-false, eq-eqb}
 use Rattle.std.proofs.lemmas.Bool.Decides.{eqb_tells}
 use Rattle.hex.specs.Hex.{decode_of}

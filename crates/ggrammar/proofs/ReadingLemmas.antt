@@ -1,5 +1,5 @@
 -- Lines read one after the other.
-use Rattle.std.proofs.Common.{◌≡◌, ℕ, List, [], ◌∷◌, ◌++◌, length, Option, Some, None, Ok, Err, Result, Bool, true, ◌+◌, refl, sym, subst, ap, ◌∙◌, append_assoc, append-nil}
+use Rattle.std.proofs.Common.{◌≡◌, ℕ, List, [], ◌∷◌, ◌++◌, length, Option, Some, None, Ok, Result, Bool, true, ◌+◌, refl, sym, subst, ap, ◌∙◌, append_assoc, append-nil}
 use Rattle.gpkt.specs.Packets.{Packet, Spells, SpellsAll}
 use Rattle.gpkt.specs.LineReading.{Reads}
 use Rattle.ggrammar.specs.Grammar.{Judge, IsOpen, HasEndings}
@@ -7,8 +7,7 @@ use Rattle.gpkt.specs.Packets.{packet_of}
 use Rattle.gpkt.specs.LineReading.{Reader, ReadsLines, HasRead, read_of}
 use Rattle.gpkt.specs.declared.line.Line.{Line}
 use Rattle.gpkt.specs.declared.fault.LineFault.{LineFault}
-use Rattle.gpkt.specs.declared.fault.LineFault.TheVariants.{BadDigits, Reserved, TooLong, Truncated, Io, Failed, Memory}
-use Rattle.ggrammar.specs.MessageReading.{IsReason, IsReasonAfter, HasTaken, HasRefused, TakesPacket, IsReadFailure}
+use Rattle.ggrammar.specs.MessageReading.{IsReason, IsReasonAfter, HasTaken, HasRefused, TakesPacket}
 use Rattle.gpkt.specs.Change.{Change}
 use Rattle.ggrammar.specs.declared.fault.Why.{Why}
 use Rattle.ggrammar.specs.declared.fault.Why.TheVariants as why
@@ -126,7 +125,13 @@ module _ {M : Type 0} (judge : Judge) (brings : List Packet → Packet → Bool)
     held = taken.1;
   }
 
--- a reader that gave a line has not failed
-pub not_failed : {S : Type 0} (remaining : S → Option (List ℕ)) (is_down : S → Bool) (loans : S → List ℕ) (old new : Reader S) (packet : Packet) {P : Type 0}
-    → HasRead remaining is_down loans old new (Ok (Some packet)) → new.failed ≡ true → P
-not_failed remaining is_down loans old new packet h failed = let well = h.after.1 in absurd (false≢true (sym well ∙ failed))
+module _ {S : Type 0} (remaining : S → Option (List ℕ)) (is_down : S → Bool) (loans : S → List ℕ) where
+  -- a reader that gives a line had not failed before
+  pub not_failed : (old new : Reader S) (packet : Packet) {P : Type 0}
+      → HasRead remaining is_down loans old new (Ok (Some packet)) → old.failed ≡ true → P
+  not_failed old new packet h failed = let well = h.after.0 in absurd (false≢true (sym well ∙ failed))
+
+  -- nor has it now
+  pub still_well : (old new : Reader S) (packet : Packet)
+      → HasRead remaining is_down loans old new (Ok (Some packet)) → new.failed ≡ old.failed
+  still_well old new packet h = h.after.1 ∙ sym h.after.0

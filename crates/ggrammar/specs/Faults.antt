@@ -9,9 +9,9 @@ use Rattle.ggrammar.specs.declared.fault.Why.TheVariants as why
 abbrev pub max_peer_text : ℕ
 max_peer_text = 256
 
--- the first 256 bytes of the text, which is the payload without one line feed at its end
+-- the first 256 bytes of what the peer says, one line feed at its end left out before
 abbrev pub kept_text : List ℕ → List ℕ
-kept_text payload = take max_peer_text (text payload)
+kept_text said = take max_peer_text (text said)
 
 -- why a message is refused
 abbrev pub why_row : Why → FaultRow

@@ -1,13 +1,18 @@
 -- What a list of packet lines is to a message's grammar. A judge says what the lines are with a packet more: a
 -- beginning of the message that goes on, a whole message, or none, and why. (The section on each message in
 -- gitprotocol-v2(5) says what may be sent; the judge adds the reasons.)
-use Rattle.std.specs.Prelude.{◌≡◌, List, [], ◌∷◌, ◌++◌}
+use Rattle.std.specs.Prelude.{◌≡◌, Bool, List, [], ◌∷◌, ◌++◌, if◌then◌else◌}
 use Rattle.gpkt.specs.Packets.{Packet}
 use Rattle.ggrammar.specs.declared.fault.Why.{Why}
+use Rattle.ggrammar.specs.declared.fault.Why.TheVariants.{Limit}
 
 pub data Verdict : Type 0 where
   Open Whole : Verdict
   Refused : (why : Why) → Verdict
+
+-- one more is taken where there is room for it
+abbrev pub if_room : Bool → Verdict
+if_room has_room = if has_room then Open else Refused Limit
 
 abbrev pub Judge : Type 0
 Judge = List Packet → Packet → Verdict

@@ -5,6 +5,8 @@ pub mod PeerErrors
 pub mod Capabilities
 pub mod Ids
 pub mod Endings
+pub mod Texts
+pub mod Places
 pub mod CapabilityView
 pub use Rattle.gpkt.specs.Packets
 pub use Rattle.gpkt.specs.Change

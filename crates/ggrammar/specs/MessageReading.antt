@@ -4,7 +4,7 @@ use Rattle.std.specs.Prelude.{IsTrue, Ok, Err}
 use Rattle.gpkt.specs.Packets.{Packet}
 use Rattle.gpkt.specs.Change.{Change}
 use Rattle.gpkt.specs.LineReading.{Reads, ReadsLines}
-use Rattle.gpkt.specs.declared.fault.LineFault.TheVariants.{Io, Failed}
+use Rattle.gpkt.specs.declared.fault.LineFault.TheVariants.{Io, Failed, Memory as LineMemory}
 use Rattle.ggrammar.specs.Grammar.{Judge, Verdict, Open, Whole, Refused, IsOpen, IsUnfinished, IsWhole}
 use Rattle.ggrammar.specs.declared.fault.Why.{Why}
 use Rattle.ggrammar.specs.declared.fault.Why.TheVariants.{Line, Memory, Ended}
@@ -17,12 +17,18 @@ pub record ReadsWhole (judge : Judge) (read : Change) (lines : List Packet) : Ty
   pub whole : IsWhole judge lines
   pub bytes : ReadsLines read lines
 
--- Why a packet is refused that stands there: the judge says so; or there is no memory for what it brings, if it
--- brings something.
+-- the packet goes on with the message, or ends it
+abbrev pub IsAccepted : Verdict → Type 0
+IsAccepted Open = Unit {0}
+IsAccepted Whole = Unit {0}
+IsAccepted (Refused why) = ⊥
+
+-- Why a packet is refused that stands there: the judge says so; or the judge accepts it, and there is no memory for
+-- what it brings, if it brings something.
 abbrev pub IsReason : Verdict → Bool → Why → Type 0
 IsReason verdict brings (Line fault) = ⊥
 IsReason verdict brings Ended = ⊥
-IsReason verdict brings Memory = (verdict ≡ Open) × IsTrue brings
+IsReason verdict brings Memory = IsAccepted verdict × IsTrue brings
 IsReason verdict brings why = verdict ≡ Refused why
 
 -- the next packet is read, and refused for this reason
@@ -48,7 +54,8 @@ pub record ReadsRefused (judge : Judge) (brings : List Packet → Packet → Boo
 
 -- ---- what a message that is being read does with a packet
 
-module _ {M : Type 0} (judge : Judge) (brings : List Packet → Packet → Bool) (holds left : M → List Packet → Type 0) where
+module _ {M : Type 0} (judge : Judge) (brings : List Packet → Packet → Bool)
+    (holds left : M → List Packet → Type 0) where
   -- it takes a packet after these as the judge says; where it refuses it, this is left of the lines before
   abbrev pub TakesPacket : List Packet → Packet → M → Result Step Why → Type 0
   TakesPacket front packet new (Ok step.Open) = (judge front packet ≡ Open) × holds new (front ++ packet ∷ [])
@@ -67,12 +74,13 @@ module _ {M : Type 0} (judge : Judge) (brings : List Packet → Packet → Bool)
     pub refused : ReadsRefused judge brings front bytes fault
     pub leaves : left message front
 
--- The fault is the device's exactly where the device is down now, and that of a failed reader only where the
--- reader had failed before.
+-- The fault is the device's exactly where the device is down now and the reader had not failed before, and that of a
+-- failed reader exactly where it had. Reading a line takes no memory.
 abbrev pub IsReadFailure : Bool → Bool → Why → Type 0
-IsReadFailure failed down (Line Io) = down ≡ true
+IsReadFailure failed down (Line Io) = (failed ≡ false) × (down ≡ true)
 IsReadFailure failed down (Line Failed) = failed ≡ true
-IsReadFailure failed down why = down ≡ false
+IsReadFailure failed down (Line LineMemory) = ⊥
+IsReadFailure failed down why = (failed ≡ false) × (down ≡ false)
 
 -- the reader has failed now exactly where the line itself was refused
 abbrev pub IsFailedBy : Why → Bool → Type 0

@@ -1,9 +1,8 @@
 -- A peer may report an error in the place of any packet (gitprotocol-pack(5), "error-line").
 use Rattle.std.specs.Prelude.{ℕ, List, codes, drop, length, if◌then◌else◌, nat_eq, Option, Some, None}
 use Rattle.std.specs.List.{starts_with}
-use Rattle.gpkt.specs.Packets.{Packet, Data, Flush, Delim, ResponseEnd, text}
 use Rattle.ggrammar.specs.Faults.{kept_text}
-use Rattle.ggrammar.specs.Grammar.{Judge, Verdict, Refused}
+use Rattle.ggrammar.specs.Grammar.{Verdict, Refused}
 use Rattle.ggrammar.specs.declared.fault.Why.TheVariants.{RemoteErr}
 
 -- what follows a word at the front of a text

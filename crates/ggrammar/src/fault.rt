@@ -27,8 +27,8 @@ impl Model for PeerText {
 }
 
 impl PeerText {
-    /// Keeps the text of an `ERR` line, given what follows the word: one line feed at its end is left
-    /// out, and then all after the first 256 bytes. Takes no memory.
+    /// Keeps what a peer says, after the word of an `ERR` line or on the side band for fatal errors: one
+    /// line feed at its end is left out, and then all after the first 256 bytes. Takes no memory.
     pub fn new(text: &[u8]) -> PeerText
         ensures { result ≡ kept_text text.now }
     {

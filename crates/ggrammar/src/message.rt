@@ -1,6 +1,6 @@
 //! Reading a message, whatever its kind, packet by packet.
 
-ghost use Rattle.std.specs.Prelude.{◌≡◌, ◌<◌, ◌^◌, Bool, List, [], length, MatchResult, IfErr, OnOk, false};
+ghost use Rattle.std.specs.Prelude.{◌≡◌, ◌<◌, ◌^◌, Bool, List, [], length, MatchResult, IfErr, OnOk, true, false};
 ghost use Rattle.gpkt.specs.Packets.{Packet, packet_of};
 ghost use Rattle.gpkt.specs.Change.{change_of};
 ghost use Rattle.ggrammar.specs.Grammar.{Judge, HasEndings, IsOpen};
@@ -54,7 +54,7 @@ pub trait Message {
 ///
 /// The fault has the packet's place, from 0. What the line reader refuses comes first, then the end of the
 /// input, then what the grammar refuses. After a refusal the line reader has failed exactly where the line
-/// itself was refused.
+/// itself was refused. A reader that had failed before is refused at once, at packet 0.
 pub fn read_message<S: Source, A: Allocator + Copy, M: Message>(
     reader: &mut LineReader<S, A>,
     message: &mut M,
@@ -67,6 +67,8 @@ pub fn read_message<S: Source, A: Allocator + Copy, M: Message>(
     ensures device { IfErr result (λ fault. IsReadFailure reader.old.failed (S.is_down reader.new.source) fault.why) }
     ensures failed { IfErr result (λ fault. IsFailedBy fault.why reader.new.failed) }
     ensures goes_on { OnOk result (reader.new.failed ≡ false) }
+    ensures well { OnOk result ((reader.old.failed ≡ false) × (S.is_down reader.new.source ≡ false)) }
+    ensures at_once { reader.old.failed ≡ true → IfErr result (λ fault. fault.frame ≡ 0) }
 {
     M::laws();
     for frame in 0..u64::MAX {

@@ -1,5 +1,3 @@
-use Rattle.std.proofs.Common.{subst}
-use Rattle.gname.specs.Ids.{ReadsId}
 use Rattle.ggrammar.proofs.IdLemmas.{id_read, id_refused}
 use Rattle.ggrammar.proofs.id.id_of_text.Goals as goal
 

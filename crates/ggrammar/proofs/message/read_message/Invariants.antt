@@ -1,4 +1,5 @@
--- The message is going, as its grammar at the beginning says, and the reader has failed only where it had before.
+-- The message is going, as its grammar at the beginning says, and the reader has failed exactly where it had before,
+-- which it had only at the first packet.
 use Rattle.std.proofs.Common.{◌≡◌, ◌≤◌, ◌^◌, true}
 use Rattle.ggrammar.proofs.ReadingLemmas.{IsGoing}
 use Rattle.ggrammar.proofs.message.read_message.Given as goal
@@ -9,5 +10,6 @@ invariant-loop-frame g l =
     × (g.M.Message.judge l.message ≡ g.M.Message.judge l.initial.message)
     × (g.M.Message.brings l.message ≡ g.M.Message.brings l.initial.message)
     × (g.S.Source.loans l.reader.source ≡ g.S.Source.loans l.initial.reader.source)
-    × (l.reader.failed ≡ true → l.initial.reader.failed ≡ true)
+    × (l.reader.failed ≡ l.initial.reader.failed)
+    × (l.initial.reader.failed ≡ true → l.frame ≡ 0)
     × (l.frame ≤ 2 ^ 60)
