@@ -1,16 +1,16 @@
 -- What a server may send as the reply to fetch, in the words of gitprotocol-v2(5): sections one after the other.
-use Rattle.std.specs.Prelude.{◌≡◌, ℕ, ◌≤◌, ◌⊎◌, Bool, true, false, List, [], ◌∷◌, ◌++◌, length, map, codes, All, Result, Ok, Err}
+use Rattle.std.specs.Prelude.{◌≡◌, ℕ, ◌≤◌, ◌⊎◌, true, false, List, [], ◌∷◌, ◌++◌, length, map, codes, All, Result, Ok}
 use Rattle.std.specs.Option.{IsSome}
 use Rattle.gpkt.specs.Packets.{Packet, Data, Flush, Delim, text}
-use Rattle.gpkt.specs.Bands.{BandPacket, band_form, Data as BandData, Progress, Fatal}
+use Rattle.gpkt.specs.Bands.{BandPacket, band_form, Data as BandData, Progress}
 use Rattle.gpkt.specs.declared.fault.BandFault.{BandFault}
 use Rattle.gname.specs.declared.formats.Format.{Format}
 use Rattle.ggrammar.specs.Endings.{ends_with}
-use Rattle.greply.specs.FetchReplies.{Reading, FetchReply, Acks, Ready, Pack, reply_text, ack_id, acks_of, data_of, max_acks, max_packets}
+use Rattle.greply.specs.FetchReplies.{Reading, FetchReply, Acks, Ready, Pack, reply_form, ack_id, acks_of, data_of, max_acks, max_packets}
 
 -- `ACK ` and an id
 abbrev pub IsAck : Format → List ℕ → Type 0
-IsAck format line = IsSome (ack_id format (reply_text line))
+IsAck format line = IsSome (ack_id format (reply_form line))
 
 -- some bytes of the pack, or of progress
 abbrev pub IsDataOrProgress : Result BandPacket BandFault → Type 0

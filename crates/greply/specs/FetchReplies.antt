@@ -7,7 +7,7 @@
 -- A reply is `direct` where the request had `done` or no have: then it is the pack's section alone. Otherwise the
 -- acknowledgments come first, and the pack follows exactly where they are ready. Where the peer ends each reply
 -- so, a response-end follows the flush.
-use Rattle.std.specs.Prelude.{◌≡◌, ℕ, ◌+◌, ◌≤◌, ◌<◌, Bool, true, false, ◌&&◌, ◌||◌, not, List, [], ◌∷◌, ◌++◌, length, map, if◌then◌else◌, codes, nat_le, nat_lt, Option, Some, None, is_some, Result, Ok, Err}
+use Rattle.std.specs.Prelude.{◌≡◌, ℕ, ◌+◌, ◌≤◌, ◌<◌, Bool, true, false, ◌&&◌, List, [], ◌∷◌, ◌++◌, length, map, if◌then◌else◌, codes, nat_le, nat_lt, Option, Some, None, is_some, Result, Ok, Err}
 use Rattle.std.specs.List.{filter_map, flat_map, list_any}
 use Rattle.std.specs.Str.{bytes_eq}
 use Rattle.gpkt.specs.Packets.{Packet, Data, Flush, Delim, ResponseEnd, text}
@@ -15,10 +15,11 @@ use Rattle.gpkt.specs.Bands.{BandPacket, band_form, band_payload, max_band, Data
 use Rattle.gpkt.specs.declared.fault.BandFault.{BandFault}
 use Rattle.gname.specs.Ids.{id_text}
 use Rattle.gname.specs.declared.formats.Format.{Format}
-use Rattle.ggrammar.specs.Grammar.{Verdict, Open, Whole, Refused, IsWhole}
-use Rattle.ggrammar.specs.Endings.{ends_with}
+use Rattle.ggrammar.specs.Grammar.{Verdict, Open, Refused, IsWhole, if_room}
+use Rattle.ggrammar.specs.Endings.{ends_with, at_flush, after_flush}
 use Rattle.ggrammar.specs.declared.ends.Ends.{Ends}
-use Rattle.ggrammar.specs.declared.ends.Ends.TheVariants.{Plain, Response}
+use Rattle.ggrammar.specs.Places.{place_after, collected}
+use Rattle.ggrammar.specs.Texts.{text_packet}
 use Rattle.ggrammar.specs.Faults.{kept_text}
 use Rattle.ggrammar.specs.Ids.{id_of_text}
 use Rattle.ggrammar.specs.PeerErrors.{after_word, judge_unless_error}
@@ -43,18 +44,18 @@ max_acks = 4096
 
 -- ---- texts
 
-pub data ReplyText : Type 0 where
-  Acknowledgments Nak Readiness Packfile : ReplyText
-  Ack : (id : List ℕ) → ReplyText
-  OtherText : ReplyText
+pub data ReplyForm : Type 0 where
+  Acknowledgments Nak Readiness Packfile : ReplyForm
+  Ack : (id : List ℕ) → ReplyForm
+  OtherForm : ReplyForm
 
-abbrev pub ack_or_other : Option (List ℕ) → ReplyText
-ack_or_other None = OtherText
+abbrev pub ack_or_other : Option (List ℕ) → ReplyForm
+ack_or_other None = OtherForm
 ack_or_other (Some id) = Ack id
 
 -- `ACK ` has that form whatever follows
-unfoldable pub reply_text : List ℕ → ReplyText
-reply_text line =
+unfoldable pub reply_form : List ℕ → ReplyForm
+reply_form line =
     if bytes_eq line (codes "acknowledgments") then Acknowledgments
     else if bytes_eq line (codes "NAK") then Nak
     else if bytes_eq line (codes "ready") then Readiness
@@ -71,7 +72,7 @@ pub data Place : Type 0 where
   -- after NAK: nothing was common
   Naked : Place
   -- after `ready`: the delimiter is due
-  IsReady : Place
+  AfterReady : Place
   -- the pack's heading is due
   BeforePack : Place
   -- its bytes
@@ -84,18 +85,18 @@ first_place true = BeforePack
 first_place false = Start
 
 -- a text of the acknowledgments leads on
-abbrev pub after_text : Place → ReplyText → Place
+abbrev pub after_text : Place → ReplyForm → Place
 after_text Start Acknowledgments = Acking
 after_text Acking Nak = Naked
-after_text Acking Readiness = IsReady
+after_text Acking Readiness = AfterReady
 after_text BeforePack Packfile = InPack
 after_text place line = place
 
 abbrev pub next_place : Place → Packet → Place
 next_place InPack (Data payload) = InPack
 next_place Over (Data payload) = Over
-next_place place (Data payload) = after_text place (reply_text (text payload))
-next_place IsReady Delim = BeforePack
+next_place place (Data payload) = after_text place (reply_form (text payload))
+next_place AfterReady Delim = BeforePack
 next_place place Delim = place
 next_place Acking Flush = Over
 next_place Naked Flush = Over
@@ -103,17 +104,13 @@ next_place InPack Flush = Over
 next_place place Flush = place
 next_place place ResponseEnd = place
 
-abbrev pub place_from : Place → List Packet → Place
-place_from place [] = place
-place_from place (packet ∷ packets) = place_from (next_place place packet) packets
-
-abbrev pub place_after : Bool → List Packet → Place
-place_after direct packets = place_from (first_place direct) packets
+abbrev pub place_of : Bool → List Packet → Place
+place_of direct packets = place_after next_place (first_place direct) packets
 
 -- ---- what the packets so far say
 
 -- acknowledged ids, bytes of the pack and its packets, by where a packet stands
-abbrev pub ack_id : Format → ReplyText → Option (List ℕ)
+abbrev pub ack_id : Format → ReplyForm → Option (List ℕ)
 ack_id format (Ack id) = id_of_text format id
 ack_id format _ = None
 
@@ -125,21 +122,16 @@ abbrev pub bands_there : Place → Packet → List (List ℕ)
 bands_there InPack (Data payload) = payload ∷ []
 bands_there place packet = []
 
-abbrev pub payloads_from : (Place → Packet → List (List ℕ)) → Place → List Packet → List (List ℕ)
-payloads_from there place [] = []
-payloads_from there place (packet ∷ packets) =
-    there place packet ++ payloads_from there (next_place place packet) packets
-
 -- the texts of the acknowledgments, without the heading
 unfoldable pub ack_texts : Bool → List Packet → List (List ℕ)
-ack_texts direct packets = payloads_from texts_there (first_place direct) packets
+ack_texts direct packets = collected next_place texts_there (first_place direct) packets
 
 -- the payloads of the pack's section, without the heading
 unfoldable pub band_payloads : Bool → List Packet → List (List ℕ)
-band_payloads direct packets = payloads_from bands_there (first_place direct) packets
+band_payloads direct packets = collected next_place bands_there (first_place direct) packets
 
 abbrev pub acks_of : Format → List (List ℕ) → List (List ℕ)
-acks_of format texts = filter_map (λ line. ack_id format (reply_text line)) texts
+acks_of format texts = filter_map (λ line. ack_id format (reply_form line)) texts
 
 abbrev pub data_in : Result BandPacket BandFault → List ℕ
 data_in (Ok (BandData bytes)) = bytes
@@ -149,12 +141,12 @@ data_in _ = []
 abbrev pub data_of : List (List ℕ) → List ℕ
 data_of payloads = flat_map (λ payload. data_in (band_form payload)) payloads
 
-abbrev pub is_readiness : ReplyText → Bool
+abbrev pub is_readiness : ReplyForm → Bool
 is_readiness Readiness = true
 is_readiness _ = false
 
 abbrev pub is_ready : List (List ℕ) → Bool
-is_ready texts = list_any (λ line. is_readiness (reply_text line)) texts
+is_ready texts = list_any (λ line. is_readiness (reply_form line)) texts
 
 abbrev pub reply_by : Reading → List (List ℕ) → List (List ℕ) → FetchReply
 reply_by reading texts payloads =
@@ -168,15 +160,15 @@ reply_of reading packets = reply_by reading (ack_texts reading.direct packets) (
 -- ---- the table
 
 -- what the packets so far count for
-pub record Front : Type 0 where
+pub record State : Type 0 where
   pub place : Place
   pub acks : ℕ
   pub packets : ℕ
   pub bytes : ℕ
 
-abbrev pub front_of : Reading → List Packet → Front
-front_of reading packets = record {
-  place = place_after reading.direct packets;
+abbrev pub state_of : Reading → List Packet → State
+state_of reading packets = record {
+  place = place_of reading.direct packets;
   acks = length (acks_of reading.format (ack_texts reading.direct packets));
   packets = length (band_payloads reading.direct packets);
   bytes = length (data_of (band_payloads reading.direct packets));
@@ -186,89 +178,88 @@ front_of reading packets = record {
 abbrev pub max_packets : ℕ
 max_packets = 4294967295
 
-abbrev pub within : Bool → Verdict
-within has_room = if has_room then Open else Refused why.Limit
+abbrev pub judge_ack : Format → State → List ℕ → Verdict
+judge_ack format state id = if is_some (id_of_text format id) then if_room (nat_lt state.acks max_acks) else Refused why.BadId
 
-abbrev pub judge_ack : Format → Front → List ℕ → Verdict
-judge_ack format front id = if is_some (id_of_text format id) then within (nat_lt front.acks max_acks) else Refused why.BadId
-
-abbrev pub judge_acking : Format → Front → ReplyText → Verdict
-judge_acking format front (Ack id) = judge_ack format front id
-judge_acking format front Nak = if nat_lt 0 front.acks then Refused why.WrongSection else Open
-judge_acking format front Readiness = Open
-judge_acking format front Acknowledgments = Refused why.WrongSection
-judge_acking format front Packfile = Refused why.WrongSection
-judge_acking format front OtherText = Refused why.BadText
+abbrev pub judge_acking : Format → State → ReplyForm → Verdict
+judge_acking format state (Ack id) = judge_ack format state id
+judge_acking format state Nak = if nat_lt 0 state.acks then Refused why.WrongSection else Open
+judge_acking format state Readiness = Open
+judge_acking format state Acknowledgments = Refused why.WrongSection
+judge_acking format state Packfile = Refused why.WrongSection
+judge_acking format state OtherForm = Refused why.BadText
 
 -- after NAK and after `ready` no text is due
-abbrev pub judge_late : ReplyText → Verdict
-judge_late OtherText = Refused why.BadText
+abbrev pub judge_late : ReplyForm → Verdict
+judge_late OtherForm = Refused why.BadText
 judge_late _ = Refused why.WrongSection
 
-abbrev pub judge_start : ReplyText → Verdict
+abbrev pub judge_start : ReplyForm → Verdict
 judge_start Acknowledgments = Open
 judge_start Packfile = Refused why.WrongSection
 judge_start _ = Refused why.BadText
 
-abbrev pub judge_before_pack : ReplyText → Verdict
+abbrev pub judge_before_pack : ReplyForm → Verdict
 judge_before_pack Packfile = Open
 judge_before_pack Acknowledgments = Refused why.WrongSection
 judge_before_pack _ = Refused why.BadText
 
-abbrev pub judge_band : ℕ → Front → Result BandPacket BandFault → Verdict
-judge_band limit front (Err fault) = Refused (why.Band fault)
-judge_band limit front (Ok (Fatal bytes)) = Refused (why.RemoteFatal (kept_text bytes))
-judge_band limit front (Ok (BandData bytes)) =
-    within (nat_lt front.packets max_packets && nat_le (front.bytes + length bytes) limit)
-judge_band limit front (Ok (Progress bytes)) = within (nat_lt front.packets max_packets)
+abbrev pub judge_band : ℕ → State → Result BandPacket BandFault → Verdict
+judge_band limit state (Err fault) = Refused (why.Band fault)
+judge_band limit state (Ok (Fatal bytes)) = Refused (why.RemoteFatal (kept_text bytes))
+judge_band limit state (Ok (BandData bytes)) =
+    if_room (nat_lt state.packets max_packets && nat_le (state.bytes + length bytes) limit)
+judge_band limit state (Ok (Progress bytes)) = if_room (nat_lt state.packets max_packets)
 
-abbrev pub judge_payload : Reading → Place → Front → List ℕ → Verdict
-judge_payload reading Start front payload = judge_start (reply_text (text payload))
-judge_payload reading Acking front payload = judge_acking reading.format front (reply_text (text payload))
-judge_payload reading Naked front payload = judge_late (reply_text (text payload))
-judge_payload reading IsReady front payload = judge_late (reply_text (text payload))
-judge_payload reading BeforePack front payload = judge_before_pack (reply_text (text payload))
-judge_payload reading InPack front payload = judge_band reading.limit front (band_form payload)
-judge_payload reading Over front payload = Refused why.UnexpectedFrame
-
-abbrev pub at_end : Ends → Verdict
-at_end Plain = Whole
-at_end Response = Open
+abbrev pub judge_payload : Reading → Place → State → List ℕ → Verdict
+judge_payload reading Start state payload = judge_start (reply_form (text payload))
+judge_payload reading Acking state payload = judge_acking reading.format state (reply_form (text payload))
+judge_payload reading Naked state payload = judge_late (reply_form (text payload))
+judge_payload reading AfterReady state payload = judge_late (reply_form (text payload))
+judge_payload reading BeforePack state payload = judge_before_pack (reply_form (text payload))
+judge_payload reading InPack state payload = judge_band reading.limit state (band_form payload)
+judge_payload reading Over state payload = Refused why.UnexpectedFrame
 
 abbrev pub judge_flush : Ends → Place → Verdict
-judge_flush ends Acking = at_end ends
-judge_flush ends Naked = at_end ends
-judge_flush ends InPack = at_end ends
-judge_flush ends Over = Refused why.UnexpectedFrame
+judge_flush ends Acking = at_flush ends
+judge_flush ends Naked = at_flush ends
+judge_flush ends InPack = at_flush ends
 judge_flush ends _ = Refused why.WrongSection
 
 abbrev pub judge_delim : Place → Verdict
-judge_delim IsReady = Open
-judge_delim Over = Refused why.UnexpectedFrame
+judge_delim AfterReady = Open
 judge_delim _ = Refused why.WrongSection
 
-abbrev pub judge_response_end : Place → Verdict
-judge_response_end Over = Whole
-judge_response_end _ = Refused why.UnexpectedFrame
+abbrev pub judge_there : Reading → Place → State → Packet → Verdict
+judge_there reading Over state packet = after_flush packet
+judge_there reading place state (Data payload) =
+    judge_unless_error (λ bytes. judge_payload reading place state bytes) payload
+judge_there reading place state Flush = judge_flush reading.ends place
+judge_there reading place state Delim = judge_delim place
+judge_there reading place state ResponseEnd = Refused why.UnexpectedFrame
 
-unfoldable pub judge_at : Reading → Front → Packet → Verdict
-judge_at reading front (Data payload) =
-    judge_unless_error (λ bytes. judge_payload reading front.place front bytes) payload
-judge_at reading front Flush = judge_flush reading.ends front.place
-judge_at reading front Delim = judge_delim front.place
-judge_at reading front ResponseEnd = judge_response_end front.place
+unfoldable pub judge_at : Reading → State → Packet → Verdict
+judge_at reading state packet = judge_there reading state.place state packet
 
 abbrev pub judge : Reading → List Packet → Packet → Verdict
-judge reading packets packet = judge_at reading (front_of reading packets) packet
+judge reading packets packet = judge_at reading (state_of reading packets) packet
 
--- an acknowledged id and data of the pack are kept
+-- an acknowledged id is kept, and some data of the pack; progress is not
+abbrev pub form_brings : ReplyForm → Bool
+form_brings (Ack id) = true
+form_brings _ = false
+
+abbrev pub band_brings : Result BandPacket BandFault → Bool
+band_brings (Ok (BandData bytes)) = nat_lt 0 (length bytes)
+band_brings _ = false
+
 abbrev pub payload_brings : Place → List ℕ → Bool
-payload_brings Acking payload = is_some (after_word (codes "ACK ") (text payload))
-payload_brings InPack payload = true
+payload_brings Acking payload = form_brings (reply_form (text payload))
+payload_brings InPack payload = band_brings (band_form payload)
 payload_brings _ payload = false
 
 abbrev pub brings : Reading → List Packet → Packet → Bool
-brings reading packets (Data payload) = payload_brings (place_after reading.direct packets) payload
+brings reading packets (Data payload) = payload_brings (place_of reading.direct packets) payload
 brings reading packets _ = false
 
 -- the packets are a reply, and say this
@@ -277,9 +268,6 @@ pub record Says (reading : Reading) (packets : List Packet) (reply : FetchReply)
   pub says : reply ≡ reply_of reading packets
 
 -- ---- what is written
-
-abbrev pub text_packet : List ℕ → Packet
-text_packet line = Data (line ++ 10 ∷ [])
 
 abbrev pub ack_packet : List ℕ → Packet
 ack_packet id = text_packet (codes "ACK " ++ id_text id)

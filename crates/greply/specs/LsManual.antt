@@ -1,10 +1,10 @@
 -- What a server may send as the reply to ls-refs, in the words of gitprotocol-v2(5).
-use Rattle.std.specs.Prelude.{◌≡◌, ℕ, ◌≤◌, List, [], ◌∷◌, ◌++◌, length, map, All, Option, Some, None, Result, Ok, Err}
+use Rattle.std.specs.Prelude.{◌≡◌, ℕ, ◌≤◌, List, [], ◌∷◌, ◌++◌, length, map, All, Option, Some, None, Ok}
 use Rattle.gpkt.specs.Packets.{Packet, Data, Flush, text}
 use Rattle.gname.specs.declared.formats.Format.{Format}
 use Rattle.ggrammar.specs.Endings.{ends_with}
 use Rattle.ggrammar.specs.declared.ends.Ends.{Ends}
-use Rattle.greply.specs.RefTexts.{RefLine, line_of, first_text, UnbornText}
+use Rattle.greply.specs.RefTexts.{RefLine, line_of, first_form, UnbornForm}
 use Rattle.greply.specs.LsReplies.{LsReply, max_lines, ref_lines}
 
 -- the text says the line of a ref
@@ -15,7 +15,7 @@ IsRefText format line = (ref : RefLine) × (line_of format line ≡ Ok ref)
 abbrev pub IsUnbornFirst : Option (List ℕ) → List (List ℕ) → Type 0
 IsUnbornFirst None payloads = payloads ≡ []
 IsUnbornFirst (Some target) payloads =
-    (payload : List ℕ) × (payloads ≡ payload ∷ []) × (first_text (text payload) ≡ UnbornText (Ok target))
+    (payload : List ℕ) × (payloads ≡ payload ∷ []) × (first_form (text payload) ≡ UnbornForm (Ok target))
 
 -- the packets are a reply, and say this
 pub record IsLsReply (format : Format) (ends : Ends) (packets : List Packet) (reply : LsReply) : Type 0 where

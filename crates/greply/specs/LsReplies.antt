@@ -5,14 +5,14 @@ use Rattle.std.specs.Prelude.{◌≡◌, ℕ, Bool, true, false, List, [], ◌�
 use Rattle.std.specs.List.{filter_map, list_any}
 use Rattle.gpkt.specs.Packets.{Packet, Data, Flush, Delim, ResponseEnd, text}
 use Rattle.gname.specs.declared.formats.Format.{Format}
-use Rattle.ggrammar.specs.Grammar.{Verdict, Open, Whole, Refused, IsWhole}
-use Rattle.ggrammar.specs.Endings.{ends_with}
+use Rattle.ggrammar.specs.Grammar.{Verdict, Open, Refused, IsWhole, if_room}
+use Rattle.ggrammar.specs.Endings.{ends_with, at_flush, after_flush}
 use Rattle.ggrammar.specs.declared.ends.Ends.{Ends}
-use Rattle.ggrammar.specs.declared.ends.Ends.TheVariants.{Plain, Response}
+use Rattle.ggrammar.specs.Texts.{texts_of, text_packet}
 use Rattle.ggrammar.specs.PeerErrors.{judge_unless_error}
 use Rattle.ggrammar.specs.declared.fault.Why.{Why}
-use Rattle.ggrammar.specs.declared.fault.Why.TheVariants.{UnexpectedFrame, Limit}
-use Rattle.greply.specs.RefTexts.{RefLine, line_of, FirstText, UnbornText, RefText, first_text, ref_text, unborn_text}
+use Rattle.ggrammar.specs.declared.fault.Why.TheVariants.{UnexpectedFrame}
+use Rattle.greply.specs.RefTexts.{RefLine, line_of, FirstForm, UnbornForm, RefForm, first_form, ref_text, unborn_text}
 
 -- the most texts of a reply: HEAD and 65,536 refs, or an unborn HEAD and these
 abbrev pub max_lines : ℕ
@@ -25,30 +25,22 @@ pub record LsReply : Type 0 where
 
 -- ---- what the packets so far say
 
-abbrev pub payload_of : Packet → Option (List ℕ)
-payload_of (Data payload) = Some payload
-payload_of _ = None
-
 abbrev pub is_flush : Packet → Bool
 is_flush Flush = true
 is_flush _ = false
-
--- the texts, in order
-abbrev pub texts_of : List Packet → List (List ℕ)
-texts_of packets = map text (filter_map payload_of packets)
 
 -- the flush has come, and a response-end is due
 abbrev pub is_over : List Packet → Bool
 is_over packets = list_any is_flush packets
 
-abbrev pub unborn_in : FirstText → Option (List ℕ)
-unborn_in (UnbornText (Ok target)) = Some target
-unborn_in (UnbornText (Err why)) = None
-unborn_in RefText = None
+abbrev pub unborn_in : FirstForm → Option (List ℕ)
+unborn_in (UnbornForm (Ok target)) = Some target
+unborn_in (UnbornForm (Err why)) = None
+unborn_in RefForm = None
 
 abbrev pub unborn_of : List (List ℕ) → Option (List ℕ)
 unborn_of [] = None
-unborn_of (first ∷ texts) = unborn_in (first_text first)
+unborn_of (first ∷ texts) = unborn_in (first_form first)
 
 abbrev pub line_in : Result RefLine Why → Option RefLine
 line_in (Ok line) = Some line
@@ -70,40 +62,29 @@ abbrev pub judge_line : Result RefLine Why → Verdict
 judge_line (Ok line) = Open
 judge_line (Err why) = Refused why
 
-abbrev pub judge_first : Format → List ℕ → FirstText → Verdict
-judge_first format line (UnbornText (Ok target)) = Open
-judge_first format line (UnbornText (Err why)) = Refused why
-judge_first format line RefText = judge_line (line_of format line)
+abbrev pub judge_first : Format → List ℕ → FirstForm → Verdict
+judge_first format line (UnbornForm (Ok target)) = Open
+judge_first format line (UnbornForm (Err why)) = Refused why
+judge_first format line RefForm = judge_line (line_of format line)
 
 -- one more than the most is refused where its form is right
 abbrev pub within_limit : ℕ → Verdict → Verdict
-within_limit count Open = if nat_lt count max_lines then Open else Refused Limit
+within_limit count Open = if_room (nat_lt count max_lines)
 within_limit count verdict = verdict
 
 abbrev pub judge_text : Format → ℕ → List ℕ → Verdict
 judge_text format count line =
-    within_limit count (if count == 0 then judge_first format line (first_text line) else judge_line (line_of format line))
-
-abbrev pub judge_flush : Ends → Verdict
-judge_flush Plain = Whole
-judge_flush Response = Open
+    within_limit count (if count == 0 then judge_first format line (first_form line) else judge_line (line_of format line))
 
 -- before the flush
 abbrev pub judge_body : Format → Ends → ℕ → Packet → Verdict
 judge_body format ends count (Data payload) = judge_unless_error (λ bytes. judge_text format count (text bytes)) payload
-judge_body format ends count Flush = judge_flush ends
+judge_body format ends count Flush = at_flush ends
 judge_body format ends count Delim = Refused UnexpectedFrame
 judge_body format ends count ResponseEnd = Refused UnexpectedFrame
 
--- after it a response-end alone is due, or the peer's error
-abbrev pub judge_end : Packet → Verdict
-judge_end (Data payload) = judge_unless_error (λ bytes. Refused UnexpectedFrame) payload
-judge_end Flush = Refused UnexpectedFrame
-judge_end Delim = Refused UnexpectedFrame
-judge_end ResponseEnd = Whole
-
 unfoldable pub judge_at : Format → Ends → Bool → ℕ → Packet → Verdict
-judge_at format ends over count packet = if over then judge_end packet else judge_body format ends count packet
+judge_at format ends over count packet = if over then after_flush packet else judge_body format ends count packet
 
 abbrev pub judge : Format → Ends → List Packet → Packet → Verdict
 judge format ends packets packet = judge_at format ends (is_over packets) (length (texts_of packets)) packet
@@ -119,9 +100,6 @@ pub record Says (format : Format) (ends : Ends) (packets : List Packet) (reply :
   pub says : reply ≡ reply_of format packets
 
 -- ---- what is written
-
-abbrev pub text_packet : List ℕ → Packet
-text_packet line = Data (line ++ 10 ∷ [])
 
 abbrev pub unborn_packets : Option (List ℕ) → List Packet
 unborn_packets None = []

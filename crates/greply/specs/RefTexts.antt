@@ -1,14 +1,15 @@
 -- The texts of the reply to ls-refs (gitprotocol-v2(5), "ls-refs"):
 --
---   output = *(unborn | ref) flush-pkt
---   unborn = "unborn" SP symref-target
---   ref = obj-id SP refname *(SP ref-attribute)
---   ref-attribute = symref | peeled
+--   output = *ref flush-pkt
+--   obj-id-or-unborn = (obj-id | "unborn")
+--   ref = PKT-LINE(obj-id-or-unborn SP refname *(SP ref-attribute) LF)
+--   ref-attribute = (symref | peeled)
 --   symref = "symref-target:" symref-target
 --   peeled = "peeled:" obj-id
 --
--- The parts of a text are separated by one space each, and are read from left to right.
-use Rattle.std.specs.Prelude.{◌≡◌, ℕ, Bool, List, [], ◌∷◌, ◌++◌, codes, nat_eq, if◌then◌else◌, Option, Some, None, is_none}
+-- The parts of a text are separated by one space each, and are read from left to right. Here `unborn` comes only
+-- first, of HEAD, with its target alone; and an attribute comes once.
+use Rattle.std.specs.Prelude.{ℕ, Bool, List, [], ◌∷◌, ◌++◌, codes, nat_eq, if◌then◌else◌, Option, Some, None, is_none}
 use Rattle.std.specs.Prelude.{Result, Ok, Err}
 use Rattle.std.specs.List.{slice_split}
 use Rattle.std.specs.Str.{bytes_eq}
@@ -116,17 +117,17 @@ abbrev pub unborn_of_parts : List (List ℕ) → Result (List ℕ) Why
 unborn_of_parts [] = Err BadText
 unborn_of_parts (head ∷ parts) = if bytes_eq head (codes "HEAD") then unborn_after_head parts else Err BadText
 
-pub data FirstText : Type 0 where
-  UnbornText : (target : Result (List ℕ) Why) → FirstText
-  RefText : FirstText
+pub data FirstForm : Type 0 where
+  UnbornForm : (target : Result (List ℕ) Why) → FirstForm
+  RefForm : FirstForm
 
-abbrev pub first_of_parts : List (List ℕ) → FirstText
-first_of_parts [] = RefText
-first_of_parts (first ∷ parts) = if bytes_eq first (codes "unborn") then UnbornText (unborn_of_parts parts) else RefText
+abbrev pub first_of_parts : List (List ℕ) → FirstForm
+first_of_parts [] = RefForm
+first_of_parts (first ∷ parts) = if bytes_eq first (codes "unborn") then UnbornForm (unborn_of_parts parts) else RefForm
 
 -- the first text of a reply is an unborn HEAD where its first part says so
-unfoldable pub first_text : List ℕ → FirstText
-first_text text = first_of_parts (parts_of text)
+unfoldable pub first_form : List ℕ → FirstForm
+first_form text = first_of_parts (parts_of text)
 
 -- ---- the texts that are written
 
