@@ -3,5 +3,7 @@ pub mod LsReplies
 pub mod LsManual
 pub mod FetchReplies
 pub mod FetchManual
+pub mod FetchHeads
+pub mod PackSinks
 pub use Rattle.ggrammar.specs.Grammar
 pub use Rattle.ggrammar.specs.MessageReading
