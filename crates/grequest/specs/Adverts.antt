@@ -4,15 +4,15 @@
 --   protocol-version = PKT-LINE("version 2" LF)
 --   capability-list = *capability
 --   capability = PKT-LINE(key[=value] LF)
-use Rattle.std.specs.Prelude.{◌≡◌, ℕ, ◌≤◌, Bool, true, List, [], ◌∷◌, ◌++◌, length, map, codes, if◌then◌else◌, ◌==◌, nat_lt, nat_eq, All, Option, Some, None, is_some, find}
+use Rattle.std.specs.Prelude.{◌≡◌, ℕ, ◌≤◌, Bool, false, List, [], ◌∷◌, ◌++◌, length, map, codes, if◌then◌else◌, ◌==◌, nat_lt, Option, Some, None}
 use Rattle.std.specs.List.{filter_map, list_any}
-use Rattle.std.specs.Option.{IsSome, option_map, option_flatten}
 use Rattle.std.specs.Str.{bytes_eq}
 use Rattle.gpkt.specs.Packets.{Packet, Data, Flush, Delim, ResponseEnd, text}
 use Rattle.gname.specs.Formats.{format_name}
 use Rattle.gname.specs.declared.formats.Format.{Format}
 use Rattle.gname.specs.declared.formats.Format.TheVariants.{Sha1}
-use Rattle.ggrammar.specs.Grammar.{Verdict, Open, Whole, Refused, IsWhole}
+use Rattle.ggrammar.specs.Grammar.{Verdict, Open, Whole, Refused, IsWhole, if_room}
+use Rattle.ggrammar.specs.Texts.{text_packet, texts_of}
 use Rattle.ggrammar.specs.PeerErrors.{judge_unless_error}
 use Rattle.ggrammar.specs.Capabilities.{Capability, capability_of}
 use Rattle.ggrammar.specs.declared.fault.Why.{Why}
@@ -38,14 +38,6 @@ pub record IsAdvert (packets : List Packet) (capabilities : List Capability) : T
 
 -- ---- the table
 
-abbrev pub payload_of : Packet → Option (List ℕ)
-payload_of (Data payload) = Some payload
-payload_of _ = None
-
--- the texts, the version first
-abbrev pub texts_of : List Packet → List (List ℕ)
-texts_of packets = map text (filter_map payload_of packets)
-
 abbrev pub capabilities_in : List (List ℕ) → List Capability
 capabilities_in [] = []
 capabilities_in (first ∷ texts) = filter_map capability_of texts
@@ -58,7 +50,7 @@ judge_version line = if bytes_eq line version then Open else Refused why.BadText
 
 abbrev pub judge_capability : ℕ → Option Capability → Verdict
 judge_capability count None = Refused why.BadText
-judge_capability count (Some capability) = if nat_lt count max_capabilities then Open else Refused why.Limit
+judge_capability count (Some capability) = if_room (nat_lt count max_capabilities)
 
 -- so many texts came before, and so many capabilities are among them
 abbrev pub judge_text : ℕ → ℕ → List ℕ → Verdict
@@ -75,6 +67,11 @@ judge_at texts capabilities ResponseEnd = Refused why.UnexpectedFrame
 abbrev pub judge : List Packet → Packet → Verdict
 judge packets packet = judge_at (length (texts_of packets)) (length (capabilities_of packets)) packet
 
+-- the version brings nothing to keep, and each capability does
+abbrev pub brings : List Packet → Packet → Bool
+brings packets (Data payload) = nat_lt 0 (length (texts_of packets))
+brings packets _ = false
+
 -- the packets are an advertisement, and say this
 pub record Says (packets : List Packet) (capabilities : List Capability) : Type 0 where
   pub whole : IsWhole judge packets
@@ -88,9 +85,6 @@ value_text (Some value) = codes "=" ++ value
 
 abbrev pub capability_text : Capability → List ℕ
 capability_text capability = capability.key ++ value_text capability.value
-
-abbrev pub text_packet : List ℕ → Packet
-text_packet line = Data (line ++ 10 ∷ [])
 
 unfoldable pub canonical_advert : List Capability → List Packet
 canonical_advert capabilities =
@@ -112,7 +106,7 @@ named_format None = Some (format_name Sha1)
 named_format (Some capability) = capability.value
 
 abbrev pub names_format : Format → Option (List ℕ) → Bool
-names_format format None = nat_eq 0 1
+names_format format None = false
 names_format format (Some name) = bytes_eq name (format_name format)
 
 -- why a client can't go on with the server: it lists no refs, or fetches nothing; or its object format is another
@@ -120,6 +114,6 @@ abbrev pub check_fault : Format → List Capability → Option Why
 check_fault format capabilities =
     if list_any (has_key (codes "ls-refs")) capabilities
     then (if list_any (has_key (codes "fetch")) capabilities
-        then (if names_format format (named_format (first_with (codes "object-format") capabilities)) then None else Some why.Format)
-        else Some why.UnknownCommand)
+    then (if names_format format (named_format (first_with (codes "object-format") capabilities)) then None else Some why.Format)
+    else Some why.UnknownCommand)
     else Some why.UnknownCommand

@@ -4,6 +4,10 @@ use Rattle.std.specs.Prelude.{ℕ, Bool, List, codes, if◌then◌else◌, Optio
 use Rattle.std.specs.Str.{bytes_eq}
 use Rattle.ggrammar.specs.PeerErrors.{after_word}
 use Rattle.ggrammar.specs.Capabilities.{Capability, capability_of, is_key, is_word_value}
+use Rattle.grequest.specs.declared.command.Command.{Command}
+use Rattle.grequest.specs.declared.command.Command.TheVariants.{LsRefs, Fetch}
+use Rattle.grequest.specs.declared.command.CommandForm.{CommandForm}
+use Rattle.grequest.specs.declared.command.CommandForm.TheVariants.{Known, Other as OtherCommand, Bad as BadCommand}
 
 -- the text is this word
 abbrev pub is_word : List ℕ → List ℕ → Bool
@@ -11,63 +15,56 @@ is_word word text = bytes_eq text word
 
 -- ---- the command
 
-pub data Command : Type 0 where
-  LsRefs Fetch : Command
-
 -- the words of the commands
 abbrev pub command_name : Command → List ℕ
 command_name LsRefs = codes "ls-refs"
 command_name Fetch = codes "fetch"
 
-pub data CommandText : Type 0 where
-  Known : (command : Command) → CommandText
-  UnknownCommand BadCommand : CommandText
-
 -- the command with a key
-abbrev pub command_of_key : List ℕ → CommandText
+abbrev pub command_of_key : List ℕ → CommandForm
 command_of_key key =
     if is_word (command_name LsRefs) key then Known LsRefs
     else if is_word (command_name Fetch) key then Known Fetch
-    else if is_key key then UnknownCommand
+    else if is_key key then OtherCommand
     else BadCommand
 
-abbrev pub command_after : Option (List ℕ) → CommandText
+abbrev pub command_after : Option (List ℕ) → CommandForm
 command_after None = BadCommand
 command_after (Some key) = command_of_key key
 
 -- the first text: `command=` and a key
-unfoldable pub command_text : List ℕ → CommandText
-command_text text = command_after (after_word (codes "command=") text)
+unfoldable pub command_form : List ℕ → CommandForm
+command_form text = command_after (after_word (codes "command=") text)
 
 -- ---- capabilities
 
-pub data CapabilityText : Type 0 where
-  Agent : (value : List ℕ) → CapabilityText
-  ObjectFormat : (value : List ℕ) → CapabilityText
-  UnknownCapability BadCapability : CapabilityText
+pub data CapabilityForm : Type 0 where
+  Agent : (value : List ℕ) → CapabilityForm
+  ObjectFormat : (value : List ℕ) → CapabilityForm
+  OtherCapability BadCapability : CapabilityForm
 
 -- `agent=` has a value without a space
-abbrev pub agent_with : Option (List ℕ) → CapabilityText
+abbrev pub agent_with : Option (List ℕ) → CapabilityForm
 agent_with None = BadCapability
 agent_with (Some value) = if is_word_value value then Agent value else BadCapability
 
-abbrev pub format_with : Option (List ℕ) → CapabilityText
+abbrev pub format_with : Option (List ℕ) → CapabilityForm
 format_with None = BadCapability
 format_with (Some value) = ObjectFormat value
 
-abbrev pub known_capability : Capability → CapabilityText
+abbrev pub known_capability : Capability → CapabilityForm
 known_capability capability =
     if is_word (codes "agent") capability.key then agent_with capability.value
     else if is_word (codes "object-format") capability.key then format_with capability.value
-    else UnknownCapability
+    else OtherCapability
 
-abbrev pub capability_with : Option Capability → CapabilityText
+abbrev pub capability_with : Option Capability → CapabilityForm
 capability_with None = BadCapability
 capability_with (Some capability) = known_capability capability
 
 -- a text of the capability list
-unfoldable pub capability_text : List ℕ → CapabilityText
-capability_text text = capability_with (capability_of text)
+unfoldable pub capability_form : List ℕ → CapabilityForm
+capability_form text = capability_with (capability_of text)
 
 -- ---- arguments
 

@@ -13,8 +13,10 @@ use Rattle.gname.specs.Formats.{format_name}
 use Rattle.gname.specs.declared.formats.Format.{Format}
 use Rattle.gname.specs.declared.formats.Format.TheVariants.{Sha1, Sha256}
 use Rattle.ggrammar.specs.Ids.{id_of_text}
-use Rattle.grequest.specs.Arguments.{Command, LsRefs, Fetch, command_name, CapabilityText, Agent, ObjectFormat}
-use Rattle.grequest.specs.Arguments.{UnknownCapability, BadCapability, capability_text, LsArgument, Symrefs, Peel, Unborn}
+use Rattle.grequest.specs.declared.command.Command.{Command}
+use Rattle.grequest.specs.declared.command.Command.TheVariants.{LsRefs, Fetch}
+use Rattle.grequest.specs.Arguments.{command_name, CapabilityForm, Agent, ObjectFormat}
+use Rattle.grequest.specs.Arguments.{OtherCapability, BadCapability, capability_form, LsArgument}
 use Rattle.grequest.specs.Arguments.{RefPrefix, UnknownLsArgument, ls_argument, FetchArgument, Want, Have}
 use Rattle.grequest.specs.Arguments.{UnknownFetchArgument, fetch_argument}
 use Rattle.grequest.specs.Asked.{Asked, Empty, max_prefixes, max_wants, max_haves, max_arguments}
@@ -22,10 +24,10 @@ use Rattle.grequest.specs.RequestLines.{agents, formats, prefixes, wants, haves,
 use Rattle.std.specs.Option.{IsSome}
 
 -- a client may say who it is, and has to name the object format unless it is sha1
-abbrev pub IsCapability : Format → CapabilityText → Type 0
+abbrev pub IsCapability : Format → CapabilityForm → Type 0
 IsCapability format (Agent value) = Unit {0}
 IsCapability format (ObjectFormat value) = value ≡ format_name format
-IsCapability format UnknownCapability = ⊥
+IsCapability format OtherCapability = ⊥
 IsCapability format BadCapability = ⊥
 
 abbrev pub NamesFormat : Format → List (List ℕ) → Type 0
@@ -68,7 +70,7 @@ pub record IsCommandRequest (format : Format) (lines : List Packet) (asked : Ask
   pub parts : lines ≡ Data first ∷ (map Data capabilities ++ section ++ Flush ∷ [])
   pub separated : IsSection arguments section
   pub is_command : text first ≡ codes "command=" ++ command_name command
-  pub are_capabilities : All (λ line. IsCapability format (capability_text line)) (map text capabilities)
+  pub are_capabilities : All (λ line. IsCapability format (capability_form line)) (map text capabilities)
   pub are_arguments : All (IsArgument format command) (map text arguments)
   pub one_agent : length (agents (map text capabilities)) ≤ 1
   pub one_format : NamesFormat format (map text capabilities)

@@ -1,12 +1,17 @@
 -- What the lines of a request say: where each stands, and what all lines of a kind say together.
-use Rattle.std.specs.Prelude.{ℕ, Bool, true, false, List, [], ◌∷◌, ◌++◌, length, if◌then◌else◌, codes, Option, Some, None}
+use Rattle.std.specs.Prelude.{ℕ, Bool, List, [], ◌∷◌, codes, Option, Some, None}
 use Rattle.std.specs.List.{filter_map, list_any}
 use Rattle.gpkt.specs.Packets.{Packet, Data, Flush, Delim, ResponseEnd, text}
 use Rattle.gname.specs.declared.formats.Format.{Format}
 use Rattle.ggrammar.specs.Ids.{id_of_text}
-use Rattle.grequest.specs.Arguments.{Command, LsRefs, Fetch, CommandText, Known, UnknownCommand, BadCommand, command_text}
-use Rattle.grequest.specs.Arguments.{CapabilityText, Agent, ObjectFormat, UnknownCapability, BadCapability}
-use Rattle.grequest.specs.Arguments.{capability_text, LsArgument, Symrefs, Peel, Unborn, RefPrefix, UnknownLsArgument}
+use Rattle.ggrammar.specs.Places.{place_after, collected}
+use Rattle.grequest.specs.declared.command.Command.{Command}
+use Rattle.grequest.specs.declared.command.Command.TheVariants.{LsRefs, Fetch}
+use Rattle.grequest.specs.declared.command.CommandForm.{CommandForm}
+use Rattle.grequest.specs.declared.command.CommandForm.TheVariants.{Known, Other as OtherCommand, Bad as BadCommand}
+use Rattle.grequest.specs.Arguments.{command_form}
+use Rattle.grequest.specs.Arguments.{CapabilityForm, Agent, ObjectFormat}
+use Rattle.grequest.specs.Arguments.{capability_form, LsArgument, RefPrefix}
 use Rattle.grequest.specs.Arguments.{ls_argument, FetchArgument, Want, Have, fetch_argument, is_word}
 use Rattle.grequest.specs.Asked.{LsRefsAsked, FetchAsked, Asked, Empty, Ls, Fetches}
 
@@ -14,74 +19,62 @@ use Rattle.grequest.specs.Asked.{LsRefsAsked, FetchAsked, Asked, Empty, Ls, Fetc
 
 pub data Place : Type 0 where
   First : Place
-  Capabilities : (command : Command) → Place
-  ArgumentsOf : (command : Command) → Place
+  InCapabilities : (command : Command) → Place
+  InArguments : (command : Command) → Place
 
 -- the place after the first text
-abbrev pub place_of_command : CommandText → Place
-place_of_command (Known command) = Capabilities command
-place_of_command UnknownCommand = First
+abbrev pub place_of_command : CommandForm → Place
+place_of_command (Known command) = InCapabilities command
+place_of_command OtherCommand = First
 place_of_command BadCommand = First
 
 -- the first text is the command, and a delimiter separates the capabilities from the arguments
 abbrev pub next_place : Place → Packet → Place
-next_place First (Data payload) = place_of_command (command_text (text payload))
+next_place First (Data payload) = place_of_command (command_form (text payload))
 next_place First Flush = First
 next_place First Delim = First
 next_place First ResponseEnd = First
-next_place (Capabilities command) (Data payload) = Capabilities command
-next_place (Capabilities command) Flush = Capabilities command
-next_place (Capabilities command) Delim = ArgumentsOf command
-next_place (Capabilities command) ResponseEnd = Capabilities command
-next_place (ArgumentsOf command) packet = ArgumentsOf command
-
-abbrev pub place_from : Place → List Packet → Place
-place_from place [] = place
-place_from place (packet ∷ packets) = place_from (next_place place packet) packets
+next_place (InCapabilities command) (Data payload) = InCapabilities command
+next_place (InCapabilities command) Flush = InCapabilities command
+next_place (InCapabilities command) Delim = InArguments command
+next_place (InCapabilities command) ResponseEnd = InCapabilities command
+next_place (InArguments command) packet = InArguments command
 
 -- the place after these lines
-abbrev pub place_after : List Packet → Place
-place_after lines = place_from First lines
+abbrev pub place_of : List Packet → Place
+place_of lines = place_after next_place First lines
 
 -- ---- the texts of the capability list, and of the arguments
 
 abbrev pub capability_there : Place → Packet → List (List ℕ)
-capability_there (Capabilities command) (Data payload) = text payload ∷ []
+capability_there (InCapabilities command) (Data payload) = text payload ∷ []
 capability_there place packet = []
 
-abbrev pub capabilities_from : Place → List Packet → List (List ℕ)
-capabilities_from place [] = []
-capabilities_from place (packet ∷ packets) = capability_there place packet ++ capabilities_from (next_place place packet) packets
-
 unfoldable pub capability_texts : List Packet → List (List ℕ)
-capability_texts lines = capabilities_from First lines
+capability_texts lines = collected next_place capability_there First lines
 
 abbrev pub argument_there : Place → Packet → List (List ℕ)
-argument_there (ArgumentsOf command) (Data payload) = text payload ∷ []
+argument_there (InArguments command) (Data payload) = text payload ∷ []
 argument_there place packet = []
 
-abbrev pub arguments_from : Place → List Packet → List (List ℕ)
-arguments_from place [] = []
-arguments_from place (packet ∷ packets) = argument_there place packet ++ arguments_from (next_place place packet) packets
-
 unfoldable pub argument_texts : List Packet → List (List ℕ)
-argument_texts lines = arguments_from First lines
+argument_texts lines = collected next_place argument_there First lines
 
 -- ---- what the texts say, each kind in order
 
-abbrev pub agent_value : CapabilityText → Option (List ℕ)
+abbrev pub agent_value : CapabilityForm → Option (List ℕ)
 agent_value (Agent value) = Some value
 agent_value _ = None
 
-abbrev pub format_value : CapabilityText → Option (List ℕ)
+abbrev pub format_value : CapabilityForm → Option (List ℕ)
 format_value (ObjectFormat value) = Some value
 format_value _ = None
 
 abbrev pub agents : List (List ℕ) → List (List ℕ)
-agents texts = filter_map (λ line. agent_value (capability_text line)) texts
+agents texts = filter_map (λ line. agent_value (capability_form line)) texts
 
 abbrev pub formats : List (List ℕ) → List (List ℕ)
-formats texts = filter_map (λ line. format_value (capability_text line)) texts
+formats texts = filter_map (λ line. format_value (capability_form line)) texts
 
 abbrev pub prefix_value : LsArgument → Option (List ℕ)
 prefix_value (RefPrefix prefix) = Some prefix
@@ -141,8 +134,8 @@ asked_by format Fetch capabilities arguments = Fetches (fetch_asked format capab
 -- a request without a command is empty
 abbrev pub asked_at : Format → Place → List (List ℕ) → List (List ℕ) → Asked
 asked_at format First capabilities arguments = Empty
-asked_at format (Capabilities command) capabilities arguments = asked_by format command capabilities arguments
-asked_at format (ArgumentsOf command) capabilities arguments = asked_by format command capabilities arguments
+asked_at format (InCapabilities command) capabilities arguments = asked_by format command capabilities arguments
+asked_at format (InArguments command) capabilities arguments = asked_by format command capabilities arguments
 
 abbrev pub asked_of : Format → List Packet → Asked
-asked_of format lines = asked_at format (place_after lines) (capability_texts lines) (argument_texts lines)
+asked_of format lines = asked_at format (place_of lines) (capability_texts lines) (argument_texts lines)

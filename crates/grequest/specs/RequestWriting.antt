@@ -1,16 +1,15 @@
 -- The lines of a request that are written: each argument that is set, in one order.
 use Rattle.std.specs.Prelude.{ℕ, Bool, true, false, List, [], ◌∷◌, ◌++◌, map, codes, Option, Some, None}
-use Rattle.gpkt.specs.Packets.{Packet, Data, Flush, Delim}
+use Rattle.gpkt.specs.Packets.{Packet, Flush, Delim}
 use Rattle.gname.specs.Ids.{id_text}
 use Rattle.gname.specs.Formats.{format_name}
 use Rattle.gname.specs.declared.formats.Format.{Format}
 use Rattle.gname.specs.declared.formats.Format.TheVariants.{Sha1, Sha256}
-use Rattle.grequest.specs.Arguments.{Command, LsRefs, Fetch, command_name}
+use Rattle.grequest.specs.declared.command.Command.{Command}
+use Rattle.grequest.specs.declared.command.Command.TheVariants.{LsRefs, Fetch}
+use Rattle.grequest.specs.Arguments.{command_name}
+use Rattle.ggrammar.specs.Texts.{text_packet}
 use Rattle.grequest.specs.Asked.{LsRefsAsked, FetchAsked, Asked, Empty, Ls, Fetches}
-
--- a text line ends with a line feed
-abbrev pub text_packet : List ℕ → Packet
-text_packet line = Data (line ++ 10 ∷ [])
 
 abbrev pub command_packet : Command → Packet
 command_packet command = text_packet (codes "command=" ++ command_name command)

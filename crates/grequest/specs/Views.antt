@@ -1,33 +1,19 @@
 -- What a request's texts say, without where their bytes lie in memory.
-use Rattle.grequest.specs.Arguments.{Command, LsRefs, Fetch, CommandText, Known, UnknownCommand, BadCommand}
-use Rattle.grequest.specs.Arguments.{CapabilityText, Agent, ObjectFormat, UnknownCapability, BadCapability}
+use Rattle.grequest.specs.Arguments.{CapabilityForm, Agent, ObjectFormat, OtherCapability, BadCapability}
 use Rattle.grequest.specs.Arguments.{LsArgument, Symrefs, Peel, Unborn, RefPrefix, UnknownLsArgument}
 use Rattle.grequest.specs.Arguments.{FetchArgument, ThinPack, NoProgress, IncludeTag, OfsDelta, Done, Want, Have}
 use Rattle.grequest.specs.Arguments.{UnknownFetchArgument}
-use Rattle.grequest.specs.declared.command.Command.{Command as LentCommand}
-use Rattle.grequest.specs.declared.command.Command.TheVariants as command
-use Rattle.grequest.specs.declared.command.CommandText.{CommandText as LentCommandText}
-use Rattle.grequest.specs.declared.command.CommandText.TheVariants as command_text
-use Rattle.grequest.specs.declared.line.CapabilityText.{CapabilityText as LentCapabilityText}
-use Rattle.grequest.specs.declared.line.CapabilityText.TheVariants as capability
+use Rattle.grequest.specs.declared.line.CapabilityForm.{CapabilityForm as LentCapabilityForm}
+use Rattle.grequest.specs.declared.line.CapabilityForm.TheVariants as capability
 use Rattle.grequest.specs.declared.line.LsArgument.{LsArgument as LentLsArgument}
 use Rattle.grequest.specs.declared.line.LsArgument.TheVariants as ls
 use Rattle.grequest.specs.declared.line.FetchArgument.{FetchArgument as LentFetchArgument}
 use Rattle.grequest.specs.declared.line.FetchArgument.TheVariants as fetch
 
-abbrev pub command_in : LentCommand → Command
-command_in command.LsRefs = LsRefs
-command_in command.Fetch = Fetch
-
-abbrev pub command_text_in : LentCommandText → CommandText
-command_text_in (command_text.Known command) = Known (command_in command)
-command_text_in command_text.Unknown = UnknownCommand
-command_text_in command_text.Bad = BadCommand
-
-abbrev pub capability_in : LentCapabilityText → CapabilityText
+abbrev pub capability_in : LentCapabilityForm → CapabilityForm
 capability_in (capability.Agent value) = Agent value.now
 capability_in (capability.ObjectFormat value) = ObjectFormat value.now
-capability_in capability.Unknown = UnknownCapability
+capability_in capability.Other = OtherCapability
 capability_in capability.Bad = BadCapability
 
 abbrev pub ls_argument_in : LentLsArgument → LsArgument

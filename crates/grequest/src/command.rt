@@ -2,8 +2,7 @@
 
 ghost use Rattle.std.specs.Prelude.{◌≡◌};
 ghost use Rattle.std.specs.Option.{option_copied};
-ghost use Rattle.grequest.specs.Arguments.{command_of_key, command_text};
-ghost use Rattle.grequest.specs.Views.{command_in, command_text_in};
+ghost use Rattle.grequest.specs.Arguments.{command_of_key, command_form};
 
 use ggrammar::{after_word, is_key};
 
@@ -16,34 +15,34 @@ pub(crate) enum Command {
 
 /// The first text of a request.
 #[derive(Clone, Copy, Debug, PartialEq, Eq)]
-pub(crate) enum CommandText {
+pub(crate) enum CommandForm {
     Known(Command),
     /// `command=` and another key.
-    Unknown,
+    Other,
     Bad,
 }
 
 /// What the first text of a request says.
-#[tactic(auto, unfolding(crate::specs::Arguments::command_text))]
-pub(crate) fn command_text(text: &[u8]) -> CommandText
-    ensures { command_text_in result ≡ command_text text.now }
+#[tactic(auto, unfolding(crate::specs::Arguments::command_form))]
+pub(crate) fn command_form(text: &[u8]) -> CommandForm
+    ensures { result ≡ command_form text.now }
 {
     match after_word(b"command=", text) {
         Some(key) => command_of_key(key),
-        None => CommandText::Bad,
+        None => CommandForm::Bad,
     }
 }
 
-fn command_of_key(key: &[u8]) -> CommandText
-    ensures { command_text_in result ≡ command_of_key key.now }
+fn command_of_key(key: &[u8]) -> CommandForm
+    ensures { result ≡ command_of_key key.now }
 {
     if key == b"ls-refs".as_slice() {
-        CommandText::Known(Command::LsRefs)
+        CommandForm::Known(Command::LsRefs)
     } else if key == b"fetch".as_slice() {
-        CommandText::Known(Command::Fetch)
+        CommandForm::Known(Command::Fetch)
     } else if is_key(key) {
-        CommandText::Unknown
+        CommandForm::Other
     } else {
-        CommandText::Bad
+        CommandForm::Bad
     }
 }

@@ -3,9 +3,4 @@
 #![tactic(auto)]
 
 mod command;
-
 mod line;
-
-
-
-

@@ -4,18 +4,18 @@ ghost use Rattle.std.specs.Prelude.{◌≡◌, codes};
 ghost use Rattle.ggrammar.specs.PeerErrors.{after_word};
 ghost use Rattle.std.specs.Option.{option_copied, option_map};
 ghost use Rattle.ggrammar.specs.CapabilityView.{capability_view};
-ghost use Rattle.grequest.specs.Arguments.{agent_with, format_with, known_capability, capability_text, ls_argument, fetch_argument, ref_prefix_or_unknown, want_or_else, have_or_unknown};
+ghost use Rattle.grequest.specs.Arguments.{agent_with, format_with, known_capability, capability_form, ls_argument, fetch_argument, ref_prefix_or_unknown, want_or_else, have_or_unknown};
 ghost use Rattle.grequest.specs.Views.{capability_in, ls_argument_in, fetch_argument_in};
 
 use ggrammar::{Capability, after_word, capability_of, is_word_value};
 
 /// A line of a request's capability list (gitprotocol-v2(5), "agent", "object-format").
 #[derive(Clone, Copy, Debug, PartialEq, Eq)]
-pub(crate) enum CapabilityText<'a> {
+pub(crate) enum CapabilityForm<'a> {
     Agent(&'a [u8]),
     ObjectFormat(&'a [u8]),
     /// A capability with another key.
-    Unknown,
+    Other,
     Bad,
 }
 
@@ -43,17 +43,17 @@ pub(crate) enum FetchArgument<'a> {
 }
 
 /// What a text of the capability list says.
-#[tactic(auto, unfolding(crate::specs::Arguments::capability_text))]
-pub(crate) fn capability_text(text: &[u8]) -> CapabilityText<'_>
-    ensures { capability_in result ≡ capability_text text.now }
+#[tactic(auto, unfolding(crate::specs::Arguments::capability_form))]
+pub(crate) fn capability_form(text: &[u8]) -> CapabilityForm<'_>
+    ensures { capability_in result ≡ capability_form text.now }
 {
     match capability_of(text) {
         Some(capability) => known_capability(&capability),
-        None => CapabilityText::Bad,
+        None => CapabilityForm::Bad,
     }
 }
 
-fn known_capability<'a>(capability: &Capability<'a>) -> CapabilityText<'a>
+fn known_capability<'a>(capability: &Capability<'a>) -> CapabilityForm<'a>
     ensures { capability_in result ≡ known_capability (capability_view capability.now) }
 {
     if capability.key == b"agent".as_slice() {
@@ -61,25 +61,25 @@ fn known_capability<'a>(capability: &Capability<'a>) -> CapabilityText<'a>
     } else if capability.key == b"object-format".as_slice() {
         format_with(capability.value)
     } else {
-        CapabilityText::Unknown
+        CapabilityForm::Other
     }
 }
 
-fn agent_with(value: Option<&[u8]>) -> CapabilityText<'_>
+fn agent_with(value: Option<&[u8]>) -> CapabilityForm<'_>
     ensures { capability_in result ≡ agent_with (option_copied value.entry) }
 {
     match value {
-        Some(value) if is_word_value(value) => CapabilityText::Agent(value),
-        _ => CapabilityText::Bad,
+        Some(value) if is_word_value(value) => CapabilityForm::Agent(value),
+        _ => CapabilityForm::Bad,
     }
 }
 
-fn format_with(value: Option<&[u8]>) -> CapabilityText<'_>
+fn format_with(value: Option<&[u8]>) -> CapabilityForm<'_>
     ensures { capability_in result ≡ format_with (option_copied value.entry) }
 {
     match value {
-        Some(value) => CapabilityText::ObjectFormat(value),
-        None => CapabilityText::Bad,
+        Some(value) => CapabilityForm::ObjectFormat(value),
+        None => CapabilityForm::Bad,
     }
 }
 
