@@ -6,7 +6,7 @@
 --
 -- Keys and values have at most 1,000 bytes here, and a value any printable byte.
 use Rattle.std.specs.Prelude.{ℕ, ◌+◌, Bool, ◌&&◌, ◌||◌, List, length, drop, take, if◌then◌else◌, nat_eq, nat_le}
-use Rattle.std.specs.Prelude.{Option, Some, None, position}
+use Rattle.std.specs.Prelude.{Option, Some, None, position, IfSome, IsTrue}
 use Rattle.std.specs.List.{list_all}
 use Rattle.std.specs.Char.{is_ascii_alphanumeric}
 
@@ -59,3 +59,8 @@ capability_split text (Some at) = key_and_value (take at text) (drop (at + 1) te
 -- the capability that a text is: a key, or a key, the first `=` and a value
 unfoldable pub capability_of : List ℕ → Option Capability
 capability_of text = capability_split text (position is_equals_sign text)
+
+-- a capability that can be written
+pub record IsWellFormed (capability : Capability) : Type 0 where
+  pub key : IsTrue (is_key capability.key)
+  pub value : IfSome capability.value (λ value. IsTrue (is_value value))

@@ -6,7 +6,8 @@ use Rattle.gpkt.specs.Bands.{BandPacket, band_form, Data as BandData, Progress}
 use Rattle.gpkt.specs.declared.fault.BandFault.{BandFault}
 use Rattle.gname.specs.declared.formats.Format.{Format}
 use Rattle.ggrammar.specs.Endings.{ends_with}
-use Rattle.greply.specs.FetchReplies.{Reading, FetchReply, Acks, Ready, Pack, reply_form, ack_id, acks_of, data_of, max_acks, max_packets}
+use Rattle.greply.specs.FetchReplies.{Reading, FetchReply, Acks, Ready, Pack, reply_form, ack_id, acks_of, data_of}
+use Rattle.greply.specs.FetchReplies.{max_acks, max_packets}
 
 -- `ACK ` and an id
 abbrev pub IsAck : Format → List ℕ → Type 0
@@ -54,7 +55,8 @@ pub record IsAckReply (format : Format) (packets : List Packet) (commons : List 
   pub parts : packets ≡ section ++ Flush ∷ []
 
 -- enough is common, and the pack follows
-pub record IsReadyReply (format : Format) (limit : ℕ) (packets : List Packet) (commons : List (List ℕ)) (pack : List ℕ) : Type 0 where
+pub record IsReadyReply (format : Format) (limit : ℕ) (packets : List Packet) (commons : List (List ℕ))
+    (pack : List ℕ) : Type 0 where
   pub section : List Packet
   pub readiness : List ℕ
   pub rest : List Packet
@@ -67,7 +69,8 @@ abbrev pub IsBody : Reading → List Packet → FetchReply → Type 0
 IsBody reading packets (Acks commons) =
     (reading.direct ≡ false)
     × (((commons ≡ []) × IsNakReply reading.format packets) ⊎ IsAckReply reading.format packets commons)
-IsBody reading packets (Ready commons pack) = (reading.direct ≡ false) × IsReadyReply reading.format reading.limit packets commons pack
+IsBody reading packets (Ready commons pack) =
+    (reading.direct ≡ false) × IsReadyReply reading.format reading.limit packets commons pack
 IsBody reading packets (Pack pack) = (reading.direct ≡ true) × IsPackSection reading.limit packets pack
 
 -- the packets are a reply, and say this

@@ -7,7 +7,8 @@
 -- A reply is `direct` where the request had `done` or no have: then it is the pack's section alone. Otherwise the
 -- acknowledgments come first, and the pack follows exactly where they are ready. Where the peer ends each reply
 -- so, a response-end follows the flush.
-use Rattle.std.specs.Prelude.{◌≡◌, ℕ, ◌+◌, ◌≤◌, ◌<◌, Bool, true, false, ◌&&◌, List, [], ◌∷◌, ◌++◌, length, map, if◌then◌else◌, codes, nat_le, nat_lt, Option, Some, None, is_some, Result, Ok, Err}
+use Rattle.std.specs.Prelude.{◌≡◌, ℕ, ◌+◌, ◌≤◌, ◌<◌, Bool, true, false, ◌&&◌, List, [], ◌∷◌, ◌++◌, length, map}
+use Rattle.std.specs.Prelude.{if◌then◌else◌, codes, nat_le, nat_lt, Option, Some, None, is_some, Result, Ok, Err}
 use Rattle.std.specs.List.{filter_map, flat_map, list_any}
 use Rattle.std.specs.Str.{bytes_eq}
 use Rattle.gpkt.specs.Packets.{Packet, Data, Flush, Delim, ResponseEnd, text}
@@ -179,7 +180,8 @@ abbrev pub max_packets : ℕ
 max_packets = 4294967295
 
 abbrev pub judge_ack : Format → State → List ℕ → Verdict
-judge_ack format state id = if is_some (id_of_text format id) then if_room (nat_lt state.acks max_acks) else Refused why.BadId
+judge_ack format state id =
+    if is_some (id_of_text format id) then if_room (nat_lt state.acks max_acks) else Refused why.BadId
 
 abbrev pub judge_acking : Format → State → ReplyForm → Verdict
 judge_acking format state (Ack id) = judge_ack format state id
@@ -287,7 +289,9 @@ pub data IsPieces : List ℕ → List (List ℕ) → Type 0 where
 pub record IsCanonicalPack (pack : List ℕ) (packets : List Packet) : Type 0 where
   pub pieces : List (List ℕ)
   pub are_pieces : IsPieces pack pieces
-  pub parts : packets ≡ text_packet (codes "packfile") ∷ (map (λ bytes. Data (band_payload (BandData bytes))) pieces ++ Flush ∷ [])
+  pub parts :
+      packets
+      ≡ text_packet (codes "packfile") ∷ (map (λ bytes. Data (band_payload (BandData bytes))) pieces ++ Flush ∷ [])
 
 abbrev pub heading : Packet
 heading = text_packet (codes "acknowledgments")

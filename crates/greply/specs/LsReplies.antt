@@ -1,7 +1,8 @@
 -- The reply to ls-refs as a list of packet lines: what it says, what is refused at each place and why, and the
 -- lines that are written. Where the peer ends each reply so, a response-end follows the flush
 -- (gitprotocol-v2(5), "Packet-Line Framing": 0002).
-use Rattle.std.specs.Prelude.{◌≡◌, ℕ, Bool, true, false, List, [], ◌∷◌, ◌++◌, length, map, if◌then◌else◌, nat_lt, ◌==◌, Option, Some, None, Result, Ok, Err}
+use Rattle.std.specs.Prelude.{◌≡◌, ℕ, Bool, true, false, List, [], ◌∷◌, ◌++◌, length, map, if◌then◌else◌, nat_lt}
+use Rattle.std.specs.Prelude.{◌==◌, Option, Some, None, Result, Ok, Err}
 use Rattle.std.specs.List.{filter_map, list_any}
 use Rattle.gpkt.specs.Packets.{Packet, Data, Flush, Delim, ResponseEnd, text}
 use Rattle.gname.specs.declared.formats.Format.{Format}
@@ -74,7 +75,8 @@ within_limit count verdict = verdict
 
 abbrev pub judge_text : Format → ℕ → List ℕ → Verdict
 judge_text format count line =
-    within_limit count (if count == 0 then judge_first format line (first_form line) else judge_line (line_of format line))
+    within_limit count
+    (if count == 0 then judge_first format line (first_form line) else judge_line (line_of format line))
 
 -- before the flush
 abbrev pub judge_body : Format → Ends → ℕ → Packet → Verdict

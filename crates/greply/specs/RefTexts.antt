@@ -81,7 +81,8 @@ with_attribute format line UnknownAttribute = Err BadText
 abbrev pub with_attributes : Format → Result RefLine Why → List (List ℕ) → Result RefLine Why
 with_attributes format (Err why) parts = Err why
 with_attributes format (Ok line) [] = Ok line
-with_attributes format (Ok line) (part ∷ parts) = with_attributes format (with_attribute format line (attribute_of part)) parts
+with_attributes format (Ok line) (part ∷ parts) =
+    with_attributes format (with_attribute format line (attribute_of part)) parts
 
 abbrev pub line_with_name : Format → List ℕ → List (List ℕ) → Result RefLine Why
 line_with_name format id [] = Err BadText

@@ -4,7 +4,8 @@
 --   protocol-version = PKT-LINE("version 2" LF)
 --   capability-list = *capability
 --   capability = PKT-LINE(key[=value] LF)
-use Rattle.std.specs.Prelude.{◌≡◌, ℕ, ◌≤◌, Bool, false, List, [], ◌∷◌, ◌++◌, length, map, codes, if◌then◌else◌, ◌==◌, nat_lt, Option, Some, None}
+use Rattle.std.specs.Prelude.{◌≡◌, ℕ, ◌≤◌, Bool, false, List, [], ◌∷◌, ◌++◌, length, map, codes, if◌then◌else◌, ◌==◌}
+use Rattle.std.specs.Prelude.{nat_lt, Option, Some, None}
 use Rattle.std.specs.List.{filter_map, list_any}
 use Rattle.std.specs.Str.{bytes_eq}
 use Rattle.gpkt.specs.Packets.{Packet, Data, Flush, Delim, ResponseEnd, text}
@@ -98,7 +99,8 @@ has_key key capability = bytes_eq capability.key key
 -- the first capability with a key
 abbrev pub first_with : List ℕ → List Capability → Option Capability
 first_with key [] = None
-first_with key (capability ∷ capabilities) = if has_key key capability then Some capability else first_with key capabilities
+first_with key (capability ∷ capabilities) =
+    if has_key key capability then Some capability else first_with key capabilities
 
 -- an advertisement without `object-format` is for sha1; one without a value names none
 abbrev pub named_format : Option Capability → Option (List ℕ)
@@ -114,6 +116,7 @@ abbrev pub check_fault : Format → List Capability → Option Why
 check_fault format capabilities =
     if list_any (has_key (codes "ls-refs")) capabilities
     then (if list_any (has_key (codes "fetch")) capabilities
-    then (if names_format format (named_format (first_with (codes "object-format") capabilities)) then None else Some why.Format)
+    then (if names_format format (named_format (first_with (codes "object-format") capabilities))
+    then None else Some why.Format)
     else Some why.UnknownCommand)
     else Some why.UnknownCommand

@@ -7,5 +7,6 @@ pub mod RequestLines
 pub mod Manual
 pub mod Requests
 pub mod RequestWriting
+pub mod WellFormed
 pub use Rattle.ggrammar.specs.Grammar
 pub use Rattle.ggrammar.specs.MessageReading

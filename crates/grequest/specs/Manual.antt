@@ -54,7 +54,8 @@ IsArgument format Fetch line = IsFetchArgument format (fetch_argument line)
 -- so many prefixes, wants and haves at most
 abbrev pub AreFew : Format → Command → List (List ℕ) → Type 0
 AreFew format LsRefs arguments = length (prefixes arguments) ≤ max_prefixes
-AreFew format Fetch arguments = (length (wants format arguments) ≤ max_wants) × (length (haves format arguments) ≤ max_haves)
+AreFew format Fetch arguments =
+    (length (wants format arguments) ≤ max_wants) × (length (haves format arguments) ≤ max_haves)
 
 -- the arguments' section, which may be left out where there are none
 abbrev pub IsSection : List (List ℕ) → List Packet → Type 0

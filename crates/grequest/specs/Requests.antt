@@ -1,6 +1,7 @@
 -- A request's grammar with its reasons: what is refused at each place, and why. The lines before a packet count
 -- only by what is in `State`.
-use Rattle.std.specs.Prelude.{◌≡◌, ℕ, Bool, true, false, ◌&&◌, List, [], length, if◌then◌else◌, nat_lt, ◌==◌, Option, None, is_none, is_some}
+use Rattle.std.specs.Prelude.{◌≡◌, ℕ, Bool, true, false, ◌&&◌, List, [], length, if◌then◌else◌, nat_lt, ◌==◌, Option}
+use Rattle.std.specs.Prelude.{None, is_none, is_some}
 use Rattle.gpkt.specs.Packets.{Packet, Data, Flush, Delim, ResponseEnd, text}
 use Rattle.gname.specs.Names.{prefix_fault}
 use Rattle.gname.specs.Formats.{format_name}
