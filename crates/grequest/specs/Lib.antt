@@ -6,6 +6,7 @@ pub mod Views
 pub mod RequestLines
 pub mod Manual
 pub mod Requests
+pub mod RequestState
 pub mod RequestWriting
 pub mod WellFormed
 pub use Rattle.ggrammar.specs.Grammar
