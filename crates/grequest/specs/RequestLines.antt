@@ -1,4 +1,5 @@
 -- What the lines of a request say: where each stands, and what all lines of a kind say together.
+use Rattle.std.specs.Prelude.{true, false}
 use Rattle.std.specs.Prelude.{ℕ, Bool, List, [], ◌∷◌, codes, Option, Some, None}
 use Rattle.std.specs.List.{filter_map, list_any}
 use Rattle.gpkt.specs.Packets.{Packet, Data, Flush, Delim, ResponseEnd, text}
@@ -9,10 +10,10 @@ use Rattle.grequest.specs.declared.command.Command.{Command}
 use Rattle.grequest.specs.declared.command.Command.TheVariants.{LsRefs, Fetch}
 use Rattle.grequest.specs.declared.command.CommandForm.{CommandForm}
 use Rattle.grequest.specs.declared.command.CommandForm.TheVariants.{Known, Other as OtherCommand, Bad as BadCommand}
-use Rattle.grequest.specs.Arguments.{command_form}
-use Rattle.grequest.specs.Arguments.{CapabilityForm, Agent, ObjectFormat}
-use Rattle.grequest.specs.Arguments.{capability_form, LsArgument, RefPrefix}
-use Rattle.grequest.specs.Arguments.{ls_argument, FetchArgument, Want, Have, fetch_argument, is_word}
+use Rattle.grequest.specs.Arguments.{command_form, CapabilityForm, Agent, ObjectFormat, capability_form}
+use Rattle.grequest.specs.Arguments.{LsArgument, Symrefs, Peel, Unborn, RefPrefix, ls_argument}
+use Rattle.grequest.specs.Arguments.{FetchArgument, ThinPack, NoProgress, IncludeTag, OfsDelta, Done, Want, Have}
+use Rattle.grequest.specs.Arguments.{fetch_argument}
 use Rattle.grequest.specs.Asked.{LsRefsAsked, FetchAsked, Asked, Empty, Ls, Fetches}
 
 -- ---- where a packet stands
@@ -97,8 +98,46 @@ wants format texts = filter_map (λ line. want_value format (fetch_argument line
 abbrev pub haves : Format → List (List ℕ) → List (List ℕ)
 haves format texts = filter_map (λ line. have_value format (fetch_argument line)) texts
 
-abbrev pub has_word : List ℕ → List (List ℕ) → Bool
-has_word word texts = list_any (is_word word) texts
+-- ---- flags
+
+abbrev pub is_symrefs : LsArgument → Bool
+is_symrefs Symrefs = true
+is_symrefs _ = false
+
+abbrev pub is_peel : LsArgument → Bool
+is_peel Peel = true
+is_peel _ = false
+
+abbrev pub is_unborn : LsArgument → Bool
+is_unborn Unborn = true
+is_unborn _ = false
+
+abbrev pub is_thin_pack : FetchArgument → Bool
+is_thin_pack ThinPack = true
+is_thin_pack _ = false
+
+abbrev pub is_no_progress : FetchArgument → Bool
+is_no_progress NoProgress = true
+is_no_progress _ = false
+
+abbrev pub is_include_tag : FetchArgument → Bool
+is_include_tag IncludeTag = true
+is_include_tag _ = false
+
+abbrev pub is_ofs_delta : FetchArgument → Bool
+is_ofs_delta OfsDelta = true
+is_ofs_delta _ = false
+
+abbrev pub is_done : FetchArgument → Bool
+is_done Done = true
+is_done _ = false
+
+-- an argument of ls-refs, and one of fetch, is among the texts
+abbrev pub has_ls_argument : (LsArgument → Bool) → List (List ℕ) → Bool
+has_ls_argument is_it texts = list_any (λ line. is_it (ls_argument line)) texts
+
+abbrev pub has_fetch_argument : (FetchArgument → Bool) → List (List ℕ) → Bool
+has_fetch_argument is_it texts = list_any (λ line. is_it (fetch_argument line)) texts
 
 abbrev pub first_of : List (List ℕ) → Option (List ℕ)
 first_of [] = None
@@ -109,9 +148,9 @@ first_of (x ∷ xs) = Some x
 abbrev pub ls_refs_asked : List (List ℕ) → List (List ℕ) → LsRefsAsked
 ls_refs_asked capabilities arguments = record {
   agent = first_of (agents capabilities);
-  symrefs = has_word (codes "symrefs") arguments;
-  peel = has_word (codes "peel") arguments;
-  unborn = has_word (codes "unborn") arguments;
+  symrefs = has_ls_argument is_symrefs arguments;
+  peel = has_ls_argument is_peel arguments;
+  unborn = has_ls_argument is_unborn arguments;
   prefixes = prefixes arguments;
 }
 
@@ -120,11 +159,11 @@ fetch_asked format capabilities arguments = record {
   agent = first_of (agents capabilities);
   wants = wants format arguments;
   haves = haves format arguments;
-  done = has_word (codes "done") arguments;
-  thin_pack = has_word (codes "thin-pack") arguments;
-  no_progress = has_word (codes "no-progress") arguments;
-  include_tag = has_word (codes "include-tag") arguments;
-  ofs_delta = has_word (codes "ofs-delta") arguments;
+  done = has_fetch_argument is_done arguments;
+  thin_pack = has_fetch_argument is_thin_pack arguments;
+  no_progress = has_fetch_argument is_no_progress arguments;
+  include_tag = has_fetch_argument is_include_tag arguments;
+  ofs_delta = has_fetch_argument is_ofs_delta arguments;
 }
 
 abbrev pub asked_by : Format → Command → List (List ℕ) → List (List ℕ) → Asked
