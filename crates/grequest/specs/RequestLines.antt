@@ -1,6 +1,6 @@
 -- What the lines of a request say: where each stands, and what all lines of a kind say together.
 use Rattle.std.specs.Prelude.{true, false}
-use Rattle.std.specs.Prelude.{ℕ, Bool, List, [], ◌∷◌, codes, Option, Some, None}
+use Rattle.std.specs.Prelude.{ℕ, Bool, List, [], ◌∷◌, Option, Some, None}
 use Rattle.std.specs.List.{filter_map, list_any}
 use Rattle.gpkt.specs.Packets.{Packet, Data, Flush, Delim, ResponseEnd, text}
 use Rattle.gname.specs.declared.formats.Format.{Format}
