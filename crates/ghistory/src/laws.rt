@@ -100,8 +100,8 @@ pub fn sent_are_entries<A: Allocator + Copy>()
     gname::laws::ids_have_one_format();
 }
 
-/// What a server sends makes the wants whole at the client. No parent is missing in the server's graph, the
-/// graphs agree, the server's holds the wants, and the client's holds the whole ancestries of the common
+/// What a server sends completes the ancestries of the wants at the client. No parent is missing in the
+/// server's graph, the graphs agree, the server's holds the wants, and the client's holds the whole ancestries of the common
 /// ids. Once a list to send is inserted into the client's graph, it holds the whole ancestries of the
 /// wants, and all that they reach in the server's.
 pub fn sending_is_enough<A: Allocator + Copy>()

@@ -15,8 +15,8 @@
 //! - `first_absent` answers the first of some ids that is not held.
 //! - `laws` speak of all graphs and lists: of reaching, of whole ancestries, of graphs that grow, of graphs
 //!   that agree and what they refuse of each other, of places, of peeling, of how many ids are reached, of
-//!   the levels about some tips, of the ids to offer, and that a list to send, once it is inserted, makes
-//!   the wants whole at the client.
+//!   the levels about some tips, of the ids to offer, and that a list to send, once it is inserted,
+//!   completes the ancestries of the wants at the client.
 //!
 //! # Only tested
 //!

@@ -1,4 +1,4 @@
-// The ids of entries are object ids. The calls here do nothing: their contracts give callers the fact.
+// The ids of entries are object ids. The calls here change nothing: their contracts give callers the fact.
 #![tactic(auto)]
 
 ghost use Rattle.std.specs.Prelude.{All};

@@ -18,8 +18,8 @@
 //!
 //! # What a body can still get away with
 //!
-//! It may look at an object more often than once, and use more memory than it needs: a pass clears a byte or two
-//! for each object up to the last id that it starts from, whether it gets there or not. It may report out of
+//! It may look at an object more often than once, and use more memory than it needs: a pass clears up to three
+//! bytes for each object up to the last id that it starts from, whether it gets there or not. It may report out of
 //! memory at any time.
 //!
 //! # Stands on
