@@ -139,8 +139,8 @@ abbrev pub HasAll : {A : Type 0} → List (Entry A) → List (List ℕ) → List
 HasAll s wants h = All (λ want. IsFull h want × ((a : List ℕ) → Reaches s want a → Holds h a)) wants
 
 -- what a server's graph `s` sends to a client's graph `c` completes the ancestries of the wants there. No parent is
--- missing in `s`, the two agree, `s` holds the wants, and the common ids are full in `c`: once a list to send comes in, the wants are full,
--- and all that they reach in `s` is held
+-- missing in `s`, the two agree, `s` holds the wants, and the common ids are full in `c`: once a list to send comes in,
+-- the wants are full, and all that they reach in `s` is held
 abbrev pub SendingIsEnough : Type 0 → Type 0
 SendingIsEnough A =
     (s c list new : List (Entry A)) (wants commons tips : List (List ℕ)) (format : Format)

@@ -108,6 +108,7 @@ impl<A: Allocator + Copy> Refs<A> {
         requires room { length self.old < max_refs }
         ensures ok { OnOk result (self.new ≡ self.old ++ (name, id) ∷ []) }
         ensures err { OnErr result (self.new ≡ self.old) }
+        ensures refs { IsRefs self.new }
     {
         self.refs.push((name, id))?;
         Ok(())
@@ -124,6 +125,7 @@ impl<A: Allocator + Copy> Refs<A> {
         ensures refused { IsErrOf result RefsFault.Refs ↔ CannotSet self.old name }
         ensures faults { IfErr result (λ fault. (fault ≡ RefsFault.Refs) ⊎ (fault ≡ RefsFault.Memory)) }
         ensures err { OnErr result (self.new ≡ self.old) }
+        ensures refs { IsRefs self.new }
     {
         names_are_clean();
         let count = self.refs.len();

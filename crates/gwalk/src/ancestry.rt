@@ -1,9 +1,8 @@
 // What is missing of the ancestries of some ids.
 #![tactic(auto)]
 
-ghost use Rattle.std.specs.Prelude.{◌≡◌, IfOk, IfErr, MatchOption, All, Contains, None};
-ghost use Rattle.gobject.specs.Objects.{node_at};
-ghost use Rattle.ghistory.specs.Graphs.{Holds};
+ghost use Rattle.std.specs.Prelude.{◌≡◌, IfOk, IfErr, IsTrue, is_ok};
+ghost use Rattle.ghistory.specs.Graphs.{IsOrdered};
 ghost use Rattle.ghistory.specs.Walks.{Misses, CountsReached};
 ghost use Rattle.ghistory.specs.declared.fault.GraphFault.TheVariants.{Memory};
 ghost use Rattle.gwalk.specs.Marks.{AreFull, stop_at};
@@ -32,12 +31,13 @@ pub fn missing<A: Allocator + Copy>(
     ids: &[Oid],
 ) -> Result<Option<Oid>, GraphFault>
     ensures answer { IfOk result (Misses graph.now.entries ids.now) }
+    ensures sure { IsOrdered graph.now.entries → IsTrue (is_ok result) }
     ensures fault { IfErr result (λ fault. fault ≡ Memory) }
 {
     if graph.is_ordered() {
         ghistory::laws::ordered_is_closed::<A>();
         ghistory::laws::closed_is_full::<A>();
-        return Ok(first_absent(graph, ids));
+        return Ok(graph.first_absent(ids));
     }
     let (missing, _count) = missing_counted(graph, ids)?;
     Ok(missing)
@@ -78,17 +78,4 @@ pub fn missing_known<A: Allocator + Copy>(
         parents: walk.parents,
     };
     Ok((walk.lost, count))
-}
-
-// The first of the ids that is not held.
-fn first_absent<A: Allocator + Copy>(graph: &Graph<A>, ids: &[Oid]) -> Option<Oid>
-    ensures { MatchOption result (All (Holds graph.now.entries) ids.now) (λ id.
-        Contains ids.now id × (node_at graph.now.entries id ≡ None)) }
-{
-    for id in ids {
-        if !graph.contains(id) {
-            return Some(*id);
-        }
-    }
-    None
 }
