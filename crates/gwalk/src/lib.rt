@@ -4,7 +4,7 @@
 //! # Proved
 //!
 //! - [`missing`] answers `None` where the whole ancestry of each id is held, and else an id that one of the
-//!   given ids reaches and that is not held.
+//!   given ids reaches and that is not held. In an ordered graph it never reports that memory is missing.
 //! - [`missing_counted`] answers the same, and exactly how many held ids the given ones reach, with how many
 //!   parents. No id counts twice.
 //! - [`mark_full`] marks the ids that the given ones reach, and leaves all other marks. Where there is no
@@ -21,14 +21,14 @@
 //!
 //! # Only tested
 //!
-//! That memory which is there is used, that `missing` takes none in an ordered graph, and that a walk takes
+//! That memory which is there is used, and that a walk takes
 //! time linear in the objects and parents that it meets. That `ready` walks no further from a want than to a
 //! common id, and `haves` no further than to the level where it has enough.
 //!
 //! # What a body can still get away with
 //!
-//! Where several ids are missing it may answer any. It may report out of memory as often as it likes. It may
-//! take as long as it likes, and more memory than it needs.
+//! Where several ids are missing it may answer any. It may report out of memory as often as it likes, but
+//! where it is proved that a call does not. It may take as long as it likes, and more memory than it needs.
 //!
 //! # Stands on
 //!
