@@ -1,0 +1,20 @@
+-- The reply to fetch without its pack, which goes to a sink piece by piece.
+use Rattle.std.specs.Prelude.{ℕ, List, []}
+use Rattle.gfetchreply.specs.FetchReplies.{FetchReply}
+use Rattle.gfetchreply.specs.FetchReplies as reply
+
+pub data FetchHead : Type 0 where
+  Acks : (commons : List (List ℕ)) → FetchHead
+  Ready : (commons : List (List ℕ)) → FetchHead
+  Pack : FetchHead
+
+abbrev pub head_of : FetchReply → FetchHead
+head_of (reply.Acks commons) = Acks commons
+head_of (reply.Ready commons pack) = Ready commons
+head_of (reply.Pack pack) = Pack
+
+-- the pack, which is empty where none comes
+abbrev pub pack_of : FetchReply → List ℕ
+pack_of (reply.Acks commons) = []
+pack_of (reply.Ready commons pack) = pack
+pack_of (reply.Pack pack) = pack

@@ -1,0 +1,7 @@
+pub mod FetchReplies
+pub mod FetchManual
+pub mod FetchHeads
+pub mod PackSinks
+pub mod WellFormed
+pub use Rattle.ggrammar.specs.Grammar
+pub use Rattle.ggrammar.specs.MessageReading

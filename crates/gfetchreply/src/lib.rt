@@ -1,0 +1,6 @@
+//! The reply to fetch.
+#![tactic(auto)]
+
+mod sink;
+
+pub use crate::sink::PackSink;

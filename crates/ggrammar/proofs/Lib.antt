@@ -1,0 +1,3 @@
+pub mod GrammarLemmas
+pub mod ReadingLemmas
+pub mod IdLemmas

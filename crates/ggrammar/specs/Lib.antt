@@ -1,0 +1,13 @@
+pub mod Grammar
+pub mod MessageReading
+pub mod Faults
+pub mod PeerErrors
+pub mod Capabilities
+pub mod Ids
+pub mod Endings
+pub mod Texts
+pub mod Places
+pub mod CapabilityView
+pub use Rattle.gpkt.specs.Packets
+pub use Rattle.gpkt.specs.Change
+pub use Rattle.gpkt.specs.LineReading

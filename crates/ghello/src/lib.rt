@@ -1,0 +1,2 @@
+//! What opens a connection: the first line of the client, and the advertisement of the server.
+#![tactic(auto)]

@@ -1,0 +1,2 @@
+//! The reply to ls-refs.
+#![tactic(auto)]

@@ -1,0 +1,5 @@
+//! Requests: what a client asks, read and written.
+#![tactic(auto)]
+
+mod command;
+mod line;
