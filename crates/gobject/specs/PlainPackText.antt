@@ -130,7 +130,8 @@ IsBadLine A bytes at =
     (lines : List (List ℕ)) × (at ≡ length lines + 1) × BeginsPack A lines
     × (IsWrongLine A bytes lines ⊎ EndsEarly A bytes lines)
 
--- lines that begin a pack are followed by a line of an entry, or by the ids at its beginning: there is an entry to keep
+-- lines that begin a pack are followed by a line of an entry, or by its beginning with a parent: there is something to
+-- keep
 pub record TakesMemory (A : Type 0) (bytes : List ℕ) : Type 0 where
   pub nodes : List (List ℕ)
   pub list : List (Entry A)
@@ -141,7 +142,7 @@ pub record TakesMemory (A : Type 0) (bytes : List ℕ) : Type 0 where
   pub parts : bytes ≡ text_of (header ∷ nodes) ++ (text ++ end ∷ rest)
   pub before : AreNodeTexts nodes list
   pub node : IsNodeText text entry
-  pub ends : (end ≡ 32) ⊎ (end ≡ 10)
+  pub ends : ((end ≡ 32) × (entry.node.parents ≢ [])) ⊎ (end ≡ 10)
 
 -- why bytes are not read: a line is wrong, or there is no memory for an entry
 abbrev pub IndexRefuses : (A : Type 0) → List ℕ → IndexFault → Type 0
