@@ -174,23 +174,10 @@ fn copy_refs<A: Allocator + Copy>(
 {
     let mut copies = Vec::new(alloc);
     for pair in refs {
-        let name = copy_name(alloc, &pair.0)?;
+        let name = pair.0.copy_in(alloc)?;
         copies.push((name, pair.1))?;
     }
     Ok(copies)
-}
-
-/// A name like this one. It fails where there is no memory.
-pub(crate) fn copy_name<A: Allocator + Copy>(
-    alloc: A,
-    name: &RefName<A>,
-) -> Result<RefName<A>, AllocError>
-    ensures { IfOk result (λ copy. copy ≡ name.now) }
-{
-    match RefName::new(alloc, name.as_bytes()) {
-        Ok(copy) => Ok(copy),
-        Err(_) => Err(AllocError),
-    }
 }
 
 // Where the name is, or where it would go.
