@@ -1,8 +1,9 @@
 -- Refs over a graph.
-use Rattle.std.proofs.Common.{◌≡◌, inl, inr, ◌⊎◌, ℕ, List, [], ◌∷◌, Bool, true, false, Some, None, refl, sym, ap, ◌∙◌, subst, Option, IsTrue, ◌↔◌, not, All, Contains}
+use Rattle.std.proofs.Common.{◌≡◌, inl, inr, ◌⊎◌, ℕ, ◌+◌, zero, suc, take, drop, slice_get, List, [], ◌∷◌, ◌++◌, Bool, true, false, Some, None, refl, sym, ap, ◌∙◌, subst, Option, IsTrue, ◌↔◌, not, All, Contains}
 use Rattle.std.specs.Option.{is_some}
 use Rattle.std.specs.Map.{values_of}
 use Rattle.std.proofs.lemmas.Bool.{false≢true}
+use Rattle.std.proofs.lemmas.Option.{none-some, same_Some}
 use Rattle.std.proofs.lemmas.List.Elements.{All-nil, All-cons, All-head, All-tail, All-contains}
 use Rattle.gobject.specs.declared.node.Entry.{Entry}
 use Rattle.ghistory.specs.Graphs.{Holds}
@@ -56,7 +57,7 @@ module _ {A : Type 0} where
   setting_stays_safe g old new name id safe full sets = from_each g old name id safe full new sets.each
 
 -- a list at one of its places
-pub split_there : {X : Type 0} (xs : List X) (place : ℕ) (x : X) → slice_get xs place ≡ Some x → xs ≡ take place xs ++ x ∷ drop (place + 1) xs
-split_there [] place x at = absurd (none-some x at)
-split_there (y ∷ xs) zero x at = ap (λ (z : X). z ∷ xs) (same_Some y x at)
-split_there (y ∷ xs) (suc place) x at = ap (λ (zs : List X). y ∷ zs) (split_there xs place x at)
+pub split_there : {X : Type 0} (xs : List X) (place : ℕ) (x : X) → slice_get xs place ≡ Some x → xs ≡ take place xs ++ x ∷ drop (suc place) xs
+split_there {X} [] place x at = absurd (none-some x at)
+split_there {X} (y ∷ xs) zero x at = ap (λ (z : X). z ∷ xs) (same_Some y x at)
+split_there {X} (y ∷ xs) (suc place) x at = ap (λ (zs : List X). y ∷ zs) (split_there xs place x at)

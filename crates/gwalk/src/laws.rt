@@ -3,7 +3,7 @@
 
 ghost use Rattle.gwalk.specs.Marks.{CoveringStays, MarksStayFull};
 
-use ghistory::laws::{full_stays_full, growing_keeps, places_are_nodes};
+use ghistory::laws::{full_stays_full, growing_keeps};
 use std::alloc::Allocator;
 
 /// Where objects only came to a graph, marks of ids whose whole ancestry was held are such marks yet.
@@ -21,5 +21,4 @@ pub fn covering_stays<A: Allocator + Copy>()
 {
     full_stays_full::<A>();
     growing_keeps::<A>();
-    places_are_nodes::<A>();
 }
