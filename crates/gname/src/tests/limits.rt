@@ -1,6 +1,7 @@
 //! Each limit met, and passed by one.
 use crate::{MAX_ID_TEXT, MAX_NAME, MAX_PACK, NameFault, Prefix, RefName, laws};
 use std::alloc::Global;
+use std::process::Abort;
 use std::test::Fail;
 
 #[test]
@@ -87,32 +88,44 @@ fn fault_of(len: usize) -> Option<NameFault> {
     }
 }
 
+// A name is made of the text, and copies of it have its bytes; or the fault is that of its length.
+fn check_length(rt: &impl Abort, alloc: Global, text: &[u8]) -> Result<(), Fail> {
+    let len = text.len();
+    match RefName::new(alloc, text) {
+        Ok(name) => {
+            assert!(rt; fault_of(len).is_none(), "{len}");
+            assert!(rt; name.as_bytes() == text, "{len}");
+            assert!(rt; name.clone()?.as_bytes() == text, "{len}");
+            assert!(rt; name.copy_in(alloc)?.as_bytes() == text, "{len}");
+        }
+        Err(fault) => assert_eq!(rt; Some(fault), fault_of(len), "{len}"),
+    }
+    Ok(())
+}
+
 #[test]
 fn names_have_every_length(rt: HostRuntime) -> Result<(), Fail> {
-    let text = long_text(rt.alloc(), 1_001, b'z')?;
-    for len in 0..=1_001 {
-        let text = &text.as_slice()[..len];
-        match RefName::new(rt.alloc(), text) {
-            Ok(name) => {
-                assert!(rt; fault_of(len).is_none(), "{len}");
-                assert!(rt; name.as_bytes() == text, "{len}");
-                assert!(rt; name.clone()?.as_bytes() == text, "{len}");
-                assert!(rt; name.copy_in(rt.alloc())?.as_bytes() == text, "{len}");
-            }
-            Err(fault) => assert_eq!(rt; Some(fault), fault_of(len), "{len}"),
-        }
+    let mut text = Vec::new(rt.alloc());
+    check_length(&rt, rt.alloc(), text.as_slice())?;
+    for place in 0..=1_000 {
+        text.push(b"refs/".get(place).copied().unwrap_or(b'z'))?;
+        check_length(&rt, rt.alloc(), text.as_slice())?;
     }
     Ok(())
 }
 
 #[test]
 fn prefixes_have_every_length(rt: HostRuntime) -> Result<(), Fail> {
-    let text = long_text(rt.alloc(), 1_000, b'z')?;
+    let mut text = Vec::new(rt.alloc());
     for len in 0..=1_000 {
-        let text = &text.as_slice()[..len];
-        let prefix = Prefix::new(rt.alloc(), text)?;
-        assert!(rt; prefix.as_bytes() == text, "{len}");
-        assert!(rt; prefix.clone()?.as_bytes() == text, "{len}");
+        let prefix = Prefix::new(rt.alloc(), text.as_slice())?;
+        assert!(rt; prefix.as_bytes() == text.as_slice(), "{len}");
+        assert!(rt; prefix.clone()?.as_bytes() == text.as_slice(), "{len}");
+        text.push(b'z')?;
     }
+    assert_eq!(rt;
+        Prefix::new(rt.alloc(), text.as_slice()).err(),
+        Some(NameFault::TooLong)
+    );
     Ok(())
 }
