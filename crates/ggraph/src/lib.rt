@@ -46,7 +46,7 @@ pub use crate::text::{Order, Repository, load, save};
 pub use ghistory::{Graph, GraphFault, IdHasher, MAX_NODES, laws as graph_laws};
 pub use gobject::{
     Entry, Faithful, IndexFault, Indexer, Kind, MAX_PARENTS, Node, PackFault, Packer, Parents,
-    PlainPack, have_ids,
+    PlainPack,
 };
 pub use grefs::{Head, MAX_REFS, Refs, RefsFault, Target, is_below_refs};
 pub use gwalk::{
