@@ -82,4 +82,5 @@ AcceptsText A order text result =
 -- in what is loaded with parents first, each parent of a node came before it
 abbrev pub ParentsFirstIsOrdered : Type 0 → Type 0
 ParentsFirstIsOrdered A =
-    (graph : History A) (refs : RefList) (head : Head A) → IsLoadable ParentsFirst graph refs head → IsOrdered graph.entries
+    (graph : History A) (refs : RefList) (head : Head A) → IsLoadable ParentsFirst graph refs head
+    → IsOrdered graph.entries

@@ -31,6 +31,6 @@ covering_stays {A} keeps law g h ids marks grows differ full covers place entry 
     let was = place_at g entry.id (whole entry.id path) in
     let there = subst (λ (l : List (Entry A)). slice_get l was.0 ≡ Some was.1) (sym grows.1) (slice_in_front g grows.0 was.0 was.1 was.2) in
     let same : was.0 ≡ place =
-        same_Some was.0 place (sym (own_place h was.0 was.1 differ there) ∙ ap (place_of h) was.3 ∙ own_place h place entry differ at) in
+    same_Some was.0 place (sym (own_place h was.0 was.1 differ there) ∙ ap (place_of h) was.3 ∙ own_place h place entry differ at) in
     subst (λ (p : ℕ). slice_index_or marks p false ≡ true) same
-        (covers was.0 was.1 was.2 (a, reaches.1, subst (λ (b : List ℕ). Reaches g a b) (sym was.3) path))
+    (covers was.0 was.1 was.2 (a, reaches.1, subst (λ (b : List ℕ). Reaches g a b) (sym was.3) path))
