@@ -12,5 +12,4 @@ pub mod ReplyLemmas
 pub mod AnswerLemmas
 pub mod ExchangeLemmas
 pub mod RepositoryLemmas
-pub mod CheckLemmas
 pub mod ProgramLemmas

@@ -1,7 +1,6 @@
 //! `gitv2 check`, as a function over bytes and devices.
 
-ghost use Rattle.std.specs.Prelude.{◌≡◌, ◌+◌, ◌≤◌, ◌++◌, ◌↔◌, [], length, IfErr, IfOk, IsTrue, map};
-ghost use Rattle.ggraph.specs.SafeRefs.{IsSafe};
+ghost use Rattle.std.specs.Prelude.{◌≡◌, ◌+◌, ◌≤◌, ◌++◌, [], length, IfErr, IfOk};
 ghost use Rattle.gcmd.specs.Commands.{report_line, yes_or_no, Checks, HasChecked, IsReport};
 ghost use Rattle.gcmd.specs.Sending.{output_of, HasSent};
 
@@ -10,10 +9,9 @@ use crate::print::FaultLine;
 use crate::program::fail;
 use crate::send::send;
 use arrayvec::ArrayVec;
-use ggraph::{LoadFault, Order, Repository, load, missing};
-use gname::{Oid, RefName};
+use ggraph::{GraphFault, LoadFault, Order, Repository, is_safe, load};
 use gpkt::{Down, Sink};
-use std::alloc::{AllocError, Allocator};
+use std::alloc::Allocator;
 
 /// The most bytes of a report: its words, and two numbers of 20.
 const MAX_REPORT: usize = 76;
@@ -64,7 +62,7 @@ fn check<A: Allocator + Copy, W: Sink>(
         Ok(repo) => repo,
         Err(fault) => return Err(CheckFault::Text(fault)),
     };
-    let report = match report_of(alloc, &repo) {
+    let report = match report_of(&repo) {
         Ok(report) => report,
         Err(_) => return Err(CheckFault::Memory),
     };
@@ -83,10 +81,10 @@ struct Report {
     safe: bool,
 }
 
-fn report_of<A: Allocator + Copy>(alloc: A, repo: &Repository<A>) -> Result<Report, AllocError>
+fn report_of<A: Allocator + Copy>(repo: &Repository<A>) -> Result<Report, GraphFault>
     ensures report { IfOk result (IsReport repo.now) }
 {
-    let safe = is_safe(alloc, repo)?;
+    let safe = is_safe(&repo.graph, &repo.refs)?;
     Ok(Report {
         nodes: repo.graph.len(),
         refs: repo.refs.len(),
@@ -124,31 +122,4 @@ fn yes_or_no(holds: bool) -> &'static [u8]
     ensures short { length result.now ≤ 3 }
 {
     if holds { b"yes" } else { b"no" }
-}
-
-// Whether every object that a ref reaches is one of the graph's.
-fn is_safe<A: Allocator + Copy>(alloc: A, repo: &Repository<A>) -> Result<bool, AllocError>
-    ensures safe { IfOk result (λ safe. IsTrue safe ↔ IsSafe repo.now.graph.entries repo.now.refs) }
-{
-    let refs = repo.refs.as_slice();
-    let tips = tips_of(alloc, refs)?;
-    let ids = tips.as_slice();
-    match missing(&repo.graph, ids) {
-        Ok(missing) => Ok(missing.is_none()),
-        Err(_) => Err(AllocError),
-    }
-}
-
-// The ids at which the refs stand.
-fn tips_of<A: Allocator + Copy>(
-    alloc: A,
-    refs: &[(RefName<A>, Oid)],
-) -> Result<Vec<Oid, A>, AllocError>
-    ensures tips { IfOk result (λ tips. tips.items ≡ map (λ ref. ref.1) refs.now) }
-{
-    let mut tips = Vec::new(alloc);
-    for pair in refs {
-        tips.push(pair.1)?;
-    }
-    Ok(tips)
 }

@@ -5,6 +5,7 @@ pub mod Loadable
 pub mod NameLemmas
 pub mod OneReading
 pub mod ReadingLemmas
+pub mod SafeLemmas
 pub mod SaveLemmas
 pub mod Stopping
 pub mod TextLemmas

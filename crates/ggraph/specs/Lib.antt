@@ -7,8 +7,16 @@ pub mod SafeRefs
 pub mod Saving
 pub mod TextLaws
 pub use Rattle.gobject.specs.Objects
+pub use Rattle.gobject.specs.Packs
 pub use Rattle.gobject.specs.PlainPackText
 pub use Rattle.ghistory.specs.Graphs
 pub use Rattle.ghistory.specs.Reach
+pub use Rattle.ghistory.specs.Insert
 pub use Rattle.ghistory.specs.Peeling
+pub use Rattle.ghistory.specs.Sending
+pub use Rattle.ghistory.specs.Walks
+pub use Rattle.ghistory.specs.Levels
+pub use Rattle.ghistory.specs.Offer
+pub use Rattle.ghistory.specs.Laws
+pub use Rattle.gwalk.specs.Marks
 pub use Rattle.grefs.specs.RefLists

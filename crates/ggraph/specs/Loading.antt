@@ -3,7 +3,7 @@ use Rattle.std.specs.Prelude.{◌≡◌, ◌⊎◌, ℕ, ◌+◌, List, [], ◌�
 use Rattle.std.specs.Prelude.{MatchResult}
 use Rattle.gobject.specs.declared.node.Entry.{Entry}
 use Rattle.gobject.specs.PlainPackText.{IsInLine, node_text, text_of}
-use Rattle.ghistory.specs.Graphs.{History}
+use Rattle.ghistory.specs.Graphs.{History, IsOrdered}
 use Rattle.grefs.specs.declared.head.Head.{Head}
 use Rattle.grefs.specs.declared.head.Head.TheVariants.{Symref}
 use Rattle.grefs.specs.RefLists.{RefList}
@@ -78,3 +78,9 @@ AcceptsText A order text result =
     (graph : History A) (refs : RefList) (head : Head A) → IsLoadable order graph refs head
     → text ≡ repository_text graph refs head
     → MatchResult result (λ it. (it.graph ≡ graph) × (it.refs ≡ refs) × (it.head ≡ head)) (λ fault. fault ≡ Memory)
+
+-- in what is loaded with parents first, each parent of a node came before it
+abbrev pub ParentsFirstIsOrdered : Type 0 → Type 0
+ParentsFirstIsOrdered A =
+    (graph : History A) (refs : RefList) (head : Head A) → IsLoadable ParentsFirst graph refs head
+    → IsOrdered graph.entries

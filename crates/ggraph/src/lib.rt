@@ -13,6 +13,8 @@
 //! - [`save`] writes the one text of what it is given, which `load` reads back in any order of nodes. It is
 //!   refused for an id of another format than the graph's exactly where a ref or HEAD stands at one, with the
 //!   first, and else only out of memory.
+//! - [`is_safe`] says whether the graph holds the whole ancestry of each ref; refs stay safe as a graph grows, and
+//!   where one is set to an id whose whole ancestry is held.
 //! - Each fault has the number and the name of its row.
 //! - No call panics, overflows or reads out of bounds, and each returns.
 //!
@@ -29,19 +31,22 @@
 //! # Stands on
 //!
 //! `gobject`, `ghistory` and `grefs` for what a repository holds, `gname` for ids and names, `memchr` for
-//! the ends of lines, `thiserror` for the texts of faults; in tests `bumpalo`, for memory that ends. `gwalk` it
-//! only offers.
+//! the ends of lines, `gwalk` for what the ancestries of refs miss, `thiserror` for the texts of faults; in tests
+//! `bumpalo`, for memory that ends.
 #![tactic(auto)]
 
 mod fault;
+pub mod laws;
+mod safe;
 mod text;
 
 pub use crate::fault::{LoadFault, SaveFault};
+pub use crate::safe::is_safe;
 pub use crate::text::{Order, Repository, load, save};
-pub use ghistory::{Graph, GraphFault, IdHasher, MAX_NODES, laws};
+pub use ghistory::{Graph, GraphFault, IdHasher, MAX_NODES, laws as graph_laws};
 pub use gobject::{
     Entry, Faithful, IndexFault, Indexer, Kind, MAX_PARENTS, Node, PackFault, Packer, Parents,
-    PlainPack, have_ids,
+    PlainPack,
 };
 pub use grefs::{Head, MAX_REFS, Refs, RefsFault, Target, is_below_refs};
 pub use gwalk::{

@@ -5,4 +5,5 @@ mod large;
 mod limits;
 mod makers;
 mod memory;
+mod safe;
 mod texts;

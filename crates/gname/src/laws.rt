@@ -2,8 +2,14 @@
 //! that calls it may rely on the law from there on.
 #![tactic(auto)]
 
-ghost use Rattle.gname.specs.Names.{IsRefName, head_name};
+ghost use Rattle.std.specs.Prelude.{◌≡◌};
+ghost use Rattle.gname.specs.Formats.{id_text_length};
+ghost use Rattle.gname.specs.declared.formats.Format.TheVariants.{Sha256};
+ghost use Rattle.gname.specs.Limits.{max_pack};
+ghost use Rattle.gname.specs.Names.{IsRefName, head_name, max_name};
 ghost use Rattle.gname.specs.Laws.{FirstPlacesAreFirst, IdsHaveOneFormat, IdsHaveTexts, IdTextsAreDigits, NamesAreClean, PrefixesAreClean, RulesNeverReportMemory, TextsHaveOneReading, TextsSpellOneId};
+
+use crate::{MAX_ID_TEXT, MAX_NAME, MAX_PACK};
 
 /// Each id has a text in lower case and one in upper case, which read back as the id.
 pub fn ids_have_texts()
@@ -45,6 +51,13 @@ pub fn head_is_a_name()
 /// A prefix has at most 1,000 bytes, and none of those that no name has.
 pub fn prefixes_are_clean()
     ensures { PrefixesAreClean }
+{}
+
+/// The constants are the limits that the definitions name.
+pub fn limits_are_the_constants()
+    ensures id_text { MAX_ID_TEXT ≡ id_text_length Sha256 }
+    ensures name { MAX_NAME ≡ max_name }
+    ensures pack { MAX_PACK ≡ max_pack }
 {}
 
 /// The rules find faults of the text, and never report out of memory.

@@ -10,11 +10,12 @@
 //! - [`RefName::new`] and [`Prefix::new`] accept exactly the names and prefixes that the rules of
 //!   git-check-ref-format(1) allow, and report of each other text the first fault in one fixed order,
 //!   with its first place. Out of memory is reported of a well-formed text alone. [`RefName::head`]
-//!   is `HEAD`, where there is memory.
+//!   is `HEAD`, and [`RefName::copy_in`] the same name in another allocator, where there is memory.
 //! - Ids, names and prefixes are equal by their bytes. Names are ordered by their bytes, and ids by
 //!   their formats and then by their bytes: total orders. Equal ones hash alike, so ids and names may
 //!   be keys of a map.
-//! - A name or a prefix has at most [`MAX_NAME`] bytes, and no control character or space.
+//! - A name or a prefix has at most [`MAX_NAME`] bytes, and no control character or space. [`MAX_NAME`],
+//!   [`MAX_ID_TEXT`] and [`MAX_PACK`] are the limits that the definitions name.
 //! - Each fault has the number and the name of its row.
 //! - No call panics, overflows or reads out of bounds, and each returns.
 //!
@@ -24,7 +25,7 @@
 //!
 //! - That the definitions in `specs/` agree with `git check-ref-format`, by a table of names with that
 //!   program's answers.
-//! - What a fault and a value print, [`MAX_PACK`], and that memory which is there is used.
+//! - What a fault and a value print, and that memory which is there is used.
 //!
 //! # What a body can still get away with
 //!
@@ -42,6 +43,7 @@ mod faults;
 mod formats;
 mod ids;
 pub mod laws;
+mod limits;
 mod names;
 mod prefixes;
 mod rules;
@@ -51,9 +53,7 @@ mod tests;
 pub use crate::faults::NameFault;
 pub use crate::formats::Format;
 pub use crate::ids::{MAX_ID_TEXT, Oid, OidFault};
+pub use crate::limits::MAX_PACK;
 pub use crate::names::RefName;
 pub use crate::prefixes::Prefix;
 pub use crate::rules::MAX_NAME;
-
-/// The largest pack that is read or written, in bytes.
-pub const MAX_PACK: usize = 67_108_864;

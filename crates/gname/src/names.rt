@@ -61,6 +61,14 @@ impl<A: Allocator + Copy> RefName<A> {
         Ok(RefName { text })
     }
 
+    /// The same name, kept by another allocator. It fails only when out of memory.
+    pub fn copy_in<B: Allocator + Copy>(&self, alloc: B) -> Result<RefName<B>, AllocError>
+        ensures { IfOk result (λ copy. copy ≡ self.now) }
+    {
+        let text = Vec::from_slice(alloc, self.as_bytes())?;
+        Ok(RefName { text })
+    }
+
     /// Whether the name is `HEAD`, the only one that is not below `refs/`.
     pub fn is_head(&self) -> bool
         ensures { IsTrue result ↔ (self.now ≡ head_name) }
@@ -91,8 +99,7 @@ impl<A: Allocator + Copy> Clone for RefName<A> {
     ghost is_clone = { λ name copy. copy ≡ name };
 
     fn clone(&self) -> Result<RefName<A>, AllocError> {
-        let text = Vec::from_slice(*self.text.allocator(), self.as_bytes())?;
-        Ok(RefName { text })
+        self.copy_in(*self.text.allocator())
     }
 }
 

@@ -1,5 +1,5 @@
 -- Reading a plain pack part by part: what is read stays right, and what is refused is a bad line.
-use Rattle.std.proofs.Common.{ap₂, ◌≡◌, ◌⊎◌, ⊎_elim, inl, inr, ℕ, ◌+◌, ◌≤◌, ◌<◌, List, [], ◌∷◌, ◌++◌, length, length-append, codes, decimal, Option, None, Some, MatchOption, refl, ap, sym, subst, ◌∙◌, append_assoc, arith}
+use Rattle.std.proofs.Common.{ap₂, ◌≡◌, ◌≢◌, ◌⊎◌, ⊎_elim, inl, inr, ℕ, ◌+◌, ◌≤◌, ◌<◌, List, [], ◌∷◌, ◌++◌, length, length-append, codes, decimal, Option, None, Some, MatchOption, refl, ap, sym, subst, ◌∙◌, append_assoc, arith}
 use Rattle.std.proofs.lemmas.List.{append-nil}
 use Rattle.gname.specs.Ids.{IsIdText}
 use Rattle.gname.specs.Laws.{IdTextsAreDigits}
@@ -131,16 +131,26 @@ HasRead-part Word after list new before part LineFeed h l = absurd l
 HasRead-part Count after list new before part Space h l = absurd l
 HasRead-part Nothing after list new before part end h l = absurd l
 
--- what ends a part is a space or a line feed
-separator_is : (end : Separator) → (separator_byte end ≡ 32) ⊎ (separator_byte end ≡ 10)
-separator_is Space = inl refl
-separator_is LineFeed = inr refl
+-- a list with one more is not empty
+one_more : {X : Type 0} (xs : List X) (x : X) → xs ++ x ∷ [] ≢ []
+one_more [] x = λ e. cc
+one_more (y ∷ xs) x = λ e. cc
 
--- an id of an entry, and the beginning of its line, are there to be kept
+-- after an entry with one more parent, which is kept, comes a space or a line feed
+Keeps : {A : Type 0} → Separator → Entry A → Type 0
+Keeps end entry = ((separator_byte end ≡ 32) × (entry.node.parents ≢ [])) ⊎ (separator_byte end ≡ 10)
+
+parent_kept : {A : Type 0} (end : Separator) (entry : Entry A) (id : List ℕ) → Keeps end (with_parent entry id)
+unfolding Keeps
+parent_kept Space entry id = inl (refl, one_more entry.node.parents id)
+parent_kept LineFeed entry id = inr refl
+
+-- an entry, or its beginning with a parent, is there to be kept
 TakesMemory-id : {A : Type 0} (list : List (Entry A)) (entry : Entry A) (before : List ℕ) (front : List (List ℕ)) (opening part : List ℕ) (end : Separator) (more : List ℕ)
     → before ≡ text_of front ++ opening → (nodes : List (List ℕ)) → front ≡ header ∷ nodes → AreNodeTexts nodes list → IsNodeText (opening ++ part) entry
-    → TakesMemory A ((before ++ (part ++ separator_byte end ∷ [])) ++ more)
-TakesMemory-id list entry before front opening part end more parts nodes begins each node =
+    → Keeps end entry → TakesMemory A ((before ++ (part ++ separator_byte end ∷ [])) ++ more)
+unfolding Keeps
+TakesMemory-id list entry before front opening part end more parts nodes begins each node keeps =
     let last = separator_byte end in
     let moved : (text : List ℕ) → ((text ++ opening) ++ (part ++ last ∷ [])) ++ more ≡ text ++ ((opening ++ part) ++ last ∷ more) = λ text. simp append_assoc in
     record {
@@ -154,15 +164,17 @@ TakesMemory-id list entry before front opening part end more parts nodes begins 
           ∙ ap (λ (f : List (List ℕ)). text_of f ++ ((opening ++ part) ++ last ∷ more)) begins;
       before = each;
       node = node;
-      ends = separator_is end;
+      ends = keeps;
     }
 
 pub TakesMemory-part : {A : Type 0} (next : Next A) (list : List (Entry A)) (before part : List ℕ) (end : Separator) (more : List ℕ) → HasRead next list before
-    → IsKept next part → TakesMemory A ((before ++ (part ++ separator_byte end ∷ [])) ++ more)
-TakesMemory-part {A} (Id kind) list before part end more h k =
-    TakesMemory-id list (entry_of k.0 (node_of kind [])) before h.front h.opening part end more h.parts h.lines.0 h.lines.1 h.lines.2 (IsNodeText-first A h.opening part k.0 kind h.opens k.1)
+    → IsKept next part end → TakesMemory A ((before ++ (part ++ separator_byte end ∷ [])) ++ more)
+unfolding Keeps
+TakesMemory-part {A} (Id kind) list before part LineFeed more h k =
+    TakesMemory-id list (entry_of k.0 (node_of kind [])) before h.front h.opening part LineFeed more h.parts h.lines.0 h.lines.1 h.lines.2 (IsNodeText-first A h.opening part k.0 kind h.opens k.1) (inr refl)
+TakesMemory-part (Id kind) list before part Space more h k = absurd k
 TakesMemory-part (Parent entry) list before part end more h k =
-    TakesMemory-id list (with_parent entry k.0) before h.front h.opening part end more h.parts h.lines.0 h.lines.1 h.lines.2 (IsNodeText-parent h.opening h.opens.0 part k.0 entry h.opens.1 h.opens.2 k.1)
+    TakesMemory-id list (with_parent entry k.0) before h.front h.opening part end more h.parts h.lines.0 h.lines.1 h.lines.2 (IsNodeText-parent h.opening h.opens.0 part k.0 entry h.opens.1 h.opens.2 k.1) (parent_kept end entry k.0)
 TakesMemory-part Header list before part end more h k = absurd k
 TakesMemory-part Word list before part end more h k = absurd k
 TakesMemory-part Count list before part end more h k = absurd k

@@ -1,6 +1,7 @@
 -- Packs: what a packer may write of a list of entries, what an indexer may read, and when nothing is lost between
 -- the two.
 use Rattle.std.specs.Prelude.{◌≡◌, ℕ, ◌<◌, ◌≤◌, List, length, All}
+use Rattle.gname.specs.Limits.{max_pack}
 use Rattle.gobject.specs.declared.node.Entry.{Entry}
 use Rattle.gobject.specs.declared.fault.PackFault.{PackFault}
 use Rattle.gobject.specs.declared.fault.PackFault.TheVariants.{TooLarge}
@@ -8,10 +9,6 @@ use Rattle.gobject.specs.declared.fault.PackFault.TheVariants as pack_faults
 use Rattle.gobject.specs.declared.fault.IndexFault.{IndexFault}
 use Rattle.gobject.specs.declared.fault.IndexFault.TheVariants as index_faults
 use Rattle.gobject.specs.Objects.{HasIds, IdsDiffer}
-
--- the most bytes of a pack
-abbrev pub max_pack : ℕ
-max_pack = 67108864
 
 -- entries as a graph has them: under object ids, none of which comes twice
 pub record AreEntries {A : Type 0} (list : List (Entry A)) : Type 0 where

@@ -70,11 +70,11 @@ Leads _ old part end next new = ⊥
 abbrev pub NeverLeads : {A : Type 0} → Next A → List (Entry A) → List ℕ → Separator → Type 0
 NeverLeads {A} next list part end = (after : Next A) (new : List (Entry A)) → Leads next list part end after new → ⊥
 
--- the part is one that is kept: an id of an entry
-abbrev pub IsKept : {A : Type 0} → Next A → List ℕ → Type 0
-IsKept (Id kind) part = (id : List ℕ) × IsIdText part id
-IsKept (Parent entry) part = (id : List ℕ) × IsIdText part id
-IsKept _ part = ⊥
+-- something is kept at the part: a parent, or an entry at the end of its line
+abbrev pub IsKept : {A : Type 0} → Next A → List ℕ → Separator → Type 0
+IsKept (Id kind) part LineFeed = (id : List ℕ) × IsIdText part id
+IsKept (Parent entry) part end = (id : List ℕ) × IsIdText part id
+IsKept _ part end = ⊥
 
 -- ---- what was read
 

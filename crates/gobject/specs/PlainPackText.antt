@@ -5,6 +5,7 @@ use Rattle.std.specs.Prelude.{◌≡◌, ◌≢◌, ◌⊎◌, ⊤, ℕ, ◌+◌
 use Rattle.std.specs.Prelude.{decimal}
 use Rattle.std.specs.List.{flat_map}
 use Rattle.gname.specs.Ids.{IsIdText, id_text}
+use Rattle.gname.specs.Limits.{max_pack}
 use Rattle.gobject.specs.declared.node.Kind.{Kind}
 use Rattle.gobject.specs.declared.node.Kind.TheVariants.{Commit, Tag}
 use Rattle.gobject.specs.declared.node.Entry.{Entry}
@@ -12,7 +13,6 @@ use Rattle.gobject.specs.declared.fault.PackFault.{PackFault}
 use Rattle.gobject.specs.declared.fault.PackFault.TheVariants as pack_faults
 use Rattle.gobject.specs.declared.fault.IndexFault.{IndexFault}
 use Rattle.gobject.specs.declared.fault.IndexFault.TheVariants as index_faults
-use Rattle.gobject.specs.Packs.{max_pack}
 
 -- a line and its line feed
 abbrev pub line : List ℕ → List ℕ
@@ -130,7 +130,8 @@ IsBadLine A bytes at =
     (lines : List (List ℕ)) × (at ≡ length lines + 1) × BeginsPack A lines
     × (IsWrongLine A bytes lines ⊎ EndsEarly A bytes lines)
 
--- lines that begin a pack are followed by a line of an entry, or by the ids at its beginning: there is an entry to keep
+-- lines that begin a pack are followed by a line of an entry, or by its beginning with a parent: there is something to
+-- keep
 pub record TakesMemory (A : Type 0) (bytes : List ℕ) : Type 0 where
   pub nodes : List (List ℕ)
   pub list : List (Entry A)
@@ -141,7 +142,7 @@ pub record TakesMemory (A : Type 0) (bytes : List ℕ) : Type 0 where
   pub parts : bytes ≡ text_of (header ∷ nodes) ++ (text ++ end ∷ rest)
   pub before : AreNodeTexts nodes list
   pub node : IsNodeText text entry
-  pub ends : (end ≡ 32) ⊎ (end ≡ 10)
+  pub ends : ((end ≡ 32) × (entry.node.parents ≢ [])) ⊎ (end ≡ 10)
 
 -- why bytes are not read: a line is wrong, or there is no memory for an entry
 abbrev pub IndexRefuses : (A : Type 0) → List ℕ → IndexFault → Type 0

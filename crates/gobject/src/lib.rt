@@ -37,7 +37,6 @@
 //! memory that ends.
 #![tactic(auto)]
 
-mod entry_ids;
 mod fault;
 pub mod laws;
 mod node;
@@ -46,7 +45,6 @@ mod plain_pack;
 #[cfg(test)]
 mod tests;
 
-pub use crate::entry_ids::have_ids;
 pub use crate::fault::{IndexFault, PackFault};
 pub use crate::node::{Entry, Kind, MAX_PARENTS, Node, Parents};
 pub use crate::pack::{Faithful, Indexer, Packer};

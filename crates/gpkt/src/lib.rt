@@ -39,8 +39,8 @@
 //! - A device's call is made once and not tried again, of whatever kind its error is; how many calls
 //!   are made, and how many bytes each asks for.
 //! - How [`memory::Limited`] hinders, and how often a [`memory::VecSink`] says that it was flushed.
-//! - The texts of the faults, and that memory is found where there is some. By reading alone: that no call
-//!   but the constructor takes memory, and that a source is not read where the constructor fails.
+//! - The texts of the faults, and that memory is found where there is some; that no call but the constructor
+//!   takes memory, and that a source is not read where the constructor fails.
 //!
 //! # What a body can still get away with
 //!

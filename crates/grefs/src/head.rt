@@ -5,7 +5,6 @@ ghost use Rattle.std.specs.Prelude.{◌≡◌, ◌≢◌, IfOk, MatchOption};
 ghost use Rattle.gname.specs.Names.{head_name};
 ghost use Rattle.grefs.specs.RefLists.{IsBelowRefs};
 
-use crate::refs::copy_name;
 use gname::laws::names_are_clean;
 use gname::{Oid, RefName};
 use std::alloc::{AllocError, Allocator, Global};
@@ -44,7 +43,7 @@ impl<A: Allocator + Copy> Target<A> {
     pub fn copy_in(&self, alloc: A) -> Result<Target<A>, AllocError>
         ensures { IfOk result (λ target. target ≡ self.now) }
     {
-        let name = copy_name(alloc, &self.name)?;
+        let name = self.name.copy_in(alloc)?;
         Ok(Target { name })
     }
 

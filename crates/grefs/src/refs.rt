@@ -2,6 +2,7 @@
 #![tactic(auto)]
 
 ghost use Rattle.std.specs.Prelude.{◌≡◌, ◌≤◌, ◌↔◌, [], length, IsTrue, IsErrOf, OnOk, OnErr, IfOk, IfErr, ◌⊎◌, ◌≢◌, None, is_ok, MatchOption, MatchResult, slice_get, ◌<◌, ◌++◌, ◌∷◌};
+ghost use Rattle.std.specs.Map.{values_of};
 ghost use Rattle.grefs.specs.RefLists.{AreBelow, CannotSet, IsBelowRefs, IsRefs, SetsRef, max_refs, ref_at};
 ghost use Rattle.grefs.specs.RefPlaces.{IsFound, IsGap};
 
@@ -53,6 +54,15 @@ impl<A: Allocator + Copy> Refs<A> {
         ensures { IsTrue result ↔ (self.now ≡ []) }
     {
         self.refs.is_empty()
+    }
+
+    /// The ids at which the refs stand, in the order of their names.
+    ///
+    /// It fails where there is no memory for them.
+    pub fn ids(&self, alloc: A) -> Result<Vec<Oid, A>, AllocError>
+        ensures { IfOk result (λ ids. ids.items ≡ values_of self.now) }
+    {
+        self.refs.iter().map(|reference| reference.1).collect(alloc)
     }
 
     /// The refs in the byte order of their names.
@@ -164,23 +174,10 @@ fn copy_refs<A: Allocator + Copy>(
 {
     let mut copies = Vec::new(alloc);
     for pair in refs {
-        let name = copy_name(alloc, &pair.0)?;
+        let name = pair.0.copy_in(alloc)?;
         copies.push((name, pair.1))?;
     }
     Ok(copies)
-}
-
-/// A name like this one. It fails where there is no memory.
-pub(crate) fn copy_name<A: Allocator + Copy>(
-    alloc: A,
-    name: &RefName<A>,
-) -> Result<RefName<A>, AllocError>
-    ensures { IfOk result (λ copy. copy ≡ name.now) }
-{
-    match RefName::new(alloc, name.as_bytes()) {
-        Ok(copy) => Ok(copy),
-        Err(_) => Err(AllocError),
-    }
 }
 
 // Where the name is, or where it would go.

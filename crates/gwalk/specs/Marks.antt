@@ -1,8 +1,8 @@
 -- Marks of ids by their numbers, which are their places in store order. A number past the end has no mark.
-use Rattle.std.specs.Prelude.{◌≡◌, ◌≤◌, ◌⊎◌, ◌↔◌, ℕ, Bool, true, false, cond, List, [], ◌∷◌, length, slice_get}
+use Rattle.std.specs.Prelude.{◌≡◌, ◌≤◌, ◌⊎◌, ◌↔◌, ℕ, Bool, true, false, cond, List, [], ◌∷◌, length, slice_get, All}
 use Rattle.std.specs.Prelude.{slice_index_or, Some}
 use Rattle.gobject.specs.declared.node.Entry.{Entry}
-use Rattle.gobject.specs.Objects.{entry_of, node_of}
+use Rattle.gobject.specs.Objects.{entry_of, node_of, IdsDiffer}
 use Rattle.ghistory.specs.Reach.{IsFull, SomeReaches, Grows}
 
 -- each mark is that of an id whose whole ancestry is held
@@ -28,3 +28,15 @@ pub record MarksReached {A : Type 0} (g : List (Entry A)) (ids : List (List ℕ)
 -- marks stay true where a graph grows
 abbrev pub MarksStayFull : Type 0 → Type 0
 MarksStayFull A = (g h : List (Entry A)) (marks : List Bool) → Grows g h → AreFull g marks → AreFull h marks
+
+-- the marks cover the ids: all that one of these reaches has its mark
+abbrev pub Covers : {A : Type 0} → List (Entry A) → List (List ℕ) → List Bool → Type 0
+Covers {A} g ids marks =
+    (place : ℕ) (entry : Entry A) → slice_get g place ≡ Some entry → SomeReaches g ids entry.id
+    → slice_index_or marks place false ≡ true
+
+-- marks that cover ids whose whole ancestry is held still do where a graph grows
+abbrev pub CoveringStays : Type 0 → Type 0
+CoveringStays A =
+    (g h : List (Entry A)) (ids : List (List ℕ)) (marks : List Bool)
+    → Grows g h → IdsDiffer h → All (IsFull g) ids → Covers g ids marks → Covers h ids marks

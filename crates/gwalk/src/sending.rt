@@ -15,7 +15,7 @@ use crate::marks::is_marked;
 use crate::walk::walk_from;
 use ghistory::laws::sent_are_entries;
 use ghistory::{Graph, GraphFault};
-use gname::{Oid, RefName};
+use gname::Oid;
 use gobject::{Entry, Kind};
 use grefs::Refs;
 use std::alloc::{AllocError, Allocator};
@@ -57,18 +57,8 @@ pub fn send_list_tags<A: Allocator + Copy>(
     ensures fault { IfErr result (λ fault. fault ≡ Memory) }
 {
     sent_are_entries::<A>();
-    let tips = tips_of(graph.allocator(), refs.as_slice())?;
+    let tips = refs.ids(graph.allocator())?;
     Ok(list_to_send(graph, wants, commons, tips.as_slice())?)
-}
-
-// The ids of the refs.
-fn tips_of<A: Allocator + Copy>(
-    alloc: A,
-    refs: &[(RefName<A>, Oid)],
-) -> Result<Vec<Oid, A>, AllocError>
-    ensures { IfOk result (λ tips. tips.items ≡ values_of refs.now) }
-{
-    refs.iter().map(|reference| reference.1).collect(alloc)
 }
 
 // The list to send, with the tags that lead from the tips: by a pass where parents came first, else by walks.

@@ -88,6 +88,19 @@ const ARGUMENTS: &[(Arguments, &[&str])] = &[
         (&["peel", "symrefs", "peel"], true, true, &[]),
         &[HEAD_TARGET, MAIN, TAG_PEELED],
     ),
+    (
+        (&["symrefs", "peel", "symrefs"], true, true, &[]),
+        &[HEAD_TARGET, MAIN, TAG_PEELED],
+    ),
+    (
+        (
+            &["ref-prefix refs/tags/", "ref-prefix refs/tags/"],
+            false,
+            false,
+            &["refs/tags/", "refs/tags/"],
+        ),
+        &[TAG],
+    ),
     ((&["ref-prefix HEAD"], false, false, &["HEAD"]), &[HEAD]),
     (
         (&["ref-prefix refs/", "peel"], false, true, &["refs/"]),

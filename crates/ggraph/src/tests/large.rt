@@ -82,3 +82,31 @@ fn a_chain_of_2000_is_loaded_and_saved(rt: HostRuntime) -> Result<(), Fail> {
     }
     Ok(())
 }
+
+// A text with so many commits without parents.
+fn nodes_text(alloc: Global, count: usize) -> Result<String, Fail> {
+    let mut text = String::new(alloc);
+    text.push_str("gitv2 1\n")?;
+    for number in 0..count {
+        let line = format!(in alloc; "c {number:040}\n")?;
+        text.push_str(line.as_str())?;
+    }
+    text.push_str("h none\nend\n")?;
+    Ok(text)
+}
+
+#[test]
+fn the_most_nodes_are_loaded(rt: HostRuntime) -> Result<(), Fail> {
+    let text = nodes_text(rt.alloc(), 1_048_576)?;
+    let it = load(rt.alloc(), text.as_bytes(), Order::ParentsFirst)?;
+    assert_eq!(rt; it.graph.len(), 1_048_576);
+    Ok(())
+}
+
+#[test]
+fn one_node_more_is_refused(rt: HostRuntime) -> Result<(), Fail> {
+    let text = nodes_text(rt.alloc(), 1_048_577)?;
+    let fault = load(rt.alloc(), text.as_bytes(), Order::Any).err();
+    assert_eq!(rt; fault, Some(LoadFault::Text { line: 1_048_578 }));
+    Ok(())
+}

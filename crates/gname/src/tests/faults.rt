@@ -118,3 +118,21 @@ fn types_print_their_bytes(rt: HostRuntime) -> Result<(), Fail> {
     assert_eq!(rt; format!(in rt.alloc(); "{prefix:?}")?.as_str(), "[72]");
     Ok(())
 }
+
+// The longest name, whose bytes are all printed.
+#[test]
+fn long_name_prints_its_bytes(rt: HostRuntime) -> Result<(), Fail> {
+    let mut text = b"refs/".to_vec(rt.alloc())?;
+    let mut printed = String::from_str(rt.alloc(), "[114, 101, 102, 115, 47")?;
+    for _ in 5..1_000 {
+        text.push(b'a')?;
+        printed.push_str(", 97")?;
+    }
+    printed.push(']')?;
+    let name = RefName::new(rt.alloc(), text.as_slice())?;
+    assert_eq!(rt;
+        format!(in rt.alloc(); "{name:?}")?.as_str(),
+        printed.as_str()
+    );
+    Ok(())
+}

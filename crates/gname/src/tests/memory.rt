@@ -55,7 +55,9 @@ fn copies_may_be_refused(rt: HostRuntime) -> Result<(), Fail> {
     let filler = vec![in rt.alloc(); 0u8; arena.chunk_capacity()]?;
     arena.try_alloc_slice_copy(filler.as_slice())?;
     assert!(rt; name.clone().is_err());
+    assert!(rt; name.copy_in(&arena).is_err());
     assert!(rt; prefix.clone().is_err());
     assert_eq!(rt; name.as_bytes(), b"refs/heads/main".as_slice());
+    assert_eq!(rt; name.copy_in(rt.alloc())?.as_bytes(), name.as_bytes());
     Ok(())
 }

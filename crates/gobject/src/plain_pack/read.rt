@@ -143,7 +143,8 @@ fn after_id<A: Allocator + Copy>(
     entry: Entry<A>,
     separator: Separator,
 ) -> Result<Next<A>, AllocError>
-    ensures { IfOk result (λ next. EndsId entries.old.items entry separator next entries.new.items) }
+    ensures ok { IfOk result (λ next. EndsId entries.old.items entry separator next entries.new.items) }
+    ensures err { OnErr result (separator ≡ Separator.LineFeed) }
 {
     match separator {
         Separator::Space => Ok(Next::Parent(entry)),
@@ -165,7 +166,7 @@ fn after_part<A: Allocator + Copy>(
     ensures ok { IfOk result (λ found. MatchOption found
         (NeverLeads next entries.old.items part.now separator)
         (λ after. Leads next entries.old.items part.now separator after entries.new.items)) }
-    ensures err { OnErr result (IsKept next part.now) }
+    ensures err { OnErr result (IsKept next part.now separator) }
 {
     match next {
         Next::Header => Ok(after_header(part, separator)),

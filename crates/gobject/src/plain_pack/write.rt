@@ -2,7 +2,7 @@
 #![tactic(auto)]
 
 ghost use Rattle.std.specs.Prelude.{◌≡◌, ◌≤◌, ◌++◌, ◌∷◌, [], length, IsTrue, ◌↔◌, OnOk, MatchResult, IfOk};
-ghost use Rattle.gobject.specs.Packs.{max_pack};
+ghost use Rattle.gname.specs.Limits.{max_pack};
 ghost use Rattle.gobject.specs.PlainPackText.{letter, line, ids_text, node_text, end_text, pack_text, PackRefuses};
 ghost use Rattle.gobject.specs.PlainPackWriting.{Leaves, nodes_text};
 

@@ -1,6 +1,6 @@
 //! Every call of parents, nodes and entries, on both kinds and on 0 to 5 parents.
 use super::makers::{entry, id};
-use crate::{Entry, Kind, MAX_PARENTS, Node, Parents, have_ids};
+use crate::{Entry, Kind, MAX_PARENTS, Node, Parents};
 use gname::Oid;
 use std::process::Abort;
 
@@ -61,9 +61,4 @@ fn a_commit_has_64_parents_and_no_more(rt: HostRuntime) {
             "{count} parents"
         );
     }
-}
-
-#[test]
-fn the_law_of_ids_can_be_called(rt: HostRuntime) {
-    have_ids(&[entry(&rt, Kind::Tag, b'1', b"2")]);
 }

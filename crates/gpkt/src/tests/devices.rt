@@ -1,117 +1,66 @@
+use super::counted::{Counted, Kept};
 use crate::{
-    FromRead, Line, LineFault, LineReader, LineWriter, MAX_PAYLOAD, Sink, Source, ToWrite,
-    WriteFault,
+    Down, FromRead, Line, LineFault, LineReader, LineWriter, MAX_PAYLOAD, Sink, Source, ToWrite,
+    WriteFault, write_all,
 };
 use std::alloc::Global;
-use std::io;
-use std::io::{ErrorKind, Read, Write};
+use std::io::ErrorKind;
 use std::process::Abort;
 use std::test::Fail;
 
-// Calls are counted from 1: this one never comes.
-const NO_CALL: usize = 0;
-
-// Errors of every kind count, also those that others try again.
-const KINDS: &[ErrorKind] = &[
+// Kinds that others try again, or take for the end.
+const NOTED_KINDS: [ErrorKind; 4] = [
     ErrorKind::Interrupted,
     ErrorKind::WouldBlock,
     ErrorKind::UnexpectedEof,
     ErrorKind::BrokenPipe,
 ];
 
-// A reader that gives at most so many bytes a call, and fails at one call.
-#[derive(Drop)]
-struct Counted<'a> {
-    rest: &'a [u8],
-    most: usize,
-    fails_at: usize,
-    kind: ErrorKind,
-    calls: usize,
-}
-
-impl<'a> Counted<'a> {
-    fn new(rest: &'a [u8], most: usize) -> Counted<'a> {
-        Counted {
-            rest,
-            most,
-            fails_at: NO_CALL,
-            kind: ErrorKind::Other,
-            calls: 0,
-        }
-    }
-
-    fn failing_at(mut self, fails_at: usize, kind: ErrorKind) -> Counted<'a> {
-        self.fails_at = fails_at;
-        self.kind = kind;
-        self
-    }
-}
-
-impl Read for Counted<'_> {
-    fn read(&mut self, buf: &mut [u8]) -> io::Result<usize> {
-        self.calls = self.calls.saturating_add(1);
-        if self.calls == self.fails_at {
-            return Err(io::Error::from(self.kind));
-        }
-        let room = buf.len().min(self.most);
-        self.rest.read(&mut buf[..room])
-    }
-}
-
-// A writer that takes at most so many bytes a call, and fails at one call, a write or a flush.
-#[derive(Drop)]
-struct Kept {
-    written: Vec<u8>,
-    most: usize,
-    fails_at: usize,
-    kind: ErrorKind,
-    calls: usize,
-    flushes: usize,
-}
-
-impl Kept {
-    fn new(alloc: Global, most: usize) -> Kept {
-        Kept {
-            written: Vec::new(alloc),
-            most,
-            fails_at: NO_CALL,
-            kind: ErrorKind::Other,
-            calls: 0,
-            flushes: 0,
-        }
-    }
-
-    fn failing_at(mut self, fails_at: usize, kind: ErrorKind) -> Kept {
-        self.fails_at = fails_at;
-        self.kind = kind;
-        self
-    }
-
-    fn counts(&mut self) -> io::Result<()> {
-        self.calls = self.calls.saturating_add(1);
-        if self.calls == self.fails_at {
-            return Err(io::Error::from(self.kind));
-        }
-        Ok(())
-    }
-}
-
-impl Write for Kept {
-    fn write(&mut self, buf: &[u8]) -> io::Result<usize> {
-        self.counts()?;
-        let part = buf.len().min(self.most);
-        match self.written.extend_from_slice(&buf[..part]) {
-            Ok(()) => Ok(part),
-            Err(_) => Err(io::Error::from(ErrorKind::OutOfMemory)),
-        }
-    }
-
-    fn flush(&mut self) -> io::Result<()> {
-        self.counts()?;
-        self.flushes = self.flushes.saturating_add(1);
-        Ok(())
-    }
-}
+// Every kind of error there is.
+const KINDS: [ErrorKind; 42] = [
+    ErrorKind::Interrupted,
+    ErrorKind::WouldBlock,
+    ErrorKind::UnexpectedEof,
+    ErrorKind::BrokenPipe,
+    ErrorKind::NotFound,
+    ErrorKind::PermissionDenied,
+    ErrorKind::ConnectionRefused,
+    ErrorKind::ConnectionReset,
+    ErrorKind::HostUnreachable,
+    ErrorKind::NetworkUnreachable,
+    ErrorKind::ConnectionAborted,
+    ErrorKind::NotConnected,
+    ErrorKind::AddrInUse,
+    ErrorKind::AddrNotAvailable,
+    ErrorKind::NetworkDown,
+    ErrorKind::AlreadyExists,
+    ErrorKind::NotADirectory,
+    ErrorKind::IsADirectory,
+    ErrorKind::DirectoryNotEmpty,
+    ErrorKind::ReadOnlyFilesystem,
+    ErrorKind::FilesystemLoop,
+    ErrorKind::StaleNetworkFileHandle,
+    ErrorKind::InvalidInput,
+    ErrorKind::InvalidData,
+    ErrorKind::TimedOut,
+    ErrorKind::WriteZero,
+    ErrorKind::StorageFull,
+    ErrorKind::NotSeekable,
+    ErrorKind::QuotaExceeded,
+    ErrorKind::FileTooLarge,
+    ErrorKind::ResourceBusy,
+    ErrorKind::ExecutableFileBusy,
+    ErrorKind::Deadlock,
+    ErrorKind::CrossesDevices,
+    ErrorKind::TooManyLinks,
+    ErrorKind::InvalidFilename,
+    ErrorKind::ArgumentListTooLong,
+    ErrorKind::Unsupported,
+    ErrorKind::OutOfMemory,
+    ErrorKind::InProgress,
+    ErrorKind::Other,
+    ErrorKind::Uncategorized,
+];
 
 // Two lines, and the read that finds the end: how many bytes a call gives, and how many calls that takes.
 const INPUT: &[u8] = b"0007abc0000";
@@ -179,15 +128,36 @@ fn lines_before(fails_at: usize, first: usize, both: usize) -> usize {
 
 #[test]
 fn each_read_fails_in_turn(rt: HostRuntime) -> Result<(), Fail> {
-    for kind in KINDS {
+    for kind in NOTED_KINDS {
         for (most, first, both) in READS_OF_LINES {
             for fails_at in 1..=both.saturating_add(1) {
-                let mut device = Counted::new(INPUT, *most).failing_at(fails_at, *kind);
+                let mut device = Counted::new(INPUT, *most).failing_at(fails_at, kind);
                 let lines = lines_before(fails_at, *first, *both);
                 check_failing_read(&rt, rt.alloc(), &mut device, lines)?;
                 assert_eq!(rt; device.calls, fails_at);
             }
         }
+    }
+    Ok(())
+}
+
+// After an error of whatever kind the reader is not asked again.
+#[test]
+fn no_kind_of_error_is_read_past(rt: HostRuntime) -> Result<(), Fail> {
+    for kind in KINDS {
+        for fails_at in 1..=3 {
+            let mut device = Counted::new(INPUT, 2).failing_at(fails_at, kind);
+            let mut source = FromRead::new(&mut device);
+            for _ in 1..fails_at {
+                assert_eq!(rt; source.read(&mut [0u8; 8]), Ok(2), "{kind:?}");
+            }
+            assert_eq!(rt; source.read(&mut [0u8; 8]), Err(Down), "{kind:?}");
+            assert_eq!(rt; source.read(&mut [0u8; 8]), Err(Down), "{kind:?}");
+            assert_eq!(rt; device.calls, fails_at, "{kind:?}");
+        }
+        let mut device = Counted::new(INPUT, 2).failing_at(4, kind);
+        check_failing_read(&rt, rt.alloc(), &mut device, 0)?;
+        assert_eq!(rt; device.calls, 4, "{kind:?}");
     }
     Ok(())
 }
@@ -284,7 +254,7 @@ fn each_write_and_the_flush_fail_in_turn(rt: HostRuntime) {
     for kind in KINDS {
         for (most, calls) in WRITES {
             for fails_at in 1..=*calls {
-                check_failing_call(&rt, rt.alloc(), *most, fails_at, *kind);
+                check_failing_call(&rt, rt.alloc(), *most, fails_at, kind);
             }
         }
     }
@@ -314,5 +284,39 @@ fn std_devices_are_used(rt: HostRuntime) -> Result<(), Fail> {
     writer.push()?;
     writer.into_inner().into_inner().extend_from_slice(b"0000")?;
     assert_eq!(rt; written.as_slice(), b"000ahello\n0000".as_slice());
+    Ok(())
+}
+
+// More bytes than any buffer on the way holds, and how many of them a call moves.
+const LONG: usize = 300_000;
+
+const LONG_CALLS: [usize; 3] = [1, 1_000, usize::MAX];
+
+// The bytes that a source gives, up to its end.
+fn read_all<S: Source>(alloc: Global, source: &mut S) -> Result<Vec<u8>, Fail> {
+    let mut bytes = Vec::new(alloc);
+    let mut buf = [0u8; 5_000];
+    for _ in 0..=LONG {
+        let count = source.read(&mut buf)?;
+        if count == 0 {
+            break;
+        }
+        bytes.extend_from_slice(&buf[..count])?;
+    }
+    Ok(bytes)
+}
+
+#[test]
+fn devices_go_on_for_long(rt: HostRuntime) -> Result<(), Fail> {
+    let mut bytes = vec![in rt.alloc(); b'x'; LONG]?;
+    bytes[LONG - 1] = b'y';
+    for most in LONG_CALLS {
+        let mut device = Kept::new(rt.alloc(), most);
+        write_all(&mut ToWrite::new(&mut device), bytes.as_slice())?;
+        assert!(rt; device.written.as_slice() == bytes.as_slice());
+        let mut device = Counted::new(device.written.as_slice(), most);
+        let read = read_all(rt.alloc(), &mut FromRead::new(&mut device))?;
+        assert!(rt; read.as_slice() == bytes.as_slice());
+    }
     Ok(())
 }

@@ -59,8 +59,18 @@ fn check_refs(rt: &(impl Abort + AllocGlobal), refs: &Refs, order: &[usize]) {
     }
     assert_eq!(rt; refs.len(), count);
     assert_eq!(rt; refs.as_slice().len(), count);
+    check_ids(rt, refs);
     assert_eq!(rt; refs.is_empty(), order.is_empty());
     assert!(rt; refs.at(count).is_none());
+}
+
+// The ids are those of the refs, in the order of their names.
+fn check_ids(rt: &(impl Abort + AllocGlobal), refs: &Refs) {
+    let ids = refs.ids(rt.alloc()).expect(rt, "memory");
+    assert_eq!(rt; ids.len(), refs.len());
+    for (id, reference) in ids.iter().zip(refs.as_slice()) {
+        assert!(rt; *id == reference.1);
+    }
 }
 
 #[test]

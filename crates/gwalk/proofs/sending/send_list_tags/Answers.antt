@@ -1,10 +1,9 @@
-use Rattle.std.proofs.Common.{◌∙◌, ap}
-use Rattle.std.specs.Map.{values_of}
+use Rattle.std.proofs.Common.{◌∙◌}
 use Rattle.gwalk.proofs.sending.send_list_tags.Goals as goal
 
 pub returns-clause-answer : goal.returns-clause-answer
 returns-clause-answer g c =
-    let tips = c.as_slice-2.ensures.value ∙ c.in_ok-tips.ensures ∙ ap values_of c.as_slice.ensures.refs in
+    let tips = c.as_slice.ensures.value ∙ c.in_ok-tips.ensures in
     rw tips at c.in_ok-list_to_send.ensures.list
 
 pub returns-clause-entries : goal.returns-clause-entries

@@ -18,6 +18,6 @@ returns-in-None g c = λ before more is h.
 pub returns-in_err-next : goal.returns-in_err-next
 returns-in_err-next g c =
     let p = err_from_is_err_and c.from_residual.result c.from_residual.ensures.1 in
-    let P : Next g.row.A.Denot → Type 0 = λ next. IsKept next c.args.part.now in
-    let kept : IsKept c.args.self.now.next c.args.part.now = subst P c.replace-next.ensures.value c.in_err-next.ensures.err in
+    let P : Next g.row.A.Denot → Type 0 = λ next. IsKept next c.args.part.now c.args.separator in
+    let kept : IsKept c.args.self.now.next c.args.part.now c.args.separator = subst P c.replace-next.ensures.value c.in_err-next.ensures.err in
     rw (p.1, p.2) (λ before more is h. TakesMemory-part c.args.self.now.next c.args.self.now.entries.items before c.args.part.now c.args.separator more h kept)

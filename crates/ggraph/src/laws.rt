@@ -1,0 +1,24 @@
+//! Laws of repositories. A call does nothing, and gives its caller's proof the law.
+
+ghost use Rattle.ggraph.specs.Loading.{ParentsFirstIsOrdered};
+ghost use Rattle.ggraph.specs.SafeRefs.{SafeStays, SettingStaysSafe};
+
+use ghistory::laws::full_stays_full;
+use std::alloc::Allocator;
+
+/// Refs stay safe where a graph keeps what it held.
+pub fn safe_stays<A: Allocator + Copy>()
+    ensures { SafeStays A }
+{
+    full_stays_full::<A>();
+}
+
+/// Refs stay safe where one is set to an id whose whole ancestry is held.
+pub fn setting_stays_safe<A: Allocator + Copy>()
+    ensures { SettingStaysSafe A }
+{}
+
+/// In a repository that is loaded with parents first, each parent of a node came before it.
+pub fn parents_first_is_ordered<A: Allocator + Copy>()
+    ensures { ParentsFirstIsOrdered A }
+{}

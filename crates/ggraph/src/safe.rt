@@ -1,0 +1,21 @@
+//! Refs over a graph.
+
+ghost use Rattle.std.specs.Prelude.{◌≡◌, ◌↔◌, IfErr, IfOk, IsTrue};
+ghost use Rattle.ghistory.specs.declared.fault.GraphFault.TheVariants.{Memory};
+ghost use Rattle.ggraph.specs.SafeRefs.{IsSafe};
+
+use ghistory::{Graph, GraphFault};
+use grefs::Refs;
+use gwalk::missing;
+use std::alloc::Allocator;
+
+/// Whether the graph holds the whole ancestry of the id at which each ref stands.
+///
+/// It fails with `Memory` alone.
+pub fn is_safe<A: Allocator + Copy>(graph: &Graph<A>, refs: &Refs<A>) -> Result<bool, GraphFault>
+    ensures answer { IfOk result (λ safe. IsTrue safe ↔ IsSafe graph.now.entries refs.now) }
+    ensures fault { IfErr result (λ fault. fault ≡ Memory) }
+{
+    let ids = refs.ids(graph.allocator())?;
+    Ok(missing(graph, ids.as_slice())?.is_none())
+}
