@@ -2,3 +2,5 @@ pub mod GrammarLemmas
 pub mod ReadingLemmas
 pub mod IdLemmas
 pub mod WritingLemmas
+pub mod BytesLemmas
+pub mod KindLemmas

@@ -1,5 +1,7 @@
 pub mod Grammar
 pub mod MessageReading
+pub mod MessageBytes
+pub mod Kinds
 pub mod Faults
 pub mod PeerErrors
 pub mod Capabilities
