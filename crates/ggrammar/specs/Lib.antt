@@ -3,6 +3,7 @@ pub mod MessageReading
 pub mod MessageBytes
 pub mod Kinds
 pub mod Faults
+pub mod FaultViews
 pub mod PeerErrors
 pub mod Capabilities
 pub mod Ids
