@@ -4,3 +4,4 @@ pub mod IdLemmas
 pub mod WritingLemmas
 pub mod BytesLemmas
 pub mod KindLemmas
+pub mod PlaceLemmas

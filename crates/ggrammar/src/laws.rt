@@ -2,11 +2,13 @@
 
 ghost use Rattle.ggrammar.specs.Grammar.{Judge, LawsOf};
 ghost use Rattle.ggrammar.specs.MessageBytes.{LawsOfBytes};
+ghost use Rattle.ggrammar.specs.Texts.{TextIsRead, TextsOfMore};
 ghost use Rattle.ggrammar.specs.Writing.{EndsWriting, FailsWriting, GoesOnAfterPart, GoesOnWriting, LinesArePart, StartsWriting, WritesFitting, WritesLine};
 
 use gpkt::Sink;
 use gpkt::laws::{
-    canonical_spells, has_four_bytes, one_begins, one_reading, refused_front, writes_join,
+    canonical_spells, has_four_bytes, one_begins, one_reading, refused_front, text_reads_back,
+    writes_join,
 };
 
 /// No message begins another. Where each open list has an ending, it begins a message and holds none, and a
@@ -25,6 +27,14 @@ pub fn messages_are_read()
     one_reading();
     refused_front();
     has_four_bytes();
+}
+
+/// The texts of packets come in their order, and the line of a text is read as that text.
+pub fn texts_are_read()
+    ensures more { TextsOfMore }
+    ensures line { TextIsRead }
+{
+    text_reads_back();
 }
 
 /// Lines that are written one after the other are one write of all of them; where one fails, all of them do.
