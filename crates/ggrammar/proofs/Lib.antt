@@ -5,3 +5,4 @@ pub mod WritingLemmas
 pub mod BytesLemmas
 pub mod KindLemmas
 pub mod PlaceLemmas
+pub mod TestGrammarLemmas

@@ -29,7 +29,8 @@
 //! # Stands on
 //!
 //! `gpkt` for packet lines, `gname` for ids and names, `hex` for what spells an id, `arrayvec` for texts of
-//! bounded length, `thiserror` for the text of a fault with its packet.
+//! bounded length, `thiserror` for the text of a fault with its packet; in the tests `bumpalo`, for memory
+//! that ends.
 #![tactic(auto)]
 
 mod capability;
