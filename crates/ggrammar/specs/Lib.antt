@@ -1,6 +1,9 @@
 pub mod Grammar
 pub mod MessageReading
+pub mod MessageBytes
+pub mod Kinds
 pub mod Faults
+pub mod FaultViews
 pub mod PeerErrors
 pub mod Capabilities
 pub mod Ids
@@ -8,6 +11,7 @@ pub mod Endings
 pub mod Texts
 pub mod Places
 pub mod CapabilityView
+pub mod TestGrammar
 pub use Rattle.gpkt.specs.Packets
 pub use Rattle.gpkt.specs.Change
 pub use Rattle.gpkt.specs.LineReading

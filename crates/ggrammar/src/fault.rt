@@ -1,13 +1,14 @@
 //! Why a message is refused, and at which of its packets.
 
 ghost use Rattle.std.specs.Prelude.{◌≡◌, ◌+◌, ◌≤◌, ◌++◌, length};
-ghost use Rattle.ggrammar.specs.Faults.{why_row, kept_text, max_peer_text};
+ghost use Rattle.ggrammar.specs.Faults.{why_row, row_of, line_phrase, kept_text, max_peer_text};
+ghost use Rattle.ggrammar.specs.FaultViews.{row_view};
 
 use arrayvec::ArrayVec;
 use gpkt::{BandFault, LineFault, text_of};
+use std::error::Error;
 use std::fmt;
 use std::marker::Model;
-use thiserror::Error;
 
 /// The most bytes of a peer's error that are kept.
 pub const MAX_PEER_TEXT: usize = 256;
@@ -62,100 +63,125 @@ impl fmt::Debug for PeerText {
 }
 
 /// Why a packet, or the end of the input in its place, is no part of the message.
-#[derive(Debug, Drop, Error)]
+#[derive(Debug, Drop)]
 pub enum Why {
-    /// 20 to 25: the packet line itself was refused.
-    #[error("{0}")]
+    /// 20 to 28: the packet line itself was refused.
     Line(LineFault),
     /// 29, 30: the payload is of no side band.
-    #[error("{0}")]
     Band(BandFault),
     /// 41: a flush, delimiter or response-end where the grammar has none.
-    #[error("unexpected packet")]
     UnexpectedFrame,
     /// 42: a text that no case of the grammar has.
-    #[error("bad line")]
     BadText,
     /// 43: a command that is not served.
-    #[error("unknown command")]
     UnknownCommand,
     /// 44: a capability that is not served.
-    #[error("unknown capability")]
     UnknownCapability,
     /// 45: an argument that the command does not have.
-    #[error("unknown argument")]
     UnknownArgument,
     /// 46: an object id is due.
-    #[error("bad object id")]
     BadId,
     /// 47: a ref name, or a prefix of ref names, is due.
-    #[error("bad ref name")]
     BadName,
     /// 48: one more than the most that is taken.
-    #[error("limit exceeded")]
     Limit,
     /// 49: the peer reported an error.
-    #[error("peer reported an error")]
     RemoteErr(PeerText),
     /// 50: the peer gave up, on the side band for fatal errors.
-    #[error("peer gave up")]
     RemoteFatal(PeerText),
     /// 51: a section, a line or an end out of its place in a reply to fetch.
-    #[error("wrong section")]
     WrongSection,
     /// 52: another object format.
-    #[error("object format mismatch")]
     Format,
     /// 53: no memory for what the packet brings.
-    #[error("out of memory")]
     Memory,
     /// 54: the input ends where a packet of the message is due.
-    #[error("unexpected end")]
     Ended,
+}
+
+// The number and the name of a fault, and what the peer is told of it.
+#[derive(Clone, Copy)]
+struct WhyRow {
+    code: u32,
+    name: &'static str,
+    phrase: &'static str,
+}
+
+fn row(code: u32, name: &'static str, phrase: &'static str) -> WhyRow
+    ensures { row_view result ≡ row_of (code, name.now) phrase.now }
+{
+    WhyRow { code, name, phrase }
+}
+
+// Why no line is read, in a peer's words.
+fn line_phrase(fault: &LineFault) -> &'static str
+    ensures { result.now ≡ line_phrase fault.now }
+{
+    match fault {
+        LineFault::BadDigits | LineFault::Reserved | LineFault::TooLong => "bad packet line",
+        LineFault::Truncated => "unexpected end",
+        LineFault::Io | LineFault::Failed => "read failed",
+        LineFault::Memory => "out of memory",
+    }
 }
 
 impl Why {
     /// The number of the fault.
     pub fn code(&self) -> u32
-        ensures { result ≡ (why_row self.now).0 }
+        ensures { result ≡ (why_row self.now).code }
     {
-        self.row().0
+        self.row().code
     }
 
     /// The name of the fault.
     pub fn name(&self) -> &'static str
-        ensures { result.now ≡ (why_row self.now).1 }
+        ensures { result.now ≡ (why_row self.now).name }
     {
-        self.row().1
+        self.row().name
     }
 
-    // The table: the number and the name of each fault.
-    fn row(&self) -> (u32, &'static str)
-        ensures { (result.0, result.1.now) ≡ why_row self.now }
+    /// What a peer is told of the fault, as in `ERR upload-pack: bad line`; it is also what the fault displays.
+    pub fn phrase(&self) -> &'static str
+        ensures { result.now ≡ (why_row self.now).phrase }
+    {
+        self.row().phrase
+    }
+
+    // The table of faults.
+    fn row(&self) -> WhyRow
+        ensures { row_view result ≡ why_row self.now }
     {
         match self {
-            Why::Line(fault) => (fault.code(), fault.name()),
-            Why::Band(fault) => (fault.code(), fault.name()),
-            Why::UnexpectedFrame => (41, "UnexpectedFrame"),
-            Why::BadText => (42, "BadText"),
-            Why::UnknownCommand => (43, "UnknownCommand"),
-            Why::UnknownCapability => (44, "UnknownCapability"),
-            Why::UnknownArgument => (45, "UnknownArgument"),
-            Why::BadId => (46, "BadId"),
-            Why::BadName => (47, "BadName"),
-            Why::Limit => (48, "Limit"),
-            Why::RemoteErr(_) => (49, "RemoteErr"),
-            Why::RemoteFatal(_) => (50, "RemoteFatal"),
-            Why::WrongSection => (51, "WrongSection"),
-            Why::Format => (52, "Format"),
-            Why::Memory => (53, "Memory"),
-            Why::Ended => (54, "Ended"),
+            Why::Line(fault) => row(fault.code(), fault.name(), line_phrase(fault)),
+            Why::Band(fault) => row(fault.code(), fault.name(), "refused"),
+            Why::UnexpectedFrame => row(41, "UnexpectedFrame", "unexpected packet"),
+            Why::BadText => row(42, "BadText", "bad line"),
+            Why::UnknownCommand => row(43, "UnknownCommand", "unknown command"),
+            Why::UnknownCapability => row(44, "UnknownCapability", "unknown capability"),
+            Why::UnknownArgument => row(45, "UnknownArgument", "unknown argument"),
+            Why::BadId => row(46, "BadId", "bad object id"),
+            Why::BadName => row(47, "BadName", "bad ref name"),
+            Why::Limit => row(48, "Limit", "limit exceeded"),
+            Why::RemoteErr(_) => row(49, "RemoteErr", "peer reported an error"),
+            Why::RemoteFatal(_) => row(50, "RemoteFatal", "refused"),
+            Why::WrongSection => row(51, "WrongSection", "refused"),
+            Why::Format => row(52, "Format", "object format mismatch"),
+            Why::Memory => row(53, "Memory", "out of memory"),
+            Why::Ended => row(54, "Ended", "unexpected end"),
         }
     }
 }
 
+impl fmt::Display for Why {
+    fn fmt<W: fmt::Write>(&self, f: &mut fmt::Formatter<W>) -> fmt::Result {
+        f.write_str(self.phrase())
+    }
+}
+
+impl Error for Why {}
+
 /// A message that was refused: at which of its packets, from 0, and why.
-#[derive(Debug, Drop, Error)]
+#[derive(Debug, Drop, thiserror::Error)]
 #[error("packet {frame}: {why}")]
 pub struct MessageFault {
     pub frame: u64,
@@ -165,14 +191,14 @@ pub struct MessageFault {
 impl MessageFault {
     /// The number of the fault.
     pub fn code(&self) -> u32
-        ensures { result ≡ (why_row self.now.why).0 }
+        ensures { result ≡ (why_row self.now.why).code }
     {
         self.why.code()
     }
 
     /// The name of the fault.
     pub fn name(&self) -> &'static str
-        ensures { result.now ≡ (why_row self.now.why).1 }
+        ensures { result.now ≡ (why_row self.now.why).name }
     {
         self.why.name()
     }
