@@ -1,1 +1,3 @@
 pub mod StateLemmas
+pub mod FromLeft
+pub mod ReplyForms
