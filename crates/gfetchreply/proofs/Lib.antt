@@ -1,3 +1,5 @@
 pub mod StateLemmas
 pub mod FromLeft
 pub mod ReplyForms
+pub mod ReplyVerdicts
+pub mod ReplySections
