@@ -3,3 +3,4 @@ pub mod FromLeft
 pub mod ReplyForms
 pub mod ReplyVerdicts
 pub mod ReplySections
+pub mod ReplyEndings

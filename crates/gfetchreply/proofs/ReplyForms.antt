@@ -1,13 +1,12 @@
 -- The forms of texts and payloads of a reply.
-use Rattle.std.proofs.Common.{◌≡◌, ℕ, Bool, true, false, cond, nat_eq, List, [], ◌∷◌, ◌++◌, length, take, drop, codes, ◌⊎◌, inl, inr, Option, Some, None, Result, Ok, Err, refl, sym, ap, subst, ◌∙◌, ◌-◌, suc, arith}
+use Rattle.std.proofs.Common.{◌≡◌, ℕ, Bool, true, false, cond, nat_eq, List, [], ◌∷◌, ◌++◌, length, take, drop, codes, inl, inr, Option, Some, None, refl, sym, ap, subst, ◌∙◌, ◌-◌, suc, arith}
 use Rattle.std.specs.Str.{bytes_eq}
 use Rattle.std.specs.List.{starts_with}
-use Rattle.std.proofs.lemmas.Bool.{and_parts, and_left, cond-true, cond-false, cases_cond, eqb-true}
+use Rattle.std.proofs.lemmas.Bool.{and_left, cond-false, cases_cond, eqb-true}
 use Rattle.std.proofs.lemmas.Bool.Decides.{Decides-eqb}
 use Rattle.std.proofs.lemmas.Slice.Eq.{bytes_eq-Decides, starts_is}
-use Rattle.gpkt.specs.Packets.{text, line_feed}
-use Rattle.gpkt.specs.Bands.{BandPacket, band_form, band_at, band_payload, Data as BandData, Progress, Fatal}
-use Rattle.gpkt.specs.declared.fault.BandFault.{BandFault}
+use Rattle.gpkt.specs.Packets.{text}
+use Rattle.gpkt.specs.Bands.{band_form, band_at}
 use Rattle.ggrammar.specs.PeerErrors.{after_word, peer_error}
 use Rattle.gfetchreply.specs.FetchManual.{IsDataOrProgress}
 use Rattle.gfetchreply.specs.FetchReplies.{ReplyForm, Acknowledgments, Nak, Readiness, Packfile, Ack, OtherForm, ack_or_other, reply_form}

@@ -1,28 +1,26 @@
 -- The sections of a reply that is whole from some state on.
-use Rattle.std.proofs.Common.{◌≡◌, ℕ, ◌+◌, ◌≤◌, ◌<◌, Bool, true, false, List, [], ◌∷◌, ◌++◌, length, map, codes, ◌⊎◌, inl, inr, Option, Some, None, Result, Ok, Err, refl, sym, ap, subst, ◌∙◌, append_assoc, append-nil, length-append, arith}
+use Rattle.std.proofs.Common.{◌≡◌, ℕ, ◌+◌, ◌≤◌, List, [], ◌∷◌, ◌++◌, length, map, ◌⊎◌, inl, inr, refl, sym, ap, subst, ◌∙◌, append_assoc, length-append, arith}
 use Rattle.std.specs.Prelude.{All}
-use Rattle.std.specs.Option.{IsSome, is_some}
 use Rattle.std.proofs.lemmas.List.Elements.{All-nil, All-cons, All-head, All-tail}
 use Rattle.gpkt.specs.Packets.{Packet, Data, Flush, Delim, ResponseEnd, text}
 use Rattle.gpkt.specs.Bands.{band_form}
 use Rattle.gname.specs.declared.formats.Format.{Format}
 use Rattle.ggrammar.specs.Grammar.{Verdict, Open, Whole, Refused}
-use Rattle.ggrammar.specs.Endings.{ends_with, at_flush, after_flush}
-use Rattle.ggrammar.specs.Ids.{id_of_text}
+use Rattle.ggrammar.specs.Endings.{ends_with, at_flush}
 use Rattle.ggrammar.specs.declared.ends.Ends.{Ends}
 use Rattle.ggrammar.specs.declared.ends.Ends.TheVariants.{Plain, Response}
 use Rattle.ggrammar.specs.declared.fault.Why.{Why}
 use Rattle.ggrammar.specs.declared.fault.Why.TheVariants.{WrongSection, UnexpectedFrame}
-use Rattle.gfetchreply.specs.FetchManual.{IsAck, IsDataOrProgress, IsPackSection}
-use Rattle.gfetchreply.specs.FetchReplies.{Reading, State, Place, Start, Acking, Naked, AfterReady, BeforePack, InPack, Over}
-use Rattle.gfetchreply.specs.FetchReplies.{ReplyForm, Acknowledgments, Nak, Readiness, Packfile, Ack, OtherForm, reply_form, ack_id}
-use Rattle.gfetchreply.specs.FetchReplies.{max_acks, max_packets, data_in, data_of, judge_at, judge_there, judge_before_pack, next_place, after_text, texts_there, bands_there}
-use Rattle.gfetchreply.proofs.ReplyForms.{heading_line, nak_line, readiness_line, packfile_line, heading_form, nak_form, readiness_form, packfile_form, form_reports_none, band_reports_none}
-use Rattle.gfetchreply.proofs.ReplyVerdicts.{IsWholeAt, at_place, data_open, open_data, data_not_whole, start_open, before_open, late_not_open, AckingOn, an_ack, a_nak, a_readiness, acking_open, open_acking, BandOn, band_open, open_band, over_whole, over_not_open, moved, next-moved}
-use Rattle.gfetchreply.proofs.StateLemmas.{next_state, state-ack, state-acking, state-band, state-move}
+use Rattle.gfetchreply.specs.FetchManual.{IsDataOrProgress, IsPackSection}
+use Rattle.gfetchreply.specs.FetchReplies.{Reading, State, Place, BeforePack, InPack, Over}
+use Rattle.gfetchreply.specs.FetchReplies.{Packfile, reply_form}
+use Rattle.gfetchreply.specs.FetchReplies.{max_packets, data_in, data_of, judge_at, judge_before_pack, next_place, after_text, texts_there, bands_there}
+use Rattle.gfetchreply.proofs.ReplyForms.{packfile_line, packfile_form, form_reports_none, band_reports_none}
+use Rattle.gfetchreply.proofs.ReplyVerdicts.{IsWholeAt, at_place, data_open, open_data, data_not_whole, before_open, BandOn, band_open, open_band, over_whole, over_not_open, moved, next-moved}
+use Rattle.gfetchreply.proofs.StateLemmas.{next_state, state-band}
 
 -- the state is another
-at_state : (reading : Reading) (a b : State) (packets : List Packet) → a ≡ b → IsWholeAt reading a packets → IsWholeAt reading b packets
+pub at_state : (reading : Reading) (a b : State) (packets : List Packet) → a ≡ b → IsWholeAt reading a packets → IsWholeAt reading b packets
 at_state reading a b packets e h = subst (λ (s : State). IsWholeAt reading s packets) e h
 
 -- neither open nor whole
@@ -30,11 +28,11 @@ no_verdict : {P : Type 0} {Q : Type 0} {R : Type 0} (v w : Verdict) → (v ≡ w
 no_verdict v w e neither nor (inl h) = absurd (neither (sym e ∙ h.0))
 no_verdict v w e neither nor (inr h) = absurd (nor (sym e ∙ h.0))
 
-refused : {P : Type 0} {Q : Type 0} {R : Type 0} (v : Verdict) (why : Why) → v ≡ Refused why → ((v ≡ Whole) × P) ⊎ ((v ≡ Open) × Q) → R
+pub refused : {P : Type 0} {Q : Type 0} {R : Type 0} (v : Verdict) (why : Why) → v ≡ Refused why → ((v ≡ Whole) × P) ⊎ ((v ≡ Open) × Q) → R
 refused v why e h = no_verdict v (Refused why) e (λ f. cc) (λ f. cc) h
 
 -- the packet goes on
-goes_on : {P : Type 0} {Q : Type 0} (v : Verdict) → (v ≡ Whole → ⊥) → ((v ≡ Whole) × P) ⊎ ((v ≡ Open) × Q) → (v ≡ Open) × Q
+pub goes_on : {P : Type 0} {Q : Type 0} (v : Verdict) → (v ≡ Whole → ⊥) → ((v ≡ Whole) × P) ⊎ ((v ≡ Open) × Q) → (v ≡ Open) × Q
 goes_on v never (inl h) = absurd (never h.0)
 goes_on v never (inr h) = h
 
@@ -56,7 +54,7 @@ rest_by Response rest (inl h) = let no = h.0 in cc
 rest_by Response rest (inr h) = h.1
 
 -- what follows a flush that ends the reply, and makes it whole
-flush_rest : (reading : Reading) (state : State) (rest : List Packet) → judge_at reading state Flush ≡ at_flush reading.ends → next_place state.place Flush ≡ Over
+pub flush_rest : (reading : Reading) (state : State) (rest : List Packet) → judge_at reading state Flush ≡ at_flush reading.ends → next_place state.place Flush ≡ Over
     → IsWholeAt reading state (Flush ∷ rest) → rest ≡ ends_with reading.ends
 flush_rest reading state rest at over (inl h) = rest_by reading.ends rest (inl (sym at ∙ h.0, h.1))
 flush_rest reading state rest at over (inr h) =
@@ -67,7 +65,7 @@ by_rest : (reading : Reading) (state next : State) (ends : Ends) → next.place 
 by_rest reading state next Plain over at = inl (at, refl)
 by_rest reading state next Response over at = inr (at, inl (at_place reading next Over ResponseEnd over, refl))
 
-rest_flush : (reading : Reading) (state : State) → judge_at reading state Flush ≡ at_flush reading.ends → next_place state.place Flush ≡ Over
+pub rest_flush : (reading : Reading) (state : State) → judge_at reading state Flush ≡ at_flush reading.ends → next_place state.place Flush ≡ Over
     → IsWholeAt reading state (Flush ∷ ends_with reading.ends)
 rest_flush reading state at over = by_rest reading state (next_state reading.format state Flush) reading.ends over at
 
@@ -84,13 +82,12 @@ in_flush : (place : Place) → place ≡ InPack → next_place place Flush ≡ O
 in_flush place e = ap (λ (p : Place). next_place p Flush) e
 
 -- the state after a packet of the pack
-banded : State → List ℕ → State
+abbrev pub banded : State → List ℕ → State
 banded state payload =
     record { place = InPack; acks = state.acks; packets = state.packets + 1; bytes = state.bytes + length (data_in (band_form payload)) }
 
 more_rest : (reading : Reading) (state : State) (payload : List ℕ) (rest : List Packet) → BandOn reading.limit state (band_form payload)
     → IsPackRest reading (banded state payload) rest → IsPackRest reading state (Data payload ∷ rest)
-unfolding banded
 more_rest reading state payload rest on more = record {
   payloads = payload ∷ more.payloads;
   parts = ap (λ (xs : List Packet). Data payload ∷ xs) more.parts;
@@ -101,7 +98,6 @@ more_rest reading state payload rest on more = record {
 
 pub pack_rest : (reading : Reading) (state : State) (packets : List Packet) → state.place ≡ InPack → state.packets ≤ max_packets → state.bytes ≤ reading.limit
     → IsWholeAt reading state packets → IsPackRest reading state packets
-unfolding banded
 pack_rest reading state [] here few short h = absurd h
 pack_rest reading state (Data payload ∷ rest) here few short h =
     let goes = goes_on _ (data_not_whole reading state InPack payload here tt) h in
@@ -122,7 +118,6 @@ pack_rest reading state (ResponseEnd ∷ rest) here few short h = refused _ Unex
 pub rest_pack : (reading : Reading) (state : State) (payloads : List (List ℕ)) → state.place ≡ InPack → All (λ payload. IsDataOrProgress (band_form payload)) payloads
     → state.packets + length payloads ≤ max_packets → state.bytes + length (data_of payloads) ≤ reading.limit
     → IsWholeAt reading state (map Data payloads ++ Flush ∷ ends_with reading.ends)
-unfolding banded
 rest_pack reading state [] here are few short = rest_flush reading state (at_place reading state InPack Flush here) (in_flush state.place here)
 rest_pack reading state (payload ∷ payloads) here are few short =
     let is = All-head (λ p. IsDataOrProgress (band_form p)) payload payloads are in
@@ -149,7 +144,7 @@ pub record IsBeforePack (state : State) : Type 0 where
   pub packets : state.packets ≡ 0
   pub bytes : state.bytes ≡ 0
 
-next-packfile : (format : Format) (state : State) (heading : List ℕ) → state.place ≡ BeforePack → reply_form (text heading) ≡ Packfile
+pub next-packfile : (format : Format) (state : State) (heading : List ℕ) → state.place ≡ BeforePack → reply_form (text heading) ≡ Packfile
     → next_state format state (Data heading) ≡ moved state InPack
 next-packfile format state heading here form =
     next-moved format state (Data heading) InPack

@@ -1,19 +1,19 @@
 -- What the judge of replies says of a packet at each place.
-use Rattle.std.proofs.Common.{◌≡◌, ℕ, ◌+◌, ◌≤◌, ◌<◌, ◌&&◌, Bool, true, false, cond, List, [], ◌∷◌, ◌++◌, length, codes, inl, inr, Option, Some, None, Result, Ok, Err, refl, sym, ap, subst, ◌∙◌, append_assoc, append-nil, arith}
-use Rattle.std.specs.Prelude.{is_some, nat_lt, nat_le}
+use Rattle.std.proofs.Common.{◌≡◌, ℕ, ◌+◌, ◌≤◌, ◌<◌, Bool, true, false, cond, List, [], ◌∷◌, ◌++◌, length, Option, Some, None, Result, Ok, Err, refl, sym, ap, ◌∙◌, append_assoc, append-nil, arith}
+use Rattle.std.specs.Prelude.{is_some, nat_lt}
 use Rattle.std.proofs.lemmas.Bool.{and_parts, and_from, ltb-true, ltb-false, lt-ltb, leb-true, le-leb}
-use Rattle.gpkt.specs.Packets.{Packet, Data, Flush, Delim, ResponseEnd, text}
-use Rattle.gpkt.specs.Bands.{BandPacket, band_form, Data as BandData, Progress, Fatal}
+use Rattle.gpkt.specs.Packets.{Packet, Data, Flush, Delim, ResponseEnd}
+use Rattle.gpkt.specs.Bands.{BandPacket, Data as BandData, Progress, Fatal}
 use Rattle.gpkt.specs.declared.fault.BandFault.{BandFault}
 use Rattle.gname.specs.declared.formats.Format.{Format}
-use Rattle.ggrammar.specs.Grammar.{Judge, Verdict, Open, Whole, Refused, if_room, IsOpen, IsWhole}
-use Rattle.ggrammar.specs.Endings.{after_flush, at_flush}
+use Rattle.ggrammar.specs.Grammar.{Verdict, Open, Whole, Refused, if_room}
+use Rattle.ggrammar.specs.Endings.{after_flush}
 use Rattle.ggrammar.specs.Ids.{id_of_text}
 use Rattle.ggrammar.specs.PeerErrors.{peer_error, unless_error}
 use Rattle.ggrammar.specs.declared.fault.Why.TheVariants as why
 use Rattle.gfetchreply.specs.FetchManual.{IsDataOrProgress}
 use Rattle.gfetchreply.specs.FetchReplies.{Reading, State, Place, Start, Acking, Naked, AfterReady, BeforePack, InPack, Over}
-use Rattle.gfetchreply.specs.FetchReplies.{ReplyForm, Acknowledgments, Nak, Readiness, Packfile, Ack, OtherForm, reply_form}
+use Rattle.gfetchreply.specs.FetchReplies.{ReplyForm, Acknowledgments, Nak, Readiness, Packfile, Ack, OtherForm}
 use Rattle.gfetchreply.specs.FetchReplies.{max_acks, max_packets, data_in, judge, judge_at, judge_there, judge_acking, judge_start, judge_before_pack, judge_late, judge_band, judge_payload, state_of, first_place, next_place, texts_there, bands_there}
 use Rattle.gfetchreply.proofs.FromLeft.{state_after, judge_from, OpenFrom, WholeFrom}
 use Rattle.gfetchreply.proofs.StateLemmas.{state_of-nil, state_of-push, next_state, state-move}
