@@ -2,7 +2,6 @@
 use Rattle.std.proofs.Common.{◌≡◌, ℕ, ◌+◌, ◌≤◌, ◌<◌, ◌^◌, List, [], ◌∷◌, ◌++◌, length, codes, inl, inr, refl, sym, ap, subst, ◌∙◌, arith}
 use Rattle.gpkt.specs.Packets.{Packet, Data, Flush, Delim, ResponseEnd, text, line_feed}
 use Rattle.gpkt.specs.Bands.{band_form}
-use Rattle.gname.specs.declared.formats.Format.{Format}
 use Rattle.ggrammar.specs.Grammar.{Judge, Verdict, Open, Refused, IsOpen, IsWhole, HasEndings}
 use Rattle.ggrammar.specs.Endings.{ends_with}
 use Rattle.ggrammar.specs.declared.ends.Ends.{Ends}
@@ -11,11 +10,11 @@ use Rattle.ggrammar.specs.declared.fault.Why.{Why}
 use Rattle.ggrammar.specs.declared.fault.Why.TheVariants.{WrongSection, UnexpectedFrame}
 use Rattle.gfetchreply.specs.FetchReplies.{Reading, State, Place, Start, Acking, Naked, AfterReady, BeforePack, InPack, Over}
 use Rattle.gfetchreply.specs.FetchReplies.{ReplyForm, Acknowledgments, Nak, Readiness, Packfile, Ack, OtherForm, reply_form}
-use Rattle.gfetchreply.specs.FetchReplies.{max_acks, max_packets, judge, judge_at, judge_start, judge_before_pack, next_place, after_text, texts_there, bands_there}
+use Rattle.gfetchreply.specs.FetchReplies.{max_acks, max_packets, judge, judge_at, judge_start, judge_before_pack, next_place, texts_there, bands_there}
 use Rattle.gfetchreply.proofs.FromLeft.{state_after, OpenFrom-from_open, IsWhole-from_left, WholeFrom-after_open}
 use Rattle.gfetchreply.proofs.ReplyForms.{heading_form, packfile_form, form_reports_none}
 use Rattle.gfetchreply.proofs.ReplyVerdicts.{start, judge_is, IsWholeAt, IsOpenAt, at_place, data_open, open_data, start_open, before_open, late_not_open, AckingOn, an_ack, a_nak, a_readiness, acking_open, BandOn, band_open, over_not_open, moved, next-moved}
-use Rattle.gfetchreply.proofs.ReplySections.{at_state, rest_flush, next-packfile}
+use Rattle.gfetchreply.proofs.ReplySections.{at_state, rest_flush, next-heading, next-delim, next-packfile}
 use Rattle.gfetchreply.proofs.StateLemmas.{next_state, state-ack, state-acking, state-band}
 
 -- ---- an ending
@@ -43,19 +42,6 @@ packfile_is = packfile_form (text packfile_line) refl
 heading_is : reply_form (text heading_line) ≡ Acknowledgments
 unfolding heading_line
 heading_is = heading_form (text heading_line) refl
-
-next-heading : (format : Format) (state : State) (heading : List ℕ) → state.place ≡ Start → reply_form (text heading) ≡ Acknowledgments
-    → next_state format state (Data heading) ≡ moved state Acking
-next-heading format state heading here form =
-    next-moved format state (Data heading) Acking
-    (ap (λ (p : Place). texts_there p (Data heading)) here)
-    (ap (λ (p : Place). bands_there p (Data heading)) here)
-    (ap (λ (p : Place). next_place p (Data heading)) here ∙ ap (after_text Start) form)
-
-next-delim : (format : Format) (state : State) → state.place ≡ AfterReady → next_state format state Delim ≡ moved state BeforePack
-next-delim format state here =
-    next-moved format state Delim BeforePack
-    (ap (λ (p : Place). texts_there p Delim) here) (ap (λ (p : Place). bands_there p Delim) here) (ap (λ (p : Place). next_place p Delim) here)
 
 ends_before : (reading : Reading) (state : State) → state.place ≡ BeforePack → IsWholeAt reading state (Data packfile_line ∷ Flush ∷ ends_with reading.ends)
 ends_before reading state here =

@@ -12,8 +12,8 @@ use Rattle.ggrammar.specs.declared.ends.Ends.TheVariants.{Plain, Response}
 use Rattle.ggrammar.specs.declared.fault.Why.{Why}
 use Rattle.ggrammar.specs.declared.fault.Why.TheVariants.{WrongSection, UnexpectedFrame}
 use Rattle.gfetchreply.specs.FetchManual.{IsDataOrProgress, IsPackSection}
-use Rattle.gfetchreply.specs.FetchReplies.{Reading, State, Place, BeforePack, InPack, Over}
-use Rattle.gfetchreply.specs.FetchReplies.{Packfile, reply_form}
+use Rattle.gfetchreply.specs.FetchReplies.{Reading, State, Place, Start, Acking, AfterReady, BeforePack, InPack, Over}
+use Rattle.gfetchreply.specs.FetchReplies.{Acknowledgments, Packfile, reply_form}
 use Rattle.gfetchreply.specs.FetchReplies.{max_packets, data_in, data_of, judge_at, judge_before_pack, next_place, after_text, texts_there, bands_there}
 use Rattle.gfetchreply.proofs.ReplyForms.{packfile_line, packfile_form, form_reports_none, band_reports_none}
 use Rattle.gfetchreply.proofs.ReplyVerdicts.{IsWholeAt, at_place, data_open, open_data, data_not_whole, before_open, BandOn, band_open, open_band, over_whole, over_not_open, moved, next-moved}
@@ -35,6 +35,21 @@ refused v why e h = no_verdict v (Refused why) e (λ f. cc) (λ f. cc) h
 pub goes_on : {P : Type 0} {Q : Type 0} (v : Verdict) → (v ≡ Whole → ⊥) → ((v ≡ Whole) × P) ⊎ ((v ≡ Open) × Q) → (v ≡ Open) × Q
 goes_on v never (inl h) = absurd (never h.0)
 goes_on v never (inr h) = h
+
+-- ---- headings and the delimiter
+
+pub next-heading : (format : Format) (state : State) (heading : List ℕ) → state.place ≡ Start → reply_form (text heading) ≡ Acknowledgments
+    → next_state format state (Data heading) ≡ moved state Acking
+next-heading format state heading here form =
+    next-moved format state (Data heading) Acking
+    (ap (λ (p : Place). texts_there p (Data heading)) here)
+    (ap (λ (p : Place). bands_there p (Data heading)) here)
+    (ap (λ (p : Place). next_place p (Data heading)) here ∙ ap (after_text Start) form)
+
+pub next-delim : (format : Format) (state : State) → state.place ≡ AfterReady → next_state format state Delim ≡ moved state BeforePack
+next-delim format state here =
+    next-moved format state Delim BeforePack
+    (ap (λ (p : Place). texts_there p Delim) here) (ap (λ (p : Place). bands_there p Delim) here) (ap (λ (p : Place). next_place p Delim) here)
 
 -- ---- after the flush
 
