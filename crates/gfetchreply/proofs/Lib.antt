@@ -6,3 +6,4 @@ pub mod ReplySections
 pub mod AckSections
 pub mod ReplyEndings
 pub mod ReplyManual
+pub mod CanonicalLemmas
