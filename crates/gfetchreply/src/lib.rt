@@ -3,5 +3,6 @@
 
 pub mod laws;
 mod sink;
+mod write;
 
 pub use crate::sink::PackSink;
