@@ -1,10 +1,10 @@
 -- The packets that are written of a reply: there is one list of them, each fits a packet, and they say the reply.
-use Rattle.std.proofs.Common.{◌≡◌, ℕ, zero, suc, ◌+◌, ◌≤◌, ◌<◌, false, List, [], ◌∷◌, ◌++◌, length, take, drop, map, codes, inl, inr, Some, None, refl, sym, ap, subst, ◌∙◌, append-nil, length-append, length-drop, length-take, arith, ◌==◌}
+use Rattle.std.proofs.Common.{◌≡◌, ℕ, zero, suc, ◌+◌, ◌≤◌, ◌<◌, false, List, [], ◌∷◌, ◌++◌, length, take, drop, map, min, codes, inl, inr, Some, None, refl, sym, ap, subst, ◌∙◌, append-nil, length-append, length-drop, length-take, arith, ◌==◌}
 use Rattle.std.specs.Prelude.{All}
 use Rattle.std.specs.Option.{is_some}
 use Rattle.std.proofs.lemmas.Bool.{cond-true, eq-eqb}
 use Rattle.std.proofs.lemmas.Bool.Decides.{leb_tells}
-use Rattle.std.proofs.lemmas.List.{length-map, take-append-drop}
+use Rattle.std.proofs.lemmas.List.{nil_from_length, length-map, take-append-drop}
 use Rattle.std.proofs.Math.Seq.{take-append_seam, drop-append_seam}
 use Rattle.std.proofs.lemmas.List.Elements.{All-nil, All-cons, All-head, All-tail, All-append}
 use Rattle.gpkt.specs.Packets.{Packet, Data, Flush, Delim, ResponseEnd, text, line_feed}
@@ -135,6 +135,41 @@ pieces_fit pack pieces (full piece rest more size some are) =
 data_lines : (pieces : List (List ℕ)) → map (λ bytes. Data (band_payload (BandData bytes))) pieces ≡ map Data (map on_band pieces)
 data_lines [] = refl
 data_lines (piece ∷ pieces) = ap (λ (xs : List Packet). Data (on_band piece) ∷ xs) (data_lines pieces)
+
+-- ---- the pieces of a pack, one after the other
+
+pub made : List ℕ → List (List ℕ)
+made pack = (pieces_exist pack).0
+
+pub made_are : (pack : List ℕ) → IsPieces pack (made pack)
+unfolding made
+made_are pack = (pieces_exist pack).1
+
+pub made_is : (pack : List ℕ) (pieces : List (List ℕ)) → IsPieces pack pieces → made pack ≡ pieces
+made_is pack pieces are = one_list pack (made pack) pieces (made_are pack) are
+
+pub made_none : (pack : List ℕ) → length pack ≡ 0 → made pack ≡ []
+made_none pack empty = made_is pack [] (subst (λ (xs : List ℕ). IsPieces xs []) (sym (nil_from_length pack empty)) none)
+
+next_pieces : (piece after : List ℕ) → length piece ≡ min max_band (length (piece ++ after)) → 0 < length (piece ++ after)
+    → IsPieces (piece ++ after) (piece ∷ made after)
+next_pieces piece [] size some =
+    let whole : piece ++ [] ≡ piece = append-nil piece in
+    let long = ap length whole in
+    let one : IsPieces piece (piece ∷ []) = last piece (omega arith) (omega arith) in
+    subst (λ (xs : List ℕ). IsPieces xs (piece ∷ made [])) (sym whole)
+    (subst (λ (xs : List (List ℕ)). IsPieces piece (piece ∷ xs)) (sym (made_none [] refl)) one)
+next_pieces piece (byte ∷ after) size some =
+    full piece (byte ∷ after) (made (byte ∷ after)) (omega (arith, length-append piece (byte ∷ after))) (omega arith) (made_are (byte ∷ after))
+
+-- the first piece, and those of what follows it
+pub made_next : (pack piece after : List ℕ) → pack ≡ piece ++ after → length piece ≡ min max_band (length pack) → 0 < length pack
+    → made pack ≡ piece ∷ made after
+made_next pack piece after e size some =
+    let long = ap length e in
+    ap made e
+    ∙ made_is (piece ++ after) (piece ∷ made after)
+    (next_pieces piece after (size ∙ ap (λ (n : ℕ). min max_band n) long) (omega arith))
 
 -- ---- there is one list
 

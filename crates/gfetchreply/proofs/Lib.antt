@@ -7,3 +7,4 @@ pub mod AckSections
 pub mod ReplyEndings
 pub mod ReplyManual
 pub mod CanonicalLemmas
+pub mod WritingLemmas

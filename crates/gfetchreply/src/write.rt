@@ -35,7 +35,7 @@ fn write_ready<W: Sink>(
 ) -> Result<(), WriteFault>
     ensures { (section : List Packet) → IsCanonicalPack pack.now section
         → WritesLines W.contents W.passed_on W.is_down W.loans writer.old writer.new result
-            ((heading ∷ (map ack_packet ids.now ++ readiness ∷ Delim ∷ section)) ++ ends_with ends) }
+        ((heading ∷ (map ack_packet ids.now ++ readiness ∷ Delim ∷ section)) ++ ends_with ends) }
 {
     writes_lines::<W>();
     writer.text(b"acknowledgments")?;
