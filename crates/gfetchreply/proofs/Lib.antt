@@ -6,3 +6,6 @@ pub mod ReplySections
 pub mod AckSections
 pub mod ReplyEndings
 pub mod ReplyManual
+pub mod KeptLemmas
+pub mod IdOfLemmas
+pub mod ReplyLemmas

@@ -88,14 +88,22 @@ with_packet kept Delim = record kept { place = next_place kept.place Delim }
 with_packet kept ResponseEnd = record kept { place = next_place kept.place ResponseEnd }
 
 -- what the next packet brings of the pack
+abbrev pub data_at : Place → List ℕ → List ℕ
+data_at InPack payload = data_in (band_form payload)
+data_at place payload = []
+
 abbrev pub data_there : Place → Packet → List ℕ
-data_there InPack (Data payload) = data_in (band_form payload)
-data_there place packet = []
+data_there place (Data payload) = data_at place payload
+data_there place Flush = []
+data_there place Delim = []
+data_there place ResponseEnd = []
 
 -- whether it brings something to keep
 abbrev pub brings_there : Place → Packet → Bool
 brings_there place (Data payload) = payload_brings place payload
-brings_there place packet = false
+brings_there place Flush = false
+brings_there place Delim = false
+brings_there place ResponseEnd = false
 
 -- ---- what is kept, without where it lies in memory
 

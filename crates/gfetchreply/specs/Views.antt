@@ -1,5 +1,7 @@
 -- Forms, values and parameters without where their bytes lie in memory.
-use Rattle.std.specs.Prelude.{Result, Ok, Err}
+use Rattle.std.specs.Prelude.{ℕ, Bool, Result, Ok, Err}
+use Rattle.gname.specs.declared.formats.Format.TheVariants.{Sha1}
+use Rattle.ggrammar.specs.declared.ends.Ends.{Ends}
 use Rattle.ggrammar.specs.declared.fault.MessageFault.{MessageFault}
 use Rattle.gfetchreply.specs.FetchReplies.{Reading, ReplyForm, Acknowledgments, Nak, Readiness, Packfile, Ack, OtherForm}
 use Rattle.gfetchreply.specs.FetchReplies as reply
@@ -11,6 +13,7 @@ use Rattle.gfetchreply.specs.declared.value.FetchReply.TheVariants as value
 use Rattle.gfetchreply.specs.declared.value.FetchHead.{FetchHead}
 use Rattle.gfetchreply.specs.declared.value.FetchHead.TheVariants as value_head
 use Rattle.gfetchreply.specs.declared.reading.FetchReading.{FetchReading}
+use Rattle.gfetchreply.specs.declared.sections.Sections.{Sections}
 
 abbrev pub form_in : lent_form.ReplyForm → ReplyForm
 form_in lent.Acknowledgments = Acknowledgments
@@ -42,3 +45,15 @@ reading_in reading = record {
   limit = reading.limit;
   ends = reading.ends;
 }
+
+-- with the format of the ids that are kept
+abbrev pub reading_with : {A : Type 0} → FetchReading → Sections A → Reading
+reading_with reading sections = record (reading_in reading) { format = sections.commons.format }
+
+abbrev pub reply_result : {A : Type 0} → Result (FetchReply A) MessageFault → Result reply.FetchReply MessageFault
+reply_result (Ok found) = Ok (reply_in found)
+reply_result (Err fault) = Err fault
+
+-- the plain reading: in SHA-1
+abbrev pub sha1_reading : Bool → ℕ → Ends → Reading
+sha1_reading direct limit ends = record { format = Sha1; direct = direct; limit = limit; ends = ends }

@@ -8,15 +8,14 @@ ghost use Rattle.gpkt.specs.Change.{change_of};
 ghost use Rattle.ggrammar.specs.MessageReading.{IsReadFailure, IsFailedBy};
 ghost use Rattle.gfetchreply.specs.FetchReplies.{judge_at, judge_band, judge_payload, payload_brings, band_brings, data_in};
 ghost use Rattle.gfetchreply.specs.ReplyState.{TakesBoth, brings_there, data_there, first_kept, kept_in, place_in, state_in, with_band, with_packet, with_payload};
-ghost use Rattle.gfetchreply.specs.FetchHeads.{head_by};
-ghost use Rattle.gfetchreply.specs.ReplyReading.{ReadsReply};
-ghost use Rattle.gfetchreply.specs.Views.{head_in, head_result, reading_in};
+ghost use Rattle.gfetchreply.specs.ReplyReading.{ReadsReply, ReadsValue};
+ghost use Rattle.gfetchreply.specs.Views.{head_result, reading_in, reading_with, reply_result, sha1_reading};
 
 use crate::form::reply_form;
 use crate::limit::PackLimit;
 use crate::sections::{Place, Sections, late};
 use crate::sink::PackSink;
-use crate::value::{FetchHead, FetchReply, PackBytes};
+use crate::value::{FetchHead, FetchReply};
 use ggrammar::{Ends, Message, MessageFault, PeerText, Step, Why, peer_error, read_message};
 use gname::Format;
 use gpkt::{Band, Line, LineReader, Source, band_of, text_of};
@@ -77,7 +76,7 @@ impl<'s, T: PackSink, A: Allocator + Copy, L: Lent> ReplyReader<'s, T, A, L> {
     fn take_packet(&mut self, line: Line<'_>) -> Result<Step, Why>
         ensures reading { self.new.reading ≡ self.old.reading }
         ensures same { self.new.sink.ghost_name ≡ self.old.sink.ghost_name }
-        ensures takes { TakesBoth T.taken (judge_at (reading_in self.old.reading) (state_in self.old.sections) (packet_of line.entry))
+        ensures takes { TakesBoth T.taken (judge_at (reading_with self.old.reading self.old.sections) (state_in self.old.sections) (packet_of line.entry))
             (brings_there (place_in self.old.sections.place) (packet_of line.entry))
             (with_packet (kept_in self.old.sections) (packet_of line.entry)) (kept_in self.new.sections)
             (data_there (place_in self.old.sections.place) (packet_of line.entry)) self.old.sink.now self.new.sink.now result }
@@ -94,7 +93,7 @@ impl<'s, T: PackSink, A: Allocator + Copy, L: Lent> ReplyReader<'s, T, A, L> {
         ensures reading { self.new.reading ≡ self.old.reading }
         ensures same { self.new.sink.ghost_name ≡ self.old.sink.ghost_name }
         ensures takes { TakesBoth T.taken
-            (unless_error (peer_error payload.now) (judge_payload (reading_in self.old.reading) (place_in self.old.sections.place) (state_in self.old.sections) payload.now))
+            (unless_error (peer_error payload.now) (judge_payload (reading_with self.old.reading self.old.sections) (place_in self.old.sections.place) (state_in self.old.sections) payload.now))
             (payload_brings (place_in self.old.sections.place) payload.now)
             (with_payload (place_in self.old.sections.place) (kept_in self.old.sections) payload.now) (kept_in self.new.sections)
             (data_there (place_in self.old.sections.place) (Data payload.now)) self.old.sink.now self.new.sink.now result }
@@ -171,12 +170,48 @@ impl<T: PackSink, A: Allocator + Copy, L: Lent> Message for ReplyReader<'_, T, A
     fn laws() {}
 }
 
-/// Reads a reply to fetch in some format to its end, and nothing after it; the pack goes to the sink.
-pub fn read_fetch_reply_into_in<S: Source, T: PackSink, A: Allocator + Copy>(
+/// Reads the reply to fetch of a repository whose ids are SHA-1, as [`read_fetch_reply_into_in`] does: whether the
+/// pack comes at once, the most bytes of it, and how the reply ends.
+pub fn read_fetch_reply_into<S: Source, T: PackSink, A: Allocator + Copy>(
+    direct: bool,
+    limit: PackLimit,
+    ends: Ends,
+    reader: &mut LineReader<S, A>,
+    sink: &mut T,
     alloc: A,
+) -> Result<FetchHead<A>, MessageFault>
+    ensures read { ReadsReply T.taken (sha1_reading direct limit ends)
+        (change_of S.remaining reader.old.source reader.new.source) (T.taken sink.old) sink.new (head_result result) }
+    ensures loans { S.loans reader.new.source ≡ S.loans reader.old.source }
+    ensures device { IfErr result (λ fault. IsReadFailure reader.old.failed (S.is_down reader.new.source) fault.why) }
+    ensures failed { IfErr result (λ fault. IsFailedBy fault.why reader.new.failed) }
+    ensures goes_on { OnOk result (reader.new.failed ≡ false) }
+    ensures well { OnOk result ((reader.old.failed ≡ false) × (S.is_down reader.new.source ≡ false)) }
+    ensures at_once { reader.old.failed ≡ true → IfErr result (λ fault. fault.frame ≡ 0) }
+{
+    let reading = FetchReading {
+        format: Format::Sha1,
+        direct,
+        limit,
+        ends,
+    };
+    read_fetch_reply_into_in(reading, reader, sink, alloc)
+}
+
+/// Reads one reply to fetch to its end, and nothing after it (gitprotocol-v2(5), "fetch"). The pack goes to the sink,
+/// piece by piece, from the reader's buffer; a sink gets no empty piece.
+///
+/// The fault has the first packet, from 0, that does not fit, and why. What the line reader refuses comes first
+/// ([`Why::Line`]), then the end of the input ([`Why::Ended`]), then an error that the peer reports
+/// ([`Why::RemoteErr`]), then what the grammar refuses: a 4,097th id, and the packet with which the pack would pass its
+/// limit, with [`Why::Limit`] where their form is right. [`Why::Memory`] comes only at an acknowledged id and at a packet
+/// with some of the pack. After a refusal the sink has taken the data of the packets before, and the line reader has
+/// failed exactly where the line itself was refused.
+pub fn read_fetch_reply_into_in<S: Source, T: PackSink, A: Allocator + Copy>(
     reading: FetchReading,
     reader: &mut LineReader<S, A>,
     sink: &mut T,
+    alloc: A,
 ) -> Result<FetchHead<A>, MessageFault>
     ensures read { ReadsReply T.taken (reading_in reading) (change_of S.remaining reader.old.source reader.new.source)
         (T.taken sink.old) sink.new (head_result result) }
@@ -190,6 +225,29 @@ pub fn read_fetch_reply_into_in<S: Source, T: PackSink, A: Allocator + Copy>(
     read_lent::<S, T, A, Brand>(alloc, reading, reader, sink)
 }
 
+/// Reads one reply to fetch with its pack in memory, as [`read_fetch_reply_into_in`] does.
+pub fn read_fetch_reply<S: Source, A: Allocator + Copy>(
+    reading: FetchReading,
+    reader: &mut LineReader<S, A>,
+    alloc: A,
+) -> Result<FetchReply<A>, MessageFault>
+    ensures read { ReadsValue (reading_in reading) (change_of S.remaining reader.old.source reader.new.source) (reply_result result) }
+    ensures loans { S.loans reader.new.source ≡ S.loans reader.old.source }
+    ensures device { IfErr result (λ fault. IsReadFailure reader.old.failed (S.is_down reader.new.source) fault.why) }
+    ensures failed { IfErr result (λ fault. IsFailedBy fault.why reader.new.failed) }
+    ensures goes_on { OnOk result (reader.new.failed ≡ false) }
+    ensures well { OnOk result ((reader.old.failed ≡ false) × (S.is_down reader.new.source ≡ false)) }
+    ensures at_once { reader.old.failed ≡ true → IfErr result (λ fault. fault.frame ≡ 0) }
+{
+    let _limit = reading.limit.bytes();
+    let mut pack = Vec::new(alloc);
+    match read_fetch_reply_into_in(reading, reader, &mut pack, alloc) {
+        Ok(head) => Ok(FetchReply::with_pack(head, pack)),
+        Err(fault) => Err(fault),
+    }
+}
+
+// The same for a sink that is named, with what it had taken before.
 fn read_lent<S: Source, T: PackSink, A: Allocator + Copy, L: Lent>(
     alloc: A,
     reading: FetchReading,
@@ -209,7 +267,10 @@ fn read_lent<S: Source, T: PackSink, A: Allocator + Copy, L: Lent>(
 {
     let direct = reading.direct;
     let mut reply = ReplyReader::<T, A, L>::new(alloc, reading, sink);
-    read_message(reader, &mut reply)?;
+    match read_message(reader, &mut reply) {
+        Ok(()) => {}
+        Err(fault) => return Err(fault),
+    }
     let ReplyReader {
         reading: _,
         sections,

@@ -3,6 +3,8 @@
 ghost use Rattle.std.specs.Prelude.{◌≡◌, ◌≤◌, [], length, IfOk};
 ghost use Rattle.gname.specs.Ids.{IsIdOf};
 ghost use Rattle.gfetchreply.specs.WellFormed.{AreAcks};
+ghost use Rattle.gfetchreply.specs.FetchHeads.{reply_with};
+ghost use Rattle.gfetchreply.specs.Views.{head_in, reply_in};
 ghost use Rattle.gfetchreply.specs.Values.{AddsId, PushesId, MakesPack, max_pack};
 
 use ggrammar::{MessageFault, Why};
@@ -153,6 +155,20 @@ pub enum FetchReply<A: Allocator + Copy> {
     Ready(Commons<A>, PackBytes<A>),
     /// The pack alone, to a request with `done` or without haves.
     Pack(PackBytes<A>),
+}
+
+impl<A: Allocator + Copy> FetchReply<A> {
+    // The reply of a head and the bytes of its pack.
+    pub(crate) fn with_pack(head: FetchHead<A>, pack: Vec<u8, A>) -> FetchReply<A>
+        requires { length pack.items ≤ max_pack }
+        ensures { reply_in result ≡ reply_with (head_in head) pack.items }
+    {
+        match head {
+            FetchHead::Acks(commons) => FetchReply::Acks(commons),
+            FetchHead::Ready(commons) => FetchReply::Ready(commons, PackBytes { bytes: pack }),
+            FetchHead::Pack => FetchReply::Pack(PackBytes { bytes: pack }),
+        }
+    }
 }
 
 /// The reply to fetch without its pack.
