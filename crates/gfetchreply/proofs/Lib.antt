@@ -8,3 +8,6 @@ pub mod ReplyEndings
 pub mod ReplyManual
 pub mod CanonicalLemmas
 pub mod WritingLemmas
+pub mod KeptLemmas
+pub mod IdOfLemmas
+pub mod ReplyLemmas

@@ -1,15 +1,42 @@
 //! Writing a reply to fetch (gitprotocol-v2(5), "fetch").
 
-ghost use Rattle.std.specs.Prelude.{List, ℕ, [], ◌∷◌, ◌++◌, map};
-ghost use Rattle.gpkt.specs.Packets.{Delim, Flush, Packet};
+ghost use Rattle.std.specs.Prelude.{IfErr, ◌≢◌, List, ℕ, [], ◌∷◌, ◌++◌, map};
+ghost use Rattle.gpkt.specs.LineWriting.{HasWritten};
+ghost use Rattle.gpkt.specs.Packets.{canonical_all, Delim, Flush, Packet};
 ghost use Rattle.ggrammar.specs.Endings.{ends_with};
 ghost use Rattle.ggrammar.specs.Writing.{WritesLines, WritesPart};
-ghost use Rattle.gfetchreply.specs.FetchReplies.{ack_packet, data_packet, heading, nak_if_none, readiness, IsCanonicalPack, IsPieces};
+ghost use Rattle.gfetchreply.specs.FetchReplies.{ack_packet, data_packet, heading, nak_if_none, readiness, IsCanonicalPack, IsCanonicalReply, IsPieces};
+ghost use Rattle.gfetchreply.specs.Views.{reply_in};
 
+use crate::value::FetchReply;
 use ggrammar::Ends;
 use ggrammar::laws::writes_lines;
 use gname::{MAX_ID_TEXT, Oid};
 use gpkt::{Band, LineWriter, MAX_BAND, Sink, WriteFault};
+use std::alloc::Allocator;
+
+/// Writes a reply in its one list of packets: the pack in pieces of the largest size, and no progress. It takes
+/// no memory.
+///
+/// It fails with `Io` where the sink fails, and then a beginning of the reply stands written; with `Failed`
+/// where the writer had failed before.
+pub fn write_fetch_reply<A: Allocator + Copy, W: Sink>(
+    reply: &FetchReply<A>,
+    ends: Ends,
+    writer: &mut LineWriter<W>,
+) -> Result<(), WriteFault>
+    ensures written { (packets : List Packet) → IsCanonicalReply ends (reply_in reply.now) packets
+        → HasWritten W.contents W.passed_on W.is_down W.loans writer.old writer.new result (canonical_all packets) }
+    ensures fits { IfErr result (λ fault. fault ≢ WriteFault.Payload) }
+{
+    match reply {
+        FetchReply::Acks(commons) => write_acks(commons.ids(), ends, writer),
+        FetchReply::Ready(commons, pack) => {
+            write_ready(commons.ids(), pack.as_bytes(), ends, writer)
+        }
+        FetchReply::Pack(pack) => write_pack(pack.as_bytes(), ends, writer),
+    }
+}
 
 // Writes that ids are acknowledged, or that none is, and the end of the reply.
 fn write_acks<W: Sink>(
