@@ -176,7 +176,7 @@ made_next pack piece after e size some =
 pack_packets : List (List ℕ) → List Packet
 pack_packets pieces = text_packet (codes "packfile") ∷ (map (λ bytes. Data (band_payload (BandData bytes))) pieces ++ Flush ∷ [])
 
-pack_exists : (pack : List ℕ) → (packets : List Packet) × IsCanonicalPack pack packets
+pub pack_exists : (pack : List ℕ) → (packets : List Packet) × IsCanonicalPack pack packets
 unfolding pack_packets
 pack_exists pack =
     let made = pieces_exist pack in (pack_packets made.0, record { pieces = made.0; are_pieces = made.1; parts = refl })
