@@ -265,31 +265,33 @@ module _ {S : Type 0} (taken : S → List ℕ → Type 0) where
   judged_as wanted kept some more old new is result h = takes_also is refl (λ p. p) (λ q. q) result h
 
   -- what is held before the first packet
-  pub begins : (had : List ℕ → Type 0) (seat : ℕ) (reading : Reading) (kept : Kept) (sink : S) (name : ℕ) → kept ≡ first_kept reading.format reading.direct
-      → ((before : List ℕ) → had before → taken sink before) → name ≡ seat → Holds taken had seat reading kept sink name []
-  begins had seat reading kept sink name first has same = record {
+  pub begins : (had : List ℕ → Type 0) (seat : ℕ) (asked reading : Reading) (kept : Kept) (sink : S) (name : ℕ) → reading ≡ asked → kept ≡ first_kept reading.format reading.direct
+      → ((before : List ℕ) → had before → taken sink before) → name ≡ seat → Holds taken had seat asked reading kept sink name []
+  begins had seat asked reading kept sink name kind first has same = record {
+    kind = kind;
     counts = first ∙ kept_of-nil reading.format reading.direct;
     pack = λ before h. subst (taken sink) (sym (ap (λ xs. before ++ data_of xs) (band_payloads-nil reading.direct) ∙ append-nil before)) (has before h);
     same = same;
   }
 
   -- taken by what is kept, a packet is taken after the packets so far
-  pub takes_after : (had : List ℕ → Type 0) (seat : ℕ) (reading : Reading) (kept now : Kept) (old new : S) (name next : ℕ) (front : List Packet) (packet : Packet)
-      (result : Result Step Why) → Holds taken had seat reading kept old name front → next ≡ name
+  pub takes_after : (had : List ℕ → Type 0) (seat : ℕ) (asked reading : Reading) (kept now : Kept) (old new : S) (name next : ℕ) (front : List Packet) (packet : Packet)
+      (result : Result Step Why) → Holds taken had seat asked reading kept old name front → next ≡ name
       → TakesBoth taken (judge_at (record reading { format = kept.commons.format }) (state_kept kept) packet) (brings_there kept.place packet)
           (with_packet kept packet) now (data_there kept.place packet) old new result
-      → TakesOr (judge reading front packet) (brings reading front packet) (Holds taken had seat reading now new next (front ++ packet ∷ []))
-          (Leaves taken had seat reading new next front) result
-  takes_after had seat reading kept now old new name next front packet result held stays h =
+      → TakesOr (judge reading front packet) (brings reading front packet) (Holds taken had seat asked reading now new next (front ++ packet ∷ []))
+          (Leaves taken had seat asked reading new next front) result
+  takes_after had seat asked reading kept now old new name next front packet result held stays h =
       takes_also
       (sym (ap (λ (k : Kept). judge_at (record reading { format = k.commons.format }) (state_kept k) packet) held.counts))
       (brings_at reading front packet ∙ sym (ap (λ (k : Kept). brings_there k.place packet) held.counts))
       (λ p. record {
+        kind = held.kind;
         counts = p.0 ∙ (ap (λ (k : Kept). with_packet k packet) held.counts ∙ sym (kept_push reading.format reading.direct front packet));
         pack = λ before t. subst (taken new) (longer reading kept front packet before held.counts) (p.1 _ (held.pack before t));
         same = stays ∙ held.same;
       })
-      (λ q. record { pack = λ before t. q _ (held.pack before t); same = stays ∙ held.same })
+      (λ q. record { kind = held.kind; pack = λ before t. q _ (held.pack before t); same = stays ∙ held.same })
       result h
 
 -- as the driver says it

@@ -10,10 +10,10 @@ use Rattle.ggrammar.specs.declared.fault.Why.{Why}
 use Rattle.ggrammar.specs.declared.fault.Why.TheVariants.{WrongSection, UnexpectedFrame}
 use Rattle.gfetchreply.specs.FetchReplies.{Reading, State, Place, Start, Acking, Naked, AfterReady, BeforePack, InPack, Over}
 use Rattle.gfetchreply.specs.FetchReplies.{ReplyForm, Acknowledgments, Nak, Readiness, Packfile, Ack, OtherForm, reply_form}
-use Rattle.gfetchreply.specs.FetchReplies.{max_acks, max_packets, judge, judge_at, judge_start, judge_before_pack, next_place, texts_there, bands_there}
+use Rattle.gfetchreply.specs.FetchReplies.{max_acks, max_packets, state_of, judge, judge_at, judge_start, judge_before_pack, next_place, texts_there, bands_there}
 use Rattle.gfetchreply.proofs.FromLeft.{state_after, OpenFrom-from_open, IsWhole-from_left, WholeFrom-after_open}
 use Rattle.gfetchreply.proofs.ReplyForms.{heading_form, packfile_form, form_reports_none}
-use Rattle.gfetchreply.proofs.ReplyVerdicts.{start, judge_is, IsWholeAt, IsOpenAt, at_place, data_open, open_data, start_open, before_open, late_not_open, AckingOn, an_ack, a_nak, a_readiness, acking_open, BandOn, band_open, over_not_open, moved, next-moved}
+use Rattle.gfetchreply.proofs.ReplyVerdicts.{start, state_from_start, judge_is, IsWholeAt, IsOpenAt, at_place, data_open, open_data, start_open, before_open, late_not_open, AckingOn, an_ack, a_nak, a_readiness, acking_open, BandOn, band_open, over_not_open, moved, next-moved}
 use Rattle.gfetchreply.proofs.ReplySections.{at_state, rest_flush, next-heading, next-delim, next-packfile}
 use Rattle.gfetchreply.proofs.StateLemmas.{next_state, state-ack, state-acking, state-band}
 
@@ -242,3 +242,17 @@ open_is_short reading front opened =
     let few = few_from reading (start reading) front (record { acks = omega arith; packets = omega arith; bytes = omega arith }) (open_at reading front opened) in
     let five = due_few (start reading).place in
     omega arith
+
+-- ---- the pack's limit
+
+bytes_within : (reading : Reading) (state : State) (front : List Packet) → Within reading state → IsOpenAt reading state front
+    → (state_after (judge_at reading) (next_state reading.format) state front).bytes ≤ reading.limit
+bytes_within reading state [] within opened = within.bytes
+bytes_within reading state (packet ∷ rest) within opened =
+    bytes_within reading (next_state reading.format state packet) rest (step_at reading state state.place packet refl within opened.0).within opened.1
+
+-- an open list keeps it
+pub open_keeps_limit : (reading : Reading) (front : List Packet) → IsOpen (judge reading) front → (state_of reading front).bytes ≤ reading.limit
+open_keeps_limit reading front opened =
+    subst (λ (s : State). s.bytes ≤ reading.limit) (sym (state_from_start reading front))
+    (bytes_within reading (start reading) front (record { acks = omega arith; packets = omega arith; bytes = omega arith }) (open_at reading front opened))

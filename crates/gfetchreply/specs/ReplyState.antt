@@ -158,16 +158,18 @@ module _ {S : Type 0} (taken : S → List ℕ → Type 0) where
   TakesBoth verdict brings wanted kept more old new result =
       TakesOr verdict brings ((kept ≡ wanted) × TakesMore old new more) (TakesNone old new) result
 
-  -- this is what is held of the packets so far: what is kept; the pack's data in the sink, after all that it had
-  -- before; and the sink is still the same one
-  pub record Holds (had : List ℕ → Type 0) (seat : ℕ) (reading : Reading) (kept : Kept) (sink : S) (name : ℕ)
+  -- this is what is held of the packets so far, which are read as was asked: what is kept; the pack's data in the
+  -- sink, after all that it had before; and the sink is still the same one
+  pub record Holds (had : List ℕ → Type 0) (seat : ℕ) (asked reading : Reading) (kept : Kept) (sink : S) (name : ℕ)
       (packets : List Packet) : Type 0 where
+    pub kind : reading ≡ asked
     pub counts : kept ≡ kept_of reading.format reading.direct packets
     pub pack : (before : List ℕ) → had before → taken sink (before ++ data_of (band_payloads reading.direct packets))
     pub same : name ≡ seat
 
   -- and this is left of them
-  pub record Leaves (had : List ℕ → Type 0) (seat : ℕ) (reading : Reading) (sink : S) (name : ℕ)
+  pub record Leaves (had : List ℕ → Type 0) (seat : ℕ) (asked reading : Reading) (sink : S) (name : ℕ)
       (packets : List Packet) : Type 0 where
+    pub kind : reading ≡ asked
     pub pack : (before : List ℕ) → had before → taken sink (before ++ data_of (band_payloads reading.direct packets))
     pub same : name ≡ seat

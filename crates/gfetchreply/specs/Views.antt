@@ -1,7 +1,8 @@
 -- Forms, values and parameters without where their bytes lie in memory.
-use Rattle.std.specs.Prelude.{ℕ, Bool, Result, Ok, Err}
+use Rattle.std.specs.Prelude.{ℕ, Bool, false, Result, Ok, Err}
 use Rattle.gname.specs.declared.formats.Format.TheVariants.{Sha1}
 use Rattle.ggrammar.specs.declared.ends.Ends.{Ends}
+use Rattle.ggrammar.specs.declared.ends.Ends.TheVariants.{Plain}
 use Rattle.ggrammar.specs.declared.fault.MessageFault.{MessageFault}
 use Rattle.gfetchreply.specs.FetchReplies.{Reading, ReplyForm, Acknowledgments, Nak, Readiness, Packfile, Ack, OtherForm}
 use Rattle.gfetchreply.specs.FetchReplies as reply
@@ -57,3 +58,11 @@ reply_result (Err fault) = Err fault
 -- the plain reading: in SHA-1
 abbrev pub sha1_reading : Bool → ℕ → Ends → Reading
 sha1_reading direct limit ends = record { format = Sha1; direct = direct; limit = limit; ends = ends }
+
+-- the head of what was read, once it is
+abbrev pub head_after : {A : Type 0} → Bool → Sections A → Result Unit MessageFault → Result head.FetchHead MessageFault
+head_after direct sections (Ok done) = Ok (head.head_by direct sections.ready sections.commons.ids)
+head_after direct sections (Err fault) = Err fault
+
+abbrev pub no_reading : Reading
+no_reading = sha1_reading false 0 Plain

@@ -9,7 +9,7 @@ ghost use Rattle.ggrammar.specs.MessageReading.{IsReadFailure, IsFailedBy};
 ghost use Rattle.gfetchreply.specs.FetchReplies.{judge_at, judge_band, judge_payload, payload_brings, band_brings, data_in};
 ghost use Rattle.gfetchreply.specs.ReplyState.{TakesBoth, brings_there, data_there, first_kept, kept_in, place_in, state_in, with_band, with_packet, with_payload};
 ghost use Rattle.gfetchreply.specs.ReplyReading.{ReadsReply, ReadsValue};
-ghost use Rattle.gfetchreply.specs.Views.{head_result, reading_in, reading_with, reply_result, sha1_reading};
+ghost use Rattle.gfetchreply.specs.Views.{head_after, head_result, reading_in, reading_with, reply_result, sha1_reading};
 
 use crate::form::reply_form;
 use crate::limit::PackLimit;
@@ -35,14 +35,22 @@ pub struct FetchReading {
     pub ends: Ends,
 }
 
-// The sink that a reading was lent, and what that had taken before.
+// The sink that a reading was lent, what that had taken before, and how the reply is read.
 trait Lent {
+    ghost use Rattle.gfetchreply.specs.FetchReplies.{Reading};
+
+    ghost asked: { Reading };
+
     ghost seat: { ℕ };
 
     ghost had: { List ℕ → Type 0 };
 }
 
 impl Lent for Brand {
+    ghost use Rattle.gfetchreply.specs.Views.{no_reading};
+
+    ghost asked = { no_reading };
+
     ghost seat = { 0 };
 
     ghost had = { λ _. ⊥ };
@@ -157,10 +165,10 @@ impl<T: PackSink, A: Allocator + Copy, L: Lent> Message for ReplyReader<'_, T, A
 
     ghost brings = { λ reader. brings (reading_in reader.reading) };
 
-    ghost holds = { λ reader packets. Holds T.taken L.had L.seat (reading_in reader.reading)
+    ghost holds = { λ reader packets. Holds T.taken L.had L.seat L.asked (reading_in reader.reading)
         (kept_in reader.sections) reader.sink.now reader.sink.ghost_name packets };
 
-    ghost left = { λ reader packets. Leaves T.taken L.had L.seat (reading_in reader.reading)
+    ghost left = { λ reader packets. Leaves T.taken L.had L.seat L.asked (reading_in reader.reading)
         reader.sink.now reader.sink.ghost_name packets };
 
     fn take(&mut self, line: Line<'_>) -> Result<Step, Why> {
@@ -222,7 +230,19 @@ pub fn read_fetch_reply_into_in<S: Source, T: PackSink, A: Allocator + Copy>(
     ensures well { OnOk result ((reader.old.failed ≡ false) × (S.is_down reader.new.source ≡ false)) }
     ensures at_once { reader.old.failed ≡ true → IfErr result (λ fault. fault.frame ≡ 0) }
 {
-    read_lent::<S, T, A, Brand>(alloc, reading, reader, sink)
+    let direct = reading.direct;
+    let mut reply = ReplyReader::<T, A, Brand>::new(alloc, reading, sink);
+    let end = read_to_end::<S, T, A, Brand>(reader, &mut reply);
+    let ReplyReader {
+        reading: _,
+        sections,
+        sink: _lent,
+        lent: _,
+    } = reply;
+    match end {
+        Ok(()) => Ok(sections.into_head(direct)),
+        Err(fault) => Err(fault),
+    }
 }
 
 /// Reads one reply to fetch with its pack in memory, as [`read_fetch_reply_into_in`] does.
@@ -247,17 +267,18 @@ pub fn read_fetch_reply<S: Source, A: Allocator + Copy>(
     }
 }
 
-// The same for a sink that is named, with what it had taken before.
-fn read_lent<S: Source, T: PackSink, A: Allocator + Copy, L: Lent>(
-    alloc: A,
-    reading: FetchReading,
+// Reads a reply to its end into a sink that is named, with what that had taken before.
+fn read_to_end<S: Source, T: PackSink, A: Allocator + Copy, L: Lent>(
     reader: &mut LineReader<S, A>,
-    sink: &mut T,
-) -> Result<FetchHead<A>, MessageFault>
-    requires seat { sink.ghost_name ≡ L.seat }
-    requires had { (before : List ℕ) → L.had before → T.taken sink.old before }
-    ensures read { ReadsReply T.taken (reading_in reading) (change_of S.remaining reader.old.source reader.new.source)
-        L.had sink.new (head_result result) }
+    reply: &mut ReplyReader<'_, T, A, L>,
+) -> Result<(), MessageFault>
+    requires kept { kept_in reply.old.sections ≡ first_kept reply.old.reading.format reply.old.reading.direct }
+    requires asked { reading_in reply.old.reading ≡ L.asked }
+    requires seat { reply.old.sink.ghost_name ≡ L.seat }
+    requires had { (before : List ℕ) → L.had before → T.taken reply.old.sink.now before }
+    ensures same { reply.new.sink.ghost_name ≡ reply.old.sink.ghost_name }
+    ensures read { ReadsReply T.taken (reading_in reply.old.reading) (change_of S.remaining reader.old.source reader.new.source)
+        L.had reply.new.sink.now (head_after reply.old.reading.direct reply.new.sections result) }
     ensures loans { S.loans reader.new.source ≡ S.loans reader.old.source }
     ensures device { IfErr result (λ fault. IsReadFailure reader.old.failed (S.is_down reader.new.source) fault.why) }
     ensures failed { IfErr result (λ fault. IsFailedBy fault.why reader.new.failed) }
@@ -265,17 +286,8 @@ fn read_lent<S: Source, T: PackSink, A: Allocator + Copy, L: Lent>(
     ensures well { OnOk result ((reader.old.failed ≡ false) × (S.is_down reader.new.source ≡ false)) }
     ensures at_once { reader.old.failed ≡ true → IfErr result (λ fault. fault.frame ≡ 0) }
 {
-    let direct = reading.direct;
-    let mut reply = ReplyReader::<T, A, L>::new(alloc, reading, sink);
-    match read_message(reader, &mut reply) {
-        Ok(()) => {}
-        Err(fault) => return Err(fault),
+    match read_message(reader, reply) {
+        Ok(()) => Ok(()),
+        Err(fault) => Err(fault),
     }
-    let ReplyReader {
-        reading: _,
-        sections,
-        sink: _,
-        lent: _,
-    } = reply;
-    Ok(sections.into_head(direct))
 }

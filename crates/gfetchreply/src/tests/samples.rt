@@ -39,7 +39,7 @@ pub(super) enum Outcome {
     Refused(&'static str, u64),
 }
 
-pub(super) fn outcome(answer: &Result<FetchHead<Global>, MessageFault>) -> Outcome {
+pub(super) fn outcome_of(answer: &Result<FetchHead<Global>, MessageFault>) -> Outcome {
     match answer {
         Ok(FetchHead::Acks(commons)) => Outcome::Acks(commons.ids().len()),
         Ok(FetchHead::Ready(commons)) => Outcome::Ready(commons.ids().len()),
@@ -57,7 +57,7 @@ pub(super) fn read_into<T: PackSink>(
 ) -> Result<(Outcome, usize), Fail> {
     let mut reader = LineReader::new(alloc, SliceSource::new(bytes))?;
     let answer = read_fetch_reply_into_in(reading, &mut reader, sink, alloc);
-    Ok((outcome(&answer), reader.into_inner().rest().len()))
+    Ok((outcome_of(&answer), reader.into_inner().rest().len()))
 }
 
 // The same, without the sink.
