@@ -285,21 +285,26 @@ pub data IsPieces : List ℕ → List (List ℕ) → Type 0 where
   full : (piece rest : List ℕ) (pieces : List (List ℕ)) → length piece ≡ max_band → 0 < length rest
       → IsPieces rest pieces → IsPieces (piece ++ rest) (piece ∷ pieces)
 
+abbrev pub data_packet : List ℕ → Packet
+data_packet bytes = Data (band_payload (BandData bytes))
+
 -- `packfile`, the pack on band 1, and a flush
 pub record IsCanonicalPack (pack : List ℕ) (packets : List Packet) : Type 0 where
   pub pieces : List (List ℕ)
   pub are_pieces : IsPieces pack pieces
   pub parts :
-      packets
-      ≡ text_packet (codes "packfile") ∷ (map (λ bytes. Data (band_payload (BandData bytes))) pieces ++ Flush ∷ [])
+      packets ≡ text_packet (codes "packfile") ∷ (map data_packet pieces ++ Flush ∷ [])
 
 abbrev pub heading : Packet
 heading = text_packet (codes "acknowledgments")
 
+abbrev pub readiness : Packet
+readiness = text_packet (codes "ready")
+
 abbrev pub IsCanonicalBody : FetchReply → List Packet → Type 0
 IsCanonicalBody (Acks commons) packets = packets ≡ heading ∷ (nak_if_none (map ack_packet commons) ++ Flush ∷ [])
 IsCanonicalBody (Ready commons pack) packets = (section : List Packet) × IsCanonicalPack pack section
-    × (packets ≡ heading ∷ (map ack_packet commons ++ text_packet (codes "ready") ∷ Delim ∷ section))
+    × (packets ≡ heading ∷ (map ack_packet commons ++ readiness ∷ Delim ∷ section))
 IsCanonicalBody (Pack pack) packets = IsCanonicalPack pack packets
 
 -- the packets that are written of a reply
