@@ -141,9 +141,9 @@ ack_rest reading (Flush ∷ rest) state here few h = record {
   are = All-nil (IsAck reading.format);
   few = omega arith;
   last = ended (
-    ap (λ (xs : List Packet). Flush ∷ xs)
-    (flush_rest reading state rest (at_place reading state Acking Flush here.place) (ap (λ (p : Place). next_place p Flush) here.place) h)
-  );
+      ap (λ (xs : List Packet). Flush ∷ xs)
+      (flush_rest reading state rest (at_place reading state Acking Flush here.place) (ap (λ (p : Place). next_place p Flush) here.place) h)
+      );
 }
 ack_rest reading (Delim ∷ rest) state here few h = refused _ WrongSection (at_place reading state Acking Delim here.place) h
 ack_rest reading (ResponseEnd ∷ rest) state here few h = refused _ UnexpectedFrame (at_place reading state Acking ResponseEnd here.place) h
@@ -198,9 +198,9 @@ rest_acks reading state (ack ∷ acks) tail here are few last =
     inr (
       open_ack reading state ack (Ack form.digits) here form.is (an_ack form.digits form.id form.spells (omega arith)),
       at_state reading (acked state) (next_state reading.format state (Data ack)) (map Data acks ++ tail)
-      (sym (state-ack reading.format state ack form.digits form.id here form.is form.spells))
-      (rest_acks reading (acked state) acks tail refl (All-tail (IsAck reading.format) (text ack) (map text acks) are) (omega arith)
-      (λ new after. last new (record { place = after.place; acks = (let count = after.acks in omega arith); packets = after.packets; bytes = after.bytes }))),
+          (sym (state-ack reading.format state ack form.digits form.id here form.is form.spells))
+          (rest_acks reading (acked state) acks tail refl (All-tail (IsAck reading.format) (text ack) (map text acks) are) (omega arith)
+          (λ new after. last new (record { place = after.place; acks = (let count = after.acks in omega arith); packets = after.packets; bytes = after.bytes }))),
     )
 
 pub rest_nak : (reading : Reading) (state : State) (nak : List ℕ) → state.place ≡ Acking → state.acks ≡ 0 → text nak ≡ codes "NAK"
@@ -210,8 +210,8 @@ rest_nak reading state nak here none is =
     inr (
       open_ack reading state nak Nak here form (a_nak none),
       at_state reading (moved state Naked) (next_state reading.format state (Data nak)) (Flush ∷ ends_with reading.ends)
-      (sym (state-acking reading.format state nak Nak here form refl))
-      (rest_flush reading (moved state Naked) (at_place reading (moved state Naked) Naked Flush refl) refl),
+          (sym (state-acking reading.format state nak Nak here form refl))
+          (rest_flush reading (moved state Naked) (at_place reading (moved state Naked) Naked Flush refl) refl),
     )
 
 pub rest_ready : (reading : Reading) (state : State) (readiness : List ℕ) (rest : List Packet) → state.place ≡ Acking → text readiness ≡ codes "ready"
@@ -222,12 +222,12 @@ rest_ready reading state readiness rest here is last =
     inr (
       open_ack reading state readiness Readiness here form a_readiness,
       at_state reading (moved state AfterReady) (next_state reading.format state (Data readiness)) (Delim ∷ rest)
-      (sym (state-acking reading.format state readiness Readiness here form refl))
-      (inr (
-        at_place reading (moved state AfterReady) AfterReady Delim refl,
-        at_state reading (moved state BeforePack) (next_state reading.format (moved state AfterReady) Delim) rest
-        (sym (next-delim reading.format (moved state AfterReady) refl)) (last (moved state BeforePack) refl refl refl),
-      )),
+          (sym (state-acking reading.format state readiness Readiness here form refl))
+          (inr (
+            at_place reading (moved state AfterReady) AfterReady Delim refl,
+            at_state reading (moved state BeforePack) (next_state reading.format (moved state AfterReady) Delim) rest
+                (sym (next-delim reading.format (moved state AfterReady) refl)) (last (moved state BeforePack) refl refl refl),
+          )),
     )
 
 -- ---- the heading

@@ -29,11 +29,10 @@ module _ {S : Type 0} (table : S → Packet → Verdict) (step : S → Packet �
 
   pub OpenFrom-from_open : (state : S) (lines : List Packet) → IsOpen (judge_from state) lines → OpenFrom state lines
   OpenFrom-from_open state [] opened = tt
-  OpenFrom-from_open state (packet ∷ rest) opened =
-      (
-        opened.each [] packet rest refl,
-        OpenFrom-from_open (step state packet) rest (record { each = λ front one back e. opened.each (packet ∷ front) one back (ap (λ (xs : List Packet). packet ∷ xs) e) }),
-      )
+  OpenFrom-from_open state (packet ∷ rest) opened = (
+    opened.each [] packet rest refl,
+    OpenFrom-from_open (step state packet) rest (record { each = λ front one back e. opened.each (packet ∷ front) one back (ap (λ (xs : List Packet). packet ∷ xs) e) }),
+  )
 
   -- a place of an open list
   open_there : (state : S) (lines front : List Packet) (packet : Packet) (back : List Packet) → OpenFrom state lines → lines ≡ front ++ packet ∷ back

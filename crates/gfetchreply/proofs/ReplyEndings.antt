@@ -48,8 +48,8 @@ ends_before reading state here =
     inr (
       open_data reading state BeforePack packfile_line here tt (form_reports_none packfile_line Packfile packfile_is tt) (ap judge_before_pack packfile_is),
       at_state reading (moved state InPack) (next_state reading.format state (Data packfile_line)) (Flush ∷ ends_with reading.ends)
-      (sym (next-packfile reading.format state packfile_line here packfile_is))
-      (rest_flush reading (moved state InPack) (at_place reading (moved state InPack) InPack Flush refl) refl),
+          (sym (next-packfile reading.format state packfile_line here packfile_is))
+          (rest_flush reading (moved state InPack) (at_place reading (moved state InPack) InPack Flush refl) refl),
     )
 
 ends_after_ready : (reading : Reading) (state : State) → state.place ≡ AfterReady
@@ -58,7 +58,7 @@ ends_after_ready reading state here =
     inr (
       at_place reading state AfterReady Delim here,
       at_state reading (moved state BeforePack) (next_state reading.format state Delim) (Data packfile_line ∷ Flush ∷ ends_with reading.ends)
-      (sym (next-delim reading.format state here)) (ends_before reading (moved state BeforePack) refl),
+          (sym (next-delim reading.format state here)) (ends_before reading (moved state BeforePack) refl),
     )
 
 ends_start : (reading : Reading) (state : State) → state.place ≡ Start → IsWholeAt reading state (Data heading_line ∷ Flush ∷ ends_with reading.ends)
@@ -66,8 +66,8 @@ ends_start reading state here =
     inr (
       open_data reading state Start heading_line here tt (form_reports_none heading_line Acknowledgments heading_is tt) (ap judge_start heading_is),
       at_state reading (moved state Acking) (next_state reading.format state (Data heading_line)) (Flush ∷ ends_with reading.ends)
-      (sym (next-heading reading.format state heading_line here heading_is))
-      (rest_flush reading (moved state Acking) (at_place reading (moved state Acking) Acking Flush refl) refl),
+          (sym (next-heading reading.format state heading_line here heading_is))
+          (rest_flush reading (moved state Acking) (at_place reading (moved state Acking) Acking Flush refl) refl),
     )
 
 ending : (reading : Reading) (state : State) (place : Place) → state.place ≡ place → Ending reading state
@@ -110,13 +110,12 @@ pub short_ending : (reading : Reading) (front : List Packet) → IsOpen (judge r
     → (more : List Packet) × (length more ≤ 4) × IsWhole (judge reading) (front ++ more)
 short_ending reading front opened =
     let there = state_after (judge_at reading) (next_state reading.format) (start reading) front in
-    let last = ending reading there there.place refl in
-    (
+    let last = ending reading there there.place refl in (
       last.more,
       last.few,
       subst (λ (j : Judge). IsWhole j (front ++ last.more)) (sym (judge_is reading))
-      (IsWhole-from_left (judge_at reading) (next_state reading.format) (start reading) (front ++ last.more)
-      (WholeFrom-after_open (judge_at reading) (next_state reading.format) (start reading) front last.more (open_at reading front opened) last.whole)),
+          (IsWhole-from_left (judge_at reading) (next_state reading.format) (start reading) (front ++ last.more)
+          (WholeFrom-after_open (judge_at reading) (next_state reading.format) (start reading) front last.more (open_at reading front opened) last.whole)),
     )
 
 pub HasEndings-judge : (reading : Reading) → HasEndings (judge reading)

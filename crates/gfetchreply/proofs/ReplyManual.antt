@@ -263,7 +263,7 @@ whole_by reading body (Acks commons) (direct, inr is) =
 whole_by reading body (Ready commons pack) (direct, is) =
     let whole = whole_acks reading is.section (Data is.readiness ∷ Delim ∷ (is.rest ++ ends_with reading.ends)) commons direct is.acks
     (λ new place acks packets bytes. rest_ready reading new is.readiness (is.rest ++ ends_with reading.ends) place is.is_readiness
-        (λ next there count size. part_pack reading next is.rest pack (record { place = there; packets = count ∙ packets; bytes = size ∙ bytes }) is.packs)) in
+    (λ next there count size. part_pack reading next is.rest pack (record { place = there; packets = count ∙ packets; bytes = size ∙ bytes }) is.packs)) in
     subst (IsWholeAt reading (start reading))
     (sym (ap (λ (xs : List Packet). xs ++ ends_with reading.ends) is.parts ∙ append_assoc is.section (Data is.readiness ∷ Delim ∷ is.rest) (ends_with reading.ends))) whole
 whole_by reading body (Pack pack) (direct, is) = whole_pack reading body pack direct is
@@ -320,18 +320,18 @@ manual_by reading packets rest heading state is direct none is_heading parts (na
       is = record {
         body = section ++ Data nak ∷ Flush ∷ [];
         is_body = (
-            direct,
-            inl (
-              refl,
-              record {
-                section = section;
-                nak = nak;
-                acks = subst (IsAckSection reading.format section) nothing acks;
-                is_nak = is_nak;
-                parts = refl;
-              },
-            ),
-          );
+          direct,
+          inl (
+            refl,
+            record {
+              section = section;
+              nak = nak;
+              acks = subst (IsAckSection reading.format section) nothing acks;
+              is_nak = is_nak;
+              parts = refl;
+            },
+          ),
+        );
         parts = parts
             ∙ (ap (λ (xs : List Packet). Data heading ∷ xs) (is.parts ∙ ap (λ (xs : List Packet). map Data is.acks ++ xs) e)
             ∙ sym (append_assoc section (Data nak ∷ Flush ∷ []) (ends_with reading.ends)));
@@ -345,17 +345,17 @@ manual_by reading packets rest heading state is direct none is_heading parts (re
       is = record {
         body = section ++ Data readiness ∷ Delim ∷ packs.section;
         is_body = (
-            direct,
-            record {
-              section = section;
-              readiness = readiness;
-              rest = packs.section;
-              acks = acks;
-              is_readiness = is_readiness;
-              packs = packs.is;
-              parts = refl;
-            },
-          );
+          direct,
+          record {
+            section = section;
+            readiness = readiness;
+            rest = packs.section;
+            acks = acks;
+            is_readiness = is_readiness;
+            packs = packs.is;
+            parts = refl;
+          },
+        );
         parts = parts
             ∙ (ap (λ (xs : List Packet). Data heading ∷ xs)
             (is.parts ∙ ap (λ (xs : List Packet). map Data is.acks ++ xs) (e ∙ ap (λ (xs : List Packet). Data readiness ∷ Delim ∷ xs) packs.parts))

@@ -141,8 +141,8 @@ rest_pack reading state (payload ∷ payloads) here are few short =
     inr (
       open_data reading state InPack payload here tt (band_reports_none payload is) (open_band reading.limit state (band_form payload) on),
       at_state reading (banded state payload) (next_state reading.format state (Data payload)) (map Data payloads ++ Flush ∷ ends_with reading.ends)
-      (sym (state-band reading.format state payload here))
-      (rest_pack reading (banded state payload) payloads refl (All-tail (λ p. IsDataOrProgress (band_form p)) payload payloads are) (omega arith) (omega arith)),
+          (sym (state-band reading.format state payload here))
+          (rest_pack reading (banded state payload) payloads refl (All-tail (λ p. IsDataOrProgress (band_form p)) payload payloads are) (omega arith) (omega arith)),
     )
 
 -- ---- the pack's section
@@ -209,7 +209,7 @@ part_pack reading state section pack before is =
     inr (
       open_data reading state BeforePack is.heading before.place tt (form_reports_none is.heading Packfile form tt) (ap judge_before_pack form),
       at_state reading (moved state InPack) (next_state reading.format state (Data is.heading)) (map Data is.payloads ++ Flush ∷ ends_with reading.ends)
-      (sym (next-packfile reading.format state is.heading before.place form)) rest,
+          (sym (next-packfile reading.format state is.heading before.place form)) rest,
     ) in
     let same : Data is.heading ∷ (map Data is.payloads ++ Flush ∷ ends_with reading.ends) ≡ section ++ ends_with reading.ends =
     ap (λ (xs : List Packet). Data is.heading ∷ xs) (sym (append_assoc (map Data is.payloads) (Flush ∷ []) (ends_with reading.ends)))
