@@ -278,9 +278,9 @@ module _ {S : Type 0} (taken : S → List ℕ → Type 0) where
   pub takes_after : (had : List ℕ → Type 0) (seat : ℕ) (asked reading : Reading) (kept now : Kept) (old new : S) (name next : ℕ) (front : List Packet) (packet : Packet)
       (result : Result Step Why) → Holds taken had seat asked reading kept old name front → next ≡ name
       → TakesBoth taken (judge_at (record reading { format = kept.commons.format }) (state_kept kept) packet) (brings_there kept.place packet)
-          (with_packet kept packet) now (data_there kept.place packet) old new result
+      (with_packet kept packet) now (data_there kept.place packet) old new result
       → TakesOr (judge reading front packet) (brings reading front packet) (Holds taken had seat asked reading now new next (front ++ packet ∷ []))
-          (Leaves taken had seat asked reading new next front) result
+      (Leaves taken had seat asked reading new next front) result
   takes_after had seat asked reading kept now old new name next front packet result held stays h =
       takes_also
       (sym (ap (λ (k : Kept). judge_at (record reading { format = k.commons.format }) (state_kept k) packet) held.counts))

@@ -178,7 +178,7 @@ impl<A: Allocator + Copy> Sections<A> {
     pub(crate) fn take_flush(&mut self, ends: Ends) -> Result<Step, Why>
         ensures { (reading : Reading) → reading.ends ≡ ends
             → TakesAs (judge_there reading (place_in self.old.place) (state_in self.old) Flush) false
-                (kept_in self.new ≡ with_packet (kept_in self.old) Flush) result }
+            (kept_in self.new ≡ with_packet (kept_in self.old) Flush) result }
     {
         match self.place {
             Place::Acking | Place::Naked | Place::InPack => {

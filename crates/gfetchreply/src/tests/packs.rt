@@ -17,9 +17,18 @@ const PACKS: [(&[u8], &[u8]); 7] = [
         b"000dpackfile\n0006\x01d0006\x01i0006\x01s0006\x01k0006\x01!0006\x01!0006\x01!0000",
         b"disk!!!",
     ),
-    (b"000dpackfile\n000c\x01disk!!!000c\x01disk!!!0000", b"disk!!!disk!!!"),
-    (b"000dpackfile\n0005\x010009\x01disk0005\x010008\x01!!!0005\x010000", b"disk!!!"),
-    (b"000dpackfile\n0009\x02disk0006\x01d0005\x020007\x02\n\n0006\x01\n0000", b"d\n"),
+    (
+        b"000dpackfile\n000c\x01disk!!!000c\x01disk!!!0000",
+        b"disk!!!disk!!!",
+    ),
+    (
+        b"000dpackfile\n0005\x010009\x01disk0005\x010008\x01!!!0005\x010000",
+        b"disk!!!",
+    ),
+    (
+        b"000dpackfile\n0009\x02disk0006\x01d0005\x020007\x02\n\n0006\x01\n0000",
+        b"d\n",
+    ),
     (b"000dpackfile\n0000", b""),
 ];
 
@@ -113,7 +122,14 @@ fn the_plain_call_reads(rt: HostRuntime) -> Result<(), Fail> {
     let mut sink = Vec::new(rt.alloc());
     let bytes = b"000dpackfile\n0009\x01disk000000020000";
     let mut reader = LineReader::new(rt.alloc(), SliceSource::new(bytes))?;
-    let _head = read_fetch_reply_into(true, limit, Ends::Response, &mut reader, &mut sink, rt.alloc())?;
+    let _head = read_fetch_reply_into(
+        true,
+        limit,
+        Ends::Response,
+        &mut reader,
+        &mut sink,
+        rt.alloc(),
+    )?;
     assert_eq!(rt; sink.as_slice(), b"disk".as_slice());
     assert_eq!(rt; reader.into_inner().rest(), b"0000".as_slice());
     Ok(())

@@ -8,7 +8,8 @@ use std::alloc::Global;
 use std::test::Fail;
 
 // A reply that has the pack after acknowledgments, and one that is the pack alone.
-pub(super) const READY: &[u8] = b"0014acknowledgments\n0031ACK aaaaaaaaaaaaaaaaaaaaaaaaaaaaaaaaaaaaaaaa\n000aready\n0001000dpackfile\n0009\x01disk000a\x02quiet0007\x01et0000";
+pub(super) const READY: &[u8] =
+    b"0014acknowledgments\n0031ACK aaaaaaaaaaaaaaaaaaaaaaaaaaaaaaaaaaaaaaaa\n000aready\n0001000dpackfile\n0009\x01disk000a\x02quiet0007\x01et0000";
 
 pub(super) const PACK: &[u8] = b"000dpackfile\n0009\x01disk000a\x02quiet0007\x01et0000";
 

@@ -14,14 +14,29 @@ const SHA256: &[u8] = b"aaaaaaaaaaaaaaaaaaaaaaaaaaaaaaaaaaaaaaaaaaaaaaaaaaaaaaaa
 
 #[test]
 fn ids_are_of_one_format(rt: HostRuntime) -> Result<(), Fail> {
-    let (short, long) = (Oid::from_hex(SHA1)?, Oid::from_hex_in(Format::Sha256, SHA256)?);
+    let (short, long) = (
+        Oid::from_hex(SHA1)?,
+        Oid::from_hex_in(Format::Sha256, SHA256)?,
+    );
     let mut commons = Commons::new(rt.alloc(), Format::Sha1);
-    assert_eq!(rt; commons.push(long).err().map(|fault| (fault.name(), fault.frame)), Some(("BadText", 0)));
+    assert_eq!(rt;
+        commons
+            .push(long)
+            .err()
+            .map(|fault| (fault.name(), fault.frame)),
+        Some(("BadText", 0))
+    );
     for _ in 0..4_096 {
         commons.push(short)?;
     }
-    assert_eq!(rt; commons.push(short).err().map(|fault| fault.name()), Some("Limit"));
-    assert_eq!(rt; commons.push(long).err().map(|fault| fault.name()), Some("BadText"));
+    assert_eq!(rt;
+        commons.push(short).err().map(|fault| fault.name()),
+        Some("Limit")
+    );
+    assert_eq!(rt;
+        commons.push(long).err().map(|fault| fault.name()),
+        Some("BadText")
+    );
     assert_eq!(rt; commons.ids().len(), 4_096);
     Ok(())
 }
@@ -32,7 +47,10 @@ fn ids_take_memory(rt: HostRuntime) -> Result<(), Fail> {
     arena.set_allocation_limit(Some(0));
     let mut commons = Commons::new(&arena, Format::Sha1);
     let met = commons.push(Oid::from_hex(SHA1)?);
-    assert_eq!(rt; met.err().map(|fault| (fault.name(), fault.frame)), Some(("Memory", 0)));
+    assert_eq!(rt;
+        met.err().map(|fault| (fault.name(), fault.frame)),
+        Some(("Memory", 0))
+    );
     assert_eq!(rt; commons.ids().len(), 0);
     Ok(())
 }
@@ -44,7 +62,10 @@ fn packs_are_not_too_large(rt: HostRuntime) -> Result<(), Fail> {
     let mut bytes = pack.into_vec();
     bytes.push(0)?;
     let met = PackBytes::new(bytes).err();
-    assert_eq!(rt; met.map(|fault| (fault.name(), fault.frame)), Some(("Limit", 0)));
+    assert_eq!(rt;
+        met.map(|fault| (fault.name(), fault.frame)),
+        Some(("Limit", 0))
+    );
     Ok(())
 }
 
@@ -60,7 +81,10 @@ fn texts_of_peers_are_kept(rt: HostRuntime) -> Result<(), Fail> {
         let mut reader = LineReader::new(rt.alloc(), SliceSource::new(bytes))?;
         match read_fetch_reply(direct(), &mut reader, rt.alloc()) {
             Err(fault) => match fault.why {
-                Why::RemoteFatal(text) | Why::RemoteErr(text) => assert_eq!(rt; text.as_bytes(), *said),
+                Why::RemoteFatal(text) | Why::RemoteErr(text) => assert_eq!(rt;
+                    text.as_bytes(),
+                    *said
+                ),
                 _ => assert!(rt; false),
             },
             Ok(_reply) => assert!(rt; false),
