@@ -2,5 +2,8 @@ pub mod RefTexts
 pub mod LsReplies
 pub mod LsManual
 pub mod WellFormed
+pub mod LineViews
+pub mod ReplyState
+pub mod ReplyReading
 pub use Rattle.ggrammar.specs.Grammar
 pub use Rattle.ggrammar.specs.MessageReading

@@ -1,0 +1,149 @@
+//! The reply as a value.
+
+ghost use Rattle.std.specs.Prelude.{◌≡◌, ◌≤◌, [], length, MatchOption, Some, None};
+ghost use Rattle.std.specs.List.{slice_get};
+ghost use Rattle.std.specs.Option.{option_copied};
+ghost use Rattle.glsreply.specs.RefTexts as texts;
+ghost use Rattle.glsreply.specs.WellFormed.{IsLsReply, Pushes, SetsUnborn, has_one_format};
+
+use ggrammar::{MessageFault, Why};
+use gname::{Oid, RefName};
+use std::alloc::Allocator;
+use std::marker::Model;
+
+/// The most lines of a reply: `HEAD` and 65,536 refs, or an unborn `HEAD` and these.
+pub const MAX_LINES: usize = 65_537;
+
+/// A ref of the reply (gitprotocol-v2(5), "ls-refs").
+#[derive(Debug, Drop)]
+pub struct RefLine<A: Allocator + Copy> {
+    pub id: Oid,
+    pub name: RefName<A>,
+    /// The name that a symbolic ref points at.
+    pub symref: Option<RefName<A>>,
+    /// The object to which a tag leads.
+    pub peeled: Option<Oid>,
+}
+
+impl<A: Allocator + Copy> Model for RefLine<A> {
+    ghost use Rattle.glsreply.specs.RefTexts.{RefLine};
+
+    ghost Value = { RefLine };
+
+    ghost view = { λ line. record { id = line.id; name = line.name; symref = line.symref; peeled = line.peeled } };
+}
+
+/// The reply to ls-refs: the ref that an unborn `HEAD` points at, and the refs, in order. All ids have one
+/// format.
+#[derive(Drop)]
+pub struct LsReply<A: Allocator + Copy> {
+    unborn: Option<RefName<A>>,
+    lines: Vec<RefLine<A>, A>,
+}
+
+impl<A: Allocator + Copy> Model for LsReply<A> {
+    ghost use Rattle.glsreply.specs.LsReplies.{LsReply};
+    ghost use Rattle.glsreply.specs.WellFormed.{IsLsReply};
+
+    ghost Value = { LsReply };
+
+    ghost view = { λ reply. record { unborn = reply.unborn; lines = reply.lines.items } };
+
+    ghost invariant = { λ reply. IsLsReply (record { unborn = reply.unborn; lines = reply.lines.items }) };
+}
+
+impl<A: Allocator + Copy> LsReply<A> {
+    /// A reply without lines. It takes no memory yet.
+    pub fn new(alloc: A) -> LsReply<A>
+        ensures { result ≡ record { unborn = None; lines = [] } }
+    {
+        LsReply {
+            unborn: None,
+            lines: Vec::new(alloc),
+        }
+    }
+
+    // The reply of these parts.
+    pub(crate) fn of_parts(unborn: Option<RefName<A>>, lines: Vec<RefLine<A>, A>) -> LsReply<A>
+        requires { IsLsReply (record { unborn = unborn; lines = lines.items }) }
+        ensures { result ≡ record { unborn = unborn; lines = lines.items } }
+    {
+        LsReply { unborn, lines }
+    }
+
+    /// Says that `HEAD` points at a ref that is not there. It fails with `Limit` where the reply has no room
+    /// for a line more, and nothing changes then.
+    pub fn set_unborn(&mut self, target: RefName<A>) -> Result<(), MessageFault>
+        ensures { SetsUnborn self.old target self.new result }
+    {
+        if self.unborn.is_none() && self.lines.len() >= MAX_LINES {
+            return Err(refused(Why::Limit));
+        }
+        self.unborn = Some(target);
+        Ok(())
+    }
+
+    /// Adds a line. It fails with `BadText` where its ids are not of one format with each other and with those
+    /// of the lines before it, else with `Limit` where the reply has no room for a line more, else with
+    /// `Memory`; and nothing changes then.
+    pub fn push(&mut self, line: RefLine<A>) -> Result<(), MessageFault>
+        ensures { Pushes self.old line self.new result }
+    {
+        if !goes_with(self.lines.as_slice(), &line) {
+            return Err(refused(Why::BadText));
+        }
+        let most = MAX_LINES - usize::from(self.unborn.is_some());
+        if self.lines.len() >= most {
+            return Err(refused(Why::Limit));
+        }
+        match self.lines.push(line) {
+            Ok(()) => Ok(()),
+            Err(_) => Err(refused(Why::Memory)),
+        }
+    }
+
+    /// The number of refs.
+    pub fn len(&self) -> usize
+        ensures len { result ≡ length self.now.lines }
+        ensures formed { IsLsReply self.now }
+    {
+        self.lines.len()
+    }
+
+    /// The ref at this place.
+    pub fn at(&self, place: usize) -> Option<&RefLine<A>>
+        ensures { option_copied result ≡ slice_get self.now.lines place }
+    {
+        self.lines.get(place)
+    }
+
+    /// The ref that an unborn `HEAD` points at.
+    pub fn unborn(&self) -> Option<&RefName<A>>
+        ensures { option_copied result ≡ self.now.unborn }
+    {
+        self.unborn.as_ref()
+    }
+}
+
+// Whether the ids of a line are of one format with each other and with those of these lines.
+fn goes_with<A: Allocator + Copy>(lines: &[RefLine<A>], line: &RefLine<A>) -> bool
+    ensures { result ≡ has_one_format lines.now line.now }
+{
+    let format = line.id.format();
+    let is_first = match lines.first() {
+        Some(first) => first.id.format() == format,
+        None => true,
+    };
+    let is_peeled = match &line.peeled {
+        Some(id) => id.format() == format,
+        None => true,
+    };
+    is_first && is_peeled
+}
+
+// A value that is refused, before any packet.
+fn refused(why: Why) -> MessageFault
+    ensures { result ≡ record { frame = 0; why = why } }
+{
+    MessageFault { frame: 0, why }
+}
