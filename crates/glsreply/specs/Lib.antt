@@ -5,5 +5,7 @@ pub mod WellFormed
 pub mod LineViews
 pub mod ReplyState
 pub mod ReplyReading
+pub mod TextLengths
+pub mod Laws
 pub use Rattle.ggrammar.specs.Grammar
 pub use Rattle.ggrammar.specs.MessageReading

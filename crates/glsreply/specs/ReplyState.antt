@@ -1,6 +1,6 @@
 -- What the reader of a reply keeps of the packets so far, and what a packet adds to it.
 use Rattle.std.specs.Prelude.{◌≡◌, ℕ, ◌+◌, Bool, true, List, [], ◌∷◌, ◌++◌, length, if◌then◌else◌, ◌==◌}
-use Rattle.std.specs.Prelude.{Some, Result, Ok, Err}
+use Rattle.std.specs.Prelude.{◌⊎◌, All, Some, Result, Ok, Err}
 use Rattle.gpkt.specs.Packets.{Packet, Data, Flush, Delim, ResponseEnd, text}
 use Rattle.gname.specs.declared.formats.Format.{Format}
 use Rattle.ggrammar.specs.Grammar.{Verdict, Open, Whole}
@@ -31,6 +31,10 @@ state_in reader = record {
   count = reader.count;
   reply = record { unborn = reader.unborn; lines = reader.lines.items };
 }
+
+-- the format of its ids, and how it ends, stay
+abbrev pub KeepsKind : {A : Type 0} → LsReplyReader A → LsReplyReader A → Type 0
+KeepsKind old new = (new.format ≡ old.format) × (new.ends ≡ old.ends)
 
 -- ---- what a packet adds
 
@@ -72,3 +76,18 @@ abbrev pub TakesAs : Verdict → Bool → Type 0 → Result Step Why → Type 0
 TakesAs verdict brings P (Ok step.Open) = (verdict ≡ Open) × P
 TakesAs verdict brings P (Ok step.Whole) = (verdict ≡ Whole) × P
 TakesAs verdict brings P (Err why) = IsReason verdict brings why
+
+-- ---- what the reader holds
+
+-- a text is the line of a ref, or says that HEAD is unborn
+abbrev pub IsLineText : Format → List ℕ → Type 0
+IsLineText format line = ((target : Result (List ℕ) Why) × (first_form line ≡ UnbornForm target))
+    ⊎ ((ref : RefLine) × (line_of format line ≡ Ok ref))
+
+abbrev pub AreLineTexts : Format → List Packet → Type 0
+AreLineTexts format packets = All (IsLineText format) (texts_of packets)
+
+-- the reader keeps what these packets say, each text of which was accepted
+abbrev pub Holds : {A : Type 0} → LsReplyReader A → List Packet → Type 0
+Holds reader packets =
+    (state_in reader ≡ state_of reader.format packets) × AreLineTexts reader.format packets

@@ -2,7 +2,7 @@
 use Rattle.std.specs.Prelude.{◌≡◌, ℕ, ◌+◌, ◌≤◌, ◌<◌, Bool, true, false, ◌&&◌, List, [], ◌∷◌, ◌++◌, length, All}
 use Rattle.std.specs.Prelude.{IfSome, IsTrue, Some, Result, Ok, Err}
 use Rattle.std.specs.Option.{option_map_or}
-use Rattle.gname.specs.Ids.{IsIdOf, format_of}
+use Rattle.gname.specs.Ids.{IsId, IsIdOf, format_of}
 use Rattle.gname.specs.declared.formats.Format.{Format}
 use Rattle.gname.specs.declared.formats.Format.TheVariants.{Sha1, Sha256}
 use Rattle.ggrammar.specs.declared.fault.Why.{Why}
@@ -11,6 +11,14 @@ use Rattle.ggrammar.specs.declared.fault.MessageFault.{MessageFault}
 use Rattle.glsreply.specs.RefTexts.{RefLine, is_name}
 use Rattle.glsreply.specs.LsReplies.{LsReply, max_lines, unborn_packets}
 
+-- a line, whose ids may be of two formats
+pub record IsLine (line : RefLine) : Type 0 where
+  pub id : IsId line.id
+  pub name : IsTrue (is_name line.name)
+  pub symref : IfSome line.symref (λ target. IsTrue (is_name target))
+  pub peeled : IfSome line.peeled IsId
+
+-- a line of a repository with ids of one format
 pub record IsRefLine (format : Format) (line : RefLine) : Type 0 where
   pub id : IsIdOf format line.id
   pub name : IsTrue (is_name line.name)
@@ -27,8 +35,8 @@ pub record IsLsReplyIn (format : Format) (reply : LsReply) : Type 0 where
   pub few : line_count reply ≤ max_lines
 
 -- a reply of a repository with ids of one format
-abbrev pub IsLsReply : LsReply → Type 0
-IsLsReply reply = (format : Format) × IsLsReplyIn format reply
+abbrev pub IsReplyValue : LsReply → Type 0
+IsReplyValue reply = (format : Format) × IsLsReplyIn format reply
 
 -- ---- building a reply
 
@@ -54,7 +62,7 @@ has_one_format lines line =
 abbrev pub IsValueFault : LsReply → Why → Type 0
 IsValueFault reply BadText = (format : Format) → All (IsRefLine format) reply.lines → ⊥
 IsValueFault reply Limit = (format : Format) × All (IsRefLine format) reply.lines × (max_lines < line_count reply)
-IsValueFault reply Memory = IsLsReply reply
+IsValueFault reply Memory = IsReplyValue reply
 IsValueFault reply why = ⊥
 
 -- the reply becomes so, or is refused and stays as it was

@@ -1,22 +1,25 @@
 //! Reading a reply.
 
-ghost use Rattle.std.specs.Prelude.{◌≡◌, Bool, true, false, [], IfOk, IfErr, OnOk, Unit};
-ghost use Rattle.gpkt.specs.Packets.{packet_of, text};
+ghost use Rattle.std.specs.Prelude.{◌≡◌, ◌<◌, true, false, [], IfOk, IfErr, OnOk, Ok};
+ghost use Rattle.gpkt.specs.Packets.{Data, Flush, ResponseEnd, packet_of, text};
 ghost use Rattle.gpkt.specs.Change.{change_of};
 ghost use Rattle.ggrammar.specs.MessageReading.{IsReadFailure, IsFailedBy};
-ghost use Rattle.glsreply.specs.LsReplies.{judge, judge_at, judge_text, judge_line, brings};
-ghost use Rattle.glsreply.specs.RefTexts.{line_of, first_form};
+ghost use Rattle.glsreply.specs.LsReplies.{judge, judge_at, judge_text, judge_line, max_lines, within_limit, brings};
+ghost use Rattle.glsreply.specs.RefTexts.{line_of};
+ghost use Rattle.glsreply.specs.LineViews.{line_view};
+ghost use Rattle.ggrammar.specs.Grammar.{Open};
 ghost use Rattle.glsreply.specs.ReplyReading.{HasReadReply};
-ghost use Rattle.glsreply.specs.ReplyState.{TakesAs, state_in, state_of, with_packet, with_text, with_line};
-ghost use Rattle.glsreply.specs.WellFormed.{IsLsReplyIn};
+ghost use Rattle.glsreply.specs.ReplyState.{Holds, KeepsKind, TakesAs, state_in, state_of, with_packet, with_text, with_line, with_unborn, with_flush};
+ghost use Rattle.glsreply.specs.WellFormed.{IsLsReplyIn, IsReplyValue};
 ghost use Rattle.gname.specs.declared.formats.Format.TheVariants as format;
 
 use crate::line::{FirstText, LentLine, first_form, line_of};
 use crate::reply::{LsReply, MAX_LINES, RefLine};
 use ggrammar::{Ends, Message, MessageFault, PeerText, Step, Why, peer_error, read_message};
+use gname::laws::texts_have_one_reading;
 use gname::{Format, RefName};
 use gpkt::{Line, LineReader, Source, text_of};
-use std::alloc::Allocator;
+use std::alloc::{AllocError, Allocator};
 
 /// Reads the reply to ls-refs of a repository whose ids are SHA-1, as [`read_ls_reply_in`] does.
 pub fn read_ls_reply<S: Source, A: Allocator + Copy>(
@@ -61,7 +64,10 @@ pub fn read_ls_reply_in<S: Source, A: Allocator + Copy>(
 {
     let mut reply = LsReplyReader::new(alloc, format, ends);
     match read_message(reader, &mut reply) {
-        Ok(()) => Ok(reply.finish()),
+        Ok(()) => {
+            texts_have_one_reading();
+            Ok(reply.finish())
+        }
         Err(fault) => Err(fault),
     }
 }
@@ -100,37 +106,62 @@ impl<A: Allocator + Copy> LsReplyReader<A> {
 
     /// What the packets say.
     fn finish(self) -> LsReply<A>
-        requires { IsLsReplyIn self.format (state_in self).reply }
+        requires { IsReplyValue (state_in self).reply }
         ensures { result ≡ (state_in self).reply }
     {
         let LsReplyReader { unborn, lines, .. } = self;
         LsReply::of_parts(unborn, lines)
     }
 
+    #[tactic(auto, unfolding(crate::specs::LsReplies::judge_at))]
     fn take_packet(&mut self, line: Line<'_>) -> Result<Step, Why>
-        ensures format { self.new.format ≡ self.old.format }
-        ensures ends { self.new.ends ≡ self.old.ends }
+        ensures kept { KeepsKind self.old self.new }
         ensures takes { TakesAs (judge_at self.old.format self.old.ends self.old.is_over self.old.count (packet_of line.entry))
             (brings [] (packet_of line.entry))
             (state_in self.new ≡ with_packet self.old.format (state_in self.old) (packet_of line.entry)) result }
     {
         match line {
             Line::Data(payload) => self.take_data(payload),
-            Line::Flush if !self.is_over => Ok(self.take_flush()),
-            Line::ResponseEnd if self.is_over => Ok(Step::Whole),
-            Line::Flush | Line::Delim | Line::ResponseEnd => Err(Why::UnexpectedFrame),
+            Line::Flush => self.take_flush(),
+            Line::Delim => Err(Why::UnexpectedFrame),
+            Line::ResponseEnd => self.take_response_end(),
         }
     }
 
-    fn take_flush(&mut self) -> Step {
+    #[tactic(auto, unfolding(crate::specs::LsReplies::judge_at))]
+    fn take_flush(&mut self) -> Result<Step, Why>
+        ensures kept { KeepsKind self.old self.new }
+        ensures takes { TakesAs (judge_at self.old.format self.old.ends self.old.is_over self.old.count Flush) false
+            (state_in self.new ≡ with_flush (state_in self.old)) result }
+    {
+        if self.is_over {
+            return Err(Why::UnexpectedFrame);
+        }
         self.is_over = true;
         match self.ends {
-            Ends::Plain => Step::Whole,
-            Ends::Response => Step::Open,
+            Ends::Plain => Ok(Step::Whole),
+            Ends::Response => Ok(Step::Open),
         }
     }
 
-    fn take_data(&mut self, payload: &[u8]) -> Result<Step, Why> {
+    #[tactic(auto, unfolding(crate::specs::LsReplies::judge_at))]
+    fn take_response_end(&self) -> Result<Step, Why>
+        ensures { TakesAs (judge_at self.now.format self.now.ends self.now.is_over self.now.count ResponseEnd) false
+            (Unit {0}) result }
+    {
+        if self.is_over {
+            Ok(Step::Whole)
+        } else {
+            Err(Why::UnexpectedFrame)
+        }
+    }
+
+    #[tactic(auto, unfolding(crate::specs::LsReplies::judge_at))]
+    fn take_data(&mut self, payload: &[u8]) -> Result<Step, Why>
+        ensures kept { KeepsKind self.old self.new }
+        ensures takes { TakesAs (judge_at self.old.format self.old.ends self.old.is_over self.old.count (Data payload.now)) true
+            (state_in self.new ≡ with_text self.old.format (state_in self.old) (text payload.now)) result }
+    {
         if let Some(said) = peer_error(payload) {
             return Err(Why::RemoteErr(PeerText::new(said)));
         }
@@ -140,7 +171,11 @@ impl<A: Allocator + Copy> LsReplyReader<A> {
         self.take_text(text_of(payload))
     }
 
-    fn take_text(&mut self, text: &[u8]) -> Result<Step, Why> {
+    fn take_text(&mut self, text: &[u8]) -> Result<Step, Why>
+        ensures kept { KeepsKind self.old self.new }
+        ensures takes { TakesAs (judge_text self.old.format self.old.count text.now) true
+            (state_in self.new ≡ with_text self.old.format (state_in self.old) text.now) result }
+    {
         if self.count > 0 {
             return self.take_ref(text);
         }
@@ -151,29 +186,53 @@ impl<A: Allocator + Copy> LsReplyReader<A> {
         }
     }
 
-    fn take_unborn(&mut self, target: &[u8]) -> Result<Step, Why> {
+    fn take_unborn(&mut self, target: &[u8]) -> Result<Step, Why>
+        requires { self.old.count ≡ 0 }
+        ensures kept { KeepsKind self.old self.new }
+        ensures takes { TakesAs Open true (state_in self.new ≡ with_unborn (state_in self.old) (Ok target.now)) result }
+    {
         match RefName::new(self.alloc, target) {
             Ok(name) => {
                 self.unborn = Some(name);
                 self.count += 1;
                 Ok(Step::Open)
             }
-            Err(_) => Err(Why::Memory),
+            Err(_fault) => Err(Why::Memory),
         }
     }
 
-    fn take_ref(&mut self, text: &[u8]) -> Result<Step, Why> {
+    fn take_ref(&mut self, text: &[u8]) -> Result<Step, Why>
+        ensures kept { KeepsKind self.old self.new }
+        ensures takes { TakesAs (within_limit self.old.count (judge_line (line_of self.old.format text.now))) true
+            (state_in self.new ≡ with_line (state_in self.old) (line_of self.old.format text.now)) result }
+    {
+        texts_have_one_reading();
         match line_of(self.alloc, self.format, text) {
-            Ok(line) => self.take_line(line),
+            Ok(line) => self.take_line(&line),
             Err(why) => Err(why),
         }
     }
 
-    fn take_line(&mut self, line: LentLine<'_>) -> Result<Step, Why> {
+    fn take_line(&mut self, line: &LentLine<'_>) -> Result<Step, Why>
+        ensures kept { KeepsKind self.old self.new }
+        ensures takes { TakesAs (within_limit self.old.count Open) true
+            (state_in self.new ≡ with_line (state_in self.old) (Ok (line_view line.now))) result }
+    {
         if self.count >= MAX_LINES {
             return Err(Why::Limit);
         }
-        let line = keep_line(self.alloc, line)?;
+        match keep_line(self.alloc, line) {
+            Ok(line) => self.add_line(line),
+            Err(_) => Err(Why::Memory),
+        }
+    }
+
+    fn add_line(&mut self, line: RefLine<A>) -> Result<Step, Why>
+        requires { self.old.count < max_lines }
+        ensures kept { KeepsKind self.old self.new }
+        ensures takes { TakesAs Open true
+            (state_in self.new ≡ with_line (state_in self.old) (Ok line)) result }
+    {
         match self.lines.push(line) {
             Ok(()) => {
                 self.count += 1;
@@ -185,7 +244,9 @@ impl<A: Allocator + Copy> LsReplyReader<A> {
 }
 
 // The line as a value.
-fn keep_line<A: Allocator + Copy>(alloc: A, line: LentLine<'_>) -> Result<RefLine<A>, Why> {
+fn keep_line<A: Allocator + Copy>(alloc: A, line: &LentLine<'_>) -> Result<RefLine<A>, AllocError>
+    ensures { IfOk result (λ kept. kept ≡ line_view line.now) }
+{
     let name = keep_name(alloc, line.name)?;
     let symref = match line.symref {
         Some(target) => Some(keep_name(alloc, target)?),
@@ -200,10 +261,12 @@ fn keep_line<A: Allocator + Copy>(alloc: A, line: LentLine<'_>) -> Result<RefLin
 }
 
 // A name that has been judged.
-fn keep_name<A: Allocator + Copy>(alloc: A, text: &[u8]) -> Result<RefName<A>, Why> {
+fn keep_name<A: Allocator + Copy>(alloc: A, text: &[u8]) -> Result<RefName<A>, AllocError>
+    ensures { IfOk result (λ kept. kept ≡ text.now) }
+{
     match RefName::new(alloc, text) {
         Ok(name) => Ok(name),
-        Err(_) => Err(Why::Memory),
+        Err(_fault) => Err(AllocError),
     }
 }
 
@@ -212,7 +275,7 @@ impl<A: Allocator + Copy> Message for LsReplyReader<A> {
 
     ghost brings = { λ _. brings };
 
-    ghost holds = { λ reply packets. state_in reply ≡ state_of reply.format packets };
+    ghost holds = { Holds };
 
     ghost left = { λ _ _. Unit {0} };
 

@@ -1,12 +1,13 @@
 //! The reply as a value.
 
-ghost use Rattle.std.specs.Prelude.{◌≡◌, ◌≤◌, [], length, MatchOption, Some, None};
+ghost use Rattle.std.specs.Prelude.{◌≡◌, true, [], length, None};
 ghost use Rattle.std.specs.List.{slice_get};
 ghost use Rattle.std.specs.Option.{option_copied};
-ghost use Rattle.glsreply.specs.RefTexts as texts;
-ghost use Rattle.glsreply.specs.WellFormed.{IsLsReply, Pushes, SetsUnborn, has_one_format};
+ghost use Rattle.glsreply.specs.RefTexts.{is_name};
+ghost use Rattle.glsreply.specs.WellFormed.{IsLine, IsReplyValue, Pushes, SetsUnborn, has_one_format};
 
 use ggrammar::{MessageFault, Why};
+use gname::laws::ids_have_one_format;
 use gname::{Oid, RefName};
 use std::alloc::Allocator;
 use std::marker::Model;
@@ -43,13 +44,13 @@ pub struct LsReply<A: Allocator + Copy> {
 
 impl<A: Allocator + Copy> Model for LsReply<A> {
     ghost use Rattle.glsreply.specs.LsReplies.{LsReply};
-    ghost use Rattle.glsreply.specs.WellFormed.{IsLsReply};
+    ghost use Rattle.glsreply.specs.WellFormed.{IsReplyValue};
 
     ghost Value = { LsReply };
 
     ghost view = { λ reply. record { unborn = reply.unborn; lines = reply.lines.items } };
 
-    ghost invariant = { λ reply. IsLsReply (record { unborn = reply.unborn; lines = reply.lines.items }) };
+    ghost invariant = { λ reply. IsReplyValue (record { unborn = reply.unborn; lines = reply.lines.items }) };
 }
 
 impl<A: Allocator + Copy> LsReply<A> {
@@ -65,7 +66,7 @@ impl<A: Allocator + Copy> LsReply<A> {
 
     // The reply of these parts.
     pub(crate) fn of_parts(unborn: Option<RefName<A>>, lines: Vec<RefLine<A>, A>) -> LsReply<A>
-        requires { IsLsReply (record { unborn = unborn; lines = lines.items }) }
+        requires { IsReplyValue (record { unborn = unborn; lines = lines.items }) }
         ensures { result ≡ record { unborn = unborn; lines = lines.items } }
     {
         LsReply { unborn, lines }
@@ -76,6 +77,7 @@ impl<A: Allocator + Copy> LsReply<A> {
     pub fn set_unborn(&mut self, target: RefName<A>) -> Result<(), MessageFault>
         ensures { SetsUnborn self.old target self.new result }
     {
+        keeps_rules(&target);
         if self.unborn.is_none() && self.lines.len() >= MAX_LINES {
             return Err(refused(Why::Limit));
         }
@@ -89,6 +91,8 @@ impl<A: Allocator + Copy> LsReply<A> {
     pub fn push(&mut self, line: RefLine<A>) -> Result<(), MessageFault>
         ensures { Pushes self.old line self.new result }
     {
+        ids_have_one_format();
+        keeps_forms(&line);
         if !goes_with(self.lines.as_slice(), &line) {
             return Err(refused(Why::BadText));
         }
@@ -105,7 +109,7 @@ impl<A: Allocator + Copy> LsReply<A> {
     /// The number of refs.
     pub fn len(&self) -> usize
         ensures len { result ≡ length self.now.lines }
-        ensures formed { IsLsReply self.now }
+        ensures formed { IsReplyValue self.now }
     {
         self.lines.len()
     }
@@ -115,6 +119,13 @@ impl<A: Allocator + Copy> LsReply<A> {
         ensures { option_copied result ≡ slice_get self.now.lines place }
     {
         self.lines.get(place)
+    }
+
+    /// The refs, in order.
+    pub(crate) fn lines(&self) -> &[RefLine<A>]
+        ensures { result.now ≡ self.now.lines }
+    {
+        self.lines.as_slice()
     }
 
     /// The ref that an unborn `HEAD` points at.
@@ -139,6 +150,27 @@ fn goes_with<A: Allocator + Copy>(lines: &[RefLine<A>], line: &RefLine<A>) -> bo
         None => true,
     };
     is_first && is_peeled
+}
+
+// What the type of a line says of it; the call has no effect.
+fn keeps_forms<A: Allocator + Copy>(line: &RefLine<A>)
+    ensures { IsLine line.now }
+{
+    let _id = line.id.as_bytes();
+    keeps_rules(&line.name);
+    if let Some(target) = &line.symref {
+        keeps_rules(target);
+    }
+    if let Some(id) = &line.peeled {
+        let _peeled = id.as_bytes();
+    }
+}
+
+// What the type of a name says of it; the call has no effect.
+fn keeps_rules<A: Allocator + Copy>(name: &RefName<A>)
+    ensures { is_name name.now ≡ true }
+{
+    let _bytes = name.as_bytes();
 }
 
 // A value that is refused, before any packet.

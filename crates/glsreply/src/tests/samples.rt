@@ -1,5 +1,5 @@
 // What a reader answers, as values that a table can hold.
-use crate::{LsReply, read_ls_reply_in};
+use crate::{LsReply, read_ls_reply_in, write_ls_reply};
 use ggrammar::{Ends, MessageFault};
 use gname::Format;
 use gpkt::memory::SliceSource;
@@ -7,8 +7,11 @@ use gpkt::{LineReader, LineWriter, memory::VecSink};
 use std::alloc::Global;
 use std::test::Fail;
 
-// Ids, in digits.
+// An id, in digits.
 pub(super) const ID: &[u8] = b"aaaaaaaaaaaaaaaaaaaaaaaaaaaaaaaaaaaaaaaa";
+
+// A reply of a line, with a response-end.
+pub(super) const LINE: &[u8] = b"0032aaaaaaaaaaaaaaaaaaaaaaaaaaaaaaaaaaaaaaaa HEAD\n00000002";
 
 // A reply that is read, and how many bytes are left after it.
 pub(super) fn read(
@@ -42,5 +45,16 @@ pub(super) fn packets(alloc: Global, texts: &[&[u8]]) -> Result<Vec<u8, Global>,
         writer.text(text)?;
     }
     writer.flush_pkt()?;
+    Ok(writer.into_inner().into_written())
+}
+
+// The bytes that are written of a reply.
+pub(super) fn written(
+    alloc: Global,
+    reply: &LsReply<Global>,
+    ends: Ends,
+) -> Result<Vec<u8, Global>, Fail> {
+    let mut writer = LineWriter::new(VecSink::new(alloc));
+    write_ls_reply(reply, ends, &mut writer)?;
     Ok(writer.into_inner().into_written())
 }
