@@ -6,3 +6,4 @@ pub mod LawLemmas
 pub mod ReaderLemmas
 pub mod ValueLemmas
 pub mod ManualLemmas
+pub mod WritingLemmas

@@ -189,7 +189,7 @@ pub manual_says : (format : Format) (ends : Ends) (packets : List Packet) (reply
 manual_says format ends packets reply h =
     let few : length h.first + length h.refs ≤ max_lines = omega (arith, h.few, length-append h.first h.refs) in
     let body = refs_body format ends (map Data h.first) (length h.first) h.refs (first_body format ends reply.unborn h.first h.is_first) h.are_refs few in
-    let parts = ap (λ (data : List Packet). data ++ Flush ∷ ends_with ends) (map_append Data h.first h.refs) in
+    let parts = ap (λ (sent : List Packet). sent ++ Flush ∷ ends_with ends) (map_append Data h.first h.refs) in
     let whole = subst (IsWhole (judge format ends)) (sym (h.parts ∙ parts)) (ends_so format ends (map Data h.first ++ map Data h.refs) body.goes body.at) in
     let texts : texts_of packets ≡ map text (h.first ++ h.refs) = ap texts_of h.parts ∙ texts_sent ends (h.first ++ h.refs) in
     let unborn : unborn_of (texts_of packets) ≡ reply.unborn = ap unborn_of texts ∙ says_unborn format reply.unborn h.first h.refs h.is_first h.are_refs in

@@ -1,17 +1,19 @@
 -- A reply with a line more.
-use Rattle.std.proofs.Common.{◌≡◌, ℕ, ◌+◌, ◌<◌, ◌≤◌, Bool, true, false, ◌&&◌, List, [], ◌∷◌, ◌++◌, length, Option, Some, None, refl, sym, ap, subst, ◌∙◌, arith}
+use Rattle.std.proofs.Common.{◌≡◌, ℕ, ◌+◌, ◌<◌, ◌≤◌, Bool, true, false, ◌&&◌, List, [], ◌∷◌, ◌++◌, length, Option, Some, None, Result, Ok, Err, refl, sym, ap, subst, ◌∙◌, arith}
 use Rattle.std.specs.Prelude.{All, IfSome, IsTrue}
 use Rattle.std.specs.Option.{option_map_or}
-use Rattle.std.proofs.lemmas.Bool.{and_parts, and_from}
+use Rattle.std.proofs.lemmas.Bool.{and_parts, and_from, false≢true}
 use Rattle.std.proofs.lemmas.List.{length_push}
 use Rattle.std.proofs.lemmas.List.Elements.{All-cons, All-nil, All-head, All-tail, All-append}
 use Rattle.gname.specs.Ids.{IsId, IsIdOf, format_of}
 use Rattle.gname.specs.Laws.{IdsHaveOneFormat}
 use Rattle.gname.specs.declared.formats.Format.{Format}
 use Rattle.gname.specs.declared.formats.Format.TheVariants.{Sha1, Sha256}
+use Rattle.ggrammar.specs.declared.fault.MessageFault.{MessageFault}
+use Rattle.ggrammar.specs.declared.fault.Why.TheVariants.{BadText, Limit}
 use Rattle.glsreply.specs.RefTexts.{RefLine, is_name}
 use Rattle.glsreply.specs.LsReplies.{LsReply, unborn_packets, max_lines}
-use Rattle.glsreply.specs.WellFormed.{IsLine, IsRefLine, IsLsReplyIn, IsReplyValue, is_format, has_format_of, first_has_format_of, has_one_format, line_count}
+use Rattle.glsreply.specs.WellFormed.{IsLine, IsRefLine, IsLsReplyIn, IsReplyValue, is_format, has_format_of, first_has_format_of, has_one_format, line_count, Adds, Pushes, IsValueFault}
 
 same_format : (a b : Format) → is_format a b ≡ true → a ≡ b
 same_format Sha1 Sha1 e = refl
@@ -89,3 +91,50 @@ module _ (law : IdsHaveOneFormat) where
   value_pushed reply line h is goes room =
       let all = lines_pushed reply line h is goes in
       (all.0, record { unborn = h.1.unborn; lines = all.1; few = (let long = length_push reply.lines line in omega (arith, long, room)) })
+
+  -- ---- a push
+
+  pub bad_text : (reply : LsReply) (line : RefLine) (fault : MessageFault) → fault ≡ record { frame = 0; why = BadText } → has_one_format reply.lines line ≡ false
+      → Pushes reply line reply (Err fault)
+  bad_text reply line fault e goes =
+      (refl, ap (λ (f : MessageFault). f.frame) e,
+      subst (IsValueFault (record { unborn = reply.unborn; lines = reply.lines ++ line ∷ [] })) (sym (ap (λ (f : MessageFault). f.why) e))
+      (λ format all. false≢true (sym goes ∙ have_one_format format reply.lines line all)))
+
+  module _ (reply : LsReply) (line : RefLine) (h : IsReplyValue reply) (is : IsLine line) where
+    pub limit : (fault : MessageFault) → fault ≡ record { frame = 0; why = Limit } → has_one_format reply.lines line ≡ true → max_lines ≤ line_count reply
+        → Pushes reply line reply (Err fault)
+    limit fault e goes full =
+        let all = lines_pushed reply line h is goes in
+        (refl, ap (λ (f : MessageFault). f.frame) e,
+        subst (IsValueFault (record { unborn = reply.unborn; lines = reply.lines ++ line ∷ [] })) (sym (ap (λ (f : MessageFault). f.why) e))
+        (all.0, all.1, (let long = length_push reply.lines line in omega (arith, long, full))))
+
+    pub pushed_value : (lines : List RefLine) (result : Result (Unit {0}) MessageFault) → Adds reply.lines line lines result → has_one_format reply.lines line ≡ true
+        → line_count reply < max_lines → IsReplyValue (record { unborn = reply.unborn; lines = lines })
+    pushed_value lines (Ok done) e goes room =
+        subst (λ (l : List RefLine). IsReplyValue (record { unborn = reply.unborn; lines = l })) (sym e) (value_pushed reply line h is goes room)
+    pushed_value lines (Err fault) e goes room =
+        subst (λ (l : List RefLine). IsReplyValue (record { unborn = reply.unborn; lines = l })) (sym e.0) h
+
+    pub pushes : (lines : List RefLine) (result : Result (Unit {0}) MessageFault) → Adds reply.lines line lines result → has_one_format reply.lines line ≡ true
+        → line_count reply < max_lines → Pushes reply line (record { unborn = reply.unborn; lines = lines }) result
+    pushes lines (Ok done) e goes room = ap (λ (l : List RefLine). record { unborn = reply.unborn; lines = l }) e
+    pushes lines (Err fault) e goes room =
+        (ap (λ (l : List RefLine). record { unborn = reply.unborn; lines = l }) e.0, e.1,
+        subst (IsValueFault (record { unborn = reply.unborn; lines = reply.lines ++ line ∷ [] })) (sym e.2) (value_pushed reply line h is goes room))
+
+  module _ (old reply : LsReply) (line : RefLine) (same : reply ≡ old) (h : IsReplyValue reply) (is : IsLine line) (goes : has_one_format old.lines line ≡ true)
+      (room : line_count old < max_lines) (lines : List RefLine) (result : Result (Unit {0}) MessageFault) (adds : Adds reply.lines line lines result)
+    where
+      here : has_one_format reply.lines line ≡ true
+      here = subst (λ (r : LsReply). has_one_format r.lines line ≡ true) (sym same) goes
+
+      room_here : line_count reply < max_lines
+      room_here = subst (λ (r : LsReply). line_count r < max_lines) (sym same) room
+
+      pub pushed_value_at : IsReplyValue (record { unborn = reply.unborn; lines = lines })
+      pushed_value_at = pushed_value reply line h is lines result adds here room_here
+
+      pub pushes_at : Pushes old line (record { unborn = reply.unborn; lines = lines }) result
+      pushes_at = subst (λ (r : LsReply). Pushes r line (record { unborn = reply.unborn; lines = lines }) result) same (pushes reply line h is lines result adds here room_here)

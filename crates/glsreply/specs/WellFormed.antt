@@ -70,6 +70,11 @@ abbrev pub Becomes : LsReply → LsReply → LsReply → Result (Unit {0}) Messa
 Becomes old wanted new (Ok done) = new ≡ wanted
 Becomes old wanted new (Err fault) = (new ≡ old) × (fault.frame ≡ 0) × IsValueFault wanted fault.why
 
+-- the lines have one more, or there is no memory for it
+abbrev pub Adds : List RefLine → RefLine → List RefLine → Result (Unit {0}) MessageFault → Type 0
+Adds old line new (Ok done) = new ≡ old ++ line ∷ []
+Adds old line new (Err fault) = (new ≡ old) × (fault.frame ≡ 0) × (fault.why ≡ Memory)
+
 abbrev pub Pushes : LsReply → RefLine → LsReply → Result (Unit {0}) MessageFault → Type 0
 Pushes old line new result = Becomes old (record old { lines = old.lines ++ line ∷ [] }) new result
 

@@ -1,10 +1,11 @@
 //! The reply as a value.
 
-ghost use Rattle.std.specs.Prelude.{◌≡◌, true, [], length, None};
+ghost use Rattle.std.specs.Prelude.{◌≡◌, ◌≤◌, ◌↔◌, true, [], length, IsTrue, None};
 ghost use Rattle.std.specs.List.{slice_get};
 ghost use Rattle.std.specs.Option.{option_copied};
+ghost use Rattle.glsreply.specs.LsReplies.{max_lines};
 ghost use Rattle.glsreply.specs.RefTexts.{is_name};
-ghost use Rattle.glsreply.specs.WellFormed.{IsLine, IsReplyValue, Pushes, SetsUnborn, has_one_format};
+ghost use Rattle.glsreply.specs.WellFormed.{Adds, IsLine, IsReplyValue, Pushes, SetsUnborn, has_one_format, line_count};
 
 use ggrammar::{MessageFault, Why};
 use gname::laws::ids_have_one_format;
@@ -93,16 +94,23 @@ impl<A: Allocator + Copy> LsReply<A> {
     {
         ids_have_one_format();
         keeps_forms(&line);
-        if !goes_with(self.lines.as_slice(), &line) {
+        if !goes_with(self.lines(), &line) {
             return Err(refused(Why::BadText));
         }
-        let most = MAX_LINES - usize::from(self.unborn.is_some());
-        if self.lines.len() >= most {
+        if self.is_full() {
             return Err(refused(Why::Limit));
         }
-        match self.lines.push(line) {
-            Ok(()) => Ok(()),
-            Err(_) => Err(refused(Why::Memory)),
+        add_line(&mut self.lines, line)
+    }
+
+    // Whether there is no room for a line more.
+    fn is_full(&self) -> bool
+        ensures full { IsTrue result ↔ (max_lines ≤ line_count self.now) }
+        ensures formed { IsReplyValue self.now }
+    {
+        match &self.unborn {
+            Some(_target) => self.lines.len() >= MAX_LINES - 1,
+            None => self.lines.len() >= MAX_LINES,
         }
     }
 
@@ -150,6 +158,19 @@ fn goes_with<A: Allocator + Copy>(lines: &[RefLine<A>], line: &RefLine<A>) -> bo
         None => true,
     };
     is_first && is_peeled
+}
+
+// Adds a line where there is memory for it.
+fn add_line<A: Allocator + Copy>(
+    lines: &mut Vec<RefLine<A>, A>,
+    line: RefLine<A>,
+) -> Result<(), MessageFault>
+    ensures { Adds lines.old.items line lines.new.items result }
+{
+    match lines.push(line) {
+        Ok(()) => Ok(()),
+        Err(_) => Err(refused(Why::Memory)),
+    }
 }
 
 // What the type of a line says of it; the call has no effect.

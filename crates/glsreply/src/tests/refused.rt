@@ -33,7 +33,7 @@ const FIRST: [(&[u8], Option<&str>); 50] = [
     (b"aaaaaaaaaaaaaaaaaaaaaaaaaaaaaaaaaaaaaaag HEAD", Some("BadId")),
     (b"aaaaaaaaaaaaaaaaaaaaaaaaaaaaaaaaaaaaaaaaa HEAD", Some("BadId")),
     (b"aaaaaaaaaaaaaaaaaaaaaaaaaaaaaaaaaaaaaaaaaaaaaaaaaaaaaaaaaaaaaaaa HEAD", Some("BadId")),
-    (b"aaaaaaaaaaaaaaaaaaaaaaaaaaaaaaaaaaaaaaaa	HEAD", Some("BadId")),
+    (b"aaaaaaaaaaaaaaaaaaaaaaaaaaaaaaaaaaaaaaaa\tHEAD", Some("BadId")),
     (b"ERR", Some("BadId")),
     (b"aaaaaaaaaaaaaaaaaaaaaaaaaaaaaaaaaaaaaaaa", Some("BadText")),
     (b"aaaaaaaaaaaaaaaaaaaaaaaaaaaaaaaaaaaaaaaa ", Some("BadName")),
