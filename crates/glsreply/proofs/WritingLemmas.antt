@@ -37,4 +37,6 @@ coming-end ends lines i past = ap (coming ends) (drop_all i lines past)
 pub reply_parts : (ends : Ends) (reply : LsReply) (unborn : Option (List ℕ)) → unborn ≡ reply.unborn
     → canonical_reply ends reply ≡ unborn_packets unborn ++ coming ends reply.lines
 unfolding canonical_reply
-reply_parts ends reply unborn e = ap (λ (u : Option (List ℕ)). unborn_packets u ++ (map ref_packet reply.lines ++ Flush ∷ ends_with ends)) (sym e)
+reply_parts ends reply unborn e =
+    append_assoc (unborn_packets reply.unborn) (map ref_packet reply.lines) (Flush ∷ ends_with ends)
+    ∙ ap (λ (u : Option (List ℕ)). unborn_packets u ++ (map ref_packet reply.lines ++ Flush ∷ ends_with ends)) (sym e)
