@@ -107,9 +107,9 @@ is_bounded format ends front opened =
     let short = open_is_short format ends front opened in
     let one : one_if (is_over front) ≤ 1 = cond_one (is_over front) in
     omega (arith, short.texts, short.packets, one) where
-  cond_one : (b : Bool) → one_if b ≤ 1
-  cond_one true = omega arith
-  cond_one false = omega arith
+      cond_one : (b : Bool) → one_if b ≤ 1
+      cond_one true = omega arith
+      cond_one false = omega arith
 
 -- ---- each open list has an ending
 
@@ -127,27 +127,36 @@ over_after_flush front = over_push front Flush ∙ or_right (is_over front) true
 pub has_endings : (format : Format) (ends : Ends) → HasEndings (judge format ends)
 has_endings format ends front opened = by_over ends (is_over front) refl opened where
   by_over : (ends : Ends) (over : Bool) → is_over front ≡ over → IsOpen (judge format ends) front → (more : List Packet) × IsWhole (judge format ends) (front ++ more)
-  by_over ends true at opened = (ResponseEnd ∷ [], record {
-    front = front;
-    last = ResponseEnd;
-    parts = refl;
-    goes = opened;
-    ends = ap (λ (over : Bool). judge_at format ends over (length (texts_of front)) ResponseEnd) at ∙ over_ends format ends (length (texts_of front));
-  })
-  by_over Plain false at opened = (Flush ∷ [], record {
-    front = front;
-    last = Flush;
-    parts = refl;
-    goes = opened;
-    ends = ap (λ (over : Bool). judge_at format Plain over (length (texts_of front)) Flush) at ∙ flush_is format Plain (length (texts_of front));
-  })
-  by_over Response false at opened = (Flush ∷ ResponseEnd ∷ [], record {
-    front = front ++ Flush ∷ [];
-    last = ResponseEnd;
-    parts = sym (append_assoc front (Flush ∷ []) (ResponseEnd ∷ []));
-    goes = IsOpen-push opened (ap (λ (over : Bool). judge_at format Response over (length (texts_of front)) Flush) at ∙ flush_is format Response (length (texts_of front)));
-    ends = ap (λ (over : Bool). judge_at format Response over (length (texts_of (front ++ Flush ∷ []))) ResponseEnd) (over_after_flush front) ∙ over_ends format Response (length (texts_of (front ++ Flush ∷ [])));
-  })
+  by_over ends true at opened = (
+    ResponseEnd ∷ [],
+    record {
+      front = front;
+      last = ResponseEnd;
+      parts = refl;
+      goes = opened;
+      ends = ap (λ (over : Bool). judge_at format ends over (length (texts_of front)) ResponseEnd) at ∙ over_ends format ends (length (texts_of front));
+    },
+  )
+  by_over Plain false at opened = (
+    Flush ∷ [],
+    record {
+      front = front;
+      last = Flush;
+      parts = refl;
+      goes = opened;
+      ends = ap (λ (over : Bool). judge_at format Plain over (length (texts_of front)) Flush) at ∙ flush_is format Plain (length (texts_of front));
+    },
+  )
+  by_over Response false at opened = (
+    Flush ∷ ResponseEnd ∷ [],
+    record {
+      front = front ++ Flush ∷ [];
+      last = ResponseEnd;
+      parts = sym (append_assoc front (Flush ∷ []) (ResponseEnd ∷ []));
+      goes = IsOpen-push opened (ap (λ (over : Bool). judge_at format Response over (length (texts_of front)) Flush) at ∙ flush_is format Response (length (texts_of front)));
+      ends = ap (λ (over : Bool). judge_at format Response over (length (texts_of (front ++ Flush ∷ []))) ResponseEnd) (over_after_flush front) ∙ over_ends format Response (length (texts_of (front ++ Flush ∷ [])));
+    },
+  )
 
 -- ---- the last packet of a reply
 

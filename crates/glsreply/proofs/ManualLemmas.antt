@@ -87,7 +87,7 @@ form_of_ref format line ref e = by_form (first_form line) refl where
 ref_text_goes : (format : Format) (count : ℕ) (line : List ℕ) (ref : RefLine) → line_of format line ≡ Ok ref → count < max_lines → judge_text format count line ≡ Open
 ref_text_goes format count line ref e room =
     let judged = cond_holds (λ (verdict : Verdict). verdict ≡ Open) (count == 0) (judge_first format line (first_form line)) (judge_line (line_of format line))
-        (λ _. ap (judge_first format line) (form_of_ref format line ref e) ∙ ap judge_line e) (λ _. ap judge_line e) in
+    (λ _. ap (judge_first format line) (form_of_ref format line ref e) ∙ ap judge_line e) (λ _. ap judge_line e) in
     ap (within_limit count) judged ∙ ap if_room (lt-ltb count max_lines room)
 
 data_is : (format : Format) (ends : Ends) (over : Bool) (count : ℕ) (payload : List ℕ) → over ≡ false → peer_error payload ≡ None
@@ -195,6 +195,6 @@ manual_says format ends packets reply h =
     let unborn : unborn_of (texts_of packets) ≡ reply.unborn = ap unborn_of texts ∙ says_unborn format reply.unborn h.first h.refs h.is_first h.are_refs in
     let lines : ref_lines format (texts_of packets) ≡ reply.lines = ap (ref_lines format) texts ∙ (says_refs format reply.unborn h.first h.refs h.is_first ∙ sym h.lines) in
     record { whole = whole; says = same_reply (sym unborn) (sym lines) } where
-  same_reply : {unborn unborn' : Option (List ℕ)} {lines lines' : List RefLine} → unborn ≡ unborn' → lines ≡ lines'
-      → ◌≡◌ {A = LsReply} (record { unborn = unborn; lines = lines }) (record { unborn = unborn'; lines = lines' })
-  same_reply e f = cc
+      same_reply : {unborn unborn' : Option (List ℕ)} {lines lines' : List RefLine} → unborn ≡ unborn' → lines ≡ lines'
+          → ◌≡◌ {A = LsReply} (record { unborn = unborn; lines = lines }) (record { unborn = unborn'; lines = lines' })
+      same_reply e f = cc

@@ -256,9 +256,10 @@ module _ {A : Type 0} where
     holds_more : IsAccepted (judge old.format old.ends front packet) → state_in new ≡ with_packet old.format (state_in old) packet
         → Holds new (front ++ packet ∷ [])
     holds_more accepted adds =
-        subst (λ (format : Format). (state_in new ≡ state_of format (front ++ packet ∷ [])) × AreLineTexts format (front ++ packet ∷ [])) (sym kept.0)
-        (adds ∙ (ap (λ (state : State). with_packet old.format state packet) held.0 ∙ sym (state_push old.format old.ends front packet accepted)),
-        line_texts_push old.format old.ends front packet accepted held.1)
+        subst (λ (format : Format). (state_in new ≡ state_of format (front ++ packet ∷ [])) × AreLineTexts format (front ++ packet ∷ [])) (sym kept.0) (
+          adds ∙ (ap (λ (state : State). with_packet old.format state packet) held.0 ∙ sym (state_push old.format old.ends front packet accepted)),
+          line_texts_push old.format old.ends front packet accepted held.1,
+        )
 
     pub takes_packet : (result : Result Step Why)
         → TakesAs (judge_at old.format old.ends old.is_over old.count packet) (brings [] packet) (state_in new ≡ with_packet old.format (state_in old) packet) result
@@ -267,9 +268,11 @@ module _ {A : Type 0} where
         let goes = same_verdict ∙ h.0 in (goes, holds_more (subst IsAccepted (sym goes) tt) h.1)
     takes_packet (Ok step.Whole) h =
         let ends = same_verdict ∙ h.0 in (ends, holds_more (subst IsAccepted (sym ends) tt) h.1)
-    takes_packet (Err why) h =
-        (subst (λ (b : Bool). IsReason (judge old.format old.ends front packet) b why) (brings_same front packet)
-        (subst (λ (verdict : Verdict). IsReason verdict (brings [] packet) why) (sym same_verdict) h), tt)
+    takes_packet (Err why) h = (
+      subst (λ (b : Bool). IsReason (judge old.format old.ends front packet) b why) (brings_same front packet)
+          (subst (λ (verdict : Verdict). IsReason verdict (brings [] packet) why) (sym same_verdict) h),
+      tt,
+    )
 
 -- what a reader holds of a whole list is what the list says
 pub says_reply : {A : Type 0} (format : Format) (ends : Ends) (reader : LsReplyReader A) (packets : List Packet)

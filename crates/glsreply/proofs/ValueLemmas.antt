@@ -96,19 +96,23 @@ module _ (law : IdsHaveOneFormat) where
 
   pub bad_text : (reply : LsReply) (line : RefLine) (fault : MessageFault) → fault ≡ record { frame = 0; why = BadText } → has_one_format reply.lines line ≡ false
       → Pushes reply line reply (Err fault)
-  bad_text reply line fault e goes =
-      (refl, ap (λ (f : MessageFault). f.frame) e,
-      subst (IsValueFault (record { unborn = reply.unborn; lines = reply.lines ++ line ∷ [] })) (sym (ap (λ (f : MessageFault). f.why) e))
-      (λ format all. false≢true (sym goes ∙ have_one_format format reply.lines line all)))
+  bad_text reply line fault e goes = (
+    refl,
+    ap (λ (f : MessageFault). f.frame) e,
+    subst (IsValueFault (record { unborn = reply.unborn; lines = reply.lines ++ line ∷ [] })) (sym (ap (λ (f : MessageFault). f.why) e))
+        (λ format all. false≢true (sym goes ∙ have_one_format format reply.lines line all)),
+  )
 
   module _ (reply : LsReply) (line : RefLine) (h : IsReplyValue reply) (is : IsLine line) where
     pub limit : (fault : MessageFault) → fault ≡ record { frame = 0; why = Limit } → has_one_format reply.lines line ≡ true → max_lines ≤ line_count reply
         → Pushes reply line reply (Err fault)
     limit fault e goes full =
-        let all = lines_pushed reply line h is goes in
-        (refl, ap (λ (f : MessageFault). f.frame) e,
-        subst (IsValueFault (record { unborn = reply.unborn; lines = reply.lines ++ line ∷ [] })) (sym (ap (λ (f : MessageFault). f.why) e))
-        (all.0, all.1, (let long = length_push reply.lines line in omega (arith, long, full))))
+        let all = lines_pushed reply line h is goes in (
+          refl,
+          ap (λ (f : MessageFault). f.frame) e,
+          subst (IsValueFault (record { unborn = reply.unborn; lines = reply.lines ++ line ∷ [] })) (sym (ap (λ (f : MessageFault). f.why) e))
+              (all.0, all.1, (let long = length_push reply.lines line in omega (arith, long, full))),
+        )
 
     pub pushed_value : (lines : List RefLine) (result : Result (Unit {0}) MessageFault) → Adds reply.lines line lines result → has_one_format reply.lines line ≡ true
         → line_count reply < max_lines → IsReplyValue (record { unborn = reply.unborn; lines = lines })
@@ -120,9 +124,11 @@ module _ (law : IdsHaveOneFormat) where
     pub pushes : (lines : List RefLine) (result : Result (Unit {0}) MessageFault) → Adds reply.lines line lines result → has_one_format reply.lines line ≡ true
         → line_count reply < max_lines → Pushes reply line (record { unborn = reply.unborn; lines = lines }) result
     pushes lines (Ok done) e goes room = ap (λ (l : List RefLine). record { unborn = reply.unborn; lines = l }) e
-    pushes lines (Err fault) e goes room =
-        (ap (λ (l : List RefLine). record { unborn = reply.unborn; lines = l }) e.0, e.1,
-        subst (IsValueFault (record { unborn = reply.unborn; lines = reply.lines ++ line ∷ [] })) (sym e.2) (value_pushed reply line h is goes room))
+    pushes lines (Err fault) e goes room = (
+      ap (λ (l : List RefLine). record { unborn = reply.unborn; lines = l }) e.0,
+      e.1,
+      subst (IsValueFault (record { unborn = reply.unborn; lines = reply.lines ++ line ∷ [] })) (sym e.2) (value_pushed reply line h is goes room),
+    )
 
   module _ (old reply : LsReply) (line : RefLine) (same : reply ≡ old) (h : IsReplyValue reply) (is : IsLine line) (goes : has_one_format old.lines line ≡ true)
       (room : line_count old < max_lines) (lines : List RefLine) (result : Result (Unit {0}) MessageFault) (adds : Adds reply.lines line lines result)

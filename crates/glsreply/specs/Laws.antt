@@ -1,13 +1,11 @@
 -- What follows from the definitions of the reply to ls-refs.
-use Rattle.std.specs.Prelude.{◌≡◌, ◌↔◌, List, All}
-use Rattle.gpkt.specs.Laws.{Fits}
+use Rattle.std.specs.Prelude.{◌≡◌, List}
 use Rattle.gpkt.specs.Packets.{Packet}
 use Rattle.gname.specs.declared.formats.Format.{Format}
 use Rattle.ggrammar.specs.Grammar.{HasEndings, IsPrefixFree}
 use Rattle.ggrammar.specs.declared.ends.Ends.{Ends}
 use Rattle.glsreply.specs.LsManual.{IsLsReply}
-use Rattle.glsreply.specs.LsReplies.{LsReply, Says, judge, canonical_reply}
-use Rattle.glsreply.specs.WellFormed.{IsLsReplyIn}
+use Rattle.glsreply.specs.LsReplies.{LsReply, Says, judge}
 
 -- lines say one reply
 abbrev pub OneMeaning : Type 0
@@ -23,20 +21,8 @@ RepliesArePrefixFree = (format : Format) (ends : Ends) → IsPrefixFree (judge f
 abbrev pub BeginningsEnd : Type 0
 BeginningsEnd = (format : Format) (ends : Ends) → HasEndings (judge format ends)
 
--- the lines that are written say the reply
-abbrev pub CanonicalSays : Type 0
-CanonicalSays =
-    (format : Format) (ends : Ends) (reply : LsReply) → IsLsReplyIn format reply
-    → Says format ends (canonical_reply ends reply) reply
-
--- and a packet can carry each
-abbrev pub CanonicalFits : Type 0
-CanonicalFits =
-    (format : Format) (ends : Ends) (reply : LsReply) → IsLsReplyIn format reply
-    → All Fits (canonical_reply ends reply)
-
--- the whole lists of the table are the replies of the manual, and say the same
-abbrev pub TableIsManual : Type 0
-TableIsManual =
-    (format : Format) (ends : Ends) (packets : List Packet) (reply : LsReply) → Says format ends packets reply
-    ↔ IsLsReply format ends packets reply
+-- what the manual has as a reply is a whole list of the table, and says the same
+abbrev pub ManualIsTable : Type 0
+ManualIsTable =
+    (format : Format) (ends : Ends) (packets : List Packet) (reply : LsReply) → IsLsReply format ends packets reply
+    → Says format ends packets reply

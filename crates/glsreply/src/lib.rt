@@ -14,12 +14,13 @@
 //!   changes.
 //! - [`write_ls_reply`] writes exactly the bytes of the canonical lines, and where the sink fails a beginning of
 //!   them. A line is never too long.
-//! - [`laws`]: lines say one reply, no reply begins another, and each beginning has an ending.
+//! - [`laws`]: lines say one reply, no reply begins another, and each beginning has an ending; what may be sent by
+//!   the manual (`specs/LsManual.antt`) is a whole reply of the table, and says the same.
 //!
 //! # Only tested
 //!
-//! That memory is found where there is some, and that writing takes none. That what is written is read back as the
-//! same reply; that the table's whole lists are those of the manual (`specs/LsManual.antt`).
+//! That memory is found where there is some, and that writing takes none. That what is written is read back as
+//! the same reply; that the table has no whole lists but those of the manual.
 //!
 //! # What a body can still get away with
 //!

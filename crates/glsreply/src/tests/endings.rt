@@ -6,14 +6,24 @@ use std::test::Fail;
 
 // Bytes, how replies end, the fault and its packet if there is one, and how many bytes are left.
 const ENDINGS: [(&[u8], Ends, Option<(&str, u64)>, usize); 26] = [
-    (b"0032aaaaaaaaaaaaaaaaaaaaaaaaaaaaaaaaaaaaaaaa HEAD\n0000", Ends::Plain, None, 0),
+    (
+        b"0032aaaaaaaaaaaaaaaaaaaaaaaaaaaaaaaaaaaaaaaa HEAD\n0000",
+        Ends::Plain,
+        None,
+        0,
+    ),
     (
         b"0032aaaaaaaaaaaaaaaaaaaaaaaaaaaaaaaaaaaaaaaa HEAD\n0000",
         Ends::Response,
         Some(("Ended", 2)),
         0,
     ),
-    (b"0032aaaaaaaaaaaaaaaaaaaaaaaaaaaaaaaaaaaaaaaa HEAD\n00000002", Ends::Response, None, 0),
+    (
+        b"0032aaaaaaaaaaaaaaaaaaaaaaaaaaaaaaaaaaaaaaaa HEAD\n00000002",
+        Ends::Response,
+        None,
+        0,
+    ),
     (b"0000", Ends::Plain, None, 0),
     (b"00000002", Ends::Response, None, 0),
     (b"00000002", Ends::Plain, None, 4),
@@ -41,7 +51,12 @@ const ENDINGS: [(&[u8], Ends, Option<(&str, u64)>, usize); 26] = [
         0,
     ),
     (b"00000004", Ends::Response, Some(("UnexpectedFrame", 1)), 0),
-    (b"0000000dERR gone\n", Ends::Response, Some(("RemoteErr", 1)), 0),
+    (
+        b"0000000dERR gone\n",
+        Ends::Response,
+        Some(("RemoteErr", 1)),
+        0,
+    ),
     (b"000dERR gone\n", Ends::Plain, Some(("RemoteErr", 0)), 0),
     (b"0008ERR ", Ends::Plain, Some(("RemoteErr", 0)), 0),
     (

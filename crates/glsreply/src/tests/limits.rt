@@ -73,7 +73,10 @@ fn values_keep_the_limit(rt: HostRuntime) -> Result<(), Fail> {
         reply.push(line(alloc, None, id)?)?;
     }
     let fault = reply.push(line(alloc, None, id)?).err();
-    assert_eq!(rt; fault.map(|fault| (fault.name(), fault.frame)), Some(("Limit", 0)));
+    assert_eq!(rt;
+        fault.map(|fault| (fault.name(), fault.frame)),
+        Some(("Limit", 0))
+    );
     assert_eq!(rt; reply.len(), 65_536);
     reply.set_unborn(RefName::new(alloc, b"refs/heads/x")?)?;
     assert!(rt; reply.unborn().is_some_and(|name| !name.is_head()));
@@ -89,7 +92,10 @@ fn values_have_no_room_for_an_unborn_head(rt: HostRuntime) -> Result<(), Fail> {
         reply.push(line(alloc, None, id)?)?;
     }
     let fault = reply.set_unborn(RefName::head(alloc)?).err();
-    assert_eq!(rt; fault.map(|fault| (fault.name(), fault.frame)), Some(("Limit", 0)));
+    assert_eq!(rt;
+        fault.map(|fault| (fault.name(), fault.frame)),
+        Some(("Limit", 0))
+    );
     assert!(rt; reply.unborn().is_none());
     Ok(())
 }
@@ -98,13 +104,22 @@ fn values_have_no_room_for_an_unborn_head(rt: HostRuntime) -> Result<(), Fail> {
 fn values_have_one_format(rt: HostRuntime) -> Result<(), Fail> {
     let alloc = rt.alloc();
     let short = Oid::from_hex(ID)?;
-    let long = Oid::from_hex_in(Format::Sha256, b"aaaaaaaaaaaaaaaaaaaaaaaaaaaaaaaaaaaaaaaaaaaaaaaaaaaaaaaaaaaaaaaa")?;
+    let long = Oid::from_hex_in(
+        Format::Sha256,
+        b"aaaaaaaaaaaaaaaaaaaaaaaaaaaaaaaaaaaaaaaaaaaaaaaaaaaaaaaaaaaaaaaa",
+    )?;
     let mut reply = LsReply::new(alloc);
     let fault = reply.push(line(alloc, Some(long), short)?).err();
-    assert_eq!(rt; fault.map(|fault| (fault.name(), fault.frame)), Some(("BadText", 0)));
+    assert_eq!(rt;
+        fault.map(|fault| (fault.name(), fault.frame)),
+        Some(("BadText", 0))
+    );
     reply.push(line(alloc, Some(long), long)?)?;
     let fault = reply.push(line(alloc, None, short)?).err();
-    assert_eq!(rt; fault.map(|fault| (fault.name(), fault.frame)), Some(("BadText", 0)));
+    assert_eq!(rt;
+        fault.map(|fault| (fault.name(), fault.frame)),
+        Some(("BadText", 0))
+    );
     assert_eq!(rt; reply.len(), 1);
     Ok(())
 }

@@ -9,10 +9,12 @@ use std::alloc::Global;
 use std::test::Fail;
 
 // An unborn HEAD, and two refs; then a line that is refused.
-const REPLY: &[u8] = b"002eunborn HEAD symref-target:refs/heads/main\n0050aaaaaaaaaaaaaaaaaaaaaaaaaaaaaaaaaaaaaaaa HEAD symref-target:refs/heads/main\n003dbbbbbbbbbbbbbbbbbbbbbbbbbbbbbbbbbbbbbbbb refs/heads/main\n0032bbbbbbbbbbbbbbbbbbbbbbbbbbbbbbbbbbbbbbbb main\n";
+const REPLY: &[u8] =
+    b"002eunborn HEAD symref-target:refs/heads/main\n0050aaaaaaaaaaaaaaaaaaaaaaaaaaaaaaaaaaaaaaaa HEAD symref-target:refs/heads/main\n003dbbbbbbbbbbbbbbbbbbbbbbbbbbbbbbbbbbbbbbbb refs/heads/main\n0032bbbbbbbbbbbbbbbbbbbbbbbbbbbbbbbbbbbbbbbb main\n";
 
 // Three names for which there may be no memory, before a part that is refused.
-const BAD: &[u8] = b"0052aaaaaaaaaaaaaaaaaaaaaaaaaaaaaaaaaaaaaaaa HEAD symref-target:refs/heads/main x\n";
+const BAD: &[u8] =
+    b"0052aaaaaaaaaaaaaaaaaaaaaaaaaaaaaaaaaaaaaaaa HEAD symref-target:refs/heads/main x\n";
 
 // The fault of a read in so much room, if it is refused.
 fn refusal(alloc: Global, room: usize, bytes: &[u8]) -> Result<Option<(&'static str, u64)>, Fail> {

@@ -9,8 +9,14 @@ use std::test::Fail;
 // The first text of a reply, and the name of its fault, if it has one.
 const FIRST: [(&[u8], Option<&str>); 50] = [
     (b"aaaaaaaaaaaaaaaaaaaaaaaaaaaaaaaaaaaaaaaa HEAD", None),
-    (b"aaaaaaaaaaaaaaaaaaaaaaaaaaaaaaaaaaaaaaaa refs/heads/main", None),
-    (b"aaaaaaaaaaaaaaaaaaaaaaaaaaaaaaaaaaaaaaaa HEAD symref-target:refs/heads/main", None),
+    (
+        b"aaaaaaaaaaaaaaaaaaaaaaaaaaaaaaaaaaaaaaaa refs/heads/main",
+        None,
+    ),
+    (
+        b"aaaaaaaaaaaaaaaaaaaaaaaaaaaaaaaaaaaaaaaa HEAD symref-target:refs/heads/main",
+        None,
+    ),
     (
         b"aaaaaaaaaaaaaaaaaaaaaaaaaaaaaaaaaaaaaaaa refs/tags/v1 peeled:bbbbbbbbbbbbbbbbbbbbbbbbbbbbbbbbbbbbbbbb",
         None,
@@ -30,27 +36,72 @@ const FIRST: [(&[u8], Option<&str>); 50] = [
     (b"", Some("BadId")),
     (b" ", Some("BadId")),
     (b"a HEAD", Some("BadId")),
-    (b"aaaaaaaaaaaaaaaaaaaaaaaaaaaaaaaaaaaaaaag HEAD", Some("BadId")),
-    (b"aaaaaaaaaaaaaaaaaaaaaaaaaaaaaaaaaaaaaaaaa HEAD", Some("BadId")),
-    (b"aaaaaaaaaaaaaaaaaaaaaaaaaaaaaaaaaaaaaaaaaaaaaaaaaaaaaaaaaaaaaaaa HEAD", Some("BadId")),
-    (b"aaaaaaaaaaaaaaaaaaaaaaaaaaaaaaaaaaaaaaaa\tHEAD", Some("BadId")),
+    (
+        b"aaaaaaaaaaaaaaaaaaaaaaaaaaaaaaaaaaaaaaag HEAD",
+        Some("BadId"),
+    ),
+    (
+        b"aaaaaaaaaaaaaaaaaaaaaaaaaaaaaaaaaaaaaaaaa HEAD",
+        Some("BadId"),
+    ),
+    (
+        b"aaaaaaaaaaaaaaaaaaaaaaaaaaaaaaaaaaaaaaaaaaaaaaaaaaaaaaaaaaaaaaaa HEAD",
+        Some("BadId"),
+    ),
+    (
+        b"aaaaaaaaaaaaaaaaaaaaaaaaaaaaaaaaaaaaaaaa\tHEAD",
+        Some("BadId"),
+    ),
     (b"ERR", Some("BadId")),
     (b"aaaaaaaaaaaaaaaaaaaaaaaaaaaaaaaaaaaaaaaa", Some("BadText")),
-    (b"aaaaaaaaaaaaaaaaaaaaaaaaaaaaaaaaaaaaaaaa ", Some("BadName")),
-    (b"aaaaaaaaaaaaaaaaaaaaaaaaaaaaaaaaaaaaaaaa  HEAD", Some("BadName")),
-    (b"aaaaaaaaaaaaaaaaaaaaaaaaaaaaaaaaaaaaaaaa main", Some("BadName")),
-    (b"aaaaaaaaaaaaaaaaaaaaaaaaaaaaaaaaaaaaaaaa refs/heads/", Some("BadName")),
-    (b"aaaaaaaaaaaaaaaaaaaaaaaaaaaaaaaaaaaaaaaa HEAD ", Some("BadText")),
-    (b"aaaaaaaaaaaaaaaaaaaaaaaaaaaaaaaaaaaaaaaa HEAD x", Some("BadText")),
+    (
+        b"aaaaaaaaaaaaaaaaaaaaaaaaaaaaaaaaaaaaaaaa ",
+        Some("BadName"),
+    ),
+    (
+        b"aaaaaaaaaaaaaaaaaaaaaaaaaaaaaaaaaaaaaaaa  HEAD",
+        Some("BadName"),
+    ),
+    (
+        b"aaaaaaaaaaaaaaaaaaaaaaaaaaaaaaaaaaaaaaaa main",
+        Some("BadName"),
+    ),
+    (
+        b"aaaaaaaaaaaaaaaaaaaaaaaaaaaaaaaaaaaaaaaa refs/heads/",
+        Some("BadName"),
+    ),
+    (
+        b"aaaaaaaaaaaaaaaaaaaaaaaaaaaaaaaaaaaaaaaa HEAD ",
+        Some("BadText"),
+    ),
+    (
+        b"aaaaaaaaaaaaaaaaaaaaaaaaaaaaaaaaaaaaaaaa HEAD x",
+        Some("BadText"),
+    ),
     (
         b"aaaaaaaaaaaaaaaaaaaaaaaaaaaaaaaaaaaaaaaa HEAD  peeled:bbbbbbbbbbbbbbbbbbbbbbbbbbbbbbbbbbbbbbbb",
         Some("BadText"),
     ),
-    (b"aaaaaaaaaaaaaaaaaaaaaaaaaaaaaaaaaaaaaaaa HEAD symref-target", Some("BadText")),
-    (b"aaaaaaaaaaaaaaaaaaaaaaaaaaaaaaaaaaaaaaaa HEAD symref-target:", Some("BadName")),
-    (b"aaaaaaaaaaaaaaaaaaaaaaaaaaaaaaaaaaaaaaaa HEAD symref-target:main", Some("BadName")),
-    (b"aaaaaaaaaaaaaaaaaaaaaaaaaaaaaaaaaaaaaaaa HEAD peeled", Some("BadText")),
-    (b"aaaaaaaaaaaaaaaaaaaaaaaaaaaaaaaaaaaaaaaa HEAD peeled:", Some("BadId")),
+    (
+        b"aaaaaaaaaaaaaaaaaaaaaaaaaaaaaaaaaaaaaaaa HEAD symref-target",
+        Some("BadText"),
+    ),
+    (
+        b"aaaaaaaaaaaaaaaaaaaaaaaaaaaaaaaaaaaaaaaa HEAD symref-target:",
+        Some("BadName"),
+    ),
+    (
+        b"aaaaaaaaaaaaaaaaaaaaaaaaaaaaaaaaaaaaaaaa HEAD symref-target:main",
+        Some("BadName"),
+    ),
+    (
+        b"aaaaaaaaaaaaaaaaaaaaaaaaaaaaaaaaaaaaaaaa HEAD peeled",
+        Some("BadText"),
+    ),
+    (
+        b"aaaaaaaaaaaaaaaaaaaaaaaaaaaaaaaaaaaaaaaa HEAD peeled:",
+        Some("BadId"),
+    ),
     (
         b"aaaaaaaaaaaaaaaaaaaaaaaaaaaaaaaaaaaaaaaa HEAD peeled:bbbbbbbbbbbbbbbbbbbbbbbbbbbbbbbbbbbbbbb",
         Some("BadId"),
@@ -71,24 +122,42 @@ const FIRST: [(&[u8], Option<&str>); 50] = [
         b"aaaaaaaaaaaaaaaaaaaaaaaaaaaaaaaaaaaaaaaa HEAD peeled:bbbbbbbbbbbbbbbbbbbbbbbbbbbbbbbbbbbbbbbb symref-target:HEAD peeled:bbbbbbbbbbbbbbbbbbbbbbbbbbbbbbbbbbbbbbbb",
         Some("BadText"),
     ),
-    (b"aaaaaaaaaaaaaaaaaaaaaaaaaaaaaaaaaaaaaaaa main x", Some("BadName")),
-    (b"aaaaaaaaaaaaaaaaaaaaaaaaaaaaaaaaaaaaaaaa HEAD peeled:x y", Some("BadId")),
-    (b"aaaaaaaaaaaaaaaaaaaaaaaaaaaaaaaaaaaaaaaa HEAD y peeled:x", Some("BadText")),
+    (
+        b"aaaaaaaaaaaaaaaaaaaaaaaaaaaaaaaaaaaaaaaa main x",
+        Some("BadName"),
+    ),
+    (
+        b"aaaaaaaaaaaaaaaaaaaaaaaaaaaaaaaaaaaaaaaa HEAD peeled:x y",
+        Some("BadId"),
+    ),
+    (
+        b"aaaaaaaaaaaaaaaaaaaaaaaaaaaaaaaaaaaaaaaa HEAD y peeled:x",
+        Some("BadText"),
+    ),
     (b"unborn HEAD symref-target:refs/heads/main", None),
     (b"unborn HEAD symref-target:HEAD", None),
     (b"unborn", Some("BadText")),
     (b"unborn HEAD", Some("BadText")),
     (b"unborn HEAD ", Some("BadText")),
-    (b"unborn refs/heads/main symref-target:HEAD", Some("BadText")),
+    (
+        b"unborn refs/heads/main symref-target:HEAD",
+        Some("BadText"),
+    ),
     (b"unborn HEAD symref-target:", Some("BadName")),
     (b"unborn HEAD symref-target:main", Some("BadName")),
     (b"unborn HEAD symref-target:a b", Some("BadText")),
-    (b"unborn HEAD symref-target:refs/heads/main ", Some("BadText")),
+    (
+        b"unborn HEAD symref-target:refs/heads/main ",
+        Some("BadText"),
+    ),
     (
         b"unborn HEAD symref-target:refs/heads/main peeled:bbbbbbbbbbbbbbbbbbbbbbbbbbbbbbbbbbbbbbbb",
         Some("BadText"),
     ),
-    (b"unborn HEAD peeled:bbbbbbbbbbbbbbbbbbbbbbbbbbbbbbbbbbbbbbbb", Some("BadText")),
+    (
+        b"unborn HEAD peeled:bbbbbbbbbbbbbbbbbbbbbbbbbbbbbbbbbbbbbbbb",
+        Some("BadText"),
+    ),
     (b"unbornx", Some("BadId")),
     (b"Unborn HEAD symref-target:HEAD", Some("BadId")),
 ];
@@ -100,23 +169,38 @@ const LATER: [(&[u8], Option<&str>); 6] = [
     (b"unborn", Some("BadId")),
     (b"", Some("BadId")),
     (b"aaaaaaaaaaaaaaaaaaaaaaaaaaaaaaaaaaaaaaaa", Some("BadText")),
-    (b"aaaaaaaaaaaaaaaaaaaaaaaaaaaaaaaaaaaaaaaa main", Some("BadName")),
+    (
+        b"aaaaaaaaaaaaaaaaaaaaaaaaaaaaaaaaaaaaaaaa main",
+        Some("BadName"),
+    ),
 ];
 
 // The first text of a reply of a SHA-256 repository.
 const SHA256: [(&[u8], Option<&str>); 7] = [
-    (b"aaaaaaaaaaaaaaaaaaaaaaaaaaaaaaaaaaaaaaaaaaaaaaaaaaaaaaaaaaaaaaaa HEAD", None),
+    (
+        b"aaaaaaaaaaaaaaaaaaaaaaaaaaaaaaaaaaaaaaaaaaaaaaaaaaaaaaaaaaaaaaaa HEAD",
+        None,
+    ),
     (
         b"aaaaaaaaaaaaaaaaaaaaaaaaaaaaaaaaaaaaaaaaaaaaaaaaaaaaaaaaaaaaaaaa HEAD peeled:bbbbbbbbbbbbbbbbbbbbbbbbbbbbbbbbbbbbbbbbbbbbbbbbbbbbbbbbbbbbbbbb",
         None,
     ),
-    (b"AAAAAAAAAAAAAAAAAAAAAAAAAAAAAAAAAAAAAAAAAAAAAAAAAAAAAAAAAAAAAAAA HEAD", None),
-    (b"aaaaaaaaaaaaaaaaaaaaaaaaaaaaaaaaaaaaaaaa HEAD", Some("BadId")),
+    (
+        b"AAAAAAAAAAAAAAAAAAAAAAAAAAAAAAAAAAAAAAAAAAAAAAAAAAAAAAAAAAAAAAAA HEAD",
+        None,
+    ),
+    (
+        b"aaaaaaaaaaaaaaaaaaaaaaaaaaaaaaaaaaaaaaaa HEAD",
+        Some("BadId"),
+    ),
     (
         b"aaaaaaaaaaaaaaaaaaaaaaaaaaaaaaaaaaaaaaaaaaaaaaaaaaaaaaaaaaaaaaaa HEAD peeled:bbbbbbbbbbbbbbbbbbbbbbbbbbbbbbbbbbbbbbbb",
         Some("BadId"),
     ),
-    (b"aaaaaaaaaaaaaaaaaaaaaaaaaaaaaaaaaaaaaaaaaaaaaaaaaaaaaaaaaaaaaaa HEAD", Some("BadId")),
+    (
+        b"aaaaaaaaaaaaaaaaaaaaaaaaaaaaaaaaaaaaaaaaaaaaaaaaaaaaaaaaaaaaaaa HEAD",
+        Some("BadId"),
+    ),
     (b"unborn HEAD symref-target:refs/heads/main", None),
 ];
 

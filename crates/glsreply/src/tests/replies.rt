@@ -9,12 +9,7 @@ use std::test::Fail;
 
 // Bytes that are read, and those that are written of what they say.
 const REPLIES: [(Format, Ends, &[u8], &[u8]); 10] = [
-    (
-        Format::Sha1,
-        Ends::Plain,
-        b"0000",
-        b"0000",
-    ),
+    (Format::Sha1, Ends::Plain, b"0000", b"0000"),
     (
         Format::Sha1,
         Ends::Plain,
@@ -113,7 +108,11 @@ fn values_are_looked_up(rt: HostRuntime) -> Result<(), Fail> {
     })?;
     assert_eq!(rt; reply.len(), 1);
     assert!(rt; reply.unborn().is_some_and(|name| name.is_head()));
-    assert!(rt; reply.at(0).is_some_and(|line| line.name.as_bytes() == b"refs/heads/x".as_slice()));
+    assert!(rt;
+        reply
+            .at(0)
+            .is_some_and(|line| line.name.as_bytes() == b"refs/heads/x".as_slice())
+    );
     assert!(rt; reply.at(1).is_none());
     Ok(())
 }

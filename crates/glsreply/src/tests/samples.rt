@@ -2,8 +2,8 @@
 use crate::{LsReply, read_ls_reply_in, write_ls_reply};
 use ggrammar::{Ends, MessageFault};
 use gname::Format;
-use gpkt::memory::SliceSource;
-use gpkt::{LineReader, LineWriter, memory::VecSink};
+use gpkt::memory::{SliceSource, VecSink};
+use gpkt::{LineReader, LineWriter};
 use std::alloc::Global;
 use std::test::Fail;
 
