@@ -107,7 +107,10 @@ abbrev pub unborn_packets : Option (List ℕ) → List Packet
 unborn_packets None = []
 unborn_packets (Some target) = text_packet (unborn_text target) ∷ []
 
+abbrev pub ref_packet : RefLine → Packet
+ref_packet line = text_packet (ref_text line)
+
 -- the packets of a reply
 unfoldable pub canonical_reply : Ends → LsReply → List Packet
 canonical_reply ends reply =
-    unborn_packets reply.unborn ++ map (λ line. text_packet (ref_text line)) reply.lines ++ Flush ∷ ends_with ends
+    unborn_packets reply.unborn ++ map ref_packet reply.lines ++ Flush ∷ ends_with ends
