@@ -7,5 +7,9 @@ pub mod Requests
 pub mod RequestState
 pub mod RequestWriting
 pub mod WellFormed
+pub mod Building
+pub mod RequestReading
+pub mod RequestValues
+pub mod Sections
 pub use Rattle.ggrammar.specs.Grammar
 pub use Rattle.ggrammar.specs.MessageReading
