@@ -1,3 +1,5 @@
 pub mod LineLemmas
 pub mod AskedLemmas
 pub mod FetchAskedLemmas
+pub mod StateLemmas
+pub mod ReadIdLemmas
