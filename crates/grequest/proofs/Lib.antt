@@ -1,3 +1,4 @@
 pub mod LineLemmas
 pub mod AskedLemmas
 pub mod FetchAskedLemmas
+pub mod StateLemmas
