@@ -2,3 +2,5 @@ pub mod LineLemmas
 pub mod AskedLemmas
 pub mod FetchAskedLemmas
 pub mod StateLemmas
+pub mod Texts
+pub mod Sections

@@ -130,11 +130,11 @@ asked_by-agents format command capabilities more arguments e =
     ∙ ap (λ (xs : List (List ℕ)). asked_with_agents format command xs capabilities arguments) e
     ∙ sym (by_agents format command capabilities capabilities arguments)
 
-first_of-none : (named : List (List ℕ)) → is_none (first_of named) ≡ true → named ≡ []
+pub first_of-none : (named : List (List ℕ)) → is_none (first_of named) ≡ true → named ≡ []
 first_of-none [] e = refl
 first_of-none (name ∷ named) e = cc
 
-agent_of-by : (format : Format) (command : Command) (capabilities arguments : List (List ℕ)) → agent_of (asked_by format command capabilities arguments) ≡ first_of (agents capabilities)
+pub agent_of-by : (format : Format) (command : Command) (capabilities arguments : List (List ℕ)) → agent_of (asked_by format command capabilities arguments) ≡ first_of (agents capabilities)
 agent_of-by format LsRefs capabilities arguments = refl
 agent_of-by format Fetch capabilities arguments = refl
 
