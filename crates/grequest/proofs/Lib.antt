@@ -4,3 +4,4 @@ pub mod FetchAskedLemmas
 pub mod StateLemmas
 pub mod Texts
 pub mod Sections
+pub mod Verdicts
