@@ -5,3 +5,4 @@ pub mod StateLemmas
 pub mod Texts
 pub mod Sections
 pub mod Verdicts
+pub mod Shape
