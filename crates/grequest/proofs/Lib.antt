@@ -6,3 +6,5 @@ pub mod Texts
 pub mod Sections
 pub mod Verdicts
 pub mod Shape
+pub mod Endings
+pub mod ManualRequests

@@ -92,7 +92,7 @@ names_format Sha256 command lines arguments verdict never one e =
     at_one : (n : ℕ) → n ≤ 1 → (n ≡ 0 → ⊥) → n ≡ 1
     at_one n one some = omega arith
 
-unless-named : (b : Bool) (why : Why) (verdict : Verdict) → b ≡ false → cond b (Refused why) verdict ≡ verdict
+pub unless-named : (b : Bool) (why : Why) (verdict : Verdict) → b ≡ false → cond b (Refused why) verdict ≡ verdict
 unless-named true why verdict e = cc
 unless-named false why verdict e = refl
 
