@@ -1,3 +1,4 @@
 pub mod GrammarLemmas
 pub mod ReadingLemmas
 pub mod IdLemmas
+pub mod WritingLemmas

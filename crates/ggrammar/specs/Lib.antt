@@ -11,3 +11,4 @@ pub mod CapabilityView
 pub use Rattle.gpkt.specs.Packets
 pub use Rattle.gpkt.specs.Change
 pub use Rattle.gpkt.specs.LineReading
+pub mod Writing

@@ -1,9 +1,29 @@
 //! The laws of every grammar: functions without effect, whose contracts they are.
 
 ghost use Rattle.ggrammar.specs.Grammar.{Judge, LawsOf};
+ghost use Rattle.ggrammar.specs.Writing.{EndsWriting, FailsWriting, GoesOnAfterPart, GoesOnWriting, LinesArePart, StartsWriting, WritesFitting, WritesLine};
+
+use gpkt::Sink;
+use gpkt::laws::{canonical_spells, writes_join};
 
 /// No message begins another. Where each open list has an ending, it begins a message and holds none, and a
 /// refused packet is the first that does not fit.
 pub fn grammars_are_exact()
     ensures { (judge : Judge) → LawsOf judge }
 {}
+
+/// Lines that are written one after the other are one write of all of them; where one fails, all of them do.
+/// A writer starts with all its lines to come, goes on after each call, and ends with its last one.
+pub fn writes_lines<W: Sink>()
+    ensures line { WritesLine W.contents W.passed_on W.is_down W.loans }
+    ensures fitting { WritesFitting W.contents W.passed_on W.is_down W.loans }
+    ensures part { LinesArePart W.contents W.passed_on W.is_down W.loans }
+    ensures starts { StartsWriting W.contents W.passed_on W.is_down W.loans }
+    ensures goes_on { GoesOnWriting W.contents W.passed_on W.is_down W.loans }
+    ensures after_part { GoesOnAfterPart W.contents W.passed_on W.is_down W.loans }
+    ensures fails { FailsWriting W.contents W.passed_on W.is_down W.loans }
+    ensures ends { EndsWriting W.contents W.passed_on W.is_down W.loans }
+{
+    canonical_spells();
+    writes_join::<W>();
+}

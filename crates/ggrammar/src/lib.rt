@@ -8,7 +8,8 @@
 //!   first, then the end of the input, then what the grammar refuses. What came before begins a message and
 //!   holds no whole one. Out of memory comes only at a packet that brings something to keep.
 //! - [`laws`]: no message begins another, and a refused packet is the first that does not fit, in every
-//!   grammar whose beginnings have endings.
+//!   grammar whose beginnings have endings. Lines written one after the other are one write of all of them,
+//!   also where one fails.
 //! - [`capability_of`] splits a capability into its key and its value exactly where it is one.
 //! - The number and the name of each fault; of a peer's error the first 256 bytes are kept.
 //!
