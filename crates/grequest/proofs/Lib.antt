@@ -8,3 +8,5 @@ pub mod Verdicts
 pub mod Shape
 pub mod Endings
 pub mod ManualRequests
+pub mod Canonical
+pub mod Meaning

@@ -7,5 +7,6 @@ pub mod Requests
 pub mod RequestState
 pub mod RequestWriting
 pub mod WellFormed
+pub mod Laws
 pub use Rattle.ggrammar.specs.Grammar
 pub use Rattle.ggrammar.specs.MessageReading

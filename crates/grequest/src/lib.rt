@@ -2,4 +2,5 @@
 #![tactic(auto)]
 
 mod command;
+pub mod laws;
 mod line;
