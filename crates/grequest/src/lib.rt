@@ -4,6 +4,7 @@
 mod command;
 mod fetch;
 mod kept;
+pub mod laws;
 mod line;
 mod ls_refs;
 mod read;

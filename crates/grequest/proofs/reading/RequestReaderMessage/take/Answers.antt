@@ -1,5 +1,5 @@
 use Rattle.gpkt.specs.Packets.{packet_of}
-use Rattle.grequest.proofs.StateLemmas.{takes_after}
+use Rattle.grequest.proofs.ReaderLemmas.{takes_after}
 use Rattle.grequest.proofs.reading.RequestReaderMessage.take.Goals as goal
 
 pub returns-clause-takes : goal.returns-clause-takes
