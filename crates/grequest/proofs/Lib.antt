@@ -12,3 +12,5 @@ pub mod ManualRequests
 pub mod Canonical
 pub mod Meaning
 pub mod ReaderLemmas
+pub mod FormatLemmas
+pub mod WriteLemmas

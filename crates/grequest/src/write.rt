@@ -88,7 +88,7 @@ fn write_head<W: Sink>(
     format: Format,
     writer: &mut LineWriter<W>,
 ) -> Result<(), WriteFault>
-    requires { IsAgent (option_copied agent.entry) }
+    requires { IsAgent (option_copied agent) }
     ensures { WritesLines W.contents W.passed_on W.is_down W.loans writer.old writer.new result
         (command_packet command ∷ (agent_packets (option_copied agent.entry) ++ format_packets format ++ Delim ∷ [])) }
 {
@@ -100,7 +100,7 @@ fn write_head<W: Sink>(
 }
 
 fn write_agent<W: Sink>(agent: Option<&[u8]>, writer: &mut LineWriter<W>) -> Result<(), WriteFault>
-    requires { IsAgent (option_copied agent.entry) }
+    requires { IsAgent (option_copied agent) }
     ensures { WritesPart W.contents W.passed_on W.is_down W.loans writer.old writer.new result (agent_packets (option_copied agent.entry)) }
 {
     writes_lines::<W>();
