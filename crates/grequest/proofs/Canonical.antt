@@ -675,6 +675,7 @@ short_capabilities format agent h = All-append IsShort (agent_texts agent) (form
     short_agent : (agent : Option (List ℕ)) → IsAgent agent → All IsShort (agent_texts agent)
     short_agent None h = All-nil IsShort
     short_agent (Some value) h = All-cons IsShort (agent_text value) [] (omega (arith, length-append (codes "agent=") value, word_value_is_short value h)) (All-nil IsShort)
+
     short_format : (format : Format) → All IsShort (format_texts format)
     short_format Sha1 = All-nil IsShort
     short_format Sha256 = All-cons IsShort (codes "object-format=" ++ format_name Sha256) [] (omega arith) (All-nil IsShort)

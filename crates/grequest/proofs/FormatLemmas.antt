@@ -36,8 +36,9 @@ pub IsTaken-push : (format : Format) (front : List Packet) (packet : Packet) →
     → IsTaken format (front ++ packet ∷ [])
 IsTaken-push format front packet taken accepted = record {
   each = λ before one back e. elim (split_push front packet before one back e) [
-    inl h ↦ subst (λ (xs : List Packet). IsAccepted (judge format xs one)) (sym h.0) (subst (λ (x : Packet). IsAccepted (judge format front x)) (sym h.1) accepted)
-  | inr h ↦ taken.each before one h.0 h.1 ];
+    | inl h ↦ subst (λ (xs : List Packet). IsAccepted (judge format xs one)) (sym h.0) (subst (λ (x : Packet). IsAccepted (judge format front x)) (sym h.1) accepted)
+    | inr h ↦ taken.each before one h.0 h.1
+  ];
 }
 
 IsTaken-front : (format : Format) (front : List Packet) (packet : Packet) → IsTaken format (front ++ packet ∷ []) → IsTaken format front
@@ -194,8 +195,9 @@ both_formats front one other =
     let one_front = IsTaken-front Sha1 front Flush one in
     let other_front = IsTaken-front Sha256 front Flush other in
     elim (ends_named (state_of Sha256 front) (capability_texts front) (place_of front) refl refl (other.each front Flush [] refl) (after_names front other_front)) [
-      inl first ↦ place_of-push front Flush ∙ (flush_stays (place_of front) ∙ first)
-    | inr some ↦ absurd (clash (formats (capability_texts front)) some (are_names Sha1 front one_front) (are_names Sha256 front other_front)) ]
+      | inl first ↦ place_of-push front Flush ∙ (flush_stays (place_of front) ∙ first)
+      | inr some ↦ absurd (clash (formats (capability_texts front)) some (are_names Sha1 front one_front) (are_names Sha256 front other_front))
+    ]
 
 same_format : (format other : Format) (front : List Packet) → IsTaken format (front ++ Flush ∷ []) → IsTaken other (front ++ Flush ∷ [])
     → (other ≡ format) ⊎ (place_of (front ++ Flush ∷ []) ≡ First)
@@ -228,8 +230,9 @@ pub asked_as : (format : Format) (reading : Reading) (lines : List Packet) → I
 asked_as format reading lines whole held =
     let asked : reading.state.asked ≡ asked_of reading.format lines = ap (λ (state : State). state.asked) held.0 in
     elim (one_format format reading.format lines whole held.1) [
-      inl same ↦ asked ∙ ap (λ (f : Format). asked_of f lines) same
-    | inr first ↦ asked ∙ empty_at format reading.format (place_of lines) (capability_texts lines) (argument_texts lines) first ]
+      | inl same ↦ asked ∙ ap (λ (f : Format). asked_of f lines) same
+      | inr first ↦ asked ∙ empty_at format reading.format (place_of lines) (capability_texts lines) (argument_texts lines) first
+    ]
 
 no_ids : {A : Type 0} (format : Format) (read : Request A) → asked_by_request read ≡ Empty → IsOfFormat format read
 no_ids format request.Empty is = tt
@@ -240,5 +243,6 @@ pub format_as : {A : Type 0} (format : Format) (reading : Reading) (lines : List
     → asked_by_request read ≡ reading.state.asked → IsOfFormat reading.format read → IsOfFormat format read
 format_as format reading lines read whole held asks of =
     elim (one_format format reading.format lines whole held.1) [
-      inl same ↦ subst (λ (f : Format). IsOfFormat f read) same of
-    | inr first ↦ no_ids format read (asks ∙ (ap (λ (state : State). state.asked) held.0 ∙ is_empty reading.format (place_of lines) (capability_texts lines) (argument_texts lines) first)) ]
+      | inl same ↦ subst (λ (f : Format). IsOfFormat f read) same of
+      | inr first ↦ no_ids format read (asks ∙ (ap (λ (state : State). state.asked) held.0 ∙ is_empty reading.format (place_of lines) (capability_texts lines) (argument_texts lines) first))
+    ]

@@ -30,9 +30,10 @@ whole_is_accepted verdict is = subst IsAccepted (sym is) tt
 holds_more : (old new : Reading) (front : List Packet) (packet : Packet) → HoldsPackets old front → new.format ≡ old.format
     → IsAccepted (judge old.format front packet) → new.state ≡ with_packet old.format old.state packet → HoldsPackets new (front ++ packet ∷ [])
 holds_more old new front packet held same taken adds = (
-    adds ∙ (ap (λ (state : State). with_packet old.format state packet) held.0 ∙ (sym (state_of-push old.format front packet taken)
-    ∙ ap (λ (format : Format). state_of format (front ++ packet ∷ [])) (sym same))),
-    subst (λ (format : Format). IsTaken format (front ++ packet ∷ [])) (sym same) (IsTaken-push old.format front packet held.1 taken))
+  adds ∙ (ap (λ (state : State). with_packet old.format state packet) held.0 ∙ (sym (state_of-push old.format front packet taken)
+      ∙ ap (λ (format : Format). state_of format (front ++ packet ∷ [])) (sym same))),
+  subst (λ (format : Format). IsTaken format (front ++ packet ∷ [])) (sym same) (IsTaken-push old.format front packet held.1 taken),
+)
 
 pub takes_after : (old new : Reading) (front : List Packet) (packet : Packet) (result : Result Step Why) → HoldsPackets old front → new.format ≡ old.format
     → TakesAs (judge_at old.format old.state packet) (packet_brings old.state.place packet) (new.state ≡ with_packet old.format old.state packet) result
@@ -44,6 +45,7 @@ takes_after old new front packet (Ok step.Whole) held same taken =
     let judged : judge old.format front packet ≡ Whole = ap (λ (state : State). judge_at old.format state packet) (sym held.0) ∙ taken.0 in
     (judged, holds_more old new front packet held same (whole_is_accepted _ judged) taken.1)
 takes_after old new front packet (Err why) held same taken = (
-    subst (λ (b : Bool). IsReason (judge old.format front packet) b why) (brings_is front packet)
-    (subst (λ (state : State). IsReason (judge_at old.format state packet) (packet_brings state.place packet) why) held.0 taken),
-    tt)
+  subst (λ (b : Bool). IsReason (judge old.format front packet) b why) (brings_is front packet)
+      (subst (λ (state : State). IsReason (judge_at old.format state packet) (packet_brings state.place packet) why) held.0 taken),
+  tt,
+)

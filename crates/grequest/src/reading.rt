@@ -104,7 +104,9 @@ impl<A: Allocator + Copy> RequestReader<A> {
         ensures format { self.new.format ≡ self.old.format }
     {
         match (&self.request, self.section) {
-            (Request::Ls(_) | Request::Fetch(_), Section::Capabilities) if self.is_unnamed() => Err(Why::Format),
+            (Request::Ls(_) | Request::Fetch(_), Section::Capabilities) if self.is_unnamed() => Err(
+                Why::Format,
+            ),
             _ => Ok(Step::Whole),
         }
     }
@@ -116,7 +118,9 @@ impl<A: Allocator + Copy> RequestReader<A> {
         ensures format { self.new.format ≡ self.old.format }
     {
         match (&self.request, self.section) {
-            (Request::Ls(_) | Request::Fetch(_), Section::Capabilities) if self.is_unnamed() => Err(Why::Format),
+            (Request::Ls(_) | Request::Fetch(_), Section::Capabilities) if self.is_unnamed() => Err(
+                Why::Format,
+            ),
             (Request::Ls(_) | Request::Fetch(_), Section::Capabilities) => {
                 self.section = Section::Arguments;
                 Ok(Step::Open)
@@ -154,15 +158,23 @@ impl<A: Allocator + Copy> RequestReader<A> {
     {
         match (&mut self.request, self.section) {
             (Request::Empty, _) => self.take_command(text),
-            (Request::Ls(_) | Request::Fetch(_), Section::Capabilities) => self.take_capability(text),
-            (Request::Ls(asked), Section::Arguments) => match asked.take_argument(self.arguments, text) {
+            (Request::Ls(_) | Request::Fetch(_), Section::Capabilities) => self.take_capability(
+                text,
+            ),
+            (Request::Ls(asked), Section::Arguments) => match asked.take_argument(
+                self.arguments,
+                text,
+            ) {
                 Ok(()) => {
                     self.arguments += 1;
                     Ok(Step::Open)
                 }
                 Err(why) => Err(why),
             },
-            (Request::Fetch(asked), Section::Arguments) => match asked.take_argument(self.arguments, text) {
+            (Request::Fetch(asked), Section::Arguments) => match asked.take_argument(
+                self.arguments,
+                text,
+            ) {
                 Ok(()) => {
                     self.arguments += 1;
                     Ok(Step::Open)
@@ -179,7 +191,10 @@ impl<A: Allocator + Copy> RequestReader<A> {
     {
         self.request = match command_form(text) {
             CommandForm::Known(Command::LsRefs) => Request::Ls(LsRefsRequest::new(self.alloc)),
-            CommandForm::Known(Command::Fetch) => Request::Fetch(FetchRequest::new(self.alloc, self.format)),
+            CommandForm::Known(Command::Fetch) => Request::Fetch(FetchRequest::new(
+                self.alloc,
+                self.format,
+            )),
             CommandForm::Other => return Err(Why::UnknownCommand),
             CommandForm::Bad => return Err(Why::BadText),
         };

@@ -99,7 +99,10 @@ fn memory_is_missed_last(rt: HostRuntime) -> Result<(), Fail> {
     assert_eq!(rt; code(&rt, fetch.set_agent(b"a")), MEMORY);
     assert_eq!(rt; code(&rt, fetch.push_want(id(&rt, Format::Sha1))), MEMORY);
     assert_eq!(rt; code(&rt, fetch.push_have(id(&rt, Format::Sha1))), MEMORY);
-    assert_eq!(rt; code(&rt, fetch.push_have(id(&rt, Format::Sha256))), BAD_TEXT);
+    assert_eq!(rt;
+        code(&rt, fetch.push_have(id(&rt, Format::Sha256))),
+        BAD_TEXT
+    );
     assert!(rt; ls_refs.agent().is_none() && ls_refs.prefixes().is_empty());
     assert!(rt; fetch.agent().is_none() && fetch.wants().is_empty() && fetch.haves().is_empty());
     Ok(())

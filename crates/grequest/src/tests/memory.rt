@@ -20,10 +20,7 @@ const WITHOUT: &[(&[u8], Option<(u64, u32)>)] = &[
         b"0012command=fetch\n0001000ethin-pack\n0010no-progress\n0010include-tag\n000eofs-delta\n0009done\n0000",
         None,
     ),
-    (
-        b"0014command=ls-refs\n000cagent=a\n0000",
-        Some((1, MEMORY)),
-    ),
+    (b"0014command=ls-refs\n000cagent=a\n0000", Some((1, MEMORY))),
     (
         b"0014command=ls-refs\n00010009peel\n0010ref-prefix \n0000",
         Some((3, MEMORY)),

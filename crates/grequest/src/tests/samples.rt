@@ -36,47 +36,17 @@ pub(super) type Sample = (Format, &'static [&'static [u8]], &'static [&'static [
 /// Requests of each kind: in any order, with and without line feeds, with repeated arguments, with digits in
 /// either case, and with and without a delimiter.
 pub(super) const SAMPLES: &[Sample] = &[
+    (Format::Sha1, &[b"0000"], &[b"0000"]),
+    (Format::Sha256, &[b"0000"], &[b"0000"]),
     (
         Format::Sha1,
-        &[
-            b"0000",
-        ],
-        &[
-            b"0000",
-        ],
-    ),
-    (
-        Format::Sha256,
-        &[
-            b"0000",
-        ],
-        &[
-            b"0000",
-        ],
+        &[b"0014command=ls-refs\n", b"0000"],
+        &[b"0014command=ls-refs\n", b"0001", b"0000"],
     ),
     (
         Format::Sha1,
-        &[
-            b"0014command=ls-refs\n",
-            b"0000",
-        ],
-        &[
-            b"0014command=ls-refs\n",
-            b"0001",
-            b"0000",
-        ],
-    ),
-    (
-        Format::Sha1,
-        &[
-            b"0012command=fetch\n",
-            b"0000",
-        ],
-        &[
-            b"0012command=fetch\n",
-            b"0001",
-            b"0000",
-        ],
+        &[b"0012command=fetch\n", b"0000"],
+        &[b"0012command=fetch\n", b"0001", b"0000"],
     ),
     (
         Format::Sha1,
