@@ -50,5 +50,7 @@ Builds well_formed has_room old new built (Err fault) =
 abbrev pub Keeps : {V : Type 0} → Bool → Bool → V → V → V → Result Unit NotKept → Type 0
 Keeps well_formed has_room old new built (Ok done) = (well_formed ≡ true) × (has_room ≡ true) × (new ≡ built)
 Keeps well_formed has_room old new built (Err not_kept.WrongForm) = (well_formed ≡ false) × (new ≡ old)
-Keeps well_formed has_room old new built (Err not_kept.NoRoom) = (well_formed ≡ true) × (has_room ≡ false) × (new ≡ old)
-Keeps well_formed has_room old new built (Err not_kept.NoMemory) = (well_formed ≡ true) × (has_room ≡ true) × (new ≡ old)
+Keeps well_formed has_room old new built (Err not_kept.NoRoom) =
+    (well_formed ≡ true) × (has_room ≡ false) × (new ≡ old)
+Keeps well_formed has_room old new built (Err not_kept.NoMemory) =
+    (well_formed ≡ true) × (has_room ≡ true) × (new ≡ old)

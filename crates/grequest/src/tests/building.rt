@@ -65,21 +65,22 @@ fn ids_have_the_format_of_the_request(rt: HostRuntime) -> Result<(), Fail> {
     Ok(())
 }
 
+const AGENTS: &[(&[u8], u32)] = &[
+    (b"a b", BAD_TEXT),
+    (b"", BAD_TEXT),
+    (&[b'a'; 1_001], BAD_TEXT),
+    (&[b'a'; 1_000], 0),
+    (b"git/2.43.0", 0),
+    (b"\x7f", BAD_TEXT),
+];
+
 #[test]
 fn agents_are_words(rt: HostRuntime) -> Result<(), Fail> {
-    let long = [b'a'; 1_001];
     let mut ls_refs = LsRefsRequest::new(rt.alloc());
     let mut fetch = FetchRequest::new(rt.alloc(), Format::Sha1);
-    for (agent, due) in [
-        (b"a b".as_slice(), BAD_TEXT),
-        (b"", BAD_TEXT),
-        (&long, BAD_TEXT),
-        (&long[..1_000], 0),
-        (b"git/2.43.0", 0),
-        (b"\x7f", BAD_TEXT),
-    ] {
-        assert_eq!(rt; code(&rt, ls_refs.set_agent(agent)), due);
-        assert_eq!(rt; code(&rt, fetch.set_agent(agent)), due);
+    for (agent, due) in AGENTS {
+        assert_eq!(rt; code(&rt, ls_refs.set_agent(agent)), *due);
+        assert_eq!(rt; code(&rt, fetch.set_agent(agent)), *due);
     }
     assert_eq!(rt; ls_refs.agent(), Some(b"git/2.43.0".as_slice()));
     assert_eq!(rt; fetch.agent(), Some(b"git/2.43.0".as_slice()));

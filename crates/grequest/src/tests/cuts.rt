@@ -1,5 +1,5 @@
 // Every sample cut after each of its bytes.
-use crate::tests::samples::{SAMPLES, Sample, join, read};
+use crate::tests::samples::{SAMPLES, Sample, join, refusal};
 use gname::Format;
 use std::alloc::Global;
 use std::process::Abort;
@@ -22,12 +22,12 @@ fn check_cuts(
         let mut bytes = Vec::from_slice(alloc, front.as_slice())?;
         bytes.extend_from_slice(&packet[..len])?;
         let code = if len == 0 { ENDED } else { TRUNCATED };
-        match read(alloc, format, bytes.as_slice(), alloc)? {
-            Ok(read) => assert!(rt; read.is_none() && bytes.is_empty()),
-            Err(fault) => {
-                assert_eq!(rt; (fault.frame, fault.code()), (before.len() as u64, code))
-            }
-        }
+        let due = if bytes.is_empty() {
+            None
+        } else {
+            Some((before.len() as u64, code))
+        };
+        assert_eq!(rt; refusal(alloc, format, bytes.as_slice(), alloc)?, due);
     }
     Ok(())
 }

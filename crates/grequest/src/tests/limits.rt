@@ -1,5 +1,5 @@
 // The most of what a request may have, and one more.
-use crate::tests::samples::read;
+use crate::tests::samples::{read, refusal};
 use crate::{MAX_HAVES, MAX_PREFIXES, MAX_WANTS, Request};
 use gname::Format;
 use std::alloc::Global;
@@ -55,14 +55,17 @@ fn request(alloc: Global, case: &Case) -> Result<Vec<u8>, Fail> {
 fn limits_may_be_met_and_not_passed(rt: HostRuntime) -> Result<(), Fail> {
     for case in PASSED {
         let input = request(rt.alloc(), case)?;
-        match read(rt.alloc(), Format::Sha1, input.as_slice(), rt.alloc())? {
-            Ok(_) => assert_eq!(rt; case.4, 0),
-            Err(fault) => {
-                // After the command and the delimiter.
-                let frame = case.2 as u64 + 2;
-                assert_eq!(rt; (fault.frame, fault.code()), (frame, case.4));
-            }
-        }
+        // After the command and the delimiter.
+        let frame = case.2 as u64 + 2;
+        let due = if case.4 == 0 {
+            None
+        } else {
+            Some((frame, case.4))
+        };
+        assert_eq!(rt;
+            refusal(rt.alloc(), Format::Sha1, input.as_slice(), rt.alloc())?,
+            due
+        );
     }
     Ok(())
 }
@@ -84,7 +87,7 @@ fn all_are_kept(rt: HostRuntime) -> Result<(), Fail> {
         (FETCH, HAVE, MAX_HAVES),
     ] {
         let input = request(rt.alloc(), &(head, argument, most - 1, argument, 0))?;
-        match read(rt.alloc(), Format::Sha1, input.as_slice(), rt.alloc())? {
+        match read(rt.alloc(), Format::Sha1, input.as_slice())? {
             Ok(Some(request)) => assert_eq!(rt; count(request), most),
             _ => assert!(rt; false),
         }

@@ -1,5 +1,5 @@
 // Memory is refused only where something is kept.
-use crate::tests::samples::read;
+use crate::tests::samples::refusal;
 use bumpalo::Bump;
 use gname::Format;
 use std::test::Fail;
@@ -51,10 +51,7 @@ fn memory_is_missed_where_something_is_kept(rt: HostRuntime) -> Result<(), Fail>
     for (input, refused) in WITHOUT {
         let arena = Bump::new(rt.alloc());
         arena.set_allocation_limit(Some(0));
-        let fault = match read(rt.alloc(), Format::Sha1, input, &arena)? {
-            Ok(_) => None,
-            Err(fault) => Some((fault.frame, fault.code())),
-        };
+        let fault = refusal(rt.alloc(), Format::Sha1, input, &arena)?;
         assert_eq!(rt; fault, *refused, "at {input:?}");
     }
     Ok(())

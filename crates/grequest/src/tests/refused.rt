@@ -1,5 +1,5 @@
 // Bytes that are no request: the packet at which they are refused, and the number of the fault.
-use crate::tests::samples::read;
+use crate::tests::samples::{read, refusal};
 use ggrammar::Why;
 use gname::Format;
 use gpkt::LineReader;
@@ -269,16 +269,8 @@ const REFUSED: &[Case] = &[
 #[test]
 fn refused_at_their_packet(rt: HostRuntime) -> Result<(), Fail> {
     for (format, input, frame, code) in REFUSED {
-        match read(rt.alloc(), *format, input, rt.alloc())? {
-            Ok(_) => assert!(rt; false, "at {input:?}"),
-            Err(fault) => {
-                assert_eq!(rt;
-                    (fault.frame, fault.code()),
-                    (*frame, *code),
-                    "at {input:?}"
-                )
-            }
-        }
+        let fault = refusal(rt.alloc(), *format, input, rt.alloc())?;
+        assert_eq!(rt; fault, Some((*frame, *code)), "at {input:?}");
     }
     Ok(())
 }
@@ -287,7 +279,7 @@ fn refused_at_their_packet(rt: HostRuntime) -> Result<(), Fail> {
 #[test]
 fn errors_of_peers_are_kept(rt: HostRuntime) -> Result<(), Fail> {
     let input = b"0012command=fetch\n0010ERR no more\n";
-    match read(rt.alloc(), Format::Sha1, input, rt.alloc())? {
+    match read(rt.alloc(), Format::Sha1, input)? {
         Err(fault) => match &fault.why {
             Why::RemoteErr(said) => assert_eq!(rt; said.as_bytes(), b"no more".as_slice()),
             why => assert!(rt; false, "{why}"),

@@ -7,18 +7,29 @@ use gpkt::memory::SliceSource;
 use std::alloc::{AllocError, Allocator, Global};
 use std::test::Fail;
 
-/// What is read of some bytes.
-pub(super) type Read<A> = Result<Option<Request<A>>, MessageFault>;
+/// Reads a request of these bytes.
+pub(super) fn read(
+    alloc: Global,
+    format: Format,
+    input: &[u8],
+) -> Result<Result<Option<Request>, MessageFault>, Fail> {
+    let mut reader = LineReader::new(alloc, SliceSource::new(input))?;
+    Ok(read_request_in(format, &mut reader, alloc))
+}
 
-/// Reads a request of these bytes, which has this memory.
-pub(super) fn read<A: Allocator + Copy>(
+/// The packet at which these bytes are refused, and the number of the fault, where they are refused. What is
+/// read has this memory.
+pub(super) fn refusal<A: Allocator + Copy>(
     alloc: Global,
     format: Format,
     input: &[u8],
     memory: A,
-) -> Result<Read<A>, Fail> {
+) -> Result<Option<(u64, u32)>, Fail> {
     let mut reader = LineReader::new(alloc, SliceSource::new(input))?;
-    Ok(read_request_in(format, &mut reader, memory))
+    match read_request_in(format, &mut reader, memory) {
+        Ok(_) => Ok(None),
+        Err(fault) => Ok(Some((fault.frame, fault.code()))),
+    }
 }
 
 /// The packets one after the other.

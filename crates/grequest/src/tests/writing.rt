@@ -1,11 +1,10 @@
 // Samples are read, and what is written for them.
 use crate::tests::samples::{SAMPLES, join, read};
 use crate::{FetchRequest, LsRefsRequest, Request, write_request};
-use gname::{Format, Oid};
+use gname::Format;
+use gpkt::LineWriter;
 use gpkt::memory::VecSink;
-use gpkt::{LineReader, LineWriter};
 use std::alloc::Global;
-use std::process::Abort;
 use std::test::Fail;
 
 // What is written for a request.
@@ -19,7 +18,7 @@ fn written(alloc: Global, format: Format, request: &Request) -> Result<Vec<u8>, 
 fn samples_are_read_and_written(rt: HostRuntime) -> Result<(), Fail> {
     for (format, packets, canonical) in SAMPLES {
         let input = join(rt.alloc(), packets)?;
-        match read(rt.alloc(), *format, input.as_slice(), rt.alloc())? {
+        match read(rt.alloc(), *format, input.as_slice())? {
             Ok(Some(request)) => {
                 let bytes = written(rt.alloc(), *format, &request)?;
                 assert_eq!(rt; bytes, join(rt.alloc(), canonical)?);
@@ -35,7 +34,7 @@ fn samples_are_read_and_written(rt: HostRuntime) -> Result<(), Fail> {
 fn written_samples_are_read(rt: HostRuntime) -> Result<(), Fail> {
     for (format, _, canonical) in SAMPLES {
         let input = join(rt.alloc(), canonical)?;
-        match read(rt.alloc(), *format, input.as_slice(), rt.alloc())? {
+        match read(rt.alloc(), *format, input.as_slice())? {
             Ok(Some(request)) => {
                 assert_eq!(rt; written(rt.alloc(), *format, &request)?, input);
             }
@@ -58,13 +57,16 @@ fn each_combination_of_ls_refs_reads_back(rt: HostRuntime) -> Result<(), Fail> {
         request.set_peel(bit(flags, 1));
         request.set_unborn(bit(flags, 2));
         let bytes = written(rt.alloc(), Format::Sha1, &Request::Ls(request))?;
-        match read(rt.alloc(), Format::Sha1, bytes.as_slice(), rt.alloc())? {
-            Ok(Some(Request::Ls(read))) => {
-                assert_eq!(rt; read.symrefs(), bit(flags, 0));
-                assert_eq!(rt; read.peel(), bit(flags, 1));
-                assert_eq!(rt; read.unborn(), bit(flags, 2));
-            }
-            _ => assert!(rt; false, "at {flags}"),
+        match read(rt.alloc(), Format::Sha1, bytes.as_slice())? {
+            Ok(Some(request)) => match &request {
+                Request::Ls(read) => {
+                    assert_eq!(rt; read.symrefs(), bit(flags, 0));
+                    assert_eq!(rt; read.peel(), bit(flags, 1));
+                    assert_eq!(rt; read.unborn(), bit(flags, 2));
+                }
+                _ => assert!(rt; false),
+            },
+            _ => assert!(rt; false),
         }
     }
     Ok(())
@@ -85,15 +87,18 @@ fn each_combination_of_fetch_reads_back(rt: HostRuntime) -> Result<(), Fail> {
     for flags in 0..32usize {
         let request = Request::Fetch(fetch_request(rt.alloc(), flags));
         let bytes = written(rt.alloc(), Format::Sha1, &request)?;
-        match read(rt.alloc(), Format::Sha1, bytes.as_slice(), rt.alloc())? {
-            Ok(Some(Request::Fetch(read))) => {
-                assert_eq!(rt; read.done(), bit(flags, 0));
-                assert_eq!(rt; read.thin_pack(), bit(flags, 1));
-                assert_eq!(rt; read.no_progress(), bit(flags, 2));
-                assert_eq!(rt; read.include_tag(), bit(flags, 3));
-                assert_eq!(rt; read.ofs_delta(), bit(flags, 4));
-            }
-            _ => assert!(rt; false, "at {flags}"),
+        match read(rt.alloc(), Format::Sha1, bytes.as_slice())? {
+            Ok(Some(request)) => match &request {
+                Request::Fetch(read) => {
+                    assert_eq!(rt; read.done(), bit(flags, 0));
+                    assert_eq!(rt; read.thin_pack(), bit(flags, 1));
+                    assert_eq!(rt; read.no_progress(), bit(flags, 2));
+                    assert_eq!(rt; read.include_tag(), bit(flags, 3));
+                    assert_eq!(rt; read.ofs_delta(), bit(flags, 4));
+                }
+                _ => assert!(rt; false),
+            },
+            _ => assert!(rt; false),
         }
     }
     Ok(())
