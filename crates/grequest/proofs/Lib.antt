@@ -1,3 +1,16 @@
 pub mod LineLemmas
 pub mod AskedLemmas
 pub mod FetchAskedLemmas
+pub mod StateLemmas
+pub mod ReadIdLemmas
+pub mod Texts
+pub mod Sections
+pub mod Verdicts
+pub mod Shape
+pub mod Endings
+pub mod ManualRequests
+pub mod Canonical
+pub mod Meaning
+pub mod ReaderLemmas
+pub mod FormatLemmas
+pub mod WriteLemmas

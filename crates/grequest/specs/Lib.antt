@@ -7,5 +7,10 @@ pub mod Requests
 pub mod RequestState
 pub mod RequestWriting
 pub mod WellFormed
+pub mod Building
+pub mod RequestReading
+pub mod RequestValues
+pub mod Sections
+pub mod Laws
 pub use Rattle.ggrammar.specs.Grammar
 pub use Rattle.ggrammar.specs.MessageReading

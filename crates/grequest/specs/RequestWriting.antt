@@ -27,12 +27,23 @@ abbrev pub flag_packets : List ℕ → Bool → List Packet
 flag_packets word false = []
 flag_packets word true = text_packet word ∷ []
 
+abbrev pub prefix_packet : List ℕ → Packet
+prefix_packet prefix = text_packet (codes "ref-prefix " ++ prefix)
+
+-- an id after a word
+abbrev pub id_packet : List ℕ → List ℕ → Packet
+id_packet word id = text_packet (word ++ id_text id)
+
+-- the most bytes of a word before a value
+abbrev pub max_word : ℕ
+max_word = 16
+
 abbrev pub ls_argument_packets : LsRefsAsked → List Packet
 ls_argument_packets asked =
     flag_packets (codes "peel") asked.peel
     ++ flag_packets (codes "symrefs") asked.symrefs
     ++ flag_packets (codes "unborn") asked.unborn
-    ++ map (λ prefix. text_packet (codes "ref-prefix " ++ prefix)) asked.prefixes
+    ++ map prefix_packet asked.prefixes
 
 abbrev pub fetch_argument_packets : FetchAsked → List Packet
 fetch_argument_packets asked =
@@ -40,8 +51,8 @@ fetch_argument_packets asked =
     ++ flag_packets (codes "no-progress") asked.no_progress
     ++ flag_packets (codes "include-tag") asked.include_tag
     ++ flag_packets (codes "ofs-delta") asked.ofs_delta
-    ++ map (λ id. text_packet (codes "want " ++ id_text id)) asked.wants
-    ++ map (λ id. text_packet (codes "have " ++ id_text id)) asked.haves
+    ++ map (id_packet (codes "want ")) asked.wants
+    ++ map (id_packet (codes "have ")) asked.haves
     ++ flag_packets (codes "done") asked.done
 
 -- a command, its capabilities, a delimiter, its arguments and a flush

@@ -2,7 +2,7 @@
 
 ghost use Rattle.std.specs.Prelude.{◌≡◌};
 ghost use Rattle.std.specs.Option.{option_copied};
-ghost use Rattle.grequest.specs.Arguments.{command_of_key, command_form};
+ghost use Rattle.grequest.specs.Arguments.{command_of_key, command_form, command_name};
 
 use ggrammar::{after_word, is_key};
 
@@ -11,6 +11,18 @@ use ggrammar::{after_word, is_key};
 pub(crate) enum Command {
     LsRefs,
     Fetch,
+}
+
+impl Command {
+    /// The word for the command.
+    pub(crate) fn name(self) -> &'static str
+        ensures { result.now ≡ command_name self }
+    {
+        match self {
+            Command::LsRefs => "ls-refs",
+            Command::Fetch => "fetch",
+        }
+    }
 }
 
 /// The first text of a request.

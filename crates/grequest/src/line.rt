@@ -5,6 +5,7 @@ ghost use Rattle.ggrammar.specs.PeerErrors.{after_word};
 ghost use Rattle.std.specs.Option.{option_copied, option_map};
 ghost use Rattle.ggrammar.specs.CapabilityView.{capability_view};
 ghost use Rattle.grequest.specs.Arguments.{agent_with, format_with, known_capability, capability_form, ls_argument, fetch_argument, ref_prefix_or_unknown, want_or_else, have_or_unknown};
+ghost use Rattle.grequest.specs.RequestReading.{CarriesWord};
 ghost use Rattle.grequest.specs.Views.{capability_in, ls_argument_in, fetch_argument_in};
 
 use ggrammar::{Capability, after_word, capability_of, is_word_value};
@@ -45,7 +46,8 @@ pub(crate) enum FetchArgument<'a> {
 /// What a text of the capability list says.
 #[tactic(auto, unfolding(crate::specs::Arguments::capability_form))]
 pub(crate) fn capability_form(text: &[u8]) -> CapabilityForm<'_>
-    ensures { capability_in result ≡ capability_form text.now }
+    ensures form { capability_in result ≡ capability_form text.now }
+    ensures word { CarriesWord (capability_in result) }
 {
     match capability_of(text) {
         Some(capability) => known_capability(&capability),
@@ -54,7 +56,8 @@ pub(crate) fn capability_form(text: &[u8]) -> CapabilityForm<'_>
 }
 
 fn known_capability<'a>(capability: &Capability<'a>) -> CapabilityForm<'a>
-    ensures { capability_in result ≡ known_capability (capability_view capability.now) }
+    ensures form { capability_in result ≡ known_capability (capability_view capability.now) }
+    ensures word { CarriesWord (capability_in result) }
 {
     if capability.key == b"agent".as_slice() {
         agent_with(capability.value)
@@ -66,7 +69,8 @@ fn known_capability<'a>(capability: &Capability<'a>) -> CapabilityForm<'a>
 }
 
 fn agent_with(value: Option<&[u8]>) -> CapabilityForm<'_>
-    ensures { capability_in result ≡ agent_with (option_copied value.entry) }
+    ensures form { capability_in result ≡ agent_with (option_copied value.entry) }
+    ensures word { CarriesWord (capability_in result) }
 {
     match value {
         Some(value) if is_word_value(value) => CapabilityForm::Agent(value),
@@ -75,7 +79,8 @@ fn agent_with(value: Option<&[u8]>) -> CapabilityForm<'_>
 }
 
 fn format_with(value: Option<&[u8]>) -> CapabilityForm<'_>
-    ensures { capability_in result ≡ format_with (option_copied value.entry) }
+    ensures form { capability_in result ≡ format_with (option_copied value.entry) }
+    ensures word { CarriesWord (capability_in result) }
 {
     match value {
         Some(value) => CapabilityForm::ObjectFormat(value),
