@@ -220,7 +220,7 @@ short_fetch format asked h =
     (All-map IsShort have_text asked.haves (All-imply (IsIdOf format) (λ id. IsShort (have_text id)) (λ id is. omega (arith, length-append (codes "have ") (id_text id), id_text_is_short format id is)) asked.haves h.haves)))
     (All-flag IsShort (codes "done") asked.done (omega arith))
 
-canonical_fits : (format : Format) (asked : Asked) → IsAsked format asked → All Fits (canonical_request format asked)
+pub canonical_fits : (format : Format) (asked : Asked) → IsAsked format asked → All Fits (canonical_request format asked)
 unfolding canonical_request
 canonical_fits format Empty h = All-cons Fits Flush [] (omega arith) (All-nil Fits)
 canonical_fits format (Ls asked) h = request_fits format LsRefs asked.agent (ls_argument_packets asked) (ls_texts asked) (ls_lines asked) h.agent (short_ls asked h)
