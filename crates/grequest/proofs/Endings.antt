@@ -1,5 +1,5 @@
 -- Each open request can be ended, and has had no more packets than can be counted.
-use Rattle.std.proofs.Common.{◌≡◌, ℕ, ◌+◌, ◌<◌, ◌≤◌, ◌^◌, ◌==◌, Bool, true, List, [], ◌∷◌, ◌++◌, length, map, codes, inl, inr, None, refl, sym, ap, subst, ◌∙◌, append_assoc, arith}
+use Rattle.std.proofs.Common.{◌≡◌, ℕ, ◌+◌, ◌<◌, ◌≤◌, ◌^◌, ◌==◌, Bool, List, [], ◌∷◌, ◌++◌, length, map, codes, inl, inr, refl, sym, ap, ◌∙◌, append_assoc, arith}
 use Rattle.std.proofs.lemmas.Bool.{cases_eq, eq-eqb, ne_eqb}
 use Rattle.gpkt.specs.Packets.{Packet, Data, Flush, text}
 use Rattle.gname.specs.declared.formats.Format.{Format}
@@ -10,14 +10,13 @@ use Rattle.ggrammar.specs.PeerErrors.{after_word}
 use Rattle.ggrammar.specs.declared.fault.Why.TheVariants.{Format as WrongFormat}
 use Rattle.ggrammar.proofs.GrammarLemmas.{IsOpen-push}
 use Rattle.grequest.specs.declared.command.Command.{Command}
-use Rattle.grequest.specs.Arguments.{CapabilityForm, ObjectFormat, capability_form}
-use Rattle.grequest.specs.RequestLines.{InCapabilities, formats, capability_texts, argument_texts}
+use Rattle.grequest.specs.Arguments.{ObjectFormat, capability_form}
+use Rattle.grequest.specs.RequestLines.{InCapabilities, formats}
 use Rattle.grequest.specs.Requests.{State, state_of, judge_capability, judge_at, judge, once}
 use Rattle.grequest.specs.RequestState.{with_capability, with_packet}
-use Rattle.grequest.specs.Manual.{NamesFormat}
 use Rattle.grequest.proofs.StateLemmas.{state_at, state_of-open}
 use Rattle.grequest.proofs.Verdicts.{open-text, judge-flush, named-taken, unless-named}
-use Rattle.grequest.proofs.Shape.{IsListed, IsArgued, Shape, shape_of_open, listed_state, argued_state, open_is_bounded}
+use Rattle.grequest.proofs.Shape.{IsListed, Shape, shape_of_open, listed_state, argued_state, open_is_bounded}
 
 -- ---- a flush ends it
 

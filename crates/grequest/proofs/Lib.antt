@@ -9,6 +9,10 @@ pub mod Verdicts
 pub mod Shape
 pub mod Endings
 pub mod ManualRequests
+pub mod WrittenLists
+pub mod WrittenTexts
+pub mod WrittenCapabilities
+pub mod WrittenArguments
 pub mod Canonical
 pub mod Meaning
 pub mod ReaderLemmas

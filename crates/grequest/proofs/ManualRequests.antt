@@ -1,17 +1,16 @@
 -- The requests that the judge accepts are those of the manual, and they ask the same.
-use Rattle.std.proofs.Common.{◌≡◌, ℕ, ◌≤◌, List, [], ◌∷◌, ◌++◌, length, map, ◌⊎◌, inl, inr, refl, sym, ap, subst, ◌∙◌, append_assoc, append-nil, arith}
+use Rattle.std.proofs.Common.{◌≡◌, ℕ, ◌≤◌, List, [], ◌∷◌, ◌++◌, length, map, ◌⊎◌, inl, inr, refl, sym, ap, subst, ◌∙◌, append-nil, arith}
 use Rattle.std.proofs.lemmas.List.{length-map}
-use Rattle.std.proofs.lemmas.List.Elements.{All-nil}
 use Rattle.gpkt.specs.Packets.{Packet, Data, Flush, Delim, text}
 use Rattle.gname.specs.declared.formats.Format.{Format}
 use Rattle.gname.specs.declared.formats.Format.TheVariants.{Sha1, Sha256}
-use Rattle.ggrammar.specs.Grammar.{Open, Whole, IsOpen}
+use Rattle.ggrammar.specs.Grammar.{Whole, IsOpen}
 use Rattle.ggrammar.proofs.GrammarLemmas.{IsOpen-nil}
-use Rattle.grequest.specs.Asked.{Asked, Empty}
-use Rattle.grequest.specs.RequestLines.{InCapabilities, InArguments, formats, asked_by, asked_of, capability_texts, argument_texts}
-use Rattle.grequest.specs.Requests.{State, state_of, judge_at, judge, Says}
+use Rattle.grequest.specs.Asked.{Asked}
+use Rattle.grequest.specs.RequestLines.{InCapabilities, InArguments, formats, asked_by, asked_of}
+use Rattle.grequest.specs.Requests.{State, state_of, judge, Says}
 use Rattle.grequest.specs.RequestState.{with_packet}
-use Rattle.grequest.specs.Manual.{IsArgument, NamesFormat, IsCommandRequest, IsRequest}
+use Rattle.grequest.specs.Manual.{NamesFormat, IsCommandRequest, IsRequest}
 use Rattle.grequest.proofs.StateLemmas.{state_at, state_of-whole}
 use Rattle.grequest.proofs.Texts.{command_line, command_form-line}
 use Rattle.grequest.proofs.Sections.{AreCapabilities, AreArguments, AreArguments-nil}

@@ -1,5 +1,5 @@
 -- A request has one end and one meaning.
-use Rattle.std.proofs.Common.{◌≡◌, ℕ, List, [], ◌++◌, sym, ap, ◌∙◌, append-nil}
+use Rattle.std.proofs.Common.{◌≡◌, List, [], ◌++◌, sym, ap, ◌∙◌, append-nil}
 use Rattle.gpkt.specs.Packets.{Packet}
 use Rattle.gname.specs.declared.formats.Format.{Format}
 use Rattle.ggrammar.proofs.GrammarLemmas.{IsPrefixFree-always}

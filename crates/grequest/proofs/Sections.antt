@@ -1,6 +1,6 @@
 -- The sections of a request: which texts a capability list and a list of arguments may have, and which text more the
 -- judge takes after them.
-use Rattle.std.proofs.Common.{◌≡◌, ℕ, ◌+◌, ◌<◌, ◌≤◌, ◌&&◌, ◌==◌, Bool, true, false, cond, List, [], ◌∷◌, ◌++◌, length, inl, inr, Option, Some, None, refl, sym, ap, subst, ◌∙◌, arith, append-nil}
+use Rattle.std.proofs.Common.{◌≡◌, ℕ, ◌+◌, ◌<◌, ◌≤◌, ◌&&◌, ◌==◌, Bool, true, false, cond, List, [], ◌∷◌, ◌++◌, length, Option, Some, None, refl, sym, ap, subst, ◌∙◌, arith, append-nil}
 use Rattle.std.specs.Prelude.{All, is_none, is_some, nat_lt}
 use Rattle.std.proofs.lemmas.Bool.{and_parts, and_from, ltb-true, lt-ltb, eqb-true, eq-eqb}
 use Rattle.std.proofs.lemmas.List.{length-append, length_push, nil_from_length}
@@ -10,7 +10,6 @@ use Rattle.gname.specs.Formats.{format_name}
 use Rattle.gname.specs.declared.formats.Format.{Format}
 use Rattle.ggrammar.specs.Grammar.{Verdict, Open, Refused, if_room}
 use Rattle.ggrammar.specs.Ids.{id_of_text}
-use Rattle.ggrammar.specs.MessageReading.{IsAccepted}
 use Rattle.ggrammar.specs.declared.fault.Why.{Why}
 use Rattle.ggrammar.specs.declared.fault.Why.TheVariants.{Format as WrongFormat, BadName, BadId}
 use Rattle.grequest.specs.declared.command.Command.{Command}
@@ -18,7 +17,7 @@ use Rattle.grequest.specs.declared.command.Command.TheVariants.{LsRefs, Fetch}
 use Rattle.grequest.specs.Arguments.{is_word, CapabilityForm, Agent, ObjectFormat, OtherCapability, BadCapability, capability_form, LsArgument, Symrefs, Peel, Unborn, RefPrefix, UnknownLsArgument, ls_argument, FetchArgument, ThinPack, NoProgress, IncludeTag, OfsDelta, Done, Want, Have, UnknownFetchArgument, fetch_argument}
 use Rattle.grequest.specs.Asked.{max_prefixes, max_wants, max_haves, max_arguments}
 use Rattle.grequest.specs.RequestLines.{InCapabilities, InArguments, agents, formats, prefix_value, prefixes, want_value, wants, have_value, haves, first_of, asked_by}
-use Rattle.grequest.specs.Requests.{once, agent_of, judge_capability, judge_ls_argument, judge_fetch_argument, judge_argument}
+use Rattle.grequest.specs.Requests.{agent_of, judge_capability, judge_ls_argument, judge_fetch_argument, judge_argument}
 use Rattle.grequest.specs.Manual.{IsCapability, IsLsArgument, IsFetchArgument, IsArgument, AreFew}
 use Rattle.grequest.proofs.StateLemmas.{state_at, list_of, agents-push, formats-push, agent_of-by, first_of-none}
 use Rattle.grequest.proofs.Texts.{word_is, is_word-same}

@@ -1,22 +1,20 @@
 -- What an open request is: nothing yet, a command and its capabilities, or these, a delimiter and arguments.
-use Rattle.std.proofs.Common.{◌≡◌, ℕ, ◌+◌, ◌≤◌, suc, List, [], ◌∷◌, ◌++◌, length, map, codes, ◌⊎◌, inl, inr, None, refl, sym, ap, subst, ◌∙◌, append_assoc, append-nil, arith}
+use Rattle.std.proofs.Common.{◌≡◌, ℕ, ◌+◌, ◌≤◌, suc, List, [], ◌∷◌, ◌++◌, length, map, codes, ◌⊎◌, inl, inr, refl, sym, ap, subst, ◌∙◌, append_assoc, append-nil, arith}
 use Rattle.std.proofs.lemmas.List.{length-append, length-map, map_push}
 use Rattle.gpkt.specs.Packets.{Packet, Data, Flush, Delim, ResponseEnd, text}
 use Rattle.gname.specs.declared.formats.Format.{Format}
-use Rattle.ggrammar.specs.Grammar.{Open, Whole, IsOpen}
-use Rattle.ggrammar.specs.PeerErrors.{peer_error}
+use Rattle.ggrammar.specs.Grammar.{Open, IsOpen}
 use Rattle.ggrammar.specs.Places.{place_after, collected}
 use Rattle.ggrammar.proofs.GrammarLemmas.{IsOpen-nil, IsOpen-push, IsOpen-front, IsOpen-last}
 use Rattle.grequest.specs.declared.command.Command.{Command}
-use Rattle.grequest.specs.declared.command.CommandForm.{CommandForm}
 use Rattle.grequest.specs.declared.command.CommandForm.TheVariants.{Known}
 use Rattle.grequest.specs.Arguments.{command_name, command_form, capability_form}
 use Rattle.grequest.specs.Asked.{max_arguments}
-use Rattle.grequest.specs.RequestLines.{Place, First, InCapabilities, InArguments, place_of_command, next_place, place_of, capability_there, argument_there, capability_texts, argument_texts}
-use Rattle.grequest.specs.Requests.{State, state_of, judge_command, judge_text, judge_at, judge_delim, judge}
+use Rattle.grequest.specs.RequestLines.{Place, InCapabilities, InArguments, place_of_command, next_place, capability_there, argument_there, capability_texts, argument_texts}
+use Rattle.grequest.specs.Requests.{State, state_of, judge_command, judge_at, judge}
 use Rattle.grequest.specs.Manual.{IsCapability, IsArgument, NamesFormat}
 use Rattle.grequest.proofs.StateLemmas.{state_at}
-use Rattle.grequest.proofs.Texts.{command_line, command_form-line, no_error, command_no_error, capability_no_error, argument_no_error}
+use Rattle.grequest.proofs.Texts.{command_form-line, no_error, command_no_error, capability_no_error, argument_no_error}
 use Rattle.grequest.proofs.Sections.{All-parts, AreCapabilities, AreCapabilities-nil, AreCapabilities-push, AreCapabilities-parts, TakesCapability, few_capabilities, AreArguments, AreArguments-nil, AreArguments-push, AreArguments-parts, TakesArgument}
 use Rattle.grequest.proofs.Verdicts.{text-open, open-text, known_command, judge-delim, response_end-never_open, flush-never_open, names_format, named-taken}
 

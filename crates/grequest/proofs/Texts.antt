@@ -1,7 +1,6 @@
 -- Facts on the texts of a request's lines, and on the forms that they have.
-use Rattle.std.proofs.Common.{◌≡◌, ◌≢◌, ℕ, ◌+◌, ◌&&◌, Bool, true, false, cond, List, [], ◌∷◌, ◌++◌, length, take, drop, codes, ◌⊎◌, inl, inr, Option, Some, None, refl, sym, ap, subst, ◌∙◌, suc, zero, arith, nat_eq}
+use Rattle.std.proofs.Common.{◌≡◌, ℕ, ◌+◌, ◌&&◌, Bool, true, false, cond, List, [], ◌∷◌, ◌++◌, length, take, drop, codes, ◌⊎◌, inl, inr, Option, Some, None, refl, sym, ap, subst, ◌∙◌, suc, zero, arith, nat_eq}
 use Rattle.std.specs.List.{starts_with}
-use Rattle.std.proofs.lemmas.Bool.{cases_Bool}
 use Rattle.std.proofs.lemmas.Bool.Decides.{Decides-eqb}
 use Rattle.std.proofs.lemmas.Grind.{common_steps}
 use Rattle.std.proofs.lemmas.Slice.Eq.{bytes_eq-Decides, starts_is}
@@ -11,9 +10,8 @@ use Rattle.ggrammar.specs.Capabilities.{Capability, capability_of, capability_sp
 use Rattle.ggrammar.specs.PeerErrors.{after_word, peer_error}
 use Rattle.grequest.specs.declared.command.Command.{Command}
 use Rattle.grequest.specs.declared.command.Command.TheVariants.{LsRefs, Fetch}
-use Rattle.grequest.specs.declared.command.CommandForm.{CommandForm}
 use Rattle.grequest.specs.declared.command.CommandForm.TheVariants.{Known, Other as OtherCommand, Bad as BadCommand}
-use Rattle.grequest.specs.Arguments.{is_word, command_name, command_of_key, command_after, command_form, CapabilityForm, OtherCapability, BadCapability, agent_with, format_with, known_capability, capability_with, capability_form, ls_argument, fetch_argument}
+use Rattle.grequest.specs.Arguments.{is_word, command_name, command_of_key, command_after, command_form, CapabilityForm, OtherCapability, agent_with, format_with, known_capability, capability_with, capability_form, ls_argument, fetch_argument}
 use Rattle.grequest.specs.Manual.{IsCapability, IsArgument}
 
 -- ---- words

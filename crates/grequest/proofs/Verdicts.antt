@@ -1,5 +1,5 @@
 -- What the judge of requests says of a packet, and that a flush alone ends a request.
-use Rattle.std.proofs.Common.{◌≡◌, ℕ, ◌≤◌, ◌==◌, ◌&&◌, Bool, true, false, cond, List, [], ◌∷◌, length, codes, inl, inr, Option, Some, None, refl, sym, ap, subst, ◌∙◌, arith}
+use Rattle.std.proofs.Common.{◌≡◌, ℕ, ◌≤◌, ◌==◌, ◌&&◌, Bool, true, false, cond, List, length, Option, Some, None, refl, sym, ap, ◌∙◌, arith}
 use Rattle.std.specs.Prelude.{is_none, is_some, nat_lt}
 use Rattle.std.proofs.lemmas.Bool.{eqb-false, ne_eqb}
 use Rattle.gpkt.specs.Packets.{Packet, Data, Flush, Delim, ResponseEnd, text}
@@ -19,7 +19,7 @@ use Rattle.grequest.specs.declared.command.CommandForm.TheVariants.{Known, Other
 use Rattle.grequest.specs.Arguments.{is_word, command_form, CapabilityForm, Agent, ObjectFormat, OtherCapability, BadCapability, capability_form, LsArgument, Symrefs, Peel, Unborn, RefPrefix, UnknownLsArgument, ls_argument, FetchArgument, ThinPack, NoProgress, IncludeTag, OfsDelta, Done, Want, Have, UnknownFetchArgument, fetch_argument}
 use Rattle.grequest.specs.Asked.{max_prefixes, max_wants, max_haves}
 use Rattle.grequest.specs.RequestLines.{Place, First, InCapabilities, InArguments, formats}
-use Rattle.grequest.specs.Requests.{State, state_of, has_room, prefixes_of, wants_of, haves_of, judge_command, judge_capability, judge_ls_argument, judge_fetch_argument, judge_text, judge_delim, judge_flush, judge_at, judge, unless_unnamed}
+use Rattle.grequest.specs.Requests.{State, has_room, prefixes_of, wants_of, haves_of, judge_command, judge_capability, judge_ls_argument, judge_fetch_argument, judge_text, judge_delim, judge_flush, judge_at, unless_unnamed}
 use Rattle.grequest.specs.Manual.{NamesFormat}
 use Rattle.grequest.proofs.StateLemmas.{state_at}
 
@@ -62,14 +62,14 @@ pub response_end-never_open : (format : Format) (state : State) → judge_at for
 unfolding judge_at
 response_end-never_open format state e = cc
 
-unnamed_never : (b : Bool) (why : Why) (verdict other : Verdict) → cond b (Refused why) verdict ≡ Open → (verdict ≡ Open → ⊥) → ⊥
-unnamed_never true why verdict other e never = cc
-unnamed_never false why verdict other e never = never e
+unnamed_never : (b : Bool) (why : Why) → cond b (Refused why) Whole ≡ Open → ⊥
+unnamed_never true why e = cc
+unnamed_never false why e = cc
 
 flush_at : (format : Format) (place : Place) (state : State) → judge_flush format place state ≡ Open → ⊥
 flush_at format First state e = cc
 flush_at Sha1 (InCapabilities command) state e = cc
-flush_at Sha256 (InCapabilities command) state e = unnamed_never (state.formats == 0) _ Whole Whole e (λ opened. absurd cc)
+flush_at Sha256 (InCapabilities command) state e = unnamed_never (state.formats == 0) WrongFormat e
 flush_at format (InArguments command) state e = cc
 
 pub flush-never_open : (format : Format) (state : State) → judge_at format state Flush ≡ Open → ⊥

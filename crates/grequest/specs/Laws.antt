@@ -1,5 +1,5 @@
 -- The laws of the grammar of requests.
-use Rattle.std.specs.Prelude.{◌≡◌, ◌↔◌, ℕ, ◌<◌, ◌^◌, All, List, [], ◌++◌, length}
+use Rattle.std.specs.Prelude.{◌≡◌, ◌↔◌, ◌<◌, ◌^◌, All, List, [], ◌++◌, length}
 use Rattle.gpkt.specs.Packets.{Packet}
 use Rattle.gpkt.specs.Laws.{Fits}
 use Rattle.gname.specs.declared.formats.Format.{Format}
