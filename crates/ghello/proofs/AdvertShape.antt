@@ -140,7 +140,7 @@ shape_step front (Data payload) (inl e) goes =
     inr ([], subst (λ (xs : List Packet). HasBegun (xs ++ Data payload ∷ []) []) (sym e) (HasBegun-first payload is))
 shape_step front (Data payload) (inr h) goes =
     let found = open_capability (length h.0) (capability_of (text payload))
-        (open_unless (peer_error payload) (judge_capability (length h.0) (capability_of (text payload))) (sym (begun_judge front h.0 payload h.1) ∙ goes)) in
+    (open_unless (peer_error payload) (judge_capability (length h.0) (capability_of (text payload))) (sym (begun_judge front h.0 payload h.1) ∙ goes)) in
     inr (h.0 ++ found.0 ∷ [], HasBegun-push front h.0 payload found.0 h.1 found.1 found.2)
 
 shape_more : (front more : List Packet) → IsOpen judge (front ++ more) → Shape front → Shape (front ++ more)

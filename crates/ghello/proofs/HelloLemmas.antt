@@ -101,8 +101,7 @@ parts_say (command ∷ host ∷ [] ∷ version ∷ [] ∷ []) hello e =
     let says = with_says (after_word (codes "git-upload-pack ") command) (after_word (codes "host=") host) hello h.1 in
     let same_version : version ≡ codes "version=2" = (bytes_eq-Decides version (codes "version=2")).0 h.0 in
     let same_command : command ≡ codes "git-upload-pack " ++ hello.path = follows_word (codes "git-upload-pack ") command hello.path says.0 in
-    let same_host : host ≡ codes "host=" ++ hello.host = follows_word (codes "host=") host hello.host says.1 in
-    (
+    let same_host : host ≡ codes "host=" ++ hello.host = follows_word (codes "host=") host hello.host says.1 in (
       says.2,
       rw (same_command, same_host, same_version) (sym (joined (codes "git-upload-pack " ++ hello.path) (codes "host=") hello.host (codes "version=2") (0 ∷ []))),
     )
@@ -163,9 +162,9 @@ parts_of_line hello form =
     let command = codes "git-upload-pack " ++ hello.path in
     let host = codes "host=" ++ hello.host in
     let command_clean : All (λ byte. is_nul byte ≡ false) command = no_nul is_printable command printable_not_nul
-        (list_all-append is_printable (codes "git-upload-pack ") hello.path ∙ path_bytes hello.path form.path) in
+    (list_all-append is_printable (codes "git-upload-pack ") hello.path ∙ path_bytes hello.path form.path) in
     let host_clean : All (λ byte. is_nul byte ≡ false) host = no_nul is_graphic host graphic_not_nul
-        (list_all-append is_graphic (codes "host=") hello.host ∙ host_bytes hello.host form.host) in
+    (list_all-append is_graphic (codes "host=") hello.host ∙ host_bytes hello.host form.host) in
     ap (slice_split is_nul) (joined command (codes "host=") hello.host (codes "version=2") (0 ∷ []))
     ∙ (slice_split_at is_nul command 0 (host ++ 0 ∷ 0 ∷ (codes "version=2" ++ 0 ∷ [])) command_clean refl
     ∙ ap (λ (parts : List (List ℕ)). command ∷ parts) (slice_split_at is_nul host 0 (0 ∷ (codes "version=2" ++ 0 ∷ [])) host_clean refl))

@@ -147,7 +147,7 @@ module _ (law : TextOrLine) where
       let lines : (front ++ Data payload ∷ []) ++ map Data payloads ≡ front ++ Data payload ∷ map Data payloads = append_assoc front (Data payload ∷ []) (map Data payloads) in
       let all : (capabilities ++ capability ∷ []) ++ more ≡ capabilities ++ capability ∷ more = append_assoc capabilities (capability ∷ []) more in
       let h = all_go (front ++ Data payload ∷ []) (capabilities ++ capability ∷ []) payloads more (IsOpen-push front (Data payload) opened goes)
-          (HasBegun-push front capabilities payload capability begun is few_before) rest (rw all few) in
+      (HasBegun-push front capabilities payload capability begun is few_before) rest (rw all few) in
       (subst (IsOpen judge) lines h.0, subst (λ (xs : List Packet). HasBegun xs (capabilities ++ capability ∷ more)) lines (subst (HasBegun ((front ++ Data payload ∷ []) ++ map Data payloads)) all h.1))
 
   advert_is_said : (packets : List Packet) (capabilities : List Capability) → IsAdvert packets capabilities → Says packets capabilities

@@ -40,6 +40,7 @@ const MAX_TEXT: usize = 2_001;
 
 // What a client of this protocol needs of a server: it lists refs, and fetches.
 const LS_REFS: &[u8] = b"ls-refs";
+
 const FETCH: &[u8] = b"fetch";
 
 // The capability that names the hash of the ids.

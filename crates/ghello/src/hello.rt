@@ -30,7 +30,9 @@ pub const MAX_HOST: usize = 255;
 
 // What stands before the path, before the host, and after them.
 const COMMAND: &[u8] = b"git-upload-pack ";
+
 const HOST: &[u8] = b"host=";
+
 const VERSION: &[u8] = b"version=2";
 
 // The most bytes of the line: its words, a path, a host, and the NULs.
@@ -242,11 +244,7 @@ fn hello_of(payload: &[u8]) -> Option<HelloText<'_>>
 }
 
 // What a payload of three words says.
-fn hello_of_words<'a>(
-    command: &'a [u8],
-    host: &'a [u8],
-    version: &[u8],
-) -> Option<HelloText<'a>>
+fn hello_of_words<'a>(command: &'a [u8], host: &'a [u8], version: &[u8]) -> Option<HelloText<'a>>
     ensures { option_map hello_view result ≡ hello_of_parts (command.now ∷ host.now ∷ [] ∷ version.now ∷ [] ∷ []) }
 {
     if version != VERSION {

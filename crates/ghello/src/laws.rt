@@ -1,7 +1,7 @@
 //! The laws of hellos and advertisements: functions without effect, whose contracts they are.
 
 ghost use Rattle.ggrammar.specs.Grammar.{HasEndings};
-ghost use Rattle.ghello.specs.Laws.{OneAdvert, OneHello, PayloadSaysHello, TableIsManual, WholeSaysHello};
+ghost use Rattle.ghello.specs.Laws.{CanonicalSaysAdvert, CanonicalSaysHello, OneAdvert, OneHello, PayloadSaysHello, TableIsManual, WholeSaysHello};
 ghost use Rattle.ghello.specs.Hello as hello;
 ghost use Rattle.ghello.specs.Adverts as advert;
 
@@ -31,3 +31,12 @@ pub fn beginnings_have_endings()
     ensures hello { HasEndings hello.judge }
     ensures advert { HasEndings advert.judge }
 {}
+
+/// What is written of a hello, or of an advertisement, says it, and each of its lines fits a packet.
+pub fn canonical_says()
+    ensures hello { CanonicalSaysHello }
+    ensures advert { CanonicalSaysAdvert }
+{
+    text_reads_back();
+    adverts_are_the_manuals();
+}

@@ -36,7 +36,6 @@ mod building;
 mod compose;
 mod hello;
 pub mod laws;
-
 #[cfg(test)]
 mod tests;
 

@@ -42,9 +42,17 @@ const REFUSED: &[Refused] = &[
         "BadText",
     ),
     // No slash, no host, a space in the host.
-    (b"0031git-upload-pack project\0host=a\0\0version=2\0\0", 0, "BadText"),
-    (b"0028git-upload-pack /\0host=\0\0version=2\0", 0, "BadText"),
-    (b"002bgit-upload-pack /\0host=a b\0\0version=2\0", 0, "BadText"),
+    (
+        b"002fgit-upload-pack project\0host=a\0\0version=2\0\0",
+        0,
+        "BadText",
+    ),
+    (b"0027git-upload-pack /\0host=\0\0version=2\0", 0, "BadText"),
+    (
+        b"002agit-upload-pack /\0host=a b\0\0version=2\0",
+        0,
+        "BadText",
+    ),
     (b"0000", 0, "UnexpectedFrame"),
     (b"0001", 0, "UnexpectedFrame"),
     (b"0002", 0, "UnexpectedFrame"),

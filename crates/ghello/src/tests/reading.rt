@@ -39,7 +39,10 @@ pub(super) fn check_hello_refused(
     let (bytes, frame, name) = case;
     match hello_from(alloc, bytes)? {
         Ok(_) => assert!(rt; false, "{name} at {frame}"),
-        Err(fault) => assert!(rt; fault.frame == frame && fault.name() == name, "{name} at {frame}"),
+        Err(fault) => assert!(rt;
+            fault.frame == frame && fault.name() == name,
+            "{name} at {frame}"
+        ),
     }
     Ok(())
 }
@@ -54,7 +57,10 @@ pub(super) fn check_advert_refused(
 ) -> Result<(), Fail> {
     match advert_from(alloc, bytes)? {
         Ok(_) => assert!(rt; false, "{name} at {frame}"),
-        Err(fault) => assert!(rt; fault.frame == frame && fault.name() == name, "{name} at {frame}"),
+        Err(fault) => assert!(rt;
+            fault.frame == frame && fault.name() == name,
+            "{name} at {frame}"
+        ),
     }
     Ok(())
 }
