@@ -1,23 +1,22 @@
 -- Facts on advertisements: what is kept of the packets, and what may be added.
-use Rattle.std.proofs.Common.{◌≡◌, ℕ, zero, suc, ◌+◌, ◌<◌, ◌≤◌, Bool, true, false, not, ◌&&◌, cond, if◌then◌else◌, ◌==◌, nat_le, nat_lt, Bor, map, List, [], ◌∷◌, ◌++◌, length, take, drop, get_or, ◌⊎◌, inl, inr, Option, Some, None, Result, Ok, Err, refl, sym, ap, subst, ◌∙◌, append-nil, append_assoc, arith}
+use Rattle.std.proofs.Common.{◌≡◌, ℕ, zero, suc, ◌+◌, ◌<◌, ◌≤◌, Bool, true, false, not, ◌&&◌, if◌then◌else◌, ◌==◌, nat_le, nat_lt, Bor, map, List, [], ◌∷◌, ◌++◌, length, take, drop, get_or, ◌⊎◌, inl, inr, Option, Some, None, Result, Ok, Err, refl, sym, ap, subst, ◌∙◌, append-nil, arith}
 use Rattle.std.specs.Prelude.{All, IfSome, IsTrue, ⊤}
 use Rattle.std.specs.List.{cons_option, filter_map, list_all}
 use Rattle.std.proofs.lemmas.List.{drop_more, drop_all, length_push}
 use Rattle.std.proofs.lemmas.List.Elements.{All-append}
 use Rattle.std.proofs.lemmas.Bool.{and_parts, cond-true, cond-false}
 use Rattle.std.proofs.lemmas.Bool.Decides.{nat_tests}
-use Rattle.std.proofs.lemmas.Grind.{common_steps}
 use Rattle.gpkt.specs.Packets.{Packet, Data, Flush, Delim, ResponseEnd, text}
 use Rattle.gpkt.specs.Change.{Change}
-use Rattle.ggrammar.specs.Grammar.{Verdict, Open, Whole, Refused, IsOpen, if_room}
-use Rattle.ggrammar.specs.Texts.{text_in, texts_of}
+use Rattle.ggrammar.specs.Grammar.{Open, Whole, Refused, if_room}
+use Rattle.ggrammar.specs.Texts.{texts_of}
 use Rattle.ggrammar.specs.PeerErrors.{peer_error, unless_error}
 use Rattle.ggrammar.specs.Faults.{kept_text}
-use Rattle.ggrammar.specs.Capabilities.{Capability, IsWellFormed, capability_of, capability_split, has_length, is_key, is_key_byte, is_printable, is_value, key_alone, key_and_value, max_capability}
+use Rattle.ggrammar.specs.Capabilities.{Capability, IsWellFormed, capability_of, capability_split, has_length, is_key, is_key_byte, is_printable, is_value, max_capability}
 use Rattle.std.specs.Option.{option_copied}
 use Rattle.ggrammar.specs.CapabilityView.{capability_view}
 use Rattle.ggrammar.specs.declared.capability.Capability as lent
-use Rattle.ggrammar.specs.MessageReading.{IsReason, TakesPacket, HasTaken, HasRefused}
+use Rattle.ggrammar.specs.MessageReading.{IsReason, TakesPacket, HasTaken}
 use Rattle.ggrammar.specs.declared.fault.Why.{Why}
 use Rattle.ggrammar.specs.declared.fault.Why.TheVariants as why
 use Rattle.ggrammar.specs.declared.fault.MessageFault.{MessageFault}
@@ -27,7 +26,6 @@ use Rattle.ghello.specs.Building.{building_fault}
 use Rattle.ghello.specs.Reading.{ReadsMessage, TakesAs}
 use Rattle.ghello.specs.Adverts.{AreCapabilities, Says, adding_fault, brings, capabilities_in, capabilities_of, capability_packet, first_with, has_key, is_capability, is_value_or_none, judge, judge_at, judge_capability, judge_text, judge_version, max_capabilities}
 use Rattle.ghello.specs.AdvertReading.{IsKept, added_by, brings_after, capability_list, judge_after, texts_at_least}
-use Rattle.ghello.proofs.TakingLemmas.{TakesPacket-by_verdict}
 
 -- ---- looking up
 

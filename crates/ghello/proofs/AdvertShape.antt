@@ -1,19 +1,17 @@
 -- What an open list of an advertisement's packets is, and how it can end.
-use Rattle.std.proofs.Common.{◌≡◌, ℕ, ◌+◌, ◌<◌, ◌≤◌, ◌^◌, ◌⊎◌, inl, inr, Bool, true, false, if◌then◌else◌, ◌==◌, nat_lt, List, [], ◌∷◌, ◌++◌, map, length, Option, Some, None, refl, sym, ap, subst, ◌∙◌, append-nil, append_assoc, arith}
+use Rattle.std.proofs.Common.{◌≡◌, ℕ, ◌<◌, ◌≤◌, ◌^◌, ◌⊎◌, inl, inr, Bool, true, false, if◌then◌else◌, ◌==◌, nat_lt, List, [], ◌∷◌, ◌++◌, map, length, Option, Some, None, refl, sym, ap, subst, ◌∙◌, append-nil, append_assoc, arith}
 use Rattle.std.specs.List.{filter_map}
 use Rattle.std.specs.Str.{bytes_eq}
-use Rattle.std.proofs.lemmas.List.{length_push, length-map, map_push, map-append}
+use Rattle.std.proofs.lemmas.List.{length_push, length-map, map_push}
 use Rattle.std.proofs.lemmas.Bool.Decides.{nat_tests}
 use Rattle.std.proofs.lemmas.Slice.Eq.{bytes_eq-Decides}
-use Rattle.std.proofs.lemmas.Grind.{common_steps}
 use Rattle.gpkt.specs.Packets.{Packet, Data, Flush, Delim, ResponseEnd, text}
 use Rattle.ggrammar.specs.Grammar.{Verdict, Open, Whole, Refused, IsOpen, IsWhole, Begins, HasEndings, if_room}
 use Rattle.ggrammar.specs.Texts.{texts_of}
 use Rattle.ggrammar.specs.PeerErrors.{after_word, peer_error, unless_error}
 use Rattle.ggrammar.specs.Capabilities.{Capability, capability_of}
-use Rattle.ggrammar.specs.declared.fault.Why.{Why}
 use Rattle.ggrammar.specs.declared.fault.Why.TheVariants as why
-use Rattle.ghello.specs.Adverts.{IsAdvert, Says, capabilities_in, capabilities_of, judge, judge_at, judge_capability, judge_text, judge_version, max_capabilities, version}
+use Rattle.ghello.specs.Adverts.{capabilities_in, capabilities_of, judge, judge_at, judge_capability, judge_text, judge_version, max_capabilities, version}
 
 -- ---- open lists
 

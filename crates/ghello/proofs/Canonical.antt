@@ -1,8 +1,8 @@
 -- What is written says its value, in lines that fit.
-use Rattle.std.proofs.Common.{◌≡◌, ℕ, zero, suc, ◌+◌, ◌<◌, ◌≤◌, ◌&&◌, cond, if◌then◌else◌, Bool, true, false, nat_lt, codes, List, [], ◌∷◌, ◌++◌, map, length, take, drop, get_or, position, Option, Some, None, refl, sym, ap, subst, ◌∙◌, append-nil, arith}
+use Rattle.std.proofs.Common.{◌≡◌, ℕ, zero, suc, ◌+◌, ◌<◌, ◌≤◌, ◌&&◌, true, false, nat_lt, List, [], ◌∷◌, ◌++◌, map, length, take, drop, get_or, position, Option, Some, None, refl, sym, ap, ◌∙◌, append-nil, arith}
 use Rattle.std.specs.Prelude.{All, IfSome, IsTrue}
 use Rattle.std.specs.List.{list_all, position_or_len}
-use Rattle.std.proofs.lemmas.List.{take_at, take_all, drop_at, length_push, length-append, get_or_append_left, get_or_at, append_assoc}
+use Rattle.std.proofs.lemmas.List.{take_at, drop_at, length_push, length-append, get_or_append_left, get_or_at, append_assoc}
 use Rattle.std.proofs.lemmas.List.Sums.{position_or_len_is, AllPass-from_list_all}
 use Rattle.std.proofs.lemmas.List.Elements.{All-append}
 use Rattle.std.proofs.lemmas.Bool.{and_parts, cond-true, cond-false}
@@ -10,10 +10,9 @@ use Rattle.std.proofs.lemmas.Bool.Decides.{nat_tests}
 use Rattle.std.proofs.lemmas.Grind.{common_steps}
 use Rattle.gpkt.specs.Packets.{Packet, Data, Flush, text, max_payload, line_feed}
 use Rattle.gpkt.specs.Laws.{Fits, TextOfLine}
-use Rattle.ggrammar.specs.Capabilities.{Capability, IsWellFormed, capability_of, capability_split, is_equals_sign, is_key, is_key_byte, is_value, has_length, key_alone, key_and_value, max_capability}
+use Rattle.ggrammar.specs.Capabilities.{Capability, IsWellFormed, capability_of, capability_split, is_equals_sign, is_key, is_key_byte, is_value, has_length, key_and_value, max_capability}
 use Rattle.ghello.specs.Hello.{Hello, IsHello, canonical_hello, hello_payload}
-use Rattle.ghello.specs.Hello as hello
-use Rattle.ghello.specs.Adverts.{AreCapabilities, IsAdvert, canonical_advert, capability_packet, capability_text, value_text, version}
+use Rattle.ghello.specs.Adverts.{canonical_advert, capability_packet, capability_text, value_text, version}
 use Rattle.ghello.specs.Laws.{CanonicalSaysHello, CanonicalSaysAdvert, TableIsManual}
 use Rattle.ghello.proofs.HelloLemmas.{path_within, host_within}
 use Rattle.ghello.proofs.AdvertLemmas.{key_within, value_within}
@@ -51,8 +50,8 @@ found_after key value h =
     let long : length (key ++ 61 ∷ value) ≡ length key + length (61 ∷ value) = length-append key (61 ∷ value) in
     let inside : length key < length (key ++ 61 ∷ value) = omega (arith, long) in
     let place : position_or_len is_equals_sign (key ++ 61 ∷ value) ≡ length key = position_or_len_is is_equals_sign (key ++ 61 ∷ value) (length key) 0 (omega (arith, inside))
-        (λ k before. rw (get_or_append_left key (61 ∷ value) 0 k before) (no_equals_sign key h k before))
-        (λ within. rw (get_or_at key 61 value 0 (length key) refl) refl) in
+    (λ k before. rw (get_or_append_left key (61 ∷ value) 0 k before) (no_equals_sign key h k before))
+    (λ within. rw (get_or_at key 61 value 0 (length key) refl) refl) in
     rw place (cond-true (nat_lt (length key) (length (key ++ 61 ∷ value))) (Some (length key)) None (grind (arith, nat_tests)))
 
 found_nowhere : (key : List ℕ) → is_key key ≡ true → position is_equals_sign key ≡ None

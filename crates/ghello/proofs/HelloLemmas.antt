@@ -1,5 +1,5 @@
 -- Facts on hellos: the parts of a payload, and what the judge's lists are.
-use Rattle.std.proofs.Common.{◌≡◌, ℕ, ◌+◌, ◌<◌, ◌≤◌, Bool, true, false, ◌&&◌, cond, if◌then◌else◌, nat_eq, nat_le, IsTrue, ◌^◌, List, [], ◌∷◌, ◌++◌, length, take, drop, codes, position, Option, Some, None, Result, Ok, Err, inl, inr, refl, sym, ap, subst, ◌∙◌, append_assoc, arith}
+use Rattle.std.proofs.Common.{◌≡◌, ℕ, ◌+◌, ◌<◌, ◌≤◌, Bool, true, false, ◌&&◌, if◌then◌else◌, nat_eq, nat_le, ◌^◌, List, [], ◌∷◌, ◌++◌, length, take, drop, codes, position, Option, Some, None, Result, Ok, Err, refl, sym, ap, subst, ◌∙◌, append_assoc, arith}
 use Rattle.std.specs.List.{All, list_all, slice_split, starts_with, join_with_byte, position_or_len}
 use Rattle.std.specs.Prelude.{⊤}
 use Rattle.std.specs.Str.{bytes_eq}
@@ -7,12 +7,12 @@ use Rattle.std.proofs.lemmas.List.Sums.{fails_before_first, AllPass-from_list_al
 use Rattle.std.proofs.lemmas.List.Splits.{slice_split_first, slice_split_none, slice_split_at, length-slice_split, join_with_byte-slice_split}
 use Rattle.std.proofs.lemmas.List.{drop_at}
 use Rattle.std.proofs.lemmas.List.Folds.{list_all-append}
-use Rattle.std.proofs.lemmas.Bool.{and_parts, cond-true, cond-false, cases_cond}
+use Rattle.std.proofs.lemmas.Bool.{and_parts, cond-true}
 use Rattle.std.proofs.lemmas.Bool.Decides.{Decides-eqb, nat_tests}
 use Rattle.std.proofs.lemmas.Slice.Eq.{bytes_eq-Decides, starts_is}
 use Rattle.std.proofs.lemmas.Grind.{common_steps}
 use Rattle.gpkt.specs.Packets.{Packet, Data, Flush, Delim, ResponseEnd}
-use Rattle.ggrammar.specs.Grammar.{Judge, Verdict, Open, Whole, Refused, IsOpen, IsWhole, Begins, HasEndings}
+use Rattle.ggrammar.specs.Grammar.{Open, Whole, IsOpen, IsWhole, HasEndings}
 use Rattle.ggrammar.specs.Capabilities.{is_graphic, is_printable}
 use Rattle.ggrammar.specs.PeerErrors.{after_word}
 use Rattle.ghello.specs.Hello.{Hello, IsHello, Says, brings, judge, judge_payload, canonical_hello, hello_of, hello_of_parts, hello_payload, hello_with, is_host, is_nul, is_path, max_host, max_path}

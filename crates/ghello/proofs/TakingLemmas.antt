@@ -1,5 +1,5 @@
 -- A packet that is taken.
-use Rattle.std.proofs.Common.{◌≡◌, Bool, List, [], ◌∷◌, ◌++◌, Result, Ok, Err}
+use Rattle.std.proofs.Common.{Bool, List, [], ◌∷◌, ◌++◌, Result, Ok, Err}
 use Rattle.gpkt.specs.Packets.{Packet}
 use Rattle.ggrammar.specs.Grammar.{Judge}
 use Rattle.ggrammar.specs.MessageReading.{TakesPacket}

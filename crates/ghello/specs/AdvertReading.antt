@@ -1,6 +1,6 @@
 -- What a reader of an advertisement keeps: whether the version came, and the capabilities.
-use Rattle.std.specs.Prelude.{◌≡◌, ℕ, Bool, true, false, not, List, [], ◌∷◌, ◌++◌, length, ◌==◌}
-use Rattle.std.specs.Prelude.{Option, Some, None, nat_lt}
+use Rattle.std.specs.Prelude.{◌≡◌, ℕ, Bool, true, false, not, List, [], ◌∷◌, length, ◌==◌}
+use Rattle.std.specs.Prelude.{Option, Some, None}
 use Rattle.gpkt.specs.Packets.{Packet, Data, text}
 use Rattle.ggrammar.specs.Grammar.{Verdict}
 use Rattle.ggrammar.specs.Texts.{texts_of}

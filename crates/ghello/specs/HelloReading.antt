@@ -1,5 +1,5 @@
 -- What a reader of a hello keeps.
-use Rattle.std.specs.Prelude.{List, [], ◌∷◌, Option, Some, None}
+use Rattle.std.specs.Prelude.{List, [], ◌∷◌, Option, None}
 use Rattle.gpkt.specs.Packets.{Packet, Data}
 use Rattle.ghello.specs.Hello.{Hello, hello_of}
 use Rattle.ghello.specs.declared.hello.HelloText.{HelloText}

@@ -1,4 +1,4 @@
-use Rattle.std.proofs.Common.{◌≡◌, sym, subst, Err, IfErr, ◌∙◌, ap}
+use Rattle.std.proofs.Common.{◌≡◌, Err, ◌∙◌, ap}
 use Rattle.std.proofs.lemmas.Result.{err_from_is_err_and}
 use Rattle.ghello.proofs.HelloLemmas.{hello_is_read, some_is_read, refused_at_once}
 use Rattle.ghello.proofs.hello.read_hello.Goals as goal
