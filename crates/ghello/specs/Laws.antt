@@ -25,7 +25,9 @@ TableIsManual =
 
 -- packets say one hello at most, and one advertisement
 abbrev pub OneHello : Type 0
-OneHello = (packets : List Packet) (said other : hello.Hello) → hello.Says packets said → hello.Says packets other → said ≡ other
+OneHello =
+    (packets : List Packet) (said other : hello.Hello) → hello.Says packets said
+    → hello.Says packets other → said ≡ other
 
 abbrev pub OneAdvert : Type 0
 OneAdvert =
