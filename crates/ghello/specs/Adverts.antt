@@ -4,7 +4,7 @@
 --   protocol-version = PKT-LINE("version 2" LF)
 --   capability-list = *capability
 --   capability = PKT-LINE(key[=value] LF)
-use Rattle.std.specs.Prelude.{◌≡◌, ℕ, ◌≤◌, Bool, false, List, [], ◌∷◌, ◌++◌, length, map, codes, if◌then◌else◌, ◌==◌, All}
+use Rattle.std.specs.Prelude.{◌≡◌, ℕ, ◌≤◌, Bool, true, false, List, [], ◌∷◌, ◌++◌, length, map, codes, if◌then◌else◌, ◌==◌, ◌&&◌, All}
 use Rattle.std.specs.Prelude.{nat_lt, Option, Some, None}
 use Rattle.std.specs.List.{filter_map, list_any}
 use Rattle.std.specs.Str.{bytes_eq}
@@ -15,7 +15,7 @@ use Rattle.gname.specs.declared.formats.Format.TheVariants.{Sha1}
 use Rattle.ggrammar.specs.Grammar.{Verdict, Open, Whole, Refused, IsWhole, if_room}
 use Rattle.ggrammar.specs.Texts.{text_packet, texts_of}
 use Rattle.ggrammar.specs.PeerErrors.{judge_unless_error}
-use Rattle.ggrammar.specs.Capabilities.{Capability, IsWellFormed, capability_of}
+use Rattle.ggrammar.specs.Capabilities.{Capability, IsWellFormed, capability_of, is_key, is_value}
 use Rattle.ggrammar.specs.declared.fault.Why.{Why}
 use Rattle.ggrammar.specs.declared.fault.Why.TheVariants as why
 
@@ -92,9 +92,28 @@ value_text (Some value) = codes "=" ++ value
 abbrev pub capability_text : Capability → List ℕ
 capability_text capability = capability.key ++ value_text capability.value
 
-unfoldable pub canonical_advert : List Capability → List Packet
-canonical_advert capabilities =
-    text_packet version ∷ (map (λ capability. text_packet (capability_text capability)) capabilities ++ Flush ∷ [])
+abbrev pub capability_packet : Capability → Packet
+capability_packet capability = text_packet (capability_text capability)
+
+abbrev pub canonical_advert : List Capability → List Packet
+canonical_advert capabilities = text_packet version ∷ (map capability_packet capabilities ++ Flush ∷ [])
+
+-- ---- what can be added
+
+abbrev pub is_value_or_none : Option (List ℕ) → Bool
+is_value_or_none None = true
+is_value_or_none (Some value) = is_value value
+
+-- a key, and a value where there is one
+abbrev pub is_capability : Capability → Bool
+is_capability capability = is_key capability.key && is_value_or_none capability.value
+
+-- why a capability can't be added to these, if there is a reason
+abbrev pub adding_fault : List Capability → Capability → Option Why
+adding_fault capabilities capability =
+    if is_capability capability
+    then (if nat_lt (length capabilities) max_capabilities then None else Some why.Limit)
+    else Some why.BadText
 
 -- ---- what a client looks for
 

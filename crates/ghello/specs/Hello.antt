@@ -14,6 +14,7 @@ use Rattle.gpkt.specs.Packets.{Packet, Data, Flush, Delim, ResponseEnd}
 use Rattle.ggrammar.specs.Grammar.{Verdict, Whole, Refused}
 use Rattle.ggrammar.specs.Capabilities.{is_graphic, is_printable}
 use Rattle.ggrammar.specs.PeerErrors.{after_word}
+use Rattle.ggrammar.specs.declared.fault.Why.{Why}
 use Rattle.ggrammar.specs.declared.fault.Why.TheVariants.{UnexpectedFrame, BadText}
 
 -- the most bytes of a path, and of a host
@@ -39,6 +40,10 @@ pub record Hello : Type 0 where
 pub record IsHello (hello : Hello) : Type 0 where
   pub path : IsTrue (is_path hello.path)
   pub host : IsTrue (is_host hello.host)
+
+-- why there is no such hello, if there is a reason
+abbrev pub hello_fault : Hello → Option Why
+hello_fault hello = if is_path hello.path && is_host hello.host then None else Some BadText
 
 -- ---- what is written
 

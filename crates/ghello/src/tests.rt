@@ -1,0 +1,5 @@
+//! What no clause says: whole messages whose bytes were written by hand, each of them cut, and memory that ends.
+mod adverts;
+mod hellos;
+mod memory;
+mod reading;
