@@ -87,6 +87,9 @@ RefusesFirstMisfits-by_endings judge endings front packet why opened refuses = r
 
 pub LawsOf-always : (judge : Judge) → LawsOf judge
 LawsOf-always judge = record {
+  nothing = IsOpen-nil judge;
+  goes_on = λ front packet opened goes. IsOpen-push opened goes;
+  front = λ lines more opened. IsOpen-front lines more opened;
   beginnings = OpenIsUnfinished-by_endings judge;
   misfits = RefusesFirstMisfits-by_endings judge;
   one_end = IsPrefixFree-always judge;

@@ -63,8 +63,24 @@ RefusesFirstMisfits judge = (front : List Packet) (packet : Packet) (why : Why) 
 abbrev pub IsPrefixFree : Judge → Type 0
 IsPrefixFree judge = (lines back : List Packet) → IsWhole judge lines → IsWhole judge (lines ++ back) → back ≡ []
 
+-- before the first packet nothing is refused, and nothing has ended
+abbrev pub NothingIsOpen : Judge → Type 0
+NothingIsOpen judge = IsOpen judge []
+
+-- open lines go on being open with a packet with which the message goes on
+abbrev pub OpenGoesOn : Judge → Type 0
+OpenGoesOn judge = (front : List Packet) (packet : Packet) → IsOpen judge front → judge front packet ≡ Open
+    → IsOpen judge (front ++ packet ∷ [])
+
+-- the lines before others that are open are open
+abbrev pub FrontIsOpen : Judge → Type 0
+FrontIsOpen judge = (lines more : List Packet) → IsOpen judge (lines ++ more) → IsOpen judge lines
+
 -- what holds of every judge
 pub record LawsOf (judge : Judge) : Type 0 where
+  pub nothing : NothingIsOpen judge
+  pub goes_on : OpenGoesOn judge
+  pub front : FrontIsOpen judge
   pub beginnings : HasEndings judge → OpenIsUnfinished judge
   pub misfits : HasEndings judge → RefusesFirstMisfits judge
   pub one_end : IsPrefixFree judge

@@ -11,8 +11,8 @@ use gpkt::laws::{
     writes_join,
 };
 
-/// No message begins another. Where each open list has an ending, it begins a message and holds none, and a
-/// refused packet is the first that does not fit.
+/// Open lists grow packet by packet. No message begins another. Where each open list has an ending, it begins a
+/// message and holds none, and a refused packet is the first that does not fit.
 pub fn grammars_are_exact()
     ensures { (judge : Judge) → LawsOf judge }
 {}

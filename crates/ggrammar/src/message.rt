@@ -63,6 +63,8 @@ pub fn read_message<S: Source, A: Allocator + Copy, M: Message>(
     ensures read { MatchResult result
         (λ _. HasTaken (M.judge message.old) (M.brings message.old) M.holds M.left (change_of S.remaining reader.old.source reader.new.source) message.new)
         (λ fault. HasRefused (M.judge message.old) (M.brings message.old) M.holds M.left (change_of S.remaining reader.old.source reader.new.source) message.new fault) }
+    ensures judge { M.judge message.new ≡ M.judge message.old }
+    ensures brings { M.brings message.new ≡ M.brings message.old }
     ensures loans { S.loans reader.new.source ≡ S.loans reader.old.source }
     ensures device { IfErr result (λ fault. IsReadFailure reader.old.failed (S.is_down reader.new.source) fault.why) }
     ensures failed { IfErr result (λ fault. IsFailedBy fault.why reader.new.failed) }
