@@ -1,5 +1,7 @@
-//! What no clause says: whole messages whose bytes were written by hand, each of them cut, and memory that ends.
+//! What no clause says: whole messages whose bytes were written by hand, each of them cut, sinks that fail, and
+//! memory that ends.
 mod adverts;
 mod hellos;
 mod memory;
 mod reading;
+mod writing;

@@ -3,7 +3,7 @@ use crate::{Advert, Hello, read_advert, read_hello, write_advert, write_hello};
 use ggrammar::MessageFault;
 use gpkt::memory::{SliceSource, VecSink};
 use gpkt::{LineReader, LineWriter};
-use std::alloc::Global;
+use std::alloc::{Allocator, Global};
 use std::process::Abort;
 use std::test::Fail;
 
@@ -66,10 +66,10 @@ pub(super) fn check_advert_refused(
 }
 
 /// A hello is written as these bytes.
-pub(super) fn check_hello_written(
+pub(super) fn check_hello_written<A: Allocator + Copy>(
     rt: &impl Abort,
     alloc: Global,
-    hello: &Hello<Global>,
+    hello: &Hello<A>,
     bytes: &[u8],
 ) -> Result<(), Fail> {
     let mut sink = VecSink::new(alloc);
@@ -80,10 +80,10 @@ pub(super) fn check_hello_written(
 }
 
 /// An advertisement is written as these bytes.
-pub(super) fn check_advert_written(
+pub(super) fn check_advert_written<A: Allocator + Copy>(
     rt: &impl Abort,
     alloc: Global,
-    advert: &Advert<Global>,
+    advert: &Advert<A>,
     bytes: &[u8],
 ) -> Result<(), Fail> {
     let mut sink = VecSink::new(alloc);
