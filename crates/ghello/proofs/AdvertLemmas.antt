@@ -9,7 +9,7 @@ use Rattle.std.proofs.lemmas.Bool.Decides.{nat_tests}
 use Rattle.gpkt.specs.Packets.{Packet, Data, Flush, Delim, ResponseEnd, text}
 use Rattle.gpkt.specs.Change.{Change}
 use Rattle.ggrammar.specs.Grammar.{Open, Whole, Refused, if_room}
-use Rattle.ggrammar.specs.Texts.{texts_of}
+use Rattle.ggrammar.specs.Texts.{TextsOfMore, texts_of}
 use Rattle.ggrammar.specs.PeerErrors.{peer_error, unless_error}
 use Rattle.ggrammar.specs.Faults.{kept_text}
 use Rattle.ggrammar.specs.Capabilities.{Capability, IsWellFormed, capability_of, capability_split, has_length, is_key, is_key_byte, is_printable, is_value, max_capability}
@@ -145,13 +145,6 @@ packets_from capabilities at found inside is =
 
 -- ---- what is kept of the packets
 
-pub texts_of-push : (front : List Packet) (packet : Packet) → texts_of (front ++ packet ∷ []) ≡ texts_of front ++ texts_of (packet ∷ [])
-texts_of-push [] packet = refl
-texts_of-push (Data payload ∷ front) packet = ap (λ (xs : List (List ℕ)). text payload ∷ xs) (texts_of-push front packet)
-texts_of-push (Flush ∷ front) packet = texts_of-push front packet
-texts_of-push (Delim ∷ front) packet = texts_of-push front packet
-texts_of-push (ResponseEnd ∷ front) packet = texts_of-push front packet
-
 one_text : (found : Option Capability) → cons_option found [] ≡ capability_list found
 one_text None = refl
 one_text (Some capability) = refl
@@ -203,29 +196,29 @@ brings_kept front has capabilities ResponseEnd kept = refl
 pub IsKept-nil : IsKept [] false []
 IsKept-nil = record { begun = refl; listed = refl }
 
-pub IsKept-push : (front : List Packet) (has : Bool) (capabilities : List Capability) (packet : Packet) (new_has : Bool) (new_capabilities : List Capability)
+pub IsKept-push : TextsOfMore → (front : List Packet) (has : Bool) (capabilities : List Capability) (packet : Packet) (new_has : Bool) (new_capabilities : List Capability)
     → IsKept front has capabilities → (judge_after has capabilities packet ≡ Open) ⊎ (judge_after has capabilities packet ≡ Whole) → new_has ≡ true → new_capabilities ≡ capabilities ++ added_by has packet
     → IsKept (front ++ packet ∷ []) new_has new_capabilities
 unfolding judge_at
-IsKept-push front has capabilities (Data payload) new_has new_capabilities kept taken is_new adds =
-    let texts : texts_of (front ++ Data payload ∷ []) ≡ texts_of front ++ text payload ∷ [] = texts_of-push front (Data payload) in
+IsKept-push law front has capabilities (Data payload) new_has new_capabilities kept taken is_new adds =
+    let texts : texts_of (front ++ Data payload ∷ []) ≡ texts_of front ++ text payload ∷ [] = law front (Data payload ∷ []) in
     record {
       begun = rw (is_new, texts, length_push (texts_of front) (text payload)) (grind (arith, nat_tests));
       listed = adds ∙ (ap (λ (xs : List Capability). xs ++ added_by has (Data payload)) kept.listed
           ∙ (sym (capabilities_in-push has (texts_of front) payload kept.begun) ∙ ap capabilities_in (sym texts)));
     }
-IsKept-push front true capabilities Flush new_has new_capabilities kept taken is_new adds =
-    let texts : texts_of (front ++ Flush ∷ []) ≡ texts_of front = texts_of-push front Flush ∙ append-nil (texts_of front) in
+IsKept-push law front true capabilities Flush new_has new_capabilities kept taken is_new adds =
+    let texts : texts_of (front ++ Flush ∷ []) ≡ texts_of front = law front (Flush ∷ []) ∙ append-nil (texts_of front) in
     record {
       begun = rw (is_new, texts) kept.begun;
       listed = adds ∙ (append-nil capabilities ∙ (kept.listed ∙ ap capabilities_in (sym texts)));
     }
-IsKept-push front false capabilities Flush new_has new_capabilities kept (inl e) is_new adds = absurd cc
-IsKept-push front false capabilities Flush new_has new_capabilities kept (inr e) is_new adds = absurd cc
-IsKept-push front has capabilities Delim new_has new_capabilities kept (inl e) is_new adds = absurd cc
-IsKept-push front has capabilities Delim new_has new_capabilities kept (inr e) is_new adds = absurd cc
-IsKept-push front has capabilities ResponseEnd new_has new_capabilities kept (inl e) is_new adds = absurd cc
-IsKept-push front has capabilities ResponseEnd new_has new_capabilities kept (inr e) is_new adds = absurd cc
+IsKept-push law front false capabilities Flush new_has new_capabilities kept (inl e) is_new adds = absurd cc
+IsKept-push law front false capabilities Flush new_has new_capabilities kept (inr e) is_new adds = absurd cc
+IsKept-push law front has capabilities Delim new_has new_capabilities kept (inl e) is_new adds = absurd cc
+IsKept-push law front has capabilities Delim new_has new_capabilities kept (inr e) is_new adds = absurd cc
+IsKept-push law front has capabilities ResponseEnd new_has new_capabilities kept (inl e) is_new adds = absurd cc
+IsKept-push law front has capabilities ResponseEnd new_has new_capabilities kept (inr e) is_new adds = absurd cc
 
 -- ---- taking a packet
 
@@ -252,14 +245,14 @@ capability_is_taken true new_has capabilities new_capabilities payload line resu
     rw none (subst (λ (l : List ℕ). TakesAs (judge_capability (length capabilities) (capability_of l)) true ((new_has ≡ true) × (new_capabilities ≡ capabilities ++ capability_list (capability_of l))) result) same h)
 
 module _ {M : Type 0} (has : M → Bool) (kept : M → List Capability) where
-  pub advert_takes : (front : List Packet) (packet : Packet) (old new : M) (result : Result Step Why) → IsKept front (has old) (kept old)
+  pub advert_takes : TextsOfMore → (front : List Packet) (packet : Packet) (old new : M) (result : Result Step Why) → IsKept front (has old) (kept old)
       → TakesAs (judge_after (has old) (kept old) packet) (brings_after (has old) packet) ((has new ≡ true) × (kept new ≡ kept old ++ added_by (has old) packet)) result
       → TakesPacket judge brings (λ reader packets. IsKept packets (has reader) (kept reader)) (λ reader packets. ⊤) front packet new result
-  advert_takes front packet old new (Ok step.Open) held h =
-      (judge_kept front (has old) (kept old) packet held ∙ h.0, IsKept-push front (has old) (kept old) packet (has new) (kept new) held (inl h.0) h.1.0 h.1.1)
-  advert_takes front packet old new (Ok step.Whole) held h =
-      (judge_kept front (has old) (kept old) packet held ∙ h.0, IsKept-push front (has old) (kept old) packet (has new) (kept new) held (inr h.0) h.1.0 h.1.1)
-  advert_takes front packet old new (Err why) held h =
+  advert_takes law front packet old new (Ok step.Open) held h =
+      (judge_kept front (has old) (kept old) packet held ∙ h.0, IsKept-push law front (has old) (kept old) packet (has new) (kept new) held (inl h.0) h.1.0 h.1.1)
+  advert_takes law front packet old new (Ok step.Whole) held h =
+      (judge_kept front (has old) (kept old) packet held ∙ h.0, IsKept-push law front (has old) (kept old) packet (has new) (kept new) held (inr h.0) h.1.0 h.1.1)
+  advert_takes law front packet old new (Err why) held h =
       (rw (judge_kept front (has old) (kept old) packet held, brings_kept front (has old) (kept old) packet held) h, tt)
 
   pub advert_is_read : (bytes : Change) (message : M) → HasTaken judge brings (λ reader packets. IsKept packets (has reader) (kept reader)) (λ reader packets. ⊤) bytes message

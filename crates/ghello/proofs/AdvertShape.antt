@@ -6,39 +6,12 @@ use Rattle.std.proofs.lemmas.List.{length_push, length-map, map_push}
 use Rattle.std.proofs.lemmas.Bool.Decides.{nat_tests}
 use Rattle.std.proofs.lemmas.Slice.Eq.{bytes_eq-Decides}
 use Rattle.gpkt.specs.Packets.{Packet, Data, Flush, Delim, ResponseEnd, text}
-use Rattle.ggrammar.specs.Grammar.{Verdict, Open, Whole, Refused, IsOpen, IsWhole, Begins, HasEndings, if_room}
+use Rattle.ggrammar.specs.Grammar.{Verdict, Open, Whole, Refused, IsOpen, IsWhole, Begins, HasEndings, LawsOf, if_room}
 use Rattle.ggrammar.specs.Texts.{texts_of}
 use Rattle.ggrammar.specs.PeerErrors.{after_word, peer_error, unless_error}
 use Rattle.ggrammar.specs.Capabilities.{Capability, capability_of}
 use Rattle.ggrammar.specs.declared.fault.Why.TheVariants as why
 use Rattle.ghello.specs.Adverts.{capabilities_in, capabilities_of, judge, judge_at, judge_capability, judge_text, judge_version, max_capabilities, version}
-
--- ---- open lists
-
-nowhere : (front : List Packet) (packet : Packet) (back : List Packet) → [] ≡ front ++ packet ∷ back → ⊥
-nowhere [] packet back e = cc
-nowhere (first ∷ front) packet back e = cc
-
-pub nothing_is_open : IsOpen judge []
-nothing_is_open = record { each = λ front packet back e. absurd (nowhere front packet back e) }
-
--- a place of a list with one more is the last, or one of the list's
-split_push : {X : Type 0} (xs : List X) (x : X) (front : List X) (y : X) (back : List X) → xs ++ x ∷ [] ≡ front ++ y ∷ back
-    → ((front ≡ xs) × (y ≡ x)) ⊎ ((more : List X) × (xs ≡ front ++ y ∷ more))
-split_push [] x [] y back e = inl (refl, cc)
-split_push [] x (z ∷ []) y back e = absurd cc
-split_push [] x (z ∷ w ∷ front) y back e = absurd cc
-split_push (w ∷ xs) x [] y back e = inr (xs, cc)
-split_push (w ∷ xs) x (z ∷ front) y back e =
-    let same : w ≡ z = cc in
-    let rest : xs ++ x ∷ [] ≡ front ++ y ∷ back = cc in
-    elim (split_push xs x front y back rest) [ inl h ↦ inl (cc, h.1) | inr h ↦ inr (h.0, (let more : xs ≡ front ++ y ∷ h.0 = h.1 in cc)) ]
-
-pub IsOpen-push : (front : List Packet) (packet : Packet) → IsOpen judge front → judge front packet ≡ Open → IsOpen judge (front ++ packet ∷ [])
-IsOpen-push front packet opened goes = record {
-  each = λ before one back e.
-      elim (split_push front packet before one back e) [ inl h ↦ cc (goes, h.0, h.1) | inr h ↦ opened.each before one h.0 h.1 ];
-}
 
 -- ---- what an open list is, once the version came
 
@@ -173,18 +146,18 @@ version_goes : judge [] (Data version) ≡ Open
 unfolding judge_at after_word
 version_goes = refl
 
-ending : (front : List Packet) → IsOpen judge front → Shape front → Begins judge front
-ending front opened (inl e) = (
+ending : LawsOf judge → (front : List Packet) → IsOpen judge front → Shape front → Begins judge front
+ending laws front opened (inl e) = (
   Data version ∷ Flush ∷ [],
   subst (λ (xs : List Packet). IsWhole judge (xs ++ Data version ∷ Flush ∷ [])) (sym e) (record {
     front = Data version ∷ [];
     last = Flush;
     parts = refl;
-    goes = IsOpen-push [] (Data version) nothing_is_open version_goes;
+    goes = laws.goes_on [] (Data version) laws.nothing version_goes;
     ends = begun_flush (Data version ∷ []) [] (HasBegun-first version refl);
   }),
 )
-ending front opened (inr h) = (Flush ∷ [], record { front = front; last = Flush; parts = refl; goes = opened; ends = begun_flush front h.0 h.1 })
+ending laws front opened (inr h) = (Flush ∷ [], record { front = front; last = Flush; parts = refl; goes = opened; ends = begun_flush front h.0 h.1 })
 
-pub advert_has_endings : HasEndings judge
-advert_has_endings front opened = ending front opened (open_shape front opened)
+pub advert_has_endings : LawsOf judge → HasEndings judge
+advert_has_endings laws front opened = ending laws front opened (open_shape front opened)

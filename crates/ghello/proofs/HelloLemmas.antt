@@ -12,7 +12,7 @@ use Rattle.std.proofs.lemmas.Bool.Decides.{Decides-eqb, nat_tests}
 use Rattle.std.proofs.lemmas.Slice.Eq.{bytes_eq-Decides, starts_is}
 use Rattle.std.proofs.lemmas.Grind.{common_steps}
 use Rattle.gpkt.specs.Packets.{Packet, Data, Flush, Delim, ResponseEnd}
-use Rattle.ggrammar.specs.Grammar.{Open, Whole, IsOpen, IsWhole, HasEndings}
+use Rattle.ggrammar.specs.Grammar.{Open, Whole, IsOpen, IsWhole, HasEndings, NothingIsOpen}
 use Rattle.ggrammar.specs.Capabilities.{is_graphic, is_printable}
 use Rattle.ggrammar.specs.PeerErrors.{after_word}
 use Rattle.ghello.specs.Hello.{Hello, IsHello, Says, brings, judge, judge_payload, canonical_hello, hello_of, hello_of_parts, hello_payload, hello_with, is_host, is_nul, is_path, max_host, max_path}
@@ -201,13 +201,6 @@ one_hello packets said other says also =
 
 -- ---- the judge's lists
 
-nowhere : (front : List Packet) (packet : Packet) (back : List Packet) → [] ≡ front ++ packet ∷ back → ⊥
-nowhere [] packet back e = cc
-nowhere (first ∷ front) packet back e = cc
-
-nothing_is_open : IsOpen judge []
-nothing_is_open = record { each = λ front packet back e. absurd (nowhere front packet back e) }
-
 payload_never_open : (said : Option Hello) → judge_payload said ≡ Open → ⊥
 payload_never_open None e = cc
 payload_never_open (Some hello) e = cc
@@ -253,13 +246,13 @@ packet_says (Delim ∷ packets) hello e = absurd cc
 packet_says (ResponseEnd ∷ packets) hello e = absurd cc
 
 -- a list that says a hello is whole
-pub said_is_whole : (packets : List Packet) (hello : Hello) → Says packets hello → IsWhole judge packets
+pub said_is_whole : NothingIsOpen judge → (packets : List Packet) (hello : Hello) → Says packets hello → IsWhole judge packets
 unfolding canonical_hello
-said_is_whole packets hello says = record {
+said_is_whole nothing packets hello says = record {
   front = [];
   last = Data (hello_payload hello);
   parts = says.line;
-  goes = nothing_is_open;
+  goes = nothing;
   ends = ap judge_payload (line_is_said hello says.form);
 }
 
@@ -272,9 +265,12 @@ sample_form : IsHello sample
 unfolding is_path is_host sample
 sample_form = record { path = refl; host = refl }
 
-pub hello_has_endings : HasEndings judge
-hello_has_endings packets opened =
-    (canonical_hello sample, subst (λ (front : List Packet). IsWhole judge (front ++ canonical_hello sample)) (sym (open_is_empty packets opened)) (said_is_whole (canonical_hello sample) sample (record { form = sample_form; line = refl })))
+pub hello_has_endings : NothingIsOpen judge → HasEndings judge
+hello_has_endings nothing packets opened = (
+  canonical_hello sample,
+  subst (λ (front : List Packet). IsWhole judge (front ++ canonical_hello sample)) (sym (open_is_empty packets opened))
+      (said_is_whole nothing (canonical_hello sample) sample (record { form = sample_form; line = refl })),
+)
 
 -- ---- reading
 

@@ -9,16 +9,15 @@ use Rattle.std.proofs.lemmas.Bool.Decides.{nat_tests}
 use Rattle.std.proofs.lemmas.Slice.Eq.{bytes_eq-Decides}
 use Rattle.gpkt.specs.Packets.{Packet, Data, Flush, Delim, ResponseEnd, text}
 use Rattle.gpkt.specs.Laws.{TextOrLine}
-use Rattle.ggrammar.specs.Grammar.{Verdict, Open, Whole, Refused, IsOpen, if_room}
+use Rattle.ggrammar.specs.Grammar.{Verdict, Open, Whole, Refused, IsOpen, LawsOf, if_room}
 use Rattle.ggrammar.specs.PeerErrors.{peer_error, unless_error}
-use Rattle.ggrammar.specs.Texts.{texts_of}
+use Rattle.ggrammar.specs.Texts.{TextsOfMore, texts_of}
 use Rattle.ggrammar.specs.Capabilities.{Capability, capability_of, capability_split, has_length, is_equals_sign, is_key, is_key_byte, is_value}
 use Rattle.ggrammar.specs.declared.fault.Why.TheVariants as why
 use Rattle.ghello.specs.Adverts.{IsAdvert, Says, capabilities_in, capabilities_of, judge, judge_at, judge_capability, judge_version, max_capabilities, version}
 use Rattle.ghello.specs.Laws.{TableIsManual}
 use Rattle.ghello.proofs.HelloLemmas.{follows_word}
-use Rattle.ghello.proofs.AdvertLemmas.{texts_of-push}
-use Rattle.ghello.proofs.AdvertShape.{HasBegun, HasBegun-first, HasBegun-push, IsOpen-push, Shape, begun_capabilities, begun_flush, begun_judge, nothing_is_open, open_shape}
+use Rattle.ghello.proofs.AdvertShape.{HasBegun, HasBegun-first, HasBegun-push, Shape, begun_capabilities, begun_flush, begun_judge, open_shape}
 
 -- ---- what the table accepts is in the manual
 
@@ -49,15 +48,15 @@ flush_ends front (Data payload) (inl empty) e =
 flush_ends front (Data payload) (inr h) e =
     absurd (no_whole_capability (length h.0) (capability_of (text payload)) (whole_unless (peer_error payload) _ (sym (begun_judge front h.0 payload h.1) ∙ e)))
 
-capabilities_of-flush : (front : List Packet) → capabilities_of (front ++ Flush ∷ []) ≡ capabilities_of front
-capabilities_of-flush front = ap capabilities_in (texts_of-push front Flush ∙ append-nil (texts_of front))
+capabilities_of-flush : TextsOfMore → (front : List Packet) → capabilities_of (front ++ Flush ∷ []) ≡ capabilities_of front
+capabilities_of-flush more front = ap capabilities_in (more front (Flush ∷ []) ∙ append-nil (texts_of front))
 
-said_is_advert : (packets : List Packet) (capabilities : List Capability) → Says packets capabilities → IsAdvert packets capabilities
-said_is_advert packets capabilities says =
+said_is_advert : TextsOfMore → (packets : List Packet) (capabilities : List Capability) → Says packets capabilities → IsAdvert packets capabilities
+said_is_advert more packets capabilities says =
     let h = flush_ends says.whole.front says.whole.last (open_shape says.whole.front says.whole.goes) says.whole.ends in
     let begun = h.1.1 in
     let parts : packets ≡ says.whole.front ++ Flush ∷ [] = says.whole.parts ∙ ap (λ (last : Packet). says.whole.front ++ last ∷ []) h.0 in
-    let same : h.1.0 ≡ capabilities = sym (begun_capabilities says.whole.front h.1.0 begun) ∙ (sym (capabilities_of-flush says.whole.front) ∙ (ap capabilities_of (sym parts) ∙ sym says.says)) in
+    let same : h.1.0 ≡ capabilities = sym (begun_capabilities says.whole.front h.1.0 begun) ∙ (sym (capabilities_of-flush more says.whole.front) ∙ (ap capabilities_of (sym parts) ∙ sym says.says)) in
     subst (IsAdvert packets) same (record {
       first = begun.first;
       payloads = begun.payloads;
@@ -114,7 +113,7 @@ capability_reports_none law payload (Some said) capability is e = absurd (let h 
 
 -- ---- what is in the manual the table accepts
 
-module _ (law : TextOrLine) where
+module _ (law : TextOrLine) (more_texts : TextsOfMore) (laws : LawsOf judge) where
   version_goes : (payload : List ℕ) → text payload ≡ version → judge [] (Data payload) ≡ Open
   unfolding judge_at
   version_goes payload is =
@@ -146,19 +145,19 @@ module _ (law : TextOrLine) where
       let goes = capability_goes front capabilities payload capability begun is few_before in
       let lines : (front ++ Data payload ∷ []) ++ map Data payloads ≡ front ++ Data payload ∷ map Data payloads = append_assoc front (Data payload ∷ []) (map Data payloads) in
       let all : (capabilities ++ capability ∷ []) ++ more ≡ capabilities ++ capability ∷ more = append_assoc capabilities (capability ∷ []) more in
-      let h = all_go (front ++ Data payload ∷ []) (capabilities ++ capability ∷ []) payloads more (IsOpen-push front (Data payload) opened goes)
+      let h = all_go (front ++ Data payload ∷ []) (capabilities ++ capability ∷ []) payloads more (laws.goes_on front (Data payload) opened goes)
       (HasBegun-push front capabilities payload capability begun is few_before) rest (rw all few) in
       (subst (IsOpen judge) lines h.0, subst (λ (xs : List Packet). HasBegun xs (capabilities ++ capability ∷ more)) lines (subst (HasBegun ((front ++ Data payload ∷ []) ++ map Data payloads)) all h.1))
 
   advert_is_said : (packets : List Packet) (capabilities : List Capability) → IsAdvert packets capabilities → Says packets capabilities
   advert_is_said packets capabilities advert =
       let begun = HasBegun-first advert.first advert.is_version in
-      let h = all_go (Data advert.first ∷ []) [] advert.payloads capabilities (IsOpen-push [] (Data advert.first) nothing_is_open (version_goes advert.first advert.is_version)) begun advert.each advert.few in
+      let h = all_go (Data advert.first ∷ []) [] advert.payloads capabilities (laws.goes_on [] (Data advert.first) laws.nothing (version_goes advert.first advert.is_version)) begun advert.each advert.few in
       let front = Data advert.first ∷ map Data advert.payloads in
       record {
         whole = record { front = front; last = Flush; parts = advert.parts; goes = h.0; ends = begun_flush front capabilities h.1 };
-        says = sym (ap capabilities_of advert.parts ∙ (capabilities_of-flush front ∙ begun_capabilities front capabilities h.1));
+        says = sym (ap capabilities_of advert.parts ∙ (capabilities_of-flush more_texts front ∙ begun_capabilities front capabilities h.1));
       }
 
   pub table_is_manual : TableIsManual
-  table_is_manual packets capabilities = (said_is_advert packets capabilities, advert_is_said packets capabilities)
+  table_is_manual packets capabilities = (said_is_advert more_texts packets capabilities, advert_is_said packets capabilities)

@@ -19,7 +19,7 @@ ghost use Rattle.ghello.specs.AdvertReading.{IsKept, added_by, brings_after, jud
 use crate::building::refused;
 use crate::compose::add;
 use arrayvec::ArrayVec;
-use ggrammar::laws::writes_lines;
+use ggrammar::laws::{grammars_are_exact, texts_are_read, writes_lines};
 use ggrammar::{
     Capability, Message, MessageFault, PeerText, Step, Why, capability_of, is_key, is_value,
     peer_error, read_message,
@@ -457,8 +457,11 @@ impl<A: Allocator + Copy> Message for AdvertReader<A> {
     ghost left = { λ reader packets. ⊤ };
 
     fn take(&mut self, line: Line<'_>) -> Result<Step, Why> {
+        texts_are_read();
         self.take_packet(line)
     }
 
-    fn laws() {}
+    fn laws() {
+        grammars_are_exact();
+    }
 }

@@ -16,7 +16,7 @@ ghost use Rattle.ghello.specs.HelloReading.{hello_in, hello_view};
 use crate::building::refused;
 use crate::compose::add;
 use arrayvec::ArrayVec;
-use ggrammar::laws::writes_lines;
+use ggrammar::laws::{grammars_are_exact, writes_lines};
 use ggrammar::{Message, MessageFault, Step, Why, after_word, read_message};
 use gpkt::{Line, LineReader, LineWriter, Sink, Source, WriteFault};
 use std::alloc::{AllocError, Allocator};
@@ -312,5 +312,7 @@ impl<A: Allocator + Copy> Message for HelloReader<A> {
         self.take_packet(line)
     }
 
-    fn laws() {}
+    fn laws() {
+        grammars_are_exact();
+    }
 }

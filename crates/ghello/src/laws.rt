@@ -5,6 +5,7 @@ ghost use Rattle.ghello.specs.Laws.{CanonicalSaysAdvert, CanonicalSaysHello, One
 ghost use Rattle.ghello.specs.Hello as hello;
 ghost use Rattle.ghello.specs.Adverts as advert;
 
+use ggrammar::laws::{grammars_are_exact, texts_are_read};
 use gpkt::laws::text_reads_back;
 
 /// Packets say at most one hello, and at most one advertisement.
@@ -17,20 +18,26 @@ pub fn one_meaning()
 pub fn hellos_are_their_lines()
     ensures payload { PayloadSaysHello }
     ensures packets { WholeSaysHello }
-{}
+{
+    grammars_are_exact();
+}
 
 /// Packets are read as an advertisement exactly where the manual's grammar has them, with the same capabilities.
 pub fn adverts_are_the_manuals()
     ensures { TableIsManual }
 {
     text_reads_back();
+    texts_are_read();
+    grammars_are_exact();
 }
 
 /// What begins a hello, or an advertisement, can be ended.
 pub fn beginnings_have_endings()
     ensures hello { HasEndings hello.judge }
     ensures advert { HasEndings advert.judge }
-{}
+{
+    grammars_are_exact();
+}
 
 /// What is written of a hello, or of an advertisement, says it, and each of its lines fits a packet.
 pub fn canonical_says()

@@ -182,15 +182,19 @@ const LENGTHS: &[(usize, usize, bool)] = &[
     (1, 0, false),
 ];
 
+fn capability_with<'a>(key: &'a [u8], value: &'a [u8]) -> Capability<'a> {
+    Capability {
+        key,
+        value: Some(value),
+    }
+}
+
 #[test]
 fn the_longest_key_and_value_are_kept(rt: HostRuntime) -> Result<(), Fail> {
     for (key_len, value_len, is_kept) in LENGTHS {
         let key = vec![in rt.alloc(); b'k'; *key_len]?;
         let value = vec![in rt.alloc(); b'v'; *value_len]?;
-        let capability = Capability {
-            key: key.as_slice(),
-            value: Some(value.as_slice()),
-        };
+        let capability = capability_with(key.as_slice(), value.as_slice());
         let mut advert = Advert::new(rt.alloc());
         match advert.push(capability) {
             Ok(()) => assert!(rt; *is_kept && advert.at(0) == Some(capability)),

@@ -37,12 +37,12 @@ pub(super) fn check_hello_refused(
     case: Refused,
 ) -> Result<(), Fail> {
     let (bytes, frame, name) = case;
-    match hello_from(alloc, bytes)? {
-        Ok(_) => assert!(rt; false, "{name} at {frame}"),
-        Err(fault) => assert!(rt;
+    match hello_from(alloc, bytes)?.err() {
+        Some(fault) => assert!(rt;
             fault.frame == frame && fault.name() == name,
             "{name} at {frame}"
         ),
+        None => assert!(rt; false, "{name} at {frame}"),
     }
     Ok(())
 }
@@ -55,12 +55,12 @@ pub(super) fn check_advert_refused(
     frame: u64,
     name: &str,
 ) -> Result<(), Fail> {
-    match advert_from(alloc, bytes)? {
-        Ok(_) => assert!(rt; false, "{name} at {frame}"),
-        Err(fault) => assert!(rt;
+    match advert_from(alloc, bytes)?.err() {
+        Some(fault) => assert!(rt;
             fault.frame == frame && fault.name() == name,
             "{name} at {frame}"
         ),
+        None => assert!(rt; false, "{name} at {frame}"),
     }
     Ok(())
 }
