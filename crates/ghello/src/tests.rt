@@ -1,5 +1,5 @@
-//! What no clause says: whole messages whose bytes were written by hand, each of them cut, sinks that fail, and
-//! memory that ends.
+//! What no clause says: whole messages whose bytes were written by hand, each of them cut; how much stands written
+//! where a sink fails; and memory that ends.
 mod adverts;
 mod hellos;
 mod memory;
