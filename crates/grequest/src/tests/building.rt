@@ -26,8 +26,11 @@ fn code(rt: &impl Abort, built: Result<(), MessageFault>) -> u32 {
 
 // An id of each format.
 fn id(rt: &impl Abort, format: Format) -> Oid {
-    let digits = [b'a'; 64];
-    Oid::from_hex_in(format, &digits[..format.id_text_length()]).expect(rt, "an id")
+    let digits: &[u8] = match format {
+        Format::Sha1 => &[b'a'; 40],
+        Format::Sha256 => &[b'a'; 64],
+    };
+    Oid::from_hex_in(format, digits).expect(rt, "an id")
 }
 
 #[test]

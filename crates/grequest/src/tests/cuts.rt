@@ -1,5 +1,5 @@
 // Every sample cut after each of its bytes.
-use crate::tests::samples::{SAMPLES, Sample, join, refusal};
+use crate::tests::samples::{SAMPLES, join, refusal};
 use gname::Format;
 use std::alloc::Global;
 use std::process::Abort;
@@ -32,32 +32,12 @@ fn check_cuts(
     Ok(())
 }
 
-// Cuts these of the samples.
-fn check_samples(rt: &impl Abort, alloc: Global, samples: &[Sample]) -> Result<(), Fail> {
-    for (format, packets, _) in samples {
+#[test]
+fn samples_are_cut_after_each_byte(rt: HostRuntime) -> Result<(), Fail> {
+    for (format, packets, _) in SAMPLES {
         for frame in 0..packets.len() {
-            check_cuts(rt, alloc, *format, &packets[..frame], packets[frame])?;
+            check_cuts(&rt, rt.alloc(), *format, &packets[..frame], packets[frame])?;
         }
     }
     Ok(())
-}
-
-#[test]
-fn small_ones_cut_after_each_byte(rt: HostRuntime) -> Result<(), Fail> {
-    check_samples(&rt, rt.alloc(), &SAMPLES[..4])
-}
-
-#[test]
-fn ls_refs_cut_after_each_byte(rt: HostRuntime) -> Result<(), Fail> {
-    check_samples(&rt, rt.alloc(), &SAMPLES[4..5])
-}
-
-#[test]
-fn fetch_cut_after_each_byte(rt: HostRuntime) -> Result<(), Fail> {
-    check_samples(&rt, rt.alloc(), &SAMPLES[5..6])
-}
-
-#[test]
-fn sha256_cut_after_each_byte(rt: HostRuntime) -> Result<(), Fail> {
-    check_samples(&rt, rt.alloc(), &SAMPLES[6..])
 }
