@@ -1,6 +1,5 @@
 // Bytes that are no request: the packet at which they are refused, and the number of the fault.
-use crate::tests::samples::{join, read, refusal};
-use ggrammar::Why;
+use crate::tests::samples::{join, refusal};
 use gname::Format;
 use gpkt::LineReader;
 use gpkt::memory::SliceSource;
@@ -270,20 +269,6 @@ fn lengths_have_limits(rt: HostRuntime) -> Result<(), Fail> {
         let input = join(rt.alloc(), &[*before, *last])?;
         let fault = refusal(rt.alloc(), Format::Sha1, input.as_slice(), rt.alloc())?;
         assert_eq!(rt; fault, Some((*frame, *code)), "at {before:?}");
-    }
-    Ok(())
-}
-
-// What the peer said is kept.
-#[test]
-fn errors_of_peers_are_kept(rt: HostRuntime) -> Result<(), Fail> {
-    let input = b"0012command=fetch\n0010ERR no more\n";
-    match read(rt.alloc(), Format::Sha1, input)? {
-        Err(fault) => match &fault.why {
-            Why::RemoteErr(said) => assert_eq!(rt; said.as_bytes(), b"no more".as_slice()),
-            why => assert!(rt; false, "{why}"),
-        },
-        Ok(_) => assert!(rt; false),
     }
     Ok(())
 }
