@@ -9,7 +9,8 @@ use Rattle.gname.specs.Formats.{format_name}
 use Rattle.gname.specs.Ids.{IsIdOf, id_text}
 use Rattle.gname.specs.declared.formats.Format.{Format}
 use Rattle.gname.specs.declared.formats.Format.TheVariants.{Sha1, Sha256}
-use Rattle.gname.proofs.NameLemmas.{prefix_within}
+use Rattle.gname.specs.Laws.{PrefixesAreClean}
+use Rattle.ggrammar.specs.Grammar.{Judge, LawsOf}
 use Rattle.ggrammar.specs.Texts.{text_packet}
 use Rattle.grequest.specs.declared.command.Command.{Command}
 use Rattle.grequest.specs.declared.command.Command.TheVariants.{LsRefs, Fetch}
@@ -25,7 +26,7 @@ use Rattle.grequest.proofs.Texts.{text_of_line}
 use Rattle.grequest.proofs.ManualRequests.{judge_from_manual}
 use Rattle.grequest.proofs.WrittenLists.{flag_texts, line_of, lines_are_packets, texts_of_lines, All-flag, All-imply}
 use Rattle.grequest.proofs.WrittenTexts.{agent_text, agent_texts, format_texts, capability_words, prefix_text, want_text, have_text, ls_texts, fetch_texts, capability_lines, ls_lines, fetch_lines}
-use Rattle.grequest.proofs.WrittenCapabilities.{word_value_is_short, Capable, capable, id_text_is_short}
+use Rattle.grequest.proofs.WrittenCapabilities.{word_value_is_short, Capable, capable, AreSpelt, id_text_is_short}
 use Rattle.grequest.proofs.WrittenArguments.{says_ls, flags_texts, then_ids, done_said, thin_said, quiet_said, tags_said, delta_said, wants_said, haves_said, are_fetch}
 
 -- ---- the whole request
@@ -130,12 +131,12 @@ ls_request format asked h =
     (omega (arith, ls_count asked h.few))
     (ap Ls (same_ls (sym (ap first_of able.named ∙ first_of_list asked.agent)) (sym says.symrefs) (sym says.peel) (sym says.unborn) (sym says.prefixes)))
 
-fetch_request : (format : Format) (asked : FetchAsked) → IsFetchAsked format asked → IsCommandRequest format (command_packets format Fetch asked.agent (fetch_argument_packets asked)) (Fetches asked)
-fetch_request format asked h =
+fetch_request : AreSpelt → (format : Format) (asked : FetchAsked) → IsFetchAsked format asked → IsCommandRequest format (command_packets format Fetch asked.agent (fetch_argument_packets asked)) (Fetches asked)
+fetch_request spelt format asked h =
     let able = capable format asked.agent h.agent in
-    let want = wants_said format asked h.wants in
-    let have = haves_said format asked h.haves in
-    command_request format Fetch asked.agent (fetch_argument_packets asked) (fetch_texts asked) (Fetches asked) (fetch_lines asked) able (are_fetch format asked h)
+    let want = wants_said spelt format asked h.wants in
+    let have = haves_said spelt format asked h.haves in
+    command_request format Fetch asked.agent (fetch_argument_packets asked) (fetch_texts asked) (Fetches asked) (fetch_lines asked) able (are_fetch spelt format asked h)
     (omega (arith, ap length want, h.few_wants), omega (arith, ap length have, h.few_haves))
     (omega (arith, fetch_count asked h.few_wants h.few_haves))
     (ap Fetches (same_fetch (sym (ap first_of able.named ∙ first_of_list asked.agent)) (sym want) (sym have) (sym (done_said asked))
@@ -144,11 +145,11 @@ fetch_request format asked h =
     (sym (then_ids is_include_tag asked asked.include_tag (λ id. refl) (λ id. refl) refl (tags_said asked)))
     (sym (then_ids is_ofs_delta asked asked.ofs_delta (λ id. refl) (λ id. refl) refl (delta_said asked)))))
 
-canonical_is_request : (format : Format) (asked : Asked) → IsAsked format asked → IsRequest format (canonical_request format asked) asked
+canonical_is_request : AreSpelt → (format : Format) (asked : Asked) → IsAsked format asked → IsRequest format (canonical_request format asked) asked
 unfolding canonical_request
-canonical_is_request format Empty h = inl (refl, refl)
-canonical_is_request format (Ls asked) h = inr (ls_request format asked h)
-canonical_is_request format (Fetches asked) h = inr (fetch_request format asked h)
+canonical_is_request spelt format Empty h = inl (refl, refl)
+canonical_is_request spelt format (Ls asked) h = inr (ls_request format asked h)
+canonical_is_request spelt format (Fetches asked) h = inr (fetch_request spelt format asked h)
 
 -- ---- each line fits a packet
 
@@ -189,8 +190,8 @@ request_fits format command agent packets texts e able short =
     (All-cons Fits Delim (packets ++ Flush ∷ []) (omega arith)
     (All-append Fits packets (Flush ∷ []) (fit_texts packets texts e short) (All-cons Fits Flush [] (omega arith) (All-nil Fits)))))
 
-short_ls : (asked : LsRefsAsked) → IsLsRefsAsked asked → All IsShort (ls_texts asked)
-short_ls asked h =
+short_ls : PrefixesAreClean → (asked : LsRefsAsked) → IsLsRefsAsked asked → All IsShort (ls_texts asked)
+short_ls clean asked h =
     let peel = flag_texts (codes "peel") asked.peel in
     let symrefs = flag_texts (codes "symrefs") asked.symrefs in
     let unborn = flag_texts (codes "unborn") asked.unborn in
@@ -198,10 +199,10 @@ short_ls asked h =
     (All-append IsShort (peel ++ symrefs) unborn
     (All-append IsShort peel symrefs (All-flag IsShort (codes "peel") asked.peel (omega arith)) (All-flag IsShort (codes "symrefs") asked.symrefs (omega arith)))
     (All-flag IsShort (codes "unborn") asked.unborn (omega arith)))
-    (All-map IsShort prefix_text asked.prefixes (All-imply IsPrefix (λ prefix. IsShort (prefix_text prefix)) (λ prefix well. omega (arith, length-append (codes "ref-prefix ") prefix, prefix_within prefix well)) asked.prefixes h.prefixes))
+    (All-map IsShort prefix_text asked.prefixes (All-imply IsPrefix (λ prefix. IsShort (prefix_text prefix)) (λ prefix well. omega (arith, length-append (codes "ref-prefix ") prefix, (clean prefix well).within)) asked.prefixes h.prefixes))
 
-short_fetch : (format : Format) (asked : FetchAsked) → IsFetchAsked format asked → All IsShort (fetch_texts asked)
-short_fetch format asked h =
+short_fetch : AreSpelt → (format : Format) (asked : FetchAsked) → IsFetchAsked format asked → All IsShort (fetch_texts asked)
+short_fetch spelt format asked h =
     let thin = flag_texts (codes "thin-pack") asked.thin_pack in
     let quiet = flag_texts (codes "no-progress") asked.no_progress in
     let tags = flag_texts (codes "include-tag") asked.include_tag in
@@ -216,15 +217,19 @@ short_fetch format asked h =
     (All-append IsShort thin quiet (All-flag IsShort (codes "thin-pack") asked.thin_pack (omega arith)) (All-flag IsShort (codes "no-progress") asked.no_progress (omega arith)))
     (All-flag IsShort (codes "include-tag") asked.include_tag (omega arith)))
     (All-flag IsShort (codes "ofs-delta") asked.ofs_delta (omega arith)))
-    (All-map IsShort want_text asked.wants (All-imply (IsIdOf format) (λ id. IsShort (want_text id)) (λ id is. omega (arith, length-append (codes "want ") (id_text id), id_text_is_short format id is)) asked.wants h.wants)))
-    (All-map IsShort have_text asked.haves (All-imply (IsIdOf format) (λ id. IsShort (have_text id)) (λ id is. omega (arith, length-append (codes "have ") (id_text id), id_text_is_short format id is)) asked.haves h.haves)))
+    (All-map IsShort want_text asked.wants (All-imply (IsIdOf format) (λ id. IsShort (want_text id)) (λ id is. omega (arith, length-append (codes "want ") (id_text id), id_text_is_short spelt format id is)) asked.wants h.wants)))
+    (All-map IsShort have_text asked.haves (All-imply (IsIdOf format) (λ id. IsShort (have_text id)) (λ id is. omega (arith, length-append (codes "have ") (id_text id), id_text_is_short spelt format id is)) asked.haves h.haves)))
     (All-flag IsShort (codes "done") asked.done (omega arith))
 
-pub canonical_fits : (format : Format) (asked : Asked) → IsAsked format asked → All Fits (canonical_request format asked)
+pub canonical_fits : AreSpelt → PrefixesAreClean → (format : Format) (asked : Asked) → IsAsked format asked → All Fits (canonical_request format asked)
 unfolding canonical_request
-canonical_fits format Empty h = All-cons Fits Flush [] (omega arith) (All-nil Fits)
-canonical_fits format (Ls asked) h = request_fits format LsRefs asked.agent (ls_argument_packets asked) (ls_texts asked) (ls_lines asked) h.agent (short_ls asked h)
-canonical_fits format (Fetches asked) h = request_fits format Fetch asked.agent (fetch_argument_packets asked) (fetch_texts asked) (fetch_lines asked) h.agent (short_fetch format asked h)
+canonical_fits spelt clean format Empty h = All-cons Fits Flush [] (omega arith) (All-nil Fits)
+canonical_fits spelt clean format (Ls asked) h = request_fits format LsRefs asked.agent (ls_argument_packets asked) (ls_texts asked) (ls_lines asked) h.agent (short_ls clean asked h)
+canonical_fits spelt clean format (Fetches asked) h = request_fits format Fetch asked.agent (fetch_argument_packets asked) (fetch_texts asked) (fetch_lines asked) h.agent (short_fetch spelt format asked h)
 
-pub canonical_says_all : (format : Format) (asked : Asked) → IsAsked format asked → Says format (canonical_request format asked) asked × All Fits (canonical_request format asked)
-canonical_says_all format asked h = (judge_from_manual format (canonical_request format asked) asked (canonical_is_request format asked h), canonical_fits format asked h)
+pub canonical_says_all : ((j : Judge) → LawsOf j) → AreSpelt → PrefixesAreClean → (format : Format) (asked : Asked) → IsAsked format asked
+    → Says format (canonical_request format asked) asked × All Fits (canonical_request format asked)
+canonical_says_all laws spelt clean format asked h = (
+  judge_from_manual laws format (canonical_request format asked) asked (canonical_is_request spelt format asked h),
+  canonical_fits spelt clean format asked h,
+)

@@ -16,5 +16,5 @@ pub mod WrittenArguments
 pub mod Canonical
 pub mod Meaning
 pub mod ReaderLemmas
-pub mod FormatLemmas
+pub mod FormatOfJudge
 pub mod WriteLemmas

@@ -4,8 +4,7 @@ use Rattle.std.proofs.lemmas.List.{length-map}
 use Rattle.gpkt.specs.Packets.{Packet, Data, Flush, Delim, text}
 use Rattle.gname.specs.declared.formats.Format.{Format}
 use Rattle.gname.specs.declared.formats.Format.TheVariants.{Sha1, Sha256}
-use Rattle.ggrammar.specs.Grammar.{Whole, IsOpen}
-use Rattle.ggrammar.proofs.GrammarLemmas.{IsOpen-nil}
+use Rattle.ggrammar.specs.Grammar.{Judge, Whole, IsOpen, LawsOf}
 use Rattle.grequest.specs.Asked.{Asked}
 use Rattle.grequest.specs.RequestLines.{InCapabilities, InArguments, formats, asked_by, asked_of}
 use Rattle.grequest.specs.Requests.{State, state_of, judge, Says}
@@ -38,13 +37,13 @@ record IsEnded (format : Format) (lines : List Packet) (asked : Asked) : Type 0 
   shape : Shape format front
   asks : asked ≡ asked_of format front
 
-ended : (format : Format) (lines : List Packet) (asked : Asked) → Says format lines asked → IsEnded format lines asked
-ended format lines asked h =
+ended : ((j : Judge) → LawsOf j) → (format : Format) (lines : List Packet) (asked : Asked) → Says format lines asked → IsEnded format lines asked
+ended laws format lines asked h =
     let whole = h.whole in
     let last : whole.last ≡ Flush = ends-flush format (state_of format whole.front) whole.last whole.ends in
     let parts : lines ≡ whole.front ++ Flush ∷ [] = whole.parts ∙ ap (λ (packet : Packet). whole.front ++ packet ∷ []) last in
     let ends : judge format whole.front Flush ≡ Whole = subst (λ (packet : Packet). judge format whole.front packet ≡ Whole) last whole.ends in
-    record { front = whole.front; parts = parts; ends = ends; shape = shape_of_open format whole.front whole.goes; asks = h.asks ∙ ap (asked_of format) parts ∙ asked_of-flush format whole.front ends }
+    record { front = whole.front; parts = parts; ends = ends; shape = shape_of_open laws format whole.front whole.goes; asks = h.asks ∙ ap (asked_of format) parts ∙ asked_of-flush format whole.front ends }
 
 listed_is_manual : (format : Format) (lines front : List Packet) (asked : Asked) → lines ≡ front ++ Flush ∷ [] → judge format front Flush ≡ Whole → asked ≡ asked_of format front → IsListed format front
     → IsCommandRequest format lines asked
@@ -95,8 +94,8 @@ manual_by_shape format lines front asked parts ends asks (inl e) = inl (parts �
 manual_by_shape format lines front asked parts ends asks (inr (inl h)) = inr (listed_is_manual format lines front asked parts ends asks h)
 manual_by_shape format lines front asked parts ends asks (inr (inr h)) = inr (argued_is_manual format lines front asked parts asks h)
 
-pub manual_from_judge : (format : Format) (lines : List Packet) (asked : Asked) → Says format lines asked → IsRequest format lines asked
-manual_from_judge format lines asked h = let e = ended format lines asked h in manual_by_shape format lines e.front asked e.parts e.ends e.asks e.shape
+pub manual_from_judge : ((j : Judge) → LawsOf j) → (format : Format) (lines : List Packet) (asked : Asked) → Says format lines asked → IsRequest format lines asked
+manual_from_judge laws format lines asked h = let e = ended laws format lines asked h in manual_by_shape format lines e.front asked e.parts e.ends e.asks e.shape
 
 -- ---- from the manual to the judge
 
@@ -111,9 +110,9 @@ one_at_most : (format : Format) (lines : List (List ℕ)) → NamesFormat format
 one_at_most Sha1 lines h = h
 one_at_most Sha256 lines h = omega (arith, h)
 
-says_by_section : (format : Format) (lines : List Packet) (asked : Asked) (h : IsCommandRequest format lines asked)
+says_by_section : ((j : Judge) → LawsOf j) → (format : Format) (lines : List Packet) (asked : Asked) (h : IsCommandRequest format lines asked)
     → (h.section ≡ Delim ∷ map Data h.arguments) ⊎ ((h.arguments ≡ []) × (h.section ≡ [])) → Says format lines asked
-says_by_section format lines asked h (inl e) =
+says_by_section laws format lines asked h (inl e) =
     let known = command_form-line (text h.first) h.command h.is_command in
     let are : AreCapabilities format (map text h.capabilities) = record { are = h.are_capabilities; one_agent = h.one_agent; one_format = one_at_most format (map text h.capabilities) h.one_format } in
     let few = h.few_arguments in
@@ -122,20 +121,20 @@ says_by_section format lines asked h (inl e) =
     let is = state_of-arguing format h.command h.first h.capabilities h.arguments known in
     says format lines (arguing h.first h.capabilities h.arguments) asked
     (h.parts ∙ ap (λ (xs : List Packet). Data h.first ∷ (map Data h.capabilities ++ xs ++ Flush ∷ [])) e)
-    (arguing-is_open format h.command h.first h.capabilities h.arguments h.is_command are h.one_format arguments)
+    (arguing-is_open laws format h.command h.first h.capabilities h.arguments h.is_command are h.one_format arguments)
     (flush_of format (arguing h.first h.capabilities h.arguments) state is ∙ judge-flush format state)
     (h.asks ∙ ap (λ (s : State). s.asked) (sym is))
-says_by_section format lines asked h (inr e) =
+says_by_section laws format lines asked h (inr e) =
     let known = command_form-line (text h.first) h.command h.is_command in
     let are : AreCapabilities format (map text h.capabilities) = record { are = h.are_capabilities; one_agent = h.one_agent; one_format = one_at_most format (map text h.capabilities) h.one_format } in
     let state = state_at format (InCapabilities h.command) (map text h.capabilities) [] in
     let is = state_of-listing format h.command h.first h.capabilities known in
     says format lines (listing h.first h.capabilities) asked
     (h.parts ∙ ap (λ (xs : List Packet). Data h.first ∷ (map Data h.capabilities ++ xs ++ Flush ∷ [])) e.1 ∙ ap (λ (xs : List Packet). Data h.first ∷ (xs ++ Flush ∷ [])) (append-nil (map Data h.capabilities)))
-    (listing-is_open format h.command h.first h.capabilities h.is_command are)
+    (listing-is_open laws format h.command h.first h.capabilities h.is_command are)
     (flush_of format (listing h.first h.capabilities) state is ∙ judge-flush format state ∙ named-taken format h.command (map text h.capabilities) [] Whole h.one_format)
     (h.asks ∙ ap (λ (xs : List (List ℕ)). asked_by format h.command (map text h.capabilities) (map text xs)) e.0 ∙ ap (λ (s : State). s.asked) (sym is))
 
-pub judge_from_manual : (format : Format) (lines : List Packet) (asked : Asked) → IsRequest format lines asked → Says format lines asked
-judge_from_manual format lines asked (inl h) = says format lines [] asked h.0 (IsOpen-nil (judge format)) (judge-flush format (state_of format [])) h.1
-judge_from_manual format lines asked (inr h) = says_by_section format lines asked h h.separated
+pub judge_from_manual : ((j : Judge) → LawsOf j) → (format : Format) (lines : List Packet) (asked : Asked) → IsRequest format lines asked → Says format lines asked
+judge_from_manual laws format lines asked (inl h) = says format lines [] asked h.0 (laws (judge format)).nothing (judge-flush format (state_of format [])) h.1
+judge_from_manual laws format lines asked (inr h) = says_by_section laws format lines asked h h.separated

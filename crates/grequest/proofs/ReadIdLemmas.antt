@@ -1,11 +1,11 @@
 -- An id that a text spells has the format of the reading.
-use Rattle.std.proofs.Common.{◌≡◌, ℕ, List, length, Bool, true, false, cond, Option, None, Some, Result, Ok, Err, ◌==◌, refl, sym, ap, ◌∙◌}
+use Rattle.std.proofs.Common.{◌≡◌, ℕ, List, length, Bool, true, false, cond, Option, None, Some, Result, Ok, Err, ◌==◌, refl, sym}
 use Rattle.std.specs.Option.{IfSome}
 use Rattle.std.proofs.lemmas.Bool.{eq-eqb}
 use Rattle.std.proofs.lemmas.Bool.Decides.{Decides-eqb}
 use Rattle.hex.specs.Hex.{decode_of}
 use Rattle.hex.specs.declared.error.FromHexError.{FromHexError}
-use Rattle.gname.specs.Formats.{id_length, id_text_length}
+use Rattle.gname.specs.Formats.{id_text_length}
 use Rattle.gname.specs.Laws.{TextsHaveOneReading}
 use Rattle.gname.specs.declared.formats.Format.{Format}
 use Rattle.ggrammar.specs.Ids.{id_of_text, ok_of}

@@ -3,9 +3,8 @@ use Rattle.std.proofs.Common.{◌≡◌, ℕ, ◌+◌, ◌≤◌, suc, List, [],
 use Rattle.std.proofs.lemmas.List.{length-append, length-map, map_push}
 use Rattle.gpkt.specs.Packets.{Packet, Data, Flush, Delim, ResponseEnd, text}
 use Rattle.gname.specs.declared.formats.Format.{Format}
-use Rattle.ggrammar.specs.Grammar.{Open, IsOpen}
+use Rattle.ggrammar.specs.Grammar.{Judge, Open, IsOpen, LawsOf}
 use Rattle.ggrammar.specs.Places.{place_after, collected}
-use Rattle.ggrammar.proofs.GrammarLemmas.{IsOpen-nil, IsOpen-push, IsOpen-front, IsOpen-last}
 use Rattle.grequest.specs.declared.command.Command.{Command}
 use Rattle.grequest.specs.declared.command.CommandForm.TheVariants.{Known}
 use Rattle.grequest.specs.Arguments.{command_name, command_form, capability_form}
@@ -13,6 +12,7 @@ use Rattle.grequest.specs.Asked.{max_arguments}
 use Rattle.grequest.specs.RequestLines.{Place, InCapabilities, InArguments, place_of_command, next_place, capability_there, argument_there, capability_texts, argument_texts}
 use Rattle.grequest.specs.Requests.{State, state_of, judge_command, judge_at, judge}
 use Rattle.grequest.specs.Manual.{IsCapability, IsArgument, NamesFormat}
+use Rattle.grequest.proofs.LineLemmas.{place_after-append, collected-append}
 use Rattle.grequest.proofs.StateLemmas.{state_at}
 use Rattle.grequest.proofs.Texts.{command_form-line, no_error, command_no_error, capability_no_error, argument_no_error}
 use Rattle.grequest.proofs.Sections.{All-parts, AreCapabilities, AreCapabilities-nil, AreCapabilities-push, AreCapabilities-parts, TakesCapability, few_capabilities, AreArguments, AreArguments-nil, AreArguments-push, AreArguments-parts, TakesArgument}
@@ -68,17 +68,6 @@ arguments-there command (line ∷ arguments) = ap (λ (xs : List (List ℕ)). te
 no_capabilities-there : (command : Command) (arguments : List (List ℕ)) → collected next_place capability_there (InArguments command) (map Data arguments) ≡ []
 no_capabilities-there command [] = refl
 no_capabilities-there command (line ∷ arguments) = no_capabilities-there command arguments
-
-place_after-append : (place : Place) (xs ys : List Packet) → place_after next_place place (xs ++ ys) ≡ place_after next_place (place_after next_place place xs) ys
-place_after-append place [] ys = refl
-place_after-append place (x ∷ xs) ys = place_after-append (next_place place x) xs ys
-
-collected-append : (give : Place → Packet → List (List ℕ)) (place : Place) (xs ys : List Packet)
-    → collected next_place give place (xs ++ ys) ≡ collected next_place give place xs ++ collected next_place give (place_after next_place place xs) ys
-collected-append give place [] ys = refl
-collected-append give place (x ∷ xs) ys =
-    ap (λ (zs : List (List ℕ)). give place x ++ zs) (collected-append give (next_place place x) xs ys)
-    ∙ sym (append_assoc (give place x) (collected next_place give (next_place place x) xs) (collected next_place give (place_after next_place (next_place place x) xs) ys))
 
 same_at : (format : Format) {place place' : Place} {capabilities capabilities' arguments arguments' : List (List ℕ)} → place ≡ place' → capabilities ≡ capabilities' → arguments ≡ arguments'
     → state_at format place capabilities arguments ≡ state_at format place' capabilities' arguments'
@@ -236,10 +225,10 @@ shape_push format front packet (inr (inl h)) goes = listed_push format front pac
 shape_push format front packet (inr (inr h)) goes = argued_push format front packet h goes
 
 -- an open list is one of these
-pub shape_of_open : (format : Format) (front : List Packet) → IsOpen (judge format) front → Shape format front
-shape_of_open format front =
+pub shape_of_open : ((j : Judge) → LawsOf j) → (format : Format) (front : List Packet) → IsOpen (judge format) front → Shape format front
+shape_of_open laws format front =
     by_pushes (λ (xs : List Packet). IsOpen (judge format) xs → Shape format xs)
-    (λ xs x before opened. shape_push format xs x (before (IsOpen-front xs (x ∷ []) opened)) (IsOpen-last xs x opened)) [] front (λ _. inl refl)
+    (λ xs x before opened. shape_push format xs x (before ((laws (judge format)).front xs (x ∷ []) opened)) (opened.each xs x [] refl)) [] front (λ _. inl refl)
 
 -- ---- and each of these is open
 
@@ -252,15 +241,15 @@ first_open format command first is =
     open-text format (state_of format []) first (no_error first (command_no_error (text first) command is))
     (ap judge_command (command_form-line (text first) command is))
 
-pub listing-is_open : (format : Format) (command : Command) (first : List ℕ) (capabilities : List (List ℕ)) → text first ≡ codes "command=" ++ command_name command
+pub listing-is_open : ((j : Judge) → LawsOf j) → (format : Format) (command : Command) (first : List ℕ) (capabilities : List (List ℕ)) → text first ≡ codes "command=" ++ command_name command
     → AreCapabilities format (map text capabilities) → IsOpen (judge format) (listing first capabilities)
-listing-is_open format command first capabilities is =
-    let start : IsOpen (judge format) (listing first []) = IsOpen-push (IsOpen-nil (judge format)) (first_open format command first is) in
-    by_pushes (λ (xs : List (List ℕ)). AreCapabilities format (map text xs) → IsOpen (judge format) (listing first xs)) (step format command first is) [] capabilities (λ _. start)
+listing-is_open laws format command first capabilities is =
+    let start : IsOpen (judge format) (listing first []) = (laws (judge format)).goes_on [] (Data first) (laws (judge format)).nothing (first_open format command first is) in
+    by_pushes (λ (xs : List (List ℕ)). AreCapabilities format (map text xs) → IsOpen (judge format) (listing first xs)) (step laws format command first is) [] capabilities (λ _. start)
   where
-    step : (format : Format) (command : Command) (first : List ℕ) → text first ≡ codes "command=" ++ command_name command → (xs : List (List ℕ)) (x : List ℕ)
+    step : ((j : Judge) → LawsOf j) → (format : Format) (command : Command) (first : List ℕ) → text first ≡ codes "command=" ++ command_name command → (xs : List (List ℕ)) (x : List ℕ)
         → (AreCapabilities format (map text xs) → IsOpen (judge format) (listing first xs)) → AreCapabilities format (map text (xs ++ x ∷ [])) → IsOpen (judge format) (listing first (xs ++ x ∷ []))
-    step format command first is xs x before h =
+    step laws format command first is xs x before h =
         let all = subst (AreCapabilities format) (map_push text xs x) h in
         let parts = AreCapabilities-parts format command (map text xs) [] (text x) all in
         let last = (All-parts (λ line. IsCapability format (capability_form line)) (map text xs) (text x) all.are).1 in
@@ -268,24 +257,25 @@ listing-is_open format command first capabilities is =
         let goes : judge format (listing first xs) (Data x) ≡ Open =
         verdict_from format (listing first xs) (Data x) state (state_of-listing format command first xs (command_form-line (text first) command is))
         (open-text format state x (no_error x (λ rest. capability_no_error format (text x) rest last)) parts.1) in
-        subst (IsOpen (judge format)) (listing-push first xs x) (IsOpen-push (before parts.0) goes)
+        subst (IsOpen (judge format)) (listing-push first xs x) ((laws (judge format)).goes_on (listing first xs) (Data x) (before parts.0) goes)
 
-pub arguing-is_open : (format : Format) (command : Command) (first : List ℕ) (capabilities arguments : List (List ℕ)) → text first ≡ codes "command=" ++ command_name command
+pub arguing-is_open : ((j : Judge) → LawsOf j) → (format : Format) (command : Command) (first : List ℕ) (capabilities arguments : List (List ℕ)) → text first ≡ codes "command=" ++ command_name command
     → AreCapabilities format (map text capabilities) → NamesFormat format (map text capabilities) → AreArguments format command (map text arguments)
     → IsOpen (judge format) (arguing first capabilities arguments)
-arguing-is_open format command first capabilities arguments is are named =
+arguing-is_open laws format command first capabilities arguments is are named =
     let known = command_form-line (text first) command is in
     let state = state_at format (InCapabilities command) (map text capabilities) [] in
     let delimited : judge format (listing first capabilities) Delim ≡ Open =
     verdict_from format (listing first capabilities) Delim state (state_of-listing format command first capabilities known)
     (judge-delim format state ∙ named-taken format command (map text capabilities) [] Open named) in
-    let start : IsOpen (judge format) (arguing first capabilities []) = IsOpen-push (listing-is_open format command first capabilities is are) delimited in
-    by_pushes (λ (xs : List (List ℕ)). AreArguments format command (map text xs) → IsOpen (judge format) (arguing first capabilities xs)) (step format command first capabilities known) [] arguments (λ _. start)
+    let start : IsOpen (judge format) (arguing first capabilities []) =
+    (laws (judge format)).goes_on (listing first capabilities) Delim (listing-is_open laws format command first capabilities is are) delimited in
+    by_pushes (λ (xs : List (List ℕ)). AreArguments format command (map text xs) → IsOpen (judge format) (arguing first capabilities xs)) (step laws format command first capabilities known) [] arguments (λ _. start)
   where
-    step : (format : Format) (command : Command) (first : List ℕ) (capabilities : List (List ℕ)) → command_form (text first) ≡ Known command → (xs : List (List ℕ)) (x : List ℕ)
+    step : ((j : Judge) → LawsOf j) → (format : Format) (command : Command) (first : List ℕ) (capabilities : List (List ℕ)) → command_form (text first) ≡ Known command → (xs : List (List ℕ)) (x : List ℕ)
         → (AreArguments format command (map text xs) → IsOpen (judge format) (arguing first capabilities xs))
         → AreArguments format command (map text (xs ++ x ∷ [])) → IsOpen (judge format) (arguing first capabilities (xs ++ x ∷ []))
-    step format command first capabilities known xs x before h =
+    step laws format command first capabilities known xs x before h =
         let all = subst (AreArguments format command) (map_push text xs x) h in
         let parts = AreArguments-parts format command (map text capabilities) (map text xs) (text x) all in
         let last = (All-parts (IsArgument format command) (map text xs) (text x) all.are).1 in
@@ -293,7 +283,7 @@ arguing-is_open format command first capabilities arguments is are named =
         let goes : judge format (arguing first capabilities xs) (Data x) ≡ Open =
         verdict_from format (arguing first capabilities xs) (Data x) state (state_of-arguing format command first capabilities xs known)
         (open-text format state x (no_error x (λ rest. argument_no_error format command (text x) rest last)) parts.1) in
-        subst (IsOpen (judge format)) (arguing-push first capabilities xs x) (IsOpen-push (before parts.0) goes)
+        subst (IsOpen (judge format)) (arguing-push first capabilities xs x) ((laws (judge format)).goes_on (arguing first capabilities xs) (Data x) (before parts.0) goes)
 
 -- ---- how long it gets
 
@@ -316,5 +306,5 @@ bounded format front (inr (inr h)) =
     let few = h.are_arguments.room in
     omega (arith, few_capabilities format (map text h.capabilities) h.are_capabilities, length-map h.capabilities text, length-map h.arguments text)
 
-pub open_is_bounded : (format : Format) (front : List Packet) → IsOpen (judge format) front → length front ≤ max_arguments + 4
-open_is_bounded format front opened = bounded format front (shape_of_open format front opened)
+pub open_is_bounded : ((j : Judge) → LawsOf j) → (format : Format) (front : List Packet) → IsOpen (judge format) front → length front ≤ max_arguments + 4
+open_is_bounded laws format front opened = bounded format front (shape_of_open laws format front opened)

@@ -14,7 +14,7 @@ use Rattle.grequest.specs.WellFormed.{IsPrefix, IsLsRefsAsked, IsFetchAsked}
 use Rattle.grequest.specs.Manual.{IsLsArgument, IsFetchArgument, IsArgument}
 use Rattle.grequest.proofs.WrittenLists.{flag_texts, none_then, then_none, own_flag, other_flag, no_value, nothing_then, then_nothing, flag_gives_none, values_give_none, values_come_back, All-flag, All-imply}
 use Rattle.grequest.proofs.WrittenTexts.{prefix_text, want_text, have_text, ls_texts, fetch_texts}
-use Rattle.grequest.proofs.WrittenCapabilities.{id_of_text-id_text}
+use Rattle.grequest.proofs.WrittenCapabilities.{AreSpelt, id_of_text-id_text}
 
 -- ---- the arguments of ls-refs
 
@@ -223,20 +223,20 @@ flags_give_none h asked t n i o =
     (flag_gives_none F (codes "include-tag") asked.include_tag (ap h tags_form ∙ i)))
     (flag_gives_none F (codes "ofs-delta") asked.ofs_delta (ap h delta_form ∙ o))
 
-pub wants_said : (format : Format) (asked : FetchAsked) → All (IsIdOf format) asked.wants → wants format (fetch_texts asked) ≡ asked.wants
-wants_said format asked ids =
+pub wants_said : AreSpelt → (format : Format) (asked : FetchAsked) → All (IsIdOf format) asked.wants → wants format (fetch_texts asked) ≡ asked.wants
+wants_said spelt format asked ids =
     let F = λ (line : List ℕ). want_value format (fetch_argument line) in
     let want = map want_text asked.wants in
     let have = map have_text asked.haves in
     then_nothing F (flags_texts asked ++ want ++ have) (flag_texts (codes "done") asked.done) asked.wants
     (then_nothing F (flags_texts asked ++ want) have asked.wants
     (nothing_then F (flags_texts asked) want asked.wants (flags_give_none (want_value format) asked refl refl refl refl)
-    (values_come_back F want_text asked.wants (λ k d lt. ap (want_value format) (want_form _) ∙ id_of_text-id_text format _ (ids k d lt))))
+    (values_come_back F want_text asked.wants (λ k d lt. ap (want_value format) (want_form _) ∙ id_of_text-id_text spelt format _ (ids k d lt))))
     (values_give_none F have_text (λ id. ap (want_value format) (have_form id)) asked.haves))
     (flag_gives_none F (codes "done") asked.done (ap (want_value format) done_form))
 
-pub haves_said : (format : Format) (asked : FetchAsked) → All (IsIdOf format) asked.haves → haves format (fetch_texts asked) ≡ asked.haves
-haves_said format asked ids =
+pub haves_said : AreSpelt → (format : Format) (asked : FetchAsked) → All (IsIdOf format) asked.haves → haves format (fetch_texts asked) ≡ asked.haves
+haves_said spelt format asked ids =
     let F = λ (line : List ℕ). have_value format (fetch_argument line) in
     let want = map want_text asked.wants in
     let have = map have_text asked.haves in
@@ -244,11 +244,11 @@ haves_said format asked ids =
     (nothing_then F (flags_texts asked ++ want) have asked.haves
     (nothing_then F (flags_texts asked) want [] (flags_give_none (have_value format) asked refl refl refl refl)
     (values_give_none F want_text (λ id. ap (have_value format) (want_form id)) asked.wants))
-    (values_come_back F have_text asked.haves (λ k d lt. ap (have_value format) (have_form _) ∙ id_of_text-id_text format _ (ids k d lt))))
+    (values_come_back F have_text asked.haves (λ k d lt. ap (have_value format) (have_form _) ∙ id_of_text-id_text spelt format _ (ids k d lt))))
     (flag_gives_none F (codes "done") asked.done (ap (have_value format) done_form))
 
-pub are_fetch : (format : Format) (asked : FetchAsked) → IsFetchAsked format asked → All (IsArgument format Fetch) (fetch_texts asked)
-are_fetch format asked h =
+pub are_fetch : AreSpelt → (format : Format) (asked : FetchAsked) → IsFetchAsked format asked → All (IsArgument format Fetch) (fetch_texts asked)
+are_fetch spelt format asked h =
     let P : List ℕ → Type 0 = IsArgument format Fetch in
     let thin = flag_texts (codes "thin-pack") asked.thin_pack in
     let quiet = flag_texts (codes "no-progress") asked.no_progress in
@@ -264,6 +264,6 @@ are_fetch format asked h =
     (All-append P thin quiet (All-flag P (codes "thin-pack") asked.thin_pack (subst (IsFetchArgument format) (sym thin_form) tt)) (All-flag P (codes "no-progress") asked.no_progress (subst (IsFetchArgument format) (sym quiet_form) tt)))
     (All-flag P (codes "include-tag") asked.include_tag (subst (IsFetchArgument format) (sym tags_form) tt)))
     (All-flag P (codes "ofs-delta") asked.ofs_delta (subst (IsFetchArgument format) (sym delta_form) tt)))
-    (All-map P want_text asked.wants (All-imply (IsIdOf format) (λ id. P (want_text id)) (λ id is. subst (IsFetchArgument format) (sym (want_form id)) (ap is_some (id_of_text-id_text format id is))) asked.wants h.wants)))
-    (All-map P have_text asked.haves (All-imply (IsIdOf format) (λ id. P (have_text id)) (λ id is. subst (IsFetchArgument format) (sym (have_form id)) (ap is_some (id_of_text-id_text format id is))) asked.haves h.haves)))
+    (All-map P want_text asked.wants (All-imply (IsIdOf format) (λ id. P (want_text id)) (λ id is. subst (IsFetchArgument format) (sym (want_form id)) (ap is_some (id_of_text-id_text spelt format id is))) asked.wants h.wants)))
+    (All-map P have_text asked.haves (All-imply (IsIdOf format) (λ id. P (have_text id)) (λ id is. subst (IsFetchArgument format) (sym (have_form id)) (ap is_some (id_of_text-id_text spelt format id is))) asked.haves h.haves)))
     (All-flag P (codes "done") asked.done (subst (IsFetchArgument format) (sym done_form) tt))

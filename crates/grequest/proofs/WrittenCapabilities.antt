@@ -1,17 +1,17 @@
 -- What the capabilities and the ids say that are written of a request.
-use Rattle.std.proofs.Common.{◌≡◌, ℕ, ◌≤◌, Bool, true, List, [], ◌∷◌, ◌++◌, length, codes, Option, Some, None, refl, sym, ap, subst, ◌∙◌, arith}
+use Rattle.std.proofs.Common.{◌≡◌, ℕ, ◌≤◌, ◌==◌, Bool, true, List, [], ◌∷◌, ◌++◌, length, codes, Option, Some, None, refl, sym, ap, subst, ◌∙◌, arith}
 use Rattle.std.specs.Prelude.{All, position, nat_lt, nat_le}
 use Rattle.std.specs.List.{list_all}
-use Rattle.std.proofs.lemmas.Bool.{and_parts, and_from, cond-true, leb-true, le-leb, lt-ltb}
+use Rattle.std.proofs.lemmas.Bool.{eq-eqb, and_parts, and_from, cond-true, leb-true, le-leb, lt-ltb}
 use Rattle.std.proofs.lemmas.List.Elements.{All-nil, All-cons}
-use Rattle.gname.specs.Formats.{format_name}
+use Rattle.gname.specs.Formats.{format_name, id_text_length}
 use Rattle.gname.specs.Ids.{IsIdOf, IsIdTextOf, id_text}
 use Rattle.gname.specs.declared.formats.Format.{Format}
 use Rattle.gname.specs.declared.formats.Format.TheVariants.{Sha1, Sha256}
-use Rattle.gname.proofs.IdLemmas.{IsId-of_format, IsIdText-id_text, ReadsId-of_text, format_of-id}
+use Rattle.gname.specs.Laws.{IdsHaveOneFormat, IdsHaveTexts}
+use Rattle.hex.specs.Hex.{decode_of}
 use Rattle.ggrammar.specs.Capabilities.{capability_of, capability_split, has_length, is_equals_sign, is_graphic, is_key, is_printable, is_value, is_word_value, max_capability}
-use Rattle.ggrammar.specs.Ids.{id_of_text}
-use Rattle.ggrammar.proofs.IdLemmas.{id_read}
+use Rattle.ggrammar.specs.Ids.{id_of_text, ok_of}
 use Rattle.grequest.specs.Arguments.{Agent, ObjectFormat, BadCapability, capability_with, capability_form}
 use Rattle.grequest.specs.RequestLines.{agents, formats}
 use Rattle.grequest.specs.WellFormed.{IsAgent}
@@ -99,12 +99,21 @@ capable Sha256 (Some value) h =
 
 -- ---- ids
 
-pub spelt : (format : Format) (id : List ℕ) → IsIdOf format id → IsIdTextOf format (id_text id) id
-spelt format id h = subst (λ (f : Format). IsIdTextOf f (id_text id) id) (format_of-id format id h) (IsIdText-id_text id (IsId-of_format format id h))
+-- the text of an id spells it in its format
+abbrev pub AreSpelt : Type 0
+AreSpelt = (format : Format) (id : List ℕ) → IsIdOf format id → IsIdTextOf format (id_text id) id
 
-pub id_of_text-id_text : (format : Format) (id : List ℕ) → IsIdOf format id → id_of_text format (id_text id) ≡ Some id
-id_of_text-id_text format id h = sym (id_read format (id_text id) id (ReadsId-of_text format (id_text id) id (spelt format id h)))
+pub are_spelt : IdsHaveOneFormat → IdsHaveTexts → AreSpelt
+are_spelt one texts format id h =
+    let of = one format id h in
+    subst (λ (f : Format). IsIdTextOf f (id_text id) id) of.1 (texts id of.0).0
 
-pub id_text_is_short : (format : Format) (id : List ℕ) → IsIdOf format id → length (id_text id) ≤ 64
-id_text_is_short Sha1 id h = let long = (spelt Sha1 id h).long in omega arith
-id_text_is_short Sha256 id h = let long = (spelt Sha256 id h).long in omega arith
+pub id_of_text-id_text : AreSpelt → (format : Format) (id : List ℕ) → IsIdOf format id → id_of_text format (id_text id) ≡ Some id
+unfolding id_of_text
+id_of_text-id_text spelt format id h =
+    let is = spelt format id h in
+    cond-true (length (id_text id) == id_text_length format) (ok_of (decode_of (id_text id))) None (eq-eqb _ _ is.long) ∙ ap ok_of is.spells
+
+pub id_text_is_short : AreSpelt → (format : Format) (id : List ℕ) → IsIdOf format id → length (id_text id) ≤ 64
+id_text_is_short spelt Sha1 id h = let long = (spelt Sha1 id h).long in omega arith
+id_text_is_short spelt Sha256 id h = let long = (spelt Sha256 id h).long in omega arith

@@ -1,11 +1,11 @@
 -- What reading a request keeps of the packets so far, and what it answers.
-use Rattle.std.specs.Prelude.{◌≡◌, ℕ, Bool, true, false, List, ◌∷◌, ◌++◌, Option, Some, None, Result, Ok, Err}
+use Rattle.std.specs.Prelude.{◌≡◌, ℕ, Bool, true, false, List, Option, Some, None, Result, Ok, Err}
 use Rattle.gpkt.specs.Packets.{Packet, Data, text}
 use Rattle.gpkt.specs.Change.{Change}
 use Rattle.gpkt.specs.LineReading.{Reads, ReadsLines}
 use Rattle.gname.specs.declared.formats.Format.{Format}
 use Rattle.ggrammar.specs.Grammar.{Verdict, Open, Whole}
-use Rattle.ggrammar.specs.MessageReading.{IsAccepted, IsReason, ReadsRefused}
+use Rattle.ggrammar.specs.MessageReading.{IsReason, ReadsRefused}
 use Rattle.ggrammar.specs.declared.fault.Why.{Why}
 use Rattle.ggrammar.specs.declared.fault.MessageFault.{MessageFault}
 use Rattle.ggrammar.specs.declared.message.Step.{Step}
@@ -21,14 +21,9 @@ pub record Reading : Type 0 where
   pub format : Format
   pub state : State
 
--- each packet is accepted after those before it
-pub record IsTaken (format : Format) (lines : List Packet) : Type 0 where
-  pub each : (front : List Packet) (packet : Packet) (back : List Packet) → lines ≡ front ++ packet ∷ back
-      → IsAccepted (judge format front packet)
-
 -- these are the packets that were read
 abbrev pub HoldsPackets : Reading → List Packet → Type 0
-HoldsPackets reading lines = (reading.state ≡ state_of reading.format lines) × IsTaken reading.format lines
+HoldsPackets reading lines = reading.state ≡ state_of reading.format lines
 
 -- nothing is left of a request that is refused
 abbrev pub LeavesNothing : Reading → List Packet → Type 0

@@ -17,6 +17,7 @@ use crate::line::{CapabilityForm, capability_form};
 use crate::ls_refs::LsRefsRequest;
 use crate::request::Request;
 use crate::section::Section;
+use ggrammar::laws::grammars_are_exact;
 use ggrammar::{Message, PeerText, Step, Why, peer_error};
 use gname::Format;
 use gpkt::{Line, text_of};
@@ -259,5 +260,7 @@ impl<A: Allocator + Copy> Message for RequestReader<A> {
         self.take_packet(line)
     }
 
-    fn laws() {}
+    fn laws() {
+        grammars_are_exact();
+    }
 }

@@ -26,8 +26,11 @@ fn code(rt: &impl Abort, built: Result<(), MessageFault>) -> u32 {
 
 // An id of each format.
 fn id(rt: &impl Abort, format: Format) -> Oid {
-    let digits = [b'a'; 64];
-    Oid::from_hex_in(format, &digits[..format.id_text_length()]).expect(rt, "an id")
+    let digits: &[u8] = match format {
+        Format::Sha1 => &[b'a'; 40],
+        Format::Sha256 => &[b'a'; 64],
+    };
+    Oid::from_hex_in(format, digits).expect(rt, "an id")
 }
 
 #[test]
@@ -74,6 +77,13 @@ const AGENTS: &[(&[u8], u32)] = &[
     (b"\x7f", BAD_TEXT),
 ];
 
+fn is_named(agent: Option<&[u8]>, due: &[u8]) -> bool {
+    match agent {
+        Some(agent) => agent == due,
+        None => false,
+    }
+}
+
 #[test]
 fn agents_are_words(rt: HostRuntime) -> Result<(), Fail> {
     let mut ls_refs = LsRefsRequest::new(rt.alloc());
@@ -82,8 +92,8 @@ fn agents_are_words(rt: HostRuntime) -> Result<(), Fail> {
         assert_eq!(rt; code(&rt, ls_refs.set_agent(agent)), *due);
         assert_eq!(rt; code(&rt, fetch.set_agent(agent)), *due);
     }
-    assert_eq!(rt; ls_refs.agent(), Some(b"git/2.43.0".as_slice()));
-    assert_eq!(rt; fetch.agent(), Some(b"git/2.43.0".as_slice()));
+    assert!(rt; is_named(ls_refs.agent(), b"git/2.43.0"));
+    assert!(rt; is_named(fetch.agent(), b"git/2.43.0"));
     Ok(())
 }
 

@@ -56,7 +56,7 @@ fn limits_may_be_met_and_not_passed(rt: HostRuntime) -> Result<(), Fail> {
     for case in PASSED {
         let input = request(rt.alloc(), case)?;
         // After the command and the delimiter.
-        let frame = case.2 as u64 + 2;
+        let frame = (case.2 as u64).saturating_add(2);
         let due = if case.4 == 0 {
             None
         } else {
@@ -78,17 +78,19 @@ fn count(request: Request) -> usize {
     }
 }
 
-// All of them are kept.
+// A request that has the most of something, and how many these are.
+const FULL: &[(Case, usize)] = &[
+    ((LS_REFS, PREFIX, MAX_PREFIXES - 1, PREFIX, 0), MAX_PREFIXES),
+    ((FETCH, WANT, MAX_WANTS - 1, WANT, 0), MAX_WANTS),
+    ((FETCH, HAVE, MAX_HAVES - 1, HAVE, 0), MAX_HAVES),
+];
+
 #[test]
 fn all_are_kept(rt: HostRuntime) -> Result<(), Fail> {
-    for (head, argument, most) in [
-        (LS_REFS, PREFIX, MAX_PREFIXES),
-        (FETCH, WANT, MAX_WANTS),
-        (FETCH, HAVE, MAX_HAVES),
-    ] {
-        let input = request(rt.alloc(), &(head, argument, most - 1, argument, 0))?;
+    for (case, most) in FULL {
+        let input = request(rt.alloc(), case)?;
         match read(rt.alloc(), Format::Sha1, input.as_slice())? {
-            Ok(Some(request)) => assert_eq!(rt; count(request), most),
+            Ok(Some(request)) => assert_eq!(rt; count(request), *most),
             _ => assert!(rt; false),
         }
     }

@@ -44,25 +44,32 @@ fn written_samples_are_read(rt: HostRuntime) -> Result<(), Fail> {
     Ok(())
 }
 
-// Whether a bit of a number is set.
-fn bit(number: usize, place: u32) -> bool {
-    (number >> place) & 1 == 1
+// The lowest bits of a number.
+fn bits(number: usize) -> [bool; 5] {
+    [
+        number % 2 == 1,
+        number / 2 % 2 == 1,
+        number / 4 % 2 == 1,
+        number / 8 % 2 == 1,
+        number / 16 % 2 == 1,
+    ]
 }
 
 #[test]
 fn each_combination_of_ls_refs_reads_back(rt: HostRuntime) -> Result<(), Fail> {
-    for flags in 0..8usize {
+    for number in 0..8usize {
+        let [symrefs, peel, unborn, ..] = bits(number);
         let mut request = LsRefsRequest::new(rt.alloc());
-        request.set_symrefs(bit(flags, 0));
-        request.set_peel(bit(flags, 1));
-        request.set_unborn(bit(flags, 2));
+        request.set_symrefs(symrefs);
+        request.set_peel(peel);
+        request.set_unborn(unborn);
         let bytes = written(rt.alloc(), Format::Sha1, &Request::Ls(request))?;
         match read(rt.alloc(), Format::Sha1, bytes.as_slice())? {
             Ok(Some(request)) => match &request {
                 Request::Ls(read) => {
-                    assert_eq!(rt; read.symrefs(), bit(flags, 0));
-                    assert_eq!(rt; read.peel(), bit(flags, 1));
-                    assert_eq!(rt; read.unborn(), bit(flags, 2));
+                    assert_eq!(rt; read.symrefs(), symrefs);
+                    assert_eq!(rt; read.peel(), peel);
+                    assert_eq!(rt; read.unborn(), unborn);
                 }
                 _ => assert!(rt; false),
             },
@@ -72,29 +79,31 @@ fn each_combination_of_ls_refs_reads_back(rt: HostRuntime) -> Result<(), Fail> {
     Ok(())
 }
 
-fn fetch_request(alloc: Global, flags: usize) -> FetchRequest {
+fn fetch_request(alloc: Global, flags: [bool; 5]) -> FetchRequest {
+    let [done, thin_pack, no_progress, include_tag, ofs_delta] = flags;
     let mut request = FetchRequest::new(alloc, Format::Sha1);
-    request.set_done(bit(flags, 0));
-    request.set_thin_pack(bit(flags, 1));
-    request.set_no_progress(bit(flags, 2));
-    request.set_include_tag(bit(flags, 3));
-    request.set_ofs_delta(bit(flags, 4));
+    request.set_done(done);
+    request.set_thin_pack(thin_pack);
+    request.set_no_progress(no_progress);
+    request.set_include_tag(include_tag);
+    request.set_ofs_delta(ofs_delta);
     request
 }
 
 #[test]
 fn each_combination_of_fetch_reads_back(rt: HostRuntime) -> Result<(), Fail> {
-    for flags in 0..32usize {
-        let request = Request::Fetch(fetch_request(rt.alloc(), flags));
+    for number in 0..32usize {
+        let [done, thin_pack, no_progress, include_tag, ofs_delta] = bits(number);
+        let request = Request::Fetch(fetch_request(rt.alloc(), bits(number)));
         let bytes = written(rt.alloc(), Format::Sha1, &request)?;
         match read(rt.alloc(), Format::Sha1, bytes.as_slice())? {
             Ok(Some(request)) => match &request {
                 Request::Fetch(read) => {
-                    assert_eq!(rt; read.done(), bit(flags, 0));
-                    assert_eq!(rt; read.thin_pack(), bit(flags, 1));
-                    assert_eq!(rt; read.no_progress(), bit(flags, 2));
-                    assert_eq!(rt; read.include_tag(), bit(flags, 3));
-                    assert_eq!(rt; read.ofs_delta(), bit(flags, 4));
+                    assert_eq!(rt; read.done(), done);
+                    assert_eq!(rt; read.thin_pack(), thin_pack);
+                    assert_eq!(rt; read.no_progress(), no_progress);
+                    assert_eq!(rt; read.include_tag(), include_tag);
+                    assert_eq!(rt; read.ofs_delta(), ofs_delta);
                 }
                 _ => assert!(rt; false),
             },
