@@ -1,4 +1,4 @@
--- The whole lists of the table are the replies of the manual.
+-- The replies of the manual are whole lists of the table, and say the same.
 use Rattle.std.proofs.Common.{◌≡◌, ℕ, zero, suc, ◌+◌, ◌-◌, ◌<◌, ◌≤◌, Bool, true, false, cond, nat_eq, List, [], ◌∷◌, ◌++◌, length, take, drop, map, ◌==◌, codes, Option, Some, None, Result, Ok, Err, ◌⊎◌, inl, inr, refl, sym, ap, subst, ◌∙◌, append_assoc, append-nil, arith, length-append}
 use Rattle.std.specs.Prelude.{nat_lt, All}
 use Rattle.std.specs.List.{starts_with}
@@ -158,7 +158,7 @@ ends_so format Response front opened at = record {
   ends = ap (λ (over : Bool). judge_at format Response over (length (texts_of (front ++ Flush ∷ []))) ResponseEnd) (over_after_flush front) ∙ over_ends format Response (length (texts_of (front ++ Flush ∷ [])));
 }
 
-map_append : {X Y : Type 0} (f : X → Y) (xs ys : List X) → map f (xs ++ ys) ≡ map f xs ++ map f ys
+pub map_append : {X Y : Type 0} (f : X → Y) (xs ys : List X) → map f (xs ++ ys) ≡ map f xs ++ map f ys
 map_append f [] ys = refl
 map_append f (x ∷ xs) ys = ap (λ (zs : List _). f x ∷ zs) (map_append f xs ys)
 
