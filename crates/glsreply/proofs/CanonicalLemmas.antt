@@ -1,5 +1,5 @@
 -- The lines that are written of a reply say it, and each fits a packet.
-use Rattle.std.proofs.Common.{◌≡◌, ℕ, ◌+◌, ◌≤◌, ◌<◌, Bool, true, false, cond, List, [], ◌∷◌, ◌++◌, length, map, codes, ◌==◌, nat_lt, Option, Some, None, Result, Ok, Err, refl, sym, ap, subst, ◌∙◌, append_assoc, append-nil, arith, length-append}
+use Rattle.std.proofs.Common.{◌≡◌, ℕ, ◌+◌, ◌≤◌, ◌<◌, Bool, true, false, List, [], ◌∷◌, ◌++◌, length, map, codes, ◌==◌, nat_lt, Option, Some, None, Result, Ok, Err, refl, sym, ap, subst, ◌∙◌, append_assoc, append-nil, arith, length-append}
 use Rattle.std.specs.Prelude.{All, IfSome, IsTrue, is_none}
 use Rattle.std.specs.List.{list_all}
 use Rattle.std.proofs.lemmas.Bool.{cond-true, eq-eqb, ltb-true, ne_eqb}
@@ -24,9 +24,9 @@ use Rattle.ggrammar.specs.Texts.{TextIsRead, text_packet}
 use Rattle.ggrammar.specs.declared.ends.Ends.{Ends}
 use Rattle.ggrammar.specs.declared.ends.Ends.TheVariants.{Plain, Response}
 use Rattle.ggrammar.specs.declared.fault.Why.{Why}
-use Rattle.ggrammar.specs.declared.fault.Why.TheVariants.{BadText, BadName}
-use Rattle.glsreply.specs.RefTexts.{RefLine, Symref, Peeled, is_space, parts_of, is_name, attribute_of, with_attribute, with_attributes, with_symref, with_id, line_with_id, line_of_parts, line_of, unborn_target, FirstForm, UnbornForm, first_of_parts, first_form, symref_text, peeled_text, ref_text, unborn_text}
-use Rattle.glsreply.specs.LsReplies.{LsReply, Says, max_lines, ref_lines, unborn_packets, ref_packet, canonical_reply}
+use Rattle.ggrammar.specs.declared.fault.Why.TheVariants.{BadName}
+use Rattle.glsreply.specs.RefTexts.{RefLine, Symref, Peeled, is_space, parts_of, is_name, attribute_of, with_attribute, with_attributes, with_id, line_with_id, line_of_parts, line_of, unborn_target, UnbornForm, first_of_parts, first_form, symref_text, peeled_text, ref_text, unborn_text}
+use Rattle.glsreply.specs.LsReplies.{LsReply, ref_lines, unborn_packets, ref_packet, canonical_reply}
 use Rattle.glsreply.specs.LsManual.{IsRefText, IsUnbornFirst, IsLsReply}
 use Rattle.glsreply.specs.WellFormed.{IsRefLine, IsLsReplyIn}
 use Rattle.glsreply.specs.Laws.{CanonicalSays}

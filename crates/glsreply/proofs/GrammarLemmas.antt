@@ -1,5 +1,5 @@
 -- Lists of packets that are open, one packet after the other.
-use Rattle.std.proofs.Common.{◌≡◌, ℕ, Bool, true, false, cond, List, [], ◌∷◌, ◌++◌, ◌⊎◌, inl, inr, refl, sym, ap, subst, ◌∙◌, append_assoc, append-nil}
+use Rattle.std.proofs.Common.{◌≡◌, Bool, true, false, cond, List, [], ◌∷◌, ◌++◌, ◌⊎◌, inl, inr, refl, sym, subst, append_assoc, append-nil}
 use Rattle.gpkt.specs.Packets.{Packet}
 use Rattle.ggrammar.specs.Grammar.{Judge, Open, IsOpen}
 

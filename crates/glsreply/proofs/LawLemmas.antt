@@ -1,23 +1,22 @@
 -- Each open list has an ending, and is short.
-use Rattle.std.proofs.Common.{◌≡◌, ℕ, zero, suc, ◌+◌, ◌<◌, ◌≤◌, ◌^◌, Bool, true, false, cond, ◌||◌, List, [], ◌∷◌, ◌++◌, length, ◌==◌, codes, Option, Some, None, Result, Ok, Err, inl, inr, refl, sym, ap, subst, ◌∙◌, append_assoc, append-nil, arith, length-append}
+use Rattle.std.proofs.Common.{◌≡◌, ℕ, suc, ◌+◌, ◌<◌, ◌≤◌, ◌^◌, Bool, true, false, List, [], ◌∷◌, ◌++◌, length, ◌==◌, Option, Some, None, Result, Ok, Err, refl, sym, ap, subst, ◌∙◌, append_assoc, append-nil, arith, length-append}
 use Rattle.std.specs.Prelude.{nat_lt, All, IfSome, IsTrue}
-use Rattle.std.specs.List.{filter_map, list_any}
-use Rattle.std.proofs.lemmas.Bool.{ltb-true, or_right, false≢true, cases_Bool}
+use Rattle.std.proofs.lemmas.Bool.{ltb-true, or_right}
 use Rattle.std.proofs.lemmas.List.{length_push}
-use Rattle.std.proofs.lemmas.List.Elements.{All-cons, All-nil, filter_map-append}
+use Rattle.std.proofs.lemmas.List.Elements.{All-cons, All-nil}
 use Rattle.gpkt.specs.Packets.{Packet, Data, Flush, Delim, ResponseEnd, text}
 use Rattle.gname.specs.Laws.{TextsHaveOneReading}
 use Rattle.gname.specs.declared.formats.Format.{Format}
 use Rattle.ggrammar.specs.Grammar.{Verdict, Open, Whole, Refused, IsOpen, IsWhole, HasEndings, if_room}
-use Rattle.ggrammar.specs.Endings.{ends_with, at_flush, after_flush}
+use Rattle.ggrammar.specs.Endings.{at_flush}
 use Rattle.ggrammar.specs.PeerErrors.{peer_error, unless_error}
-use Rattle.ggrammar.specs.Texts.{text_in, texts_of}
+use Rattle.ggrammar.specs.Texts.{texts_of}
 use Rattle.ggrammar.specs.declared.ends.Ends.{Ends}
 use Rattle.ggrammar.specs.declared.ends.Ends.TheVariants.{Plain, Response}
 use Rattle.ggrammar.specs.declared.fault.Why.{Why}
 use Rattle.ggrammar.specs.declared.fault.Why.TheVariants.{UnexpectedFrame}
 use Rattle.glsreply.specs.RefTexts.{RefLine, line_of, FirstForm, UnbornForm, RefForm, first_form, is_name}
-use Rattle.glsreply.specs.LsReplies.{LsReply, max_lines, is_flush, is_over, unborn_in, unborn_of, unborn_packets, line_in, ref_lines, reply_of, judge_line, judge_first, within_limit, judge_text, judge_body, judge_at, judge}
+use Rattle.glsreply.specs.LsReplies.{max_lines, is_over, unborn_in, unborn_of, unborn_packets, ref_lines, reply_of, judge_line, judge_first, within_limit, judge_text, judge_at, judge}
 use Rattle.glsreply.specs.WellFormed.{IsRefLine, IsLsReplyIn}
 use Rattle.glsreply.proofs.GrammarLemmas.{cond_holds, open_induction, IsOpen-push}
 use Rattle.glsreply.proofs.TextLemmas.{line_formed, form_well, FormsWell}

@@ -1,32 +1,31 @@
 -- The replies of the manual are whole lists of the table, and say the same.
-use Rattle.std.proofs.Common.{◌≡◌, ℕ, zero, suc, ◌+◌, ◌-◌, ◌<◌, ◌≤◌, Bool, true, false, cond, nat_eq, List, [], ◌∷◌, ◌++◌, length, take, drop, map, ◌==◌, codes, Option, Some, None, Result, Ok, Err, ◌⊎◌, inl, inr, refl, sym, ap, subst, ◌∙◌, append_assoc, append-nil, arith, length-append}
-use Rattle.std.specs.Prelude.{nat_lt, All}
+use Rattle.std.proofs.Common.{◌≡◌, ℕ, suc, ◌+◌, ◌-◌, ◌<◌, ◌≤◌, Bool, true, false, nat_eq, List, [], ◌∷◌, ◌++◌, length, take, drop, map, ◌==◌, codes, Option, Some, None, Result, Ok, Err, refl, sym, ap, subst, ◌∙◌, append_assoc, append-nil, arith, length-append}
+use Rattle.std.specs.Prelude.{All}
 use Rattle.std.specs.List.{starts_with}
-use Rattle.std.specs.Str.{bytes_eq}
-use Rattle.std.proofs.lemmas.Bool.{lt-ltb, eqb-true, ne_eqb, cases_Bool}
+use Rattle.std.proofs.lemmas.Bool.{lt-ltb}
 use Rattle.std.proofs.lemmas.Bool.Decides.{Decides-eqb}
 use Rattle.std.proofs.lemmas.List.{length_push}
-use Rattle.std.proofs.lemmas.List.Elements.{All-cons, All-nil, All-head, All-tail, All-append}
+use Rattle.std.proofs.lemmas.List.Elements.{All-head, All-tail}
 use Rattle.std.proofs.lemmas.Slice.Eq.{starts_is}
-use Rattle.gpkt.specs.Packets.{Packet, Data, Flush, Delim, ResponseEnd, text}
+use Rattle.gpkt.specs.Packets.{Packet, Data, Flush, ResponseEnd, text}
 use Rattle.gname.specs.declared.formats.Format.{Format}
 use Rattle.gname.specs.declared.formats.Format.TheVariants.{Sha1, Sha256}
-use Rattle.ggrammar.specs.Grammar.{Verdict, Open, Whole, Refused, IsOpen, IsWhole, if_room}
-use Rattle.ggrammar.specs.Endings.{ends_with, at_flush}
+use Rattle.ggrammar.specs.Grammar.{Verdict, Open, IsOpen, IsWhole, if_room}
+use Rattle.ggrammar.specs.Endings.{ends_with}
 use Rattle.ggrammar.specs.Ids.{id_of_text}
 use Rattle.ggrammar.specs.PeerErrors.{after_word, peer_error, unless_error}
 use Rattle.ggrammar.specs.Texts.{texts_of}
 use Rattle.ggrammar.specs.declared.ends.Ends.{Ends}
 use Rattle.ggrammar.specs.declared.ends.Ends.TheVariants.{Plain, Response}
 use Rattle.ggrammar.specs.declared.fault.Why.{Why}
-use Rattle.ggrammar.specs.declared.fault.Why.TheVariants.{BadId, UnexpectedFrame}
-use Rattle.glsreply.specs.RefTexts.{RefLine, parts_of, line_of, line_of_parts, line_with_id, FirstForm, UnbornForm, RefForm, first_form, first_of_parts, is_space}
-use Rattle.glsreply.specs.LsReplies.{LsReply, Says, max_lines, is_over, unborn_in, unborn_of, ref_lines, reply_of, judge_line, judge_first, within_limit, judge_text, judge_at, judge}
+use Rattle.ggrammar.specs.declared.fault.Why.TheVariants.{BadId}
+use Rattle.glsreply.specs.RefTexts.{RefLine, parts_of, line_of, line_of_parts, FirstForm, UnbornForm, RefForm, first_form, first_of_parts}
+use Rattle.glsreply.specs.LsReplies.{LsReply, Says, max_lines, is_over, unborn_in, unborn_of, ref_lines, judge_line, judge_first, within_limit, judge_text, judge_at, judge}
 use Rattle.glsreply.specs.LsManual.{IsRefText, IsUnbornFirst, IsLsReply}
-use Rattle.glsreply.proofs.GrammarLemmas.{cond_holds, open_induction, IsOpen-nil, IsOpen-push}
+use Rattle.glsreply.proofs.GrammarLemmas.{cond_holds, IsOpen-nil, IsOpen-push}
 use Rattle.glsreply.proofs.TextLemmas.{some_if}
 use Rattle.glsreply.proofs.StateLemmas.{texts_push, over_push, or_false, unborn_is_no_line, unborn_gives_none, ref_lines-cons}
-use Rattle.glsreply.proofs.LawLemmas.{flush_is, over_ends, over_after_flush, data_goes, flush_goes, delim_stops, response_stops, data_part, goes_within, open_is_short}
+use Rattle.glsreply.proofs.LawLemmas.{flush_is, over_ends, over_after_flush}
 
 -- ---- a payload that reports an error is no line
 
