@@ -30,6 +30,7 @@ use Rattle.glsreply.specs.LsReplies.{LsReply, ref_lines, unborn_packets, ref_pac
 use Rattle.glsreply.specs.LsManual.{IsRefText, IsUnbornFirst, IsLsReply}
 use Rattle.glsreply.specs.WellFormed.{IsRefLine, IsLsReplyIn}
 use Rattle.glsreply.specs.Laws.{CanonicalSays}
+use Rattle.glsreply.proofs.GrammarLemmas.{GrammarsAreExact}
 use Rattle.glsreply.proofs.ManualLemmas.{map_append, manual_says}
 use Rattle.glsreply.proofs.StateLemmas.{ref_lines-one, ref_lines-cons, refs_in}
 
@@ -62,7 +63,8 @@ value_part word value h clean =
 
 -- ---- names and ids
 
-pub record NameAndIdLaws : Type 0 where
+pub record LawsBelow : Type 0 where
+  pub grammars : GrammarsAreExact
   pub reads : TextIsRead
   pub names : NamesAreClean
   pub texts : IdsHaveTexts
@@ -76,7 +78,7 @@ no_fault (Some fault) e = cc
 same_some : {X : Type 0} (x y : X) → Some x ≡ Some y → x ≡ y
 same_some x y e = cc
 
-module _ (laws : NameAndIdLaws) where
+module _ (laws : LawsBelow) where
   name_clean : (name : List ℕ) → is_name name ≡ true → IsClean name
   name_clean name h = (laws.names name (no_fault (name_fault name) h)).clean
 
@@ -332,6 +334,6 @@ module _ (laws : NameAndIdLaws) where
 
   pub canonical_says_reply : CanonicalSays
   canonical_says_reply format ends reply h = (
-    manual_says format ends (canonical_reply ends reply) reply (canonical_is_reply format ends reply h),
+    manual_says laws.grammars format ends (canonical_reply ends reply) reply (canonical_is_reply format ends reply h),
     canonical_fits format ends reply h,
   )

@@ -15,7 +15,7 @@ use Rattle.ggrammar.specs.declared.fault.Why.{Why}
 use Rattle.glsreply.specs.RefTexts.{RefLine, line_of, FirstForm, UnbornForm, RefForm, first_form}
 use Rattle.glsreply.specs.LsReplies.{LsReply, Says, max_lines, is_over, ref_lines, judge_line, judge_first, judge_text, judge_at, judge}
 use Rattle.glsreply.specs.LsManual.{IsRefText, IsUnbornFirst, IsLsReply}
-use Rattle.glsreply.proofs.GrammarLemmas.{open_induction}
+use Rattle.glsreply.proofs.GrammarLemmas.{GrammarsAreExact, open_induction}
 use Rattle.glsreply.proofs.LawLemmas.{data_goes, flush_goes, delim_stops, response_stops, data_part, goes_within, over_after_flush}
 use Rattle.glsreply.proofs.ManualLemmas.{map_append, manual_says}
 
@@ -188,8 +188,8 @@ whole_is_sent format ends packets whole =
     subst (IsSentWhole format ends) (sym whole.parts) (last_is format ends whole.front whole.last (open_is_front format ends whole.front whole.goes) whole.ends)
 
 -- what such a list says in the manual's words it says in the table's, and lines say one reply
-pub says_manual : (format : Format) (ends : Ends) (packets : List Packet) (reply : LsReply) → Says format ends packets reply → IsLsReply format ends packets reply
-says_manual format ends packets reply says =
+pub says_manual : GrammarsAreExact → (format : Format) (ends : Ends) (packets : List Packet) (reply : LsReply) → Says format ends packets reply → IsLsReply format ends packets reply
+says_manual laws format ends packets reply says =
     let whole = whole_is_sent format ends packets says.whole in
     let sent = whole.2 in
     let said : LsReply = record { unborn = sent.unborn; lines = ref_lines format (map text sent.refs) } in
@@ -202,4 +202,4 @@ says_manual format ends packets reply says =
       few = subst (λ (payloads : List (List ℕ)). length payloads ≤ max_lines) sent.parts sent.few;
       lines = refl;
     } in
-    subst (IsLsReply format ends packets) ((manual_says format ends packets said manual).says ∙ sym says.says) manual
+    subst (IsLsReply format ends packets) ((manual_says laws format ends packets said manual).says ∙ sym says.says) manual

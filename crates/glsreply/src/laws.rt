@@ -21,17 +21,22 @@ pub fn prefix_free()
 /// Each list of lines that the table leaves open begins a reply.
 pub fn beginnings_end()
     ensures { BeginningsEnd }
-{}
+{
+    grammars_are_exact();
+}
 
 /// The lists of packets that are read as a reply are those that the manual has, and they say the same.
 pub fn manual()
     ensures { ManualIsTable }
-{}
+{
+    grammars_are_exact();
+}
 
 /// The lines that are written of a reply say it, and each fits a packet.
 pub fn canonical_says()
     ensures { CanonicalSays }
 {
+    grammars_are_exact();
     texts_are_read();
     names_are_clean();
     ids_have_texts();

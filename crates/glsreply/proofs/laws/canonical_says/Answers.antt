@@ -4,6 +4,7 @@ use Rattle.glsreply.proofs.laws.canonical_says.Goals as goal
 pub returns : goal.returns
 returns c =
     canonical_says_reply (record {
+      grammars = c.grammars_are_exact.ensures;
       reads = c.texts_are_read.ensures.line;
       names = c.names_are_clean.ensures;
       texts = c.ids_have_texts.ensures;
