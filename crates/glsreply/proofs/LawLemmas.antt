@@ -1,25 +1,24 @@
 -- Each open list has an ending, and is short.
-use Rattle.std.proofs.Common.{◌≡◌, ℕ, zero, suc, ◌+◌, ◌<◌, ◌≤◌, ◌^◌, Bool, true, false, cond, ◌||◌, List, [], ◌∷◌, ◌++◌, length, ◌==◌, codes, Option, Some, None, Result, Ok, Err, inl, inr, refl, sym, ap, subst, ◌∙◌, append_assoc, append-nil, arith, length-append}
+use Rattle.std.proofs.Common.{◌≡◌, ℕ, suc, ◌+◌, ◌<◌, ◌≤◌, ◌^◌, Bool, true, false, List, [], ◌∷◌, ◌++◌, length, ◌==◌, Option, Some, None, Result, Ok, Err, refl, sym, ap, subst, ◌∙◌, append_assoc, append-nil, arith, length-append}
 use Rattle.std.specs.Prelude.{nat_lt, All, IfSome, IsTrue}
-use Rattle.std.specs.List.{filter_map, list_any}
-use Rattle.std.proofs.lemmas.Bool.{ltb-true, or_right, false≢true, cases_Bool}
+use Rattle.std.proofs.lemmas.Bool.{ltb-true, or_right}
 use Rattle.std.proofs.lemmas.List.{length_push}
-use Rattle.std.proofs.lemmas.List.Elements.{All-cons, All-nil, filter_map-append}
+use Rattle.std.proofs.lemmas.List.Elements.{All-cons, All-nil}
 use Rattle.gpkt.specs.Packets.{Packet, Data, Flush, Delim, ResponseEnd, text}
 use Rattle.gname.specs.Laws.{TextsHaveOneReading}
 use Rattle.gname.specs.declared.formats.Format.{Format}
 use Rattle.ggrammar.specs.Grammar.{Verdict, Open, Whole, Refused, IsOpen, IsWhole, HasEndings, if_room}
-use Rattle.ggrammar.specs.Endings.{ends_with, at_flush, after_flush}
+use Rattle.ggrammar.specs.Endings.{at_flush}
 use Rattle.ggrammar.specs.PeerErrors.{peer_error, unless_error}
-use Rattle.ggrammar.specs.Texts.{text_in, texts_of}
+use Rattle.ggrammar.specs.Texts.{texts_of}
 use Rattle.ggrammar.specs.declared.ends.Ends.{Ends}
 use Rattle.ggrammar.specs.declared.ends.Ends.TheVariants.{Plain, Response}
 use Rattle.ggrammar.specs.declared.fault.Why.{Why}
 use Rattle.ggrammar.specs.declared.fault.Why.TheVariants.{UnexpectedFrame}
 use Rattle.glsreply.specs.RefTexts.{RefLine, line_of, FirstForm, UnbornForm, RefForm, first_form, is_name}
-use Rattle.glsreply.specs.LsReplies.{LsReply, max_lines, is_flush, is_over, unborn_in, unborn_of, unborn_packets, line_in, ref_lines, reply_of, judge_line, judge_first, within_limit, judge_text, judge_body, judge_at, judge}
+use Rattle.glsreply.specs.LsReplies.{max_lines, is_over, unborn_in, unborn_of, unborn_packets, ref_lines, reply_of, judge_line, judge_first, within_limit, judge_text, judge_at, judge}
 use Rattle.glsreply.specs.WellFormed.{IsRefLine, IsLsReplyIn}
-use Rattle.glsreply.proofs.GrammarLemmas.{cond_holds, open_induction, IsOpen-push}
+use Rattle.glsreply.proofs.GrammarLemmas.{GrammarsAreExact, cond_holds, open_induction}
 use Rattle.glsreply.proofs.TextLemmas.{line_formed, form_well, FormsWell}
 use Rattle.glsreply.proofs.StateLemmas.{texts_push, over_push, or_false, unborn_is_no_line, refs_in, ref_lines-one, ref_lines-cons}
 
@@ -124,8 +123,8 @@ flush_is format ends count = refl
 pub over_after_flush : (front : List Packet) → is_over (front ++ Flush ∷ []) ≡ true
 over_after_flush front = over_push front Flush ∙ or_right (is_over front) true refl
 
-pub has_endings : (format : Format) (ends : Ends) → HasEndings (judge format ends)
-has_endings format ends front opened = by_over ends (is_over front) refl opened where
+pub has_endings : GrammarsAreExact → (format : Format) (ends : Ends) → HasEndings (judge format ends)
+has_endings laws format ends front opened = by_over ends (is_over front) refl opened where
   by_over : (ends : Ends) (over : Bool) → is_over front ≡ over → IsOpen (judge format ends) front → (more : List Packet) × IsWhole (judge format ends) (front ++ more)
   by_over ends true at opened = (
     ResponseEnd ∷ [],
@@ -153,7 +152,7 @@ has_endings format ends front opened = by_over ends (is_over front) refl opened 
       front = front ++ Flush ∷ [];
       last = ResponseEnd;
       parts = sym (append_assoc front (Flush ∷ []) (ResponseEnd ∷ []));
-      goes = IsOpen-push opened (ap (λ (over : Bool). judge_at format Response over (length (texts_of front)) Flush) at ∙ flush_is format Response (length (texts_of front)));
+      goes = (laws (judge format Response)).goes_on front Flush opened (ap (λ (over : Bool). judge_at format Response over (length (texts_of front)) Flush) at ∙ flush_is format Response (length (texts_of front)));
       ends = ap (λ (over : Bool). judge_at format Response over (length (texts_of (front ++ Flush ∷ []))) ResponseEnd) (over_after_flush front) ∙ over_ends format Response (length (texts_of (front ++ Flush ∷ [])));
     },
   )

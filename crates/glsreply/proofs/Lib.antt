@@ -6,4 +6,6 @@ pub mod LawLemmas
 pub mod ReaderLemmas
 pub mod ValueLemmas
 pub mod ManualLemmas
+pub mod TableLemmas
+pub mod CanonicalLemmas
 pub mod WritingLemmas

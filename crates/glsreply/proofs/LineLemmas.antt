@@ -1,5 +1,5 @@
 -- The parts of a text, and what is read of them.
-use Rattle.std.proofs.Common.{◌≡◌, ℕ, ◌+◌, ◌-◌, ◌<◌, ◌≤◌, ◌⊎◌, inl, inr, Bool, true, false, Err, List, [], ◌∷◌, length, take, drop, Some, None, refl, sym, subst, ap, ◌∙◌, arith}
+use Rattle.std.proofs.Common.{◌≡◌, ℕ, ◌+◌, ◌-◌, ◌≤◌, ◌⊎◌, inl, inr, Bool, true, false, Err, List, [], ◌∷◌, length, take, drop, Some, None, refl, sym, subst, ap, ◌∙◌, arith}
 use Rattle.std.specs.Prelude.{position, is_none, Option}
 use Rattle.std.specs.Borrow.{Bor}
 use Rattle.std.specs.List.{slice_split, position_or_len, onto_first}
@@ -15,7 +15,7 @@ use Rattle.gname.specs.Laws.{RulesNeverReportMemory}
 use Rattle.gname.specs.declared.faults.NameFault.{NameFault}
 use Rattle.gname.specs.declared.faults.NameFault.TheVariants.{Memory}
 use Rattle.ggrammar.specs.declared.fault.Why.TheVariants.{BadText}
-use Rattle.glsreply.specs.RefTexts.{is_space, parts_of, is_name, unborn_after_head}
+use Rattle.glsreply.specs.RefTexts.{is_space, parts_of, unborn_after_head}
 
 -- a text is cut at its first space
 pub parts-at : (text : List ℕ) (at : ℕ) → Some at ≡ position is_space text

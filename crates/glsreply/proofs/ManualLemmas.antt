@@ -1,32 +1,31 @@
--- The whole lists of the table are the replies of the manual.
-use Rattle.std.proofs.Common.{◌≡◌, ℕ, zero, suc, ◌+◌, ◌-◌, ◌<◌, ◌≤◌, Bool, true, false, cond, nat_eq, List, [], ◌∷◌, ◌++◌, length, take, drop, map, ◌==◌, codes, Option, Some, None, Result, Ok, Err, ◌⊎◌, inl, inr, refl, sym, ap, subst, ◌∙◌, append_assoc, append-nil, arith, length-append}
-use Rattle.std.specs.Prelude.{nat_lt, All}
+-- The replies of the manual are whole lists of the table, and say the same.
+use Rattle.std.proofs.Common.{◌≡◌, ℕ, suc, ◌+◌, ◌-◌, ◌<◌, ◌≤◌, Bool, true, false, nat_eq, List, [], ◌∷◌, ◌++◌, length, take, drop, map, ◌==◌, codes, Option, Some, None, Result, Ok, Err, refl, sym, ap, subst, ◌∙◌, append_assoc, append-nil, arith, length-append}
+use Rattle.std.specs.Prelude.{All}
 use Rattle.std.specs.List.{starts_with}
-use Rattle.std.specs.Str.{bytes_eq}
-use Rattle.std.proofs.lemmas.Bool.{lt-ltb, eqb-true, ne_eqb, cases_Bool}
+use Rattle.std.proofs.lemmas.Bool.{lt-ltb}
 use Rattle.std.proofs.lemmas.Bool.Decides.{Decides-eqb}
 use Rattle.std.proofs.lemmas.List.{length_push}
-use Rattle.std.proofs.lemmas.List.Elements.{All-cons, All-nil, All-head, All-tail, All-append}
+use Rattle.std.proofs.lemmas.List.Elements.{All-head, All-tail}
 use Rattle.std.proofs.lemmas.Slice.Eq.{starts_is}
-use Rattle.gpkt.specs.Packets.{Packet, Data, Flush, Delim, ResponseEnd, text}
+use Rattle.gpkt.specs.Packets.{Packet, Data, Flush, ResponseEnd, text}
 use Rattle.gname.specs.declared.formats.Format.{Format}
 use Rattle.gname.specs.declared.formats.Format.TheVariants.{Sha1, Sha256}
-use Rattle.ggrammar.specs.Grammar.{Verdict, Open, Whole, Refused, IsOpen, IsWhole, if_room}
-use Rattle.ggrammar.specs.Endings.{ends_with, at_flush}
+use Rattle.ggrammar.specs.Grammar.{Verdict, Open, IsOpen, IsWhole, if_room}
+use Rattle.ggrammar.specs.Endings.{ends_with}
 use Rattle.ggrammar.specs.Ids.{id_of_text}
 use Rattle.ggrammar.specs.PeerErrors.{after_word, peer_error, unless_error}
 use Rattle.ggrammar.specs.Texts.{texts_of}
 use Rattle.ggrammar.specs.declared.ends.Ends.{Ends}
 use Rattle.ggrammar.specs.declared.ends.Ends.TheVariants.{Plain, Response}
 use Rattle.ggrammar.specs.declared.fault.Why.{Why}
-use Rattle.ggrammar.specs.declared.fault.Why.TheVariants.{BadId, UnexpectedFrame}
-use Rattle.glsreply.specs.RefTexts.{RefLine, parts_of, line_of, line_of_parts, line_with_id, FirstForm, UnbornForm, RefForm, first_form, first_of_parts, is_space}
-use Rattle.glsreply.specs.LsReplies.{LsReply, Says, max_lines, is_over, unborn_in, unborn_of, ref_lines, reply_of, judge_line, judge_first, within_limit, judge_text, judge_at, judge}
+use Rattle.ggrammar.specs.declared.fault.Why.TheVariants.{BadId}
+use Rattle.glsreply.specs.RefTexts.{RefLine, parts_of, line_of, line_of_parts, FirstForm, UnbornForm, RefForm, first_form, first_of_parts}
+use Rattle.glsreply.specs.LsReplies.{LsReply, Says, max_lines, is_over, unborn_in, unborn_of, ref_lines, judge_line, judge_first, within_limit, judge_text, judge_at, judge}
 use Rattle.glsreply.specs.LsManual.{IsRefText, IsUnbornFirst, IsLsReply}
-use Rattle.glsreply.proofs.GrammarLemmas.{cond_holds, open_induction, IsOpen-nil, IsOpen-push}
+use Rattle.glsreply.proofs.GrammarLemmas.{GrammarsAreExact, cond_holds}
 use Rattle.glsreply.proofs.TextLemmas.{some_if}
 use Rattle.glsreply.proofs.StateLemmas.{texts_push, over_push, or_false, unborn_is_no_line, unborn_gives_none, ref_lines-cons}
-use Rattle.glsreply.proofs.LawLemmas.{flush_is, over_ends, over_after_flush, data_goes, flush_goes, delim_stops, response_stops, data_part, goes_within, open_is_short}
+use Rattle.glsreply.proofs.LawLemmas.{flush_is, over_ends, over_after_flush}
 
 -- ---- a payload that reports an error is no line
 
@@ -114,51 +113,51 @@ record IsBody (format : Format) (ends : Ends) (front : List Packet) (count : ℕ
   pub at : is_over front ≡ false
   pub texts : length (texts_of front) ≡ count
 
-body_push : (format : Format) (ends : Ends) (front : List Packet) (payload : List ℕ) (count : ℕ) → IsBody format ends front count
+body_push : GrammarsAreExact → (format : Format) (ends : Ends) (front : List Packet) (payload : List ℕ) (count : ℕ) → IsBody format ends front count
     → judge format ends front (Data payload) ≡ Open → IsBody format ends (front ++ Data payload ∷ []) (count + 1)
-body_push format ends front payload count body goes = record {
-  goes = IsOpen-push body.goes goes;
+body_push laws format ends front payload count body goes = record {
+  goes = (laws (judge format ends)).goes_on front (Data payload) body.goes goes;
   at = over_push front (Data payload) ∙ (or_false (is_over front) ∙ body.at);
   texts = ap (λ (texts : List (List ℕ)). length texts) (texts_push front (Data payload)) ∙ (length_push (texts_of front) (text payload) ∙ ap (λ (n : ℕ). n + 1) body.texts);
 }
 
-refs_body : (format : Format) (ends : Ends) (front : List Packet) (count : ℕ) (refs : List (List ℕ)) → IsBody format ends front count
+refs_body : GrammarsAreExact → (format : Format) (ends : Ends) (front : List Packet) (count : ℕ) (refs : List (List ℕ)) → IsBody format ends front count
     → All (IsRefText format) (map text refs) → count + length refs ≤ max_lines → IsBody format ends (front ++ map Data refs) (count + length refs)
-refs_body format ends front count [] body are few =
+refs_body laws format ends front count [] body are few =
     subst (λ (packets : List Packet). IsBody format ends packets (count + 0)) (sym (append-nil front)) (subst (IsBody format ends front) (omega arith) body)
-refs_body format ends front count (payload ∷ refs) body are few =
+refs_body laws format ends front count (payload ∷ refs) body are few =
     let room : length (texts_of front) < max_lines = omega (arith, body.texts, few) in
-    let next = body_push format ends front payload count body (ref_goes format ends front payload body.at (All-head (IsRefText format) (text payload) (map text refs) are) room) in
-    let all = refs_body format ends (front ++ Data payload ∷ []) (count + 1) refs next (All-tail (IsRefText format) (text payload) (map text refs) are) (omega (arith, few)) in
+    let next = body_push laws format ends front payload count body (ref_goes format ends front payload body.at (All-head (IsRefText format) (text payload) (map text refs) are) room) in
+    let all = refs_body laws format ends (front ++ Data payload ∷ []) (count + 1) refs next (All-tail (IsRefText format) (text payload) (map text refs) are) (omega (arith, few)) in
     subst (λ (packets : List Packet). IsBody format ends packets (count + suc (length refs))) (append_assoc front (Data payload ∷ []) (map Data refs))
     (subst (IsBody format ends ((front ++ Data payload ∷ []) ++ map Data refs)) (omega arith) all)
 
-first_body : (format : Format) (ends : Ends) (unborn : Option (List ℕ)) (first : List (List ℕ)) → IsUnbornFirst unborn first → IsBody format ends (map Data first) (length first)
-first_body format ends None first h =
+first_body : GrammarsAreExact → (format : Format) (ends : Ends) (unborn : Option (List ℕ)) (first : List (List ℕ)) → IsUnbornFirst unborn first → IsBody format ends (map Data first) (length first)
+first_body laws format ends None first h =
     subst (λ (payloads : List (List ℕ)). IsBody format ends (map Data payloads) (length payloads)) (sym h)
-    (record { goes = IsOpen-nil (judge format ends); at = refl; texts = refl })
-first_body format ends (Some target) first h =
+    (record { goes = (laws (judge format ends)).nothing; at = refl; texts = refl })
+first_body laws format ends (Some target) first h =
     subst (λ (payloads : List (List ℕ)). IsBody format ends (map Data payloads) (length payloads)) (sym h.1)
-    (body_push format ends [] h.0 0 (record { goes = IsOpen-nil (judge format ends); at = refl; texts = refl }) (unborn_goes format ends h.0 target h.2))
+    (body_push laws format ends [] h.0 0 (record { goes = (laws (judge format ends)).nothing; at = refl; texts = refl }) (unborn_goes format ends h.0 target h.2))
 
-ends_so : (format : Format) (ends : Ends) (front : List Packet) → IsOpen (judge format ends) front → is_over front ≡ false
+ends_so : GrammarsAreExact → (format : Format) (ends : Ends) (front : List Packet) → IsOpen (judge format ends) front → is_over front ≡ false
     → IsWhole (judge format ends) (front ++ Flush ∷ ends_with ends)
-ends_so format Plain front opened at = record {
+ends_so laws format Plain front opened at = record {
   front = front;
   last = Flush;
   parts = refl;
   goes = opened;
   ends = ap (λ (over : Bool). judge_at format Plain over (length (texts_of front)) Flush) at ∙ flush_is format Plain (length (texts_of front));
 }
-ends_so format Response front opened at = record {
+ends_so laws format Response front opened at = record {
   front = front ++ Flush ∷ [];
   last = ResponseEnd;
   parts = sym (append_assoc front (Flush ∷ []) (ResponseEnd ∷ []));
-  goes = IsOpen-push opened (ap (λ (over : Bool). judge_at format Response over (length (texts_of front)) Flush) at ∙ flush_is format Response (length (texts_of front)));
+  goes = (laws (judge format Response)).goes_on front Flush opened (ap (λ (over : Bool). judge_at format Response over (length (texts_of front)) Flush) at ∙ flush_is format Response (length (texts_of front)));
   ends = ap (λ (over : Bool). judge_at format Response over (length (texts_of (front ++ Flush ∷ []))) ResponseEnd) (over_after_flush front) ∙ over_ends format Response (length (texts_of (front ++ Flush ∷ [])));
 }
 
-map_append : {X Y : Type 0} (f : X → Y) (xs ys : List X) → map f (xs ++ ys) ≡ map f xs ++ map f ys
+pub map_append : {X Y : Type 0} (f : X → Y) (xs ys : List X) → map f (xs ++ ys) ≡ map f xs ++ map f ys
 map_append f [] ys = refl
 map_append f (x ∷ xs) ys = ap (λ (zs : List _). f x ∷ zs) (map_append f xs ys)
 
@@ -185,12 +184,12 @@ says_refs format (Some target) first refs h =
     ∙ (ref_lines-cons format (text h.0) (map text refs)
     ∙ ap (λ (lines : List RefLine). lines ++ ref_lines format (map text refs)) (unborn_gives_none format (text h.0) (Ok target) h.2))
 
-pub manual_says : (format : Format) (ends : Ends) (packets : List Packet) (reply : LsReply) → IsLsReply format ends packets reply → Says format ends packets reply
-manual_says format ends packets reply h =
+pub manual_says : GrammarsAreExact → (format : Format) (ends : Ends) (packets : List Packet) (reply : LsReply) → IsLsReply format ends packets reply → Says format ends packets reply
+manual_says laws format ends packets reply h =
     let few : length h.first + length h.refs ≤ max_lines = omega (arith, h.few, length-append h.first h.refs) in
-    let body = refs_body format ends (map Data h.first) (length h.first) h.refs (first_body format ends reply.unborn h.first h.is_first) h.are_refs few in
+    let body = refs_body laws format ends (map Data h.first) (length h.first) h.refs (first_body laws format ends reply.unborn h.first h.is_first) h.are_refs few in
     let parts = ap (λ (sent : List Packet). sent ++ Flush ∷ ends_with ends) (map_append Data h.first h.refs) in
-    let whole = subst (IsWhole (judge format ends)) (sym (h.parts ∙ parts)) (ends_so format ends (map Data h.first ++ map Data h.refs) body.goes body.at) in
+    let whole = subst (IsWhole (judge format ends)) (sym (h.parts ∙ parts)) (ends_so laws format ends (map Data h.first ++ map Data h.refs) body.goes body.at) in
     let texts : texts_of packets ≡ map text (h.first ++ h.refs) = ap texts_of h.parts ∙ texts_sent ends (h.first ++ h.refs) in
     let unborn : unborn_of (texts_of packets) ≡ reply.unborn = ap unborn_of texts ∙ says_unborn format reply.unborn h.first h.refs h.is_first h.are_refs in
     let lines : ref_lines format (texts_of packets) ≡ reply.lines = ap (ref_lines format) texts ∙ (says_refs format reply.unborn h.first h.refs h.is_first ∙ sym h.lines) in

@@ -1,12 +1,12 @@
 -- What the reader answers when a reply has been read, or was refused.
-use Rattle.std.proofs.Common.{◌≡◌, List, sym, subst}
+use Rattle.std.proofs.Common.{◌≡◌, sym, subst}
 use Rattle.gpkt.specs.Change.{Change}
 use Rattle.gname.specs.Laws.{TextsHaveOneReading}
 use Rattle.gname.specs.declared.formats.Format.{Format}
 use Rattle.ggrammar.specs.MessageReading.{HasTaken, HasRefused}
 use Rattle.ggrammar.specs.declared.ends.Ends.{Ends}
 use Rattle.ggrammar.specs.declared.fault.MessageFault.{MessageFault}
-use Rattle.glsreply.specs.LsReplies.{LsReply, judge, brings, reply_of}
+use Rattle.glsreply.specs.LsReplies.{judge, brings}
 use Rattle.glsreply.specs.ReplyReading.{ReadsReply, RefusesReply}
 use Rattle.glsreply.specs.ReplyState.{Holds, state_in}
 use Rattle.glsreply.specs.WellFormed.{IsLsReplyIn}

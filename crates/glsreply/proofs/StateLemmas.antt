@@ -1,9 +1,9 @@
 -- What a packet that is accepted adds to what is kept of a reply.
-use Rattle.std.proofs.Common.{◌≡◌, ℕ, zero, suc, ◌+◌, ◌<◌, ◌≤◌, ◌^◌, Bool, true, false, cond, ◌||◌, List, [], ◌∷◌, ◌++◌, length, ◌==◌, codes, Option, Some, None, Result, Ok, Err, ◌⊎◌, inl, inr, refl, sym, ap, ap₂, subst, ◌∙◌, append_assoc, append-nil, arith}
-use Rattle.std.specs.Prelude.{nat_lt, All, IfSome, IsTrue}
-use Rattle.std.specs.List.{filter_map, list_any}
+use Rattle.std.proofs.Common.{◌≡◌, ℕ, Bool, true, false, cond, ◌||◌, List, [], ◌∷◌, ◌++◌, length, ◌==◌, codes, Option, Some, None, Result, Ok, Err, inl, inr, refl, sym, ap, ap₂, subst, ◌∙◌, append-nil, arith}
+use Rattle.std.specs.Prelude.{All}
+use Rattle.std.specs.List.{filter_map}
 use Rattle.std.specs.Str.{bytes_eq}
-use Rattle.std.proofs.lemmas.Bool.{ltb-true, eqb-true, ne_eqb, or_right, false≢true}
+use Rattle.std.proofs.lemmas.Bool.{eqb-true, ne_eqb, or_right}
 use Rattle.std.proofs.lemmas.List.{length_push}
 use Rattle.std.proofs.lemmas.List.Elements.{filter_map-append, All-append, All-cons, All-nil, All-head, All-tail}
 use Rattle.std.proofs.lemmas.List.Folds.{list_any-append}
@@ -12,23 +12,21 @@ use Rattle.gpkt.specs.Packets.{Packet, Data, Flush, Delim, ResponseEnd, text}
 use Rattle.gname.specs.Formats.{id_text_length}
 use Rattle.gname.specs.declared.formats.Format.{Format}
 use Rattle.gname.specs.declared.formats.Format.TheVariants.{Sha1, Sha256}
-use Rattle.ggrammar.specs.Grammar.{Verdict, Open, Whole, Refused, IsOpen, IsWhole, HasEndings, if_room}
-use Rattle.ggrammar.specs.Endings.{ends_with, at_flush, after_flush}
+use Rattle.ggrammar.specs.Grammar.{Verdict, Open, Whole, Refused, IsWhole}
 use Rattle.ggrammar.specs.Ids.{id_of_text}
 use Rattle.ggrammar.specs.MessageReading.{IsAccepted, IsReason, TakesPacket}
 use Rattle.ggrammar.specs.PeerErrors.{peer_error, unless_error}
 use Rattle.ggrammar.specs.Texts.{text_in, texts_of}
 use Rattle.ggrammar.specs.declared.ends.Ends.{Ends}
-use Rattle.ggrammar.specs.declared.ends.Ends.TheVariants.{Plain, Response}
 use Rattle.ggrammar.specs.declared.fault.Why.{Why}
 use Rattle.ggrammar.specs.declared.fault.Why.TheVariants.{BadId, UnexpectedFrame}
 use Rattle.ggrammar.specs.declared.message.Step.{Step}
 use Rattle.ggrammar.specs.declared.message.Step.TheVariants as step
 use Rattle.glsreply.specs.RefTexts.{RefLine, parts_of, line_of, line_of_parts, line_with_id, FirstForm, UnbornForm, RefForm, first_form, first_of_parts, unborn_of_parts}
-use Rattle.glsreply.specs.LsReplies.{LsReply, max_lines, is_flush, is_over, unborn_in, unborn_of, line_in, ref_lines, reply_of, judge_line, judge_first, within_limit, judge_text, judge_body, judge_at, judge, brings}
-use Rattle.glsreply.specs.ReplyState.{State, Holds, IsLineText, AreLineTexts, KeepsKind, state_of, state_in, with_line, with_unborn, with_first, with_text, with_packet, TakesAs}
+use Rattle.glsreply.specs.LsReplies.{is_flush, is_over, unborn_in, unborn_of, line_in, ref_lines, reply_of, judge_line, judge_first, within_limit, judge_text, judge_at, judge, brings}
+use Rattle.glsreply.specs.ReplyState.{State, Holds, IsLineText, AreLineTexts, KeepsKind, state_of, state_in, with_line, with_first, with_text, with_packet, TakesAs}
 use Rattle.glsreply.specs.declared.reader.LsReplyReader.{LsReplyReader}
-use Rattle.glsreply.proofs.GrammarLemmas.{cond_holds, open_induction, IsOpen-push}
+use Rattle.glsreply.proofs.GrammarLemmas.{cond_holds, open_induction}
 use Rattle.glsreply.proofs.TextLemmas.{some_if}
 
 -- ---- verdicts

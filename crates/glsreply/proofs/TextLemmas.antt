@@ -1,8 +1,8 @@
 -- What is read of a text is well formed, or is refused for a reason of texts.
-use Rattle.std.proofs.Common.{◌≡◌, ℕ, Bool, true, false, cond, List, [], ◌∷◌, length, ◌==◌, codes, Option, Some, None, Result, Ok, Err, inl, inr, refl, sym, ap, subst, ◌∙◌}
+use Rattle.std.proofs.Common.{◌≡◌, ℕ, Bool, true, false, cond, List, [], ◌∷◌, length, ◌==◌, codes, Option, Some, None, Result, Ok, Err, refl, sym, subst}
 use Rattle.std.specs.Prelude.{is_none}
 use Rattle.std.specs.Str.{bytes_eq}
-use Rattle.std.proofs.lemmas.Bool.{eqb-true, cases_Bool}
+use Rattle.std.proofs.lemmas.Bool.{eqb-true}
 use Rattle.hex.specs.Hex.{decode_of}
 use Rattle.hex.specs.declared.error.FromHexError.{FromHexError}
 use Rattle.gname.specs.Formats.{id_text_length}
@@ -11,11 +11,11 @@ use Rattle.gname.specs.Laws.{TextsHaveOneReading}
 use Rattle.gname.specs.declared.formats.Format.{Format}
 use Rattle.ggrammar.specs.Ids.{id_of_text, ok_of}
 use Rattle.ggrammar.specs.PeerErrors.{after_word}
-use Rattle.ggrammar.specs.Grammar.{Verdict, Refused}
+use Rattle.ggrammar.specs.Grammar.{Refused}
 use Rattle.ggrammar.specs.MessageReading.{IsReason}
 use Rattle.ggrammar.specs.declared.fault.Why.{Why}
 use Rattle.ggrammar.specs.declared.fault.Why.TheVariants as why
-use Rattle.glsreply.specs.RefTexts.{RefLine, Attribute, Symref, Peeled, UnknownAttribute, parts_of, is_name, attribute_of, with_symref, with_id, with_peeled, with_attribute, with_attributes, line_with_name, line_with_id, line_of_parts, line_of, unborn_target, unborn_after_head, unborn_of_parts, FirstForm, UnbornForm, RefForm, first_of_parts, first_form}
+use Rattle.glsreply.specs.RefTexts.{RefLine, Attribute, Symref, Peeled, UnknownAttribute, parts_of, is_name, attribute_of, with_symref, with_id, with_attribute, with_attributes, line_with_name, line_with_id, line_of_parts, line_of, unborn_target, unborn_after_head, unborn_of_parts, FirstForm, UnbornForm, RefForm, first_of_parts, first_form}
 use Rattle.glsreply.specs.WellFormed.{IsRefLine}
 use Rattle.glsreply.specs.LsReplies.{within_limit, judge_line, judge_first, judge_text}
 use Rattle.glsreply.proofs.GrammarLemmas.{cond_holds}

@@ -1,6 +1,6 @@
 -- A reply with a line more.
-use Rattle.std.proofs.Common.{◌≡◌, ℕ, ◌+◌, ◌<◌, ◌≤◌, Bool, true, false, ◌&&◌, List, [], ◌∷◌, ◌++◌, length, Option, Some, None, Result, Ok, Err, refl, sym, ap, subst, ◌∙◌, arith}
-use Rattle.std.specs.Prelude.{All, IfSome, IsTrue}
+use Rattle.std.proofs.Common.{◌≡◌, ℕ, ◌<◌, ◌≤◌, true, false, List, [], ◌∷◌, ◌++◌, Option, Some, None, Result, Ok, Err, refl, sym, ap, subst, ◌∙◌, arith}
+use Rattle.std.specs.Prelude.{All, IfSome}
 use Rattle.std.specs.Option.{option_map_or}
 use Rattle.std.proofs.lemmas.Bool.{and_parts, and_from, false≢true}
 use Rattle.std.proofs.lemmas.List.{length_push}
@@ -11,9 +11,9 @@ use Rattle.gname.specs.declared.formats.Format.{Format}
 use Rattle.gname.specs.declared.formats.Format.TheVariants.{Sha1, Sha256}
 use Rattle.ggrammar.specs.declared.fault.MessageFault.{MessageFault}
 use Rattle.ggrammar.specs.declared.fault.Why.TheVariants.{BadText, Limit}
-use Rattle.glsreply.specs.RefTexts.{RefLine, is_name}
-use Rattle.glsreply.specs.LsReplies.{LsReply, unborn_packets, max_lines}
-use Rattle.glsreply.specs.WellFormed.{IsLine, IsRefLine, IsLsReplyIn, IsReplyValue, is_format, has_format_of, first_has_format_of, has_one_format, line_count, Adds, Pushes, IsValueFault}
+use Rattle.glsreply.specs.RefTexts.{RefLine}
+use Rattle.glsreply.specs.LsReplies.{LsReply, max_lines}
+use Rattle.glsreply.specs.WellFormed.{IsLine, IsRefLine, IsReplyValue, is_format, has_format_of, first_has_format_of, has_one_format, line_count, Adds, Pushes, IsValueFault}
 
 same_format : (a b : Format) → is_format a b ≡ true → a ≡ b
 same_format Sha1 Sha1 e = refl

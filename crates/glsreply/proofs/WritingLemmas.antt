@@ -1,12 +1,12 @@
 -- The lines that are written.
-use Rattle.std.proofs.Common.{◌≡◌, ℕ, ◌+◌, ◌<◌, ◌≤◌, List, Option, [], ◌∷◌, ◌++◌, length, map, drop, get_or, codes, zero, suc, refl, sym, ap, subst, ◌∙◌, append_assoc, length-append, arith}
+use Rattle.std.proofs.Common.{◌≡◌, ℕ, ◌<◌, ◌≤◌, List, Option, [], ◌∷◌, ◌++◌, length, map, drop, get_or, codes, zero, suc, refl, sym, ap, ◌∙◌, append_assoc, length-append, arith}
 use Rattle.gpkt.specs.Laws.{Fits}
 use Rattle.gpkt.specs.Packets.{Packet, Data, Flush, line_feed}
 use Rattle.gname.specs.Names.{max_name}
 use Rattle.ggrammar.specs.Endings.{ends_with}
 use Rattle.ggrammar.specs.Texts.{text_packet}
 use Rattle.ggrammar.specs.declared.ends.Ends.{Ends}
-use Rattle.glsreply.specs.RefTexts.{RefLine, unborn_text, ref_text}
+use Rattle.glsreply.specs.RefTexts.{RefLine, unborn_text}
 use Rattle.glsreply.specs.LsReplies.{LsReply, ref_packet, unborn_packets, canonical_reply}
 use Rattle.std.proofs.lemmas.List.{drop_all}
 

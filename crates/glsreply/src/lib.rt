@@ -14,13 +14,13 @@
 //!   changes.
 //! - [`write_ls_reply`] writes exactly the bytes of the canonical lines, and where the sink fails a beginning of
 //!   them. A line is never too long.
-//! - [`laws`]: lines say one reply, no reply begins another, and each beginning has an ending; what may be sent by
-//!   the manual (`specs/LsManual.antt`) is a whole reply of the table, and says the same.
+//! - [`laws`]: lines say one reply, no reply begins another, and each beginning has an ending. The whole lists of
+//!   the table are exactly the replies that may be sent by the manual (`specs/LsManual.antt`), and say the same.
+//!   The lines that are written of a reply say that reply, and each fits a packet.
 //!
 //! # Only tested
 //!
-//! That memory is found where there is some, and that writing takes none. That what is written is read back as
-//! the same reply; that the table has no whole lists but those of the manual.
+//! That memory is found where there is some.
 //!
 //! # What a body can still get away with
 //!

@@ -15,6 +15,7 @@ ghost use Rattle.gname.specs.declared.formats.Format.TheVariants as format;
 
 use crate::line::{FirstText, LentLine, first_form, line_of};
 use crate::reply::{LsReply, MAX_LINES, RefLine};
+use ggrammar::laws::grammars_are_exact;
 use ggrammar::{Ends, Message, MessageFault, PeerText, Step, Why, peer_error, read_message};
 use gname::laws::texts_have_one_reading;
 use gname::{Format, RefName};
@@ -283,5 +284,7 @@ impl<A: Allocator + Copy> Message for LsReplyReader<A> {
         self.take_packet(line)
     }
 
-    fn laws() {}
+    fn laws() {
+        grammars_are_exact();
+    }
 }

@@ -1,5 +1,5 @@
 // The most lines of a reply, and one more.
-use crate::tests::samples::{ID, read, refusal, written};
+use crate::tests::samples::{ID, refusal};
 use crate::{LsReply, MAX_LINES, RefLine};
 use ggrammar::Ends;
 use gname::{Format, Oid, RefName};
@@ -20,21 +20,7 @@ fn reply(alloc: Global, unborn: &[u8], refs: usize, end: &[u8]) -> Result<Vec<u8
     Ok(bytes)
 }
 
-#[test]
-fn most_lines_are_read(rt: HostRuntime) -> Result<(), Fail> {
-    let alloc = rt.alloc();
-    let cases: [(&[u8], usize); 2] = [(b"", 65_537), (UNBORN, 65_536)];
-    for (unborn, refs) in &cases {
-        let bytes = reply(alloc, unborn, *refs, b"0000")?;
-        let read = read(alloc, Format::Sha1, Ends::Plain, bytes.as_slice())?.0?;
-        assert_eq!(rt; read.len(), *refs);
-        let again = written(alloc, &read, Ends::Plain)?;
-        assert_eq!(rt; again.len(), unborn.len() + 50 * refs + 4);
-    }
-    Ok(())
-}
-
-// One line more, which is judged by its form first.
+// The most lines are read, and one more is not.
 #[test]
 fn one_more_is_refused(rt: HostRuntime) -> Result<(), Fail> {
     let alloc = rt.alloc();
@@ -44,6 +30,7 @@ fn one_more_is_refused(rt: HostRuntime) -> Result<(), Fail> {
     Ok(())
 }
 
+// A line is judged by its form first.
 #[test]
 fn forms_come_before_limits(rt: HostRuntime) -> Result<(), Fail> {
     let alloc = rt.alloc();

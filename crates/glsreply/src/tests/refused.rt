@@ -205,20 +205,23 @@ const SHA256: [(&[u8], Option<&str>); 7] = [
 ];
 
 // Reads each text in its place: after these texts, with the line feed of text lines.
-fn check_texts(
+fn check_texts<'a>(
     rt: &impl Abort,
     alloc: Global,
     format: Format,
-    before: &[&[u8]],
-    table: &[(&[u8], Option<&'static str>)],
+    before: &[&'a [u8]],
+    table: &[(&'a [u8], Option<&'static str>)],
 ) -> Result<(), Fail> {
     for (text, why) in table {
         let mut texts = Vec::from_slice(alloc, before)?;
         texts.push(*text)?;
         let bytes = packets(alloc, texts.as_slice())?;
         let met = refusal(alloc, format, Ends::Plain, bytes.as_slice())?;
-        let frame = before.len() as u64;
-        assert_eq!(rt; met, why.map(|name| (name, frame)));
+        let wanted = match *why {
+            Some(name) => Some((name, before.len() as u64)),
+            None => None,
+        };
+        assert_eq!(rt; met, wanted);
     }
     Ok(())
 }

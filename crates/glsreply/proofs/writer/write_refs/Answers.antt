@@ -1,7 +1,7 @@
-use Rattle.std.proofs.Common.{◌+◌, drop, [], ◌∷◌, sym, subst, add-one}
+use Rattle.std.proofs.Common.{[], ◌∷◌, sym, subst, add-one}
 use Rattle.ggrammar.specs.Writing.{WritesLines}
 use Rattle.glsreply.specs.LsReplies.{ref_packet}
-use Rattle.glsreply.proofs.WritingLemmas.{coming, coming-line, coming-end}
+use Rattle.glsreply.proofs.WritingLemmas.{coming-line, coming-end}
 use Rattle.glsreply.proofs.writer.write_refs.Goals as goal
 
 pub loop-line-preserved : goal.loop-line-preserved

@@ -1,7 +1,7 @@
-use Rattle.std.proofs.Common.{◌≡◌, ◌<◌, ◌≤◌, true, false, inl, inr, refl, sym, subst, ap, ◌∙◌, arith}
+use Rattle.std.proofs.Common.{◌<◌, inl, inr, sym, ap, ◌∙◌}
 use Rattle.std.proofs.lemmas.Bool.{false≢true}
 use Rattle.std.proofs.lemmas.Bool.{cases_lt}
-use Rattle.glsreply.specs.LsReplies.{LsReply, max_lines}
+use Rattle.glsreply.specs.LsReplies.{max_lines}
 use Rattle.glsreply.specs.WellFormed.{has_one_format, line_count}
 use Rattle.glsreply.proofs.ValueLemmas.{bad_text, limit, pushed_value_at, pushes_at}
 use Rattle.glsreply.proofs.reply.LsReply.push.Goals as goal
