@@ -20,7 +20,7 @@
 //!
 //! # Only tested
 //!
-//! That a sink gets no empty piece, that memory is found where there is some, and that writing takes none.
+//! That a sink gets no empty piece, and that memory is found where there is some.
 //!
 //! # What a body can still get away with
 //!

@@ -82,6 +82,13 @@ fn reply(
     }
 }
 
+// What is written of a reply.
+fn written(alloc: Global, reply: &FetchReply<Global>, ends: Ends) -> Result<Vec<u8, Global>, Fail> {
+    let mut writer = LineWriter::new(VecSink::new(alloc));
+    write_fetch_reply(reply, ends, &mut writer)?;
+    Ok(writer.into_inner().into_written())
+}
+
 // Writes a reply, which has these bytes, and reads it back: what is read is written as the same bytes.
 fn check(
     rt: &impl Abort,
@@ -90,16 +97,14 @@ fn check(
     reply: &FetchReply<Global>,
     bytes: &[u8],
 ) -> Result<(), Fail> {
-    let mut writer = LineWriter::new(VecSink::new(alloc));
-    write_fetch_reply(reply, reading.ends, &mut writer)?;
-    let written = writer.into_inner().into_written();
-    assert!(rt; written.as_slice() == bytes);
-    let mut reader = LineReader::new(alloc, SliceSource::new(written.as_slice()))?;
+    let ends = reading.ends;
+    let first = written(alloc, reply, ends)?;
+    assert!(rt; first.as_slice() == bytes);
+    let mut reader = LineReader::new(alloc, SliceSource::new(first.as_slice()))?;
     let back = read_fetch_reply(reading, &mut reader, alloc)?;
     assert!(rt; reader.into_inner().rest().is_empty());
-    let mut writer = LineWriter::new(VecSink::new(alloc));
-    write_fetch_reply(&back, reading.ends, &mut writer)?;
-    assert!(rt; writer.into_inner().written() == bytes);
+    let again = written(alloc, &back, ends)?;
+    assert!(rt; again.as_slice() == bytes);
     Ok(())
 }
 
