@@ -1,15 +1,12 @@
 -- The values of replies to fetch, and how they are built.
 use Rattle.std.specs.Prelude.{◌≡◌, ℕ, ◌≤◌, ◌<◌, List, [], ◌∷◌, ◌++◌, length, Result, Ok, Err}
 use Rattle.gname.specs.Ids.{IsIdOf}
+use Rattle.gname.specs.Limits.{max_pack}
 use Rattle.gname.specs.declared.formats.Format.{Format}
 use Rattle.ggrammar.specs.declared.fault.Why.{Why}
 use Rattle.ggrammar.specs.declared.fault.Why.TheVariants as why
 use Rattle.ggrammar.specs.declared.fault.MessageFault.{MessageFault}
 use Rattle.gfetchreply.specs.FetchReplies.{max_acks}
-
--- the most bytes of a pack
-abbrev pub max_pack : ℕ
-max_pack = 67108864
 
 -- the limit of a pack where none is asked for
 abbrev pub default_limit : ℕ

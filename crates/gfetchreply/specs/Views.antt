@@ -4,7 +4,8 @@ use Rattle.gname.specs.declared.formats.Format.TheVariants.{Sha1}
 use Rattle.ggrammar.specs.declared.ends.Ends.{Ends}
 use Rattle.ggrammar.specs.declared.ends.Ends.TheVariants.{Plain}
 use Rattle.ggrammar.specs.declared.fault.MessageFault.{MessageFault}
-use Rattle.gfetchreply.specs.FetchReplies.{Reading, ReplyForm, Acknowledgments, Nak, Readiness, Packfile, Ack, OtherForm}
+use Rattle.gfetchreply.specs.FetchReplies.{Reading}
+use Rattle.gfetchreply.specs.FetchReplies.{ReplyForm, Acknowledgments, Nak, Readiness, Packfile, Ack, OtherForm}
 use Rattle.gfetchreply.specs.FetchReplies as reply
 use Rattle.gfetchreply.specs.FetchHeads as head
 use Rattle.gfetchreply.specs.declared.form.ReplyForm as lent_form

@@ -1,7 +1,8 @@
 //! The most bytes of a pack that is read.
 
 ghost use Rattle.std.specs.Prelude.{◌≡◌, ◌≤◌, nat_le, if◌then◌else◌, Some, None};
-ghost use Rattle.gfetchreply.specs.Values.{default_limit, max_pack};
+ghost use Rattle.gname.specs.Limits.{max_pack};
+ghost use Rattle.gfetchreply.specs.Values.{default_limit};
 
 use gname::MAX_PACK;
 use std::marker::Model;
@@ -17,7 +18,7 @@ pub struct PackLimit {
 
 impl Model for PackLimit {
     ghost use Rattle.std.specs.Prelude.{ℕ, ◌≤◌, refl};
-    ghost use Rattle.gfetchreply.specs.Values.{max_pack};
+    ghost use Rattle.gname.specs.Limits.{max_pack};
 
     ghost Value = { ℕ };
 

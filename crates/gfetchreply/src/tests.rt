@@ -5,3 +5,4 @@ mod packs;
 mod refused;
 mod samples;
 mod values;
+mod writing;

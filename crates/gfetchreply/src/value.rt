@@ -2,10 +2,11 @@
 
 ghost use Rattle.std.specs.Prelude.{◌≡◌, ◌≤◌, [], length, IfOk};
 ghost use Rattle.gname.specs.Ids.{IsIdOf};
+ghost use Rattle.gname.specs.Limits.{max_pack};
 ghost use Rattle.gfetchreply.specs.WellFormed.{AreAcks};
 ghost use Rattle.gfetchreply.specs.FetchHeads.{reply_with};
 ghost use Rattle.gfetchreply.specs.Views.{head_in, reply_in};
-ghost use Rattle.gfetchreply.specs.Values.{AddsId, PushesId, MakesPack, max_pack};
+ghost use Rattle.gfetchreply.specs.Values.{AddsId, PushesId, MakesPack};
 
 use ggrammar::{MessageFault, Why};
 use gname::{Format, MAX_PACK, Oid};
@@ -98,7 +99,7 @@ pub struct PackBytes<A: Allocator + Copy> {
 
 impl<A: Allocator + Copy> Model for PackBytes<A> {
     ghost use Rattle.std.specs.Prelude.{List, ℕ, ◌≤◌, length};
-    ghost use Rattle.gfetchreply.specs.Values.{max_pack};
+    ghost use Rattle.gname.specs.Limits.{max_pack};
 
     ghost Value = { List ℕ };
 

@@ -20,7 +20,15 @@ const READY_PACKETS: [(usize, usize); 9] = [
 
 const PACK_PACKETS: [(usize, usize); 5] = [(13, 0), (9, 4), (10, 0), (7, 2), (4, 0)];
 
-// Cuts a reply after each of its bytes: it ends at a packet's beginning, and is truncated elsewhere.
+// How a reply is refused whose packet is cut after so many bytes: at the packet's beginning it ends.
+fn refusal(cut: usize, frame: u64) -> Outcome {
+    if cut == 0 {
+        return Outcome::Refused("Ended", frame);
+    }
+    Outcome::Refused("Truncated", frame)
+}
+
+// Cuts a reply after each of its bytes.
 fn check_cuts(
     rt: &impl Abort,
     alloc: Global,
@@ -33,9 +41,8 @@ fn check_cuts(
         for cut in 0..*length {
             let end = begin.saturating_add(cut).min(reply.len());
             let mut sink = Vec::new(alloc);
-            let met = read_into(alloc, reading, &reply[..end], &mut sink)?;
-            let name = if cut == 0 { "Ended" } else { "Truncated" };
-            assert_eq!(rt; met, (Outcome::Refused(name, frame), 0));
+            let due = (refusal(cut, frame), 0);
+            assert_eq!(rt; read_into(alloc, reading, &reply[..end], &mut sink)?, due);
             assert_eq!(rt; sink.len(), taken);
         }
         frame = frame.saturating_add(1);

@@ -105,7 +105,8 @@ fn vectors_take_more(rt: HostRuntime) -> Result<(), Fail> {
 #[test]
 fn whole_replies_are_values(rt: HostRuntime) -> Result<(), Fail> {
     let mut reader = LineReader::new(rt.alloc(), SliceSource::new(READY))?;
-    match read_fetch_reply(after_acks(), &mut reader, rt.alloc())? {
+    let reply = read_fetch_reply(after_acks(), &mut reader, rt.alloc())?;
+    match &reply {
         FetchReply::Ready(commons, pack) => {
             assert_eq!(rt; commons.ids().len(), 1);
             assert_eq!(rt; pack.as_bytes(), b"disket".as_slice());

@@ -1,9 +1,9 @@
 // Values keep their forms, and what a peer says is kept.
 use crate::tests::samples::direct;
-use crate::{Commons, PackBytes, read_fetch_reply};
+use crate::{Commons, read_fetch_reply};
 use bumpalo::Bump;
 use ggrammar::Why;
-use gname::{Format, MAX_PACK, Oid};
+use gname::{Format, Oid};
 use gpkt::LineReader;
 use gpkt::memory::SliceSource;
 use std::test::Fail;
@@ -52,20 +52,6 @@ fn ids_take_memory(rt: HostRuntime) -> Result<(), Fail> {
         Some(("Memory", 0))
     );
     assert_eq!(rt; commons.ids().len(), 0);
-    Ok(())
-}
-
-#[test]
-fn packs_are_not_too_large(rt: HostRuntime) -> Result<(), Fail> {
-    let bytes = vec![in rt.alloc(); 0u8; MAX_PACK]?;
-    let pack = PackBytes::new(bytes)?;
-    let mut bytes = pack.into_vec();
-    bytes.push(0)?;
-    let met = PackBytes::new(bytes).err();
-    assert_eq!(rt;
-        met.map(|fault| (fault.name(), fault.frame)),
-        Some(("Limit", 0))
-    );
     Ok(())
 }
 
