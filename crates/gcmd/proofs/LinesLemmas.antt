@@ -1,5 +1,5 @@
 -- Bytes put one after the other, and lines shown one after the other.
-use Rattle.std.proofs.Common.{◌≡◌, ℕ, ◌+◌, ◌-◌, ◌<◌, ◌≤◌, Bool, List, [], ◌∷◌, ◌++◌, length, take, drop, Option, Some, None, Ok, Err, Result, true, false, refl, sym, ap, ◌∙◌, inl, inr, subst, append_assoc, append-nil, take-append-drop, arith, codes}
+use Rattle.std.proofs.Common.{◌≡◌, ℕ, ◌+◌, ◌-◌, ◌<◌, Bool, List, [], ◌∷◌, ◌++◌, length, take, drop, Option, Some, None, Ok, Err, Result, true, false, refl, sym, ap, ◌∙◌, inl, inr, subst, append_assoc, append-nil, take-append-drop, arith, codes}
 use Rattle.std.specs.Prelude.{IsSome, slice_index, ◌/◌, ◌%◌, ◌==◌}
 use Rattle.std.proofs.lemmas.Bool.{false≢true}
 use Rattle.std.proofs.lemmas.List.{length_push, take_rest}
@@ -14,7 +14,7 @@ use Rattle.gpkt.specs.LineReading.{Reader, HasRead, ReadsLines}
 use Rattle.gpkt.specs.declared.device.Down.{Down}
 use Rattle.gpkt.specs.declared.fault.LineFault.{LineFault}
 use Rattle.gcmd.specs.Lines.{digits_part, max_lines, shown_line, shown_lines, ShowsEach, ShowsSome, HasPassed}
-use Rattle.gcmd.specs.Sending.{Input, Output, input_of, output_of, HasPut}
+use Rattle.gcmd.specs.Sending.{Input, input_of, output_of, HasPut}
 use Rattle.gcmd.proofs.ReadingLemmas.{read_failure}
 
 -- ---- bytes

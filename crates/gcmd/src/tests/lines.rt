@@ -83,9 +83,10 @@ fn long_payloads_are_shown(rt: HostRuntime) -> Result<(), Fail> {
     Ok(())
 }
 
-// What is shown where the read of a byte fails, by how many bytes were read before.
+// Lines of which a read fails.
 const READ: &[u8] = b"0006a\n00000001";
 
+// What is shown where a read before this one fails, and after those above.
 const SHOWN_OF_READ: &[(usize, &[u8])] = &[
     (6, b""),
     (10, b"data 2 610a\n"),
