@@ -1,5 +1,5 @@
 -- What a text spells in a format is an id of it.
-use Rattle.std.proofs.Common.{◌≡◌, ℕ, List, length, None, Some, Result, Ok, Err, inl, inr, ap, sym, ◌∙◌, ◌==◌, refl}
+use Rattle.std.proofs.Common.{◌≡◌, ℕ, List, length, None, Some, Result, Ok, Err, inl, inr, ◌∙◌, ◌==◌, refl}
 use Rattle.std.proofs.lemmas.Bool.{cond-true, cond-false}
 use Rattle.std.proofs.lemmas.Bool.Decides.{eqb_tells}
 use Rattle.hex.specs.Hex.{decode_of}

@@ -14,9 +14,9 @@ use Rattle.ggrammar.specs.declared.message.Step.{Step}
 use Rattle.ggrammar.specs.declared.message.Step.TheVariants as step
 use Rattle.gfetchreply.specs.FetchReplies.{Reading, State, Place, Start, Acking, Naked, AfterReady, BeforePack, InPack, Over}
 use Rattle.gfetchreply.specs.FetchReplies.{ReplyForm, Acknowledgments, Nak, Readiness, Packfile, Ack, OtherForm, reply_form, is_readiness, is_ready}
-use Rattle.gfetchreply.specs.FetchReplies.{after_text, first_place, next_place, place_of, texts_there, bands_there, ack_texts, band_payloads}
-use Rattle.gfetchreply.specs.FetchReplies.{acks_of, ack_id, brings, data_in, data_of, judge, judge_at, judge_payload, judge_there, state_of}
-use Rattle.gfetchreply.specs.ReplyState.{Kept, kept_of, first_kept, state_kept, id_list, with_text, with_band, with_payload, with_packet, data_there, brings_there, TakesAs, TakesOr, TakesMore, TakesNone, TakesBoth, Holds, Leaves}
+use Rattle.gfetchreply.specs.FetchReplies.{after_text, next_place, place_of, texts_there, bands_there, ack_texts, band_payloads}
+use Rattle.gfetchreply.specs.FetchReplies.{acks_of, ack_id, brings, data_in, data_of, judge, judge_at, judge_payload, judge_there}
+use Rattle.gfetchreply.specs.ReplyState.{Kept, kept_of, first_kept, state_kept, id_list, with_text, with_band, with_packet, data_there, brings_there, TakesAs, TakesOr, TakesMore, TakesBoth, Holds, Leaves}
 use Rattle.gfetchreply.specs.Values.{Commons}
 use Rattle.gfetchreply.proofs.StateLemmas.{place_of-push, ack_texts-push, band_payloads-push, ack_texts-nil, band_payloads-nil, acks_of-append, data-push, data_of-one}
 

@@ -6,7 +6,7 @@ use Rattle.gpkt.specs.Change.{Change}
 use Rattle.ggrammar.specs.Grammar.{IsWhole, Whole}
 use Rattle.ggrammar.specs.MessageReading.{ReadsWhole, ReadsRefused}
 use Rattle.ggrammar.specs.declared.fault.MessageFault.{MessageFault}
-use Rattle.gfetchreply.specs.FetchReplies.{Reading, FetchReply, State, Place, Start, Acking, Naked, AfterReady, BeforePack, InPack, Over, judge_at, place_of, state_of, Says, brings, judge, reply_of, ack_texts, acks_of, band_payloads, data_of, is_ready, Acks, Ready, Pack}
+use Rattle.gfetchreply.specs.FetchReplies.{Reading, State, Place, Start, Acking, Naked, AfterReady, BeforePack, InPack, Over, judge_at, place_of, state_of, brings, judge, reply_of, ack_texts, acks_of, band_payloads, data_of, is_ready, Acks, Ready, Pack}
 use Rattle.gfetchreply.specs.FetchHeads.{FetchHead, head_of, head_by, reply_with}
 use Rattle.gfetchreply.specs.ReplyState.{Kept, data_there, Holds, Leaves}
 use Rattle.gfetchreply.specs.ReplyReading.{TakesReply, RefusesReply, ReadsSaid}

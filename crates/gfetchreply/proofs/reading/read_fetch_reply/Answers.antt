@@ -1,7 +1,7 @@
-use Rattle.std.proofs.Common.{refl, sym, subst, arith, ℕ, List, [], ◌≡◌, ◌∙◌}
+use Rattle.std.proofs.Common.{sym, subst, arith}
 use Rattle.gpkt.specs.Change.{change_of}
 use Rattle.gfetchreply.specs.ReplyReading.{ReadsSaid}
-use Rattle.gfetchreply.specs.Views.{head_in, reading_in}
+use Rattle.gfetchreply.specs.Views.{reading_in}
 use Rattle.gfetchreply.proofs.ReplyLemmas.{said, short_pack}
 use Rattle.gfetchreply.proofs.reading.read_fetch_reply.Goals as goal
 
