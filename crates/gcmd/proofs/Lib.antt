@@ -13,3 +13,4 @@ pub mod AnswerLemmas
 pub mod ExchangeLemmas
 pub mod RepositoryLemmas
 pub mod ProgramLemmas
+pub mod LinesLemmas

@@ -1,5 +1,5 @@
 -- Lines read one after the other.
-use Rattle.std.proofs.Common.{◌≡◌, ℕ, List, [], ◌∷◌, ◌++◌, length, Option, Some, None, Ok, Err, Result, Bool, true, ◌+◌, refl, sym, ap, ◌∙◌, append_assoc, append-nil}
+use Rattle.std.proofs.Common.{◌≡◌, ℕ, List, [], ◌∷◌, ◌++◌, length, Option, Some, None, Ok, Err, Result, Bool, true, ◌+◌, refl, sym, ap, ◌∙◌}
 use Rattle.gpkt.specs.Laws.{ReadsNext}
 use Rattle.gpkt.specs.Packets.{Packet}
 use Rattle.gpkt.specs.LineReading.{Reads, ReadsLines}

@@ -4,6 +4,8 @@ use Rattle.std.specs.Prelude.{ℕ, ◌+◌, ◌*◌, ◌≤◌, ◌++◌, ◌&&�
 use Rattle.std.specs.Prelude.{Some, ⊤}
 use Rattle.std.specs.Fmt.{decimal}
 use Rattle.std.specs.Option.{option_copied}
+use Rattle.gpkt.specs.declared.fault.LineFault.{LineFault}
+use Rattle.gpkt.specs.declared.fault.LineFault.TheVariants as line_read
 use Rattle.gpkt.specs.declared.fault.WriteFault.{WriteFault}
 use Rattle.gpkt.specs.declared.fault.WriteFault.TheVariants as write
 use Rattle.gname.specs.Faults.{FaultRow, id_fault_row, name_fault_row}
@@ -22,11 +24,13 @@ use Rattle.ggraph.specs.declared.fault.LoadFault.TheVariants as load
 use Rattle.gobject.specs.Faults.{index_fault_row}
 use Rattle.gobject.specs.declared.fault.IndexFault.{IndexFault}
 use Rattle.gobject.specs.declared.fault.IndexFault.TheVariants as index
-use Rattle.gpkt.specs.Faults.{write_fault_row}
+use Rattle.gpkt.specs.Faults.{line_fault_row, write_fault_row}
 use Rattle.gcmd.specs.Faults.{why_row, ls_fault_row, repo_fault_row, program_fault_row}
 use Rattle.gcmd.specs.declared.program.ProgramFault.{ProgramFault}
 use Rattle.gcmd.specs.declared.check.CheckFault.{CheckFault}
 use Rattle.gcmd.specs.declared.check.CheckFault.TheVariants as check
+use Rattle.gcmd.specs.declared.lines.LinesFault.{LinesFault}
+use Rattle.gcmd.specs.declared.lines.LinesFault.TheVariants as lines
 use Rattle.gcmd.specs.declared.print.FaultLine.{FaultLine}
 use Rattle.gcmd.specs.declared.exchange.LsFault.{LsFault}
 use Rattle.gcmd.specs.declared.exchange.LsFault.TheVariants as ls
@@ -137,6 +141,14 @@ program_fault_line fault = fault_line (program_fault_row fault) no_details
 
 abbrev pub write_fault_line : WriteFault → List ℕ
 write_fault_line fault = fault_line (write_fault_row fault) no_details
+
+abbrev pub line_fault_line : LineFault → List ℕ
+line_fault_line fault = fault_line (line_fault_row fault) no_details
+
+abbrev pub lines_fault_line : LinesFault → List ℕ
+lines_fault_line (lines.Line fault) = line_fault_line fault
+lines_fault_line lines.Memory = line_fault_line line_read.Memory
+lines_fault_line lines.WriteFailed = write_fault_line write.Io
 
 abbrev pub line_in_pack : IndexFault → Option ℕ
 line_in_pack (index.Bad at) = Some at

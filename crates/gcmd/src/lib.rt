@@ -6,13 +6,16 @@
 //!
 //! # Proved
 //!
-//! - [`cmd_ls`] and [`cmd_check`] end with status 0 and print nothing, or with 1, and then exactly the line
+//! - [`cmd_ls`], [`cmd_check`] and [`cmd_lines`] end with status 0 and print nothing, or with 1, and then exactly the line
 //!   of the fault that was met is printed and passed on, or a beginning of it where the errors' sink fails.
 //!   [`cmd_failed`] prints the line of the fault that it is given.
 //! - [`cmd_check`] writes its one line, with the counts, and whether the graph is closed and the refs are
 //!   safe, and passes it on; where the sink fails, a beginning of it stands. Of a file that is no repository
 //!   nothing is written. [`cmd_ls`] is one exchange over the repository of its file, or nothing is read or
 //!   written.
+//! - [`cmd_lines`] shows exactly the lines that the bytes read spell, to the end of the input or to the first that is
+//!   refused, and passes all of it on; where the sink fails, a beginning of it stands. Where it ends with 0, the
+//!   source has not failed.
 //! - [`ls_once`]: what is written is the answer to the request that the bytes read spell, or the line that
 //!   reports the first refusal, at its packet and with its reason, and all of it is passed on; the end of
 //!   the exchange says which. Nothing is written for a lone flush or no input. Where the sink fails, a
@@ -43,7 +46,7 @@
 //! # Stands on
 //!
 //! `gpkt` for packet lines and devices, `gname` for names and ids, `ggraph` for graphs and their text,
-//! `arrayvec` for texts of bounded length, `itoa` for numbers, `thiserror` for the texts of faults; in tests
+//! `arrayvec` for texts of bounded length, `hex` for digits, `itoa` for numbers, `thiserror` for the texts of faults; in tests
 //! `bumpalo`, for memory that ends.
 #![tactic(auto)]
 
@@ -54,6 +57,7 @@ mod exchange;
 mod fault;
 mod forms;
 pub mod laws;
+mod lines;
 mod ls;
 mod message;
 mod print;
@@ -67,6 +71,7 @@ pub use crate::answer::ls_refs;
 pub use crate::check::cmd_check;
 pub use crate::exchange::{LsEnd, LsFault, ls_once};
 pub use crate::fault::{MessageFault, PeerText, Why};
+pub use crate::lines::cmd_lines;
 pub use crate::ls::cmd_ls;
 pub use crate::program::{ProgramFault, cmd_failed};
 pub use crate::reply::{RefLine, write_ls_reply};

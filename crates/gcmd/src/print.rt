@@ -3,7 +3,7 @@
 //! 32 to 126 as `?`.
 
 ghost use Rattle.std.specs.Prelude.{◌≡◌, ◌+◌, ◌≤◌, ◌++◌, length, map, None, []};
-ghost use Rattle.gcmd.specs.Printing.{check_fault_line, graph_fault_line, id_fault_line, id_in_conflict, index_fault_line, line_in_pack, line_in_text, ls_fault_line, max_decimal, max_fault_line, max_fault_name, max_subject, message_fault_line, name_fault_line, number_part, peer_text, place_in_id, place_in_name, printed, program_fault_line, repo_fault_line, shown, subject_part, text_fault_line, text_part, write_fault_line, IsShort, IsShortText};
+ghost use Rattle.gcmd.specs.Printing.{check_fault_line, graph_fault_line, id_fault_line, id_in_conflict, index_fault_line, line_fault_line, line_in_pack, line_in_text, lines_fault_line, ls_fault_line, max_decimal, max_fault_line, max_fault_name, max_subject, message_fault_line, name_fault_line, number_part, peer_text, place_in_id, place_in_name, printed, program_fault_line, repo_fault_line, shown, subject_part, text_fault_line, text_part, write_fault_line, IsShort, IsShortText};
 ghost use Rattle.std.specs.Option.{option_copied};
 ghost use Rattle.gcmd.specs.Sending.{output_of, HasSent};
 
@@ -11,13 +11,14 @@ use crate::check::CheckFault;
 use crate::compose::{add, add_id, add_number};
 use crate::exchange::LsFault;
 use crate::fault::{MessageFault, Why};
+use crate::lines::LinesFault;
 use crate::program::ProgramFault;
 use crate::repository::RepoFault;
 use crate::send::send;
 use arrayvec::ArrayVec;
 use ggraph::{GraphFault, IndexFault, LoadFault};
 use gname::{NameFault, Oid, OidFault};
-use gpkt::{Down, Sink, WriteFault};
+use gpkt::{Down, LineFault, Sink, WriteFault};
 use std::alloc::Allocator;
 
 /// The most bytes of a fault's line: its words, a name of 32, four numbers of 20, and a text of 1,000.
@@ -92,6 +93,26 @@ impl<'a> FaultLine<'a> {
         ensures short { IsShort result }
     {
         FaultLine::plain(fault.code(), fault.name())
+    }
+
+    /// A line that was not read, outside a message.
+    pub(crate) fn of_line(fault: &LineFault) -> FaultLine<'a>
+        ensures line { printed result ≡ line_fault_line fault.now }
+        ensures short { IsShort result }
+    {
+        FaultLine::plain(fault.code(), fault.name())
+    }
+
+    /// Lines that were not all shown.
+    pub(crate) fn of_lines(fault: &LinesFault) -> FaultLine<'a>
+        ensures line { printed result ≡ lines_fault_line fault.now }
+        ensures short { IsShort result }
+    {
+        match fault {
+            LinesFault::Line(fault) => FaultLine::of_line(fault),
+            LinesFault::Memory => FaultLine::of_line(&LineFault::Memory),
+            LinesFault::WriteFailed => FaultLine::of_write(&WriteFault::Io),
+        }
     }
 
     /// A refusal of a graph, with the id that two objects have.

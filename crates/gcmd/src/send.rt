@@ -1,7 +1,7 @@
-//! Bytes written to a sink and passed on.
+//! Bytes written to a sink, and passed on.
 
 ghost use Rattle.std.specs.Prelude.{◌≡◌};
-ghost use Rattle.gcmd.specs.Sending.{output_of, HasSent};
+ghost use Rattle.gcmd.specs.Sending.{output_of, HasPut, HasSent};
 
 use gpkt::{Down, Sink, write_all};
 
@@ -12,6 +12,17 @@ pub(crate) fn send<W: Sink>(bytes: &[u8], sink: &mut W) -> Result<(), Down>
 {
     match write_all(sink, bytes) {
         Ok(()) => sink.flush(),
+        Err(down) => Err(down),
+    }
+}
+
+/// Writes bytes, and passes nothing on. At an error a beginning of them stands written, and the sink is down.
+pub(crate) fn put<W: Sink>(bytes: &[u8], sink: &mut W) -> Result<(), Down>
+    ensures put { HasPut (output_of W.contents W.passed_on W.is_down sink.old sink.new) result bytes.now }
+    ensures loans { W.loans sink.new ≡ W.loans sink.old }
+{
+    match write_all(sink, bytes) {
+        Ok(()) => Ok(()),
         Err(down) => Err(down),
     }
 }

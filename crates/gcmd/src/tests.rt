@@ -3,6 +3,7 @@
 mod calls;
 mod devices;
 mod faults;
+mod lines;
 mod memory;
 mod programs;
 mod requests;

@@ -8,7 +8,8 @@
 //! # Only tested
 //!
 //! What the words mean (`words.rt`), and one run of `ls` (`args`, `stdin`, `stdout`, `data/`). The other
-//! runs are tried by hand: no test sees which function `run` calls for `check`, or what a missing file gives.
+//! runs are tried by hand: no test sees which function `run` calls for `check` and for `lines`, or what a missing
+//! file gives.
 //!
 //! # What a body can still get away with
 //!
@@ -22,7 +23,7 @@
 mod words;
 
 use crate::words::Command;
-use gcmd::{ProgramFault, cmd_check, cmd_failed, cmd_ls};
+use gcmd::{ProgramFault, cmd_check, cmd_failed, cmd_lines, cmd_ls};
 use gpkt::{FromRead, Sink, ToWrite};
 use std::io::{BufReader, BufWriter, Write};
 use std::process::ExitCode;
@@ -52,6 +53,7 @@ where
 {
     match command {
         Command::Check { file } => check(rt, file.as_str(), errors),
+        Command::Lines => show_lines(rt, errors),
         Command::LsStdioServer { file } => serve_ls(rt, file.as_str(), errors),
     }
 }
@@ -70,6 +72,23 @@ where
     };
     let mut output = ToWrite::new(&mut stdout);
     cmd_check(rt.alloc(), text.as_slice(), &mut output, errors)
+}
+
+// Shows the packet lines of standard input on standard output.
+fn show_lines<R, E>(rt: &R, errors: &mut E) -> u8
+where
+    R: Input + Print + AllocGlobal,
+    E: Sink,
+{
+    let Ok(mut stdin) = BufReader::new(rt.alloc(), rt.reader()) else {
+        return cmd_failed(ProgramFault::Memory, errors);
+    };
+    let Ok(mut stdout) = BufWriter::new(rt.alloc(), io::writer(rt)) else {
+        return cmd_failed(ProgramFault::Memory, errors);
+    };
+    let mut input = FromRead::new(&mut stdin);
+    let mut output = ToWrite::new(&mut stdout);
+    cmd_lines(rt.alloc(), &mut input, &mut output, errors)
 }
 
 // Answers one request of standard input on standard output.

@@ -8,6 +8,8 @@ use std::alloc::{AllocError, Global};
 pub(crate) enum Command {
     /// `check FILE`
     Check { file: String },
+    /// `lines`
+    Lines,
     /// `ls --stdio-server FILE`
     LsStdioServer { file: String },
 }
@@ -21,6 +23,7 @@ pub(crate) fn read(alloc: Global, words: &[String]) -> Option<Command> {
     let matches = parse(alloc, words)?;
     match matches.subcommand()? {
         ("check", check) => check_command(alloc, check),
+        ("lines", _) => Some(Command::Lines),
         ("ls", ls) => ls_command(alloc, ls),
         _ => None,
     }
@@ -38,8 +41,10 @@ fn program<'a>(alloc: Global) -> Result<clap::Command<'a>, AllocError> {
         .arg(stdio_server)?
         .arg(Arg::new(alloc, "file").required(true))?;
     let check = clap::Command::new(alloc, "check").arg(Arg::new(alloc, "file").required(true))?;
+    let lines = clap::Command::new(alloc, "lines");
     clap::Command::new(alloc, "gitv2")
         .subcommand(check)?
+        .subcommand(lines)?
         .subcommand(ls)
 }
 
@@ -61,7 +66,7 @@ mod tests {
     use super::*;
     use std::test::Fail;
 
-    // The command and the file that the words name, where they are a line of the usage.
+    // The command and the file that the words name, where they are a line of the usage. `lines` has no file.
     fn command_in(alloc: Global, line: &str) -> Result<Option<(&'static str, String)>, AllocError> {
         let mut words = Vec::new(alloc);
         for word in line.split(' ') {
@@ -70,6 +75,7 @@ mod tests {
         match read(alloc, words.as_slice()) {
             Some(Command::LsStdioServer { file }) => Ok(Some(("ls --stdio-server", file))),
             Some(Command::Check { file }) => Ok(Some(("check", file))),
+            Some(Command::Lines) => Ok(Some(("lines", String::new(alloc)))),
             None => Ok(None),
         }
     }
@@ -85,6 +91,8 @@ mod tests {
             ("gitv2 ls --stdio-server check", ls, "check"),
             ("gitv2 check server.repo", "check", "server.repo"),
             ("gitv2 check ls", "check", "ls"),
+            ("gitv2 lines", "lines", ""),
+            ("other-name lines", "lines", ""),
         ];
         for (line, name, want) in lines {
             let (command, file) = command_in(rt.alloc(), line)?.ok_or("usage")?;
@@ -120,6 +128,13 @@ mod tests {
             "gitv2 check",
             "gitv2 check a b",
             "gitv2 check --stdio-server a",
+            "gitv2 line",
+            "gitv2 LINES",
+            "gitv2 lines a",
+            "gitv2 lines --stdio-server",
+            "gitv2 lines --help",
+            "gitv2 lines lines",
+            "gitv2 lines check a",
         ];
         for line in lines {
             assert!(rt; command_in(rt.alloc(), line)?.is_none(), "{line}");

@@ -1,5 +1,5 @@
 // Readers and writers of std that move some bytes a call, fail at a chosen call, and count what comes after it.
-use crate::{ProgramFault, cmd_check, cmd_failed, cmd_ls};
+use crate::{ProgramFault, cmd_check, cmd_failed, cmd_lines, cmd_ls};
 use gpkt::{FromRead, ToWrite};
 use std::alloc::Global;
 use std::io;
@@ -132,6 +132,7 @@ impl Ran {
 pub(super) enum Program {
     Ls,
     Check,
+    Lines,
     Failed(ProgramFault),
 }
 
@@ -156,6 +157,7 @@ pub(super) fn run(
     let status = match program {
         Program::Ls => cmd_ls(alloc, file, &mut source, &mut sink, &mut report),
         Program::Check => cmd_check(alloc, file, &mut sink, &mut report),
+        Program::Lines => cmd_lines(alloc, &mut source, &mut sink, &mut report),
         Program::Failed(fault) => cmd_failed(fault, &mut report),
     };
     Ran {

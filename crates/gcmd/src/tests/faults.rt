@@ -111,6 +111,14 @@ fn check_why(
 fn faults_of_lines_have_their_rows(rt: HostRuntime) -> Result<(), Fail> {
     for (fault, row) in LINES {
         check_why(&rt, rt.alloc(), Why::Line(*fault), *row, "")?;
+        let (number, name, _) = row;
+        let printed = format!(in rt.alloc(); "gitv2: fault {number} {name}\n")?;
+        check_printed(
+            &rt,
+            rt.alloc(),
+            &FaultLine::of_line(fault),
+            printed.as_str(),
+        )?;
     }
     Ok(())
 }

@@ -1,7 +1,7 @@
 // Memory that ends: in an arena with a little more room each time, each allocation of an exchange is at some
 // time the first that is refused.
 use crate::tests::samples::TAGGED_ROOT;
-use crate::{cmd_check, cmd_ls};
+use crate::{cmd_check, cmd_lines, cmd_ls};
 use bumpalo::Bump;
 use gpkt::memory::{SliceSource, VecSink};
 use std::alloc::Global;
@@ -111,5 +111,23 @@ fn checks_report_missing_memory(rt: HostRuntime) -> Result<(), Fail> {
         done = checked;
     }
     assert!(rt; done);
+    Ok(())
+}
+
+// With no room for the buffer of the reader nothing is read or shown.
+#[test]
+fn lines_report_missing_memory(rt: HostRuntime) -> Result<(), Fail> {
+    let refused = (b"".as_slice(), b"gitv2: fault 28 Memory\n".as_slice(), 1);
+    let shown = (b"flush\n".as_slice(), b"".as_slice(), 0);
+    for (room, left, due) in [(0, 4, refused), (70_000, 0, shown)] {
+        let arena = arena(rt.alloc(), room)?;
+        let mut input = SliceSource::new(b"0000");
+        let mut output = VecSink::new(rt.alloc());
+        let mut errors = VecSink::new(rt.alloc());
+        let status = cmd_lines(&arena, &mut input, &mut output, &mut errors);
+        let ran = (output.passed_on(), errors.passed_on(), status);
+        assert!(rt; ran == due, "at {room}");
+        assert_eq!(rt; input.rest().len(), left);
+    }
     Ok(())
 }

@@ -1,0 +1,108 @@
+-- `lines`: what it shows of the packet lines that it reads (gitprotocol-common(5), "pkt-line Format").
+use Rattle.std.specs.Prelude.{◌≡◌, ℕ, ◌⊎◌, ◌++◌, Bool, false, List, [], ◌∷◌, length, codes, Option, None, Some, Result}
+use Rattle.std.specs.Prelude.{Ok, Err}
+use Rattle.std.specs.Fmt.{decimal}
+use Rattle.hex.specs.Hex.{encode_lower}
+use Rattle.gpkt.specs.Change.{Change}
+use Rattle.gpkt.specs.Packets.{Packet, Data, Flush, Delim, ResponseEnd}
+use Rattle.gpkt.specs.LineReading.{Reads, ReadsLines}
+use Rattle.gpkt.specs.declared.device.Down.{Down}
+use Rattle.gpkt.specs.declared.fault.LineFault.{LineFault}
+use Rattle.gcmd.specs.Commands.{EndsWith}
+use Rattle.gcmd.specs.MessageReading.{IsReadFailure}
+use Rattle.gcmd.specs.Printing.{lines_fault_line}
+use Rattle.gcmd.specs.Sending.{Input, Output, IsUnread, IsUnwritten, Sends, SendsSome, HasPut}
+use Rattle.gcmd.specs.declared.fault.Why.TheVariants as why
+use Rattle.gcmd.specs.declared.lines.LinesFault.{LinesFault}
+use Rattle.gcmd.specs.declared.lines.LinesFault.TheVariants.{Memory, Line, WriteFailed}
+
+-- ---- what is shown
+
+-- the digits of a payload, after a space; nothing where it is empty
+abbrev pub digits_part : List ℕ → List ℕ
+digits_part [] = []
+digits_part (byte ∷ bytes) = codes " " ++ encode_lower (byte ∷ bytes)
+
+-- a line as it is shown
+abbrev pub shown_line : Packet → List ℕ
+shown_line (Data payload) = (codes "data " ++ decimal (length payload)) ++ (digits_part payload ++ codes "\n")
+shown_line Flush = codes "flush\n"
+shown_line Delim = codes "delim\n"
+shown_line ResponseEnd = codes "response-end\n"
+
+-- the lines, one after the other
+abbrev pub shown_lines : List Packet → List ℕ
+shown_lines [] = []
+shown_lines (line ∷ lines) = shown_line line ++ shown_lines lines
+
+-- how many bytes of a payload are shown in one call
+abbrev pub chunk : ℕ
+chunk = 512
+
+-- ---- what is read
+
+-- the most lines that are read
+abbrev pub max_lines : ℕ
+max_lines = 4294967295
+
+-- why none is read after so many: the input ends, or no more are read; or the next is refused
+abbrev pub StopsAfter : ℕ → Change → Result (Unit {0}) LineFault → Type 0
+StopsAfter count bytes (Ok done) = Reads bytes (Ok None) ⊎ ((count ≡ max_lines) × (bytes.new ≡ bytes.old))
+StopsAfter count bytes (Err fault) = Reads bytes (Err fault)
+
+-- whether the source is down then: only where the fault is its own
+abbrev pub LeavesSource : Bool → Result (Unit {0}) LineFault → Type 0
+LeavesSource down (Ok done) = down ≡ false
+LeavesSource down (Err fault) = IsReadFailure false down (why.Line fault)
+
+-- these lines are read, and no more for this reason
+pub record ReadsEach (input : Input) (lines : List Packet) (ended : Result (Unit {0}) LineFault) : Type 0 where
+  pub between : Option (List ℕ)
+  pub before : ReadsLines (record { old = input.read.old; new = between }) lines
+  pub stops : StopsAfter (length lines) (record { old = between; new = input.read.new }) ended
+  pub source : LeavesSource input.is_down ended
+
+-- these lines are read, and nothing after them, or what ends them
+abbrev pub ReadsSome : Input → List Packet → Type 0
+ReadsSome input lines =
+    ReadsLines input.read lines ⊎ ((ended : Result (Unit {0}) LineFault) × ReadsEach input lines ended)
+
+-- ---- what `lines` does
+
+-- the sink failed: a beginning of the lines that were read is shown
+abbrev pub ShowsSome : Input → Output → Type 0
+ShowsSome input output = (lines : List Packet) × ReadsSome input lines × SendsSome output (shown_lines lines)
+
+-- all lines that are read are shown, up to one that is refused; or a beginning of them, where the sink is down; or
+-- nothing, where there is no memory to read them
+abbrev pub HasShown : Input → Output → Result (Unit {0}) LinesFault → Type 0
+HasShown input output (Ok done) =
+    (lines : List Packet) × ReadsEach input lines (Ok tt) × Sends output (shown_lines lines)
+HasShown input output (Err (Line fault)) =
+    (lines : List Packet) × ReadsEach input lines (Err fault) × Sends output (shown_lines lines)
+HasShown input output (Err WriteFailed) = ShowsSome input output
+HasShown input output (Err Memory) = IsUnread input × IsUnwritten output
+
+-- the line that is printed at the end, if one is
+abbrev pub line_of_lines : Result (Unit {0}) LinesFault → Option (List ℕ)
+line_of_lines (Ok done) = None
+line_of_lines (Err fault) = Some (lines_fault_line fault)
+
+abbrev pub ShowsLines : Input → Output → Output → ℕ → Type 0
+ShowsLines input output errors status =
+    (result : Result (Unit {0}) LinesFault) × HasShown input output result
+    × EndsWith (line_of_lines result) errors status
+
+-- ---- its steps, by how reading ended, or the sink's failure
+
+-- the lines are shown
+abbrev pub ShowsEach : Input → Output → Result (Result (Unit {0}) LineFault) Down → Type 0
+ShowsEach input output (Ok ended) =
+    (lines : List Packet) × ReadsEach input lines ended × HasPut output (Ok tt) (shown_lines lines)
+ShowsEach input output (Err down) = ShowsSome input output
+
+-- and passed on
+abbrev pub HasPassed : Input → Output → Result (Result (Unit {0}) LineFault) Down → Type 0
+HasPassed input output (Ok ended) =
+    (lines : List Packet) × ReadsEach input lines ended × Sends output (shown_lines lines)
+HasPassed input output (Err down) = ShowsSome input output

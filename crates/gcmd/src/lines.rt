@@ -1,0 +1,200 @@
+//! `gitv2 lines`, as a function over bytes and devices.
+
+ghost use Rattle.std.specs.Prelude.{◌≡◌, ◌+◌, ◌≤◌, ◌++◌, codes, false, length, []};
+ghost use Rattle.std.specs.Fmt.{decimal};
+ghost use Rattle.hex.specs.Hex.{encode_lower};
+ghost use Rattle.gpkt.specs.Packets.{packet_of};
+ghost use Rattle.gcmd.specs.Lines.{chunk, digits_part, shown_line, ShowsEach, HasPassed, HasShown, ShowsLines};
+ghost use Rattle.gcmd.specs.Sending.{input_of, output_of, HasPut};
+
+use crate::compose::{add, add_number};
+use crate::print::FaultLine;
+use crate::program::fail;
+use crate::send::put;
+use arrayvec::ArrayVec;
+use gpkt::{Down, Line, LineBuffer, LineFault, LineReader, Sink, Source, laws};
+use std::alloc::Allocator;
+
+/// The most bytes of a data line that stand before its digits: the word, and a number of 20.
+const MAX_DATA_HEAD: usize = 25;
+
+/// How many bytes of a payload are shown in one call.
+const CHUNK: usize = 512;
+
+/// `gitv2 lines`: shows each packet line of `input` on a line of `output`, `data` with the length and the digits
+/// of its payload, `flush`, `delim` or `response-end`, until the input ends. No more than 4,294,967,295 lines are
+/// read.
+///
+/// It answers the exit status: 0 where all lines are shown and passed on; 1 where a fault was met, which is one line
+/// on `errors`. The lines before one that is refused are shown and passed on. Where there is no memory for the
+/// buffer of the reader, nothing is read or written.
+pub fn cmd_lines<A: Allocator + Copy, S: Source, W: Sink, E: Sink>(
+    alloc: A,
+    input: &mut S,
+    output: &mut W,
+    errors: &mut E,
+) -> u8
+    ensures shows { ShowsLines (input_of S.remaining S.is_down input.old input.new)
+        (output_of W.contents W.passed_on W.is_down output.old output.new)
+        (output_of E.contents E.passed_on E.is_down errors.old errors.new) result }
+    ensures input_loans { S.loans input.new ≡ S.loans input.old }
+    ensures output_loans { W.loans output.new ≡ W.loans output.old }
+    ensures errors_loans { E.loans errors.new ≡ E.loans errors.old }
+{
+    match show_lines(alloc, input, output) {
+        Ok(()) => 0,
+        Err(fault) => fail(&FaultLine::of_lines(&fault), errors),
+    }
+}
+
+/// Why not all lines are shown.
+#[derive(Drop)]
+pub(crate) enum LinesFault {
+    /// There is no memory for the buffer of the reader.
+    Memory,
+    /// A line was refused.
+    Line(LineFault),
+    /// The output failed.
+    WriteFailed,
+}
+
+// Shows the lines.
+fn show_lines<A: Allocator + Copy, S: Source, W: Sink>(
+    alloc: A,
+    input: &mut S,
+    output: &mut W,
+) -> Result<(), LinesFault>
+    ensures shown { HasShown (input_of S.remaining S.is_down input.old input.new)
+        (output_of W.contents W.passed_on W.is_down output.old output.new) result }
+    ensures input_loans { S.loans input.new ≡ S.loans input.old }
+    ensures output_loans { W.loans output.new ≡ W.loans output.old }
+{
+    let buffer = match LineBuffer::new(alloc) {
+        Ok(buffer) => buffer,
+        Err(_) => return Err(LinesFault::Memory),
+    };
+    let mut reader = LineReader::with_buffer(buffer, input);
+    let passed = pass_each(&mut reader, output);
+    let _input = reader.into_inner();
+    match passed {
+        Ok(Ok(())) => Ok(()),
+        Ok(Err(fault)) => Err(LinesFault::Line(fault)),
+        Err(_) => Err(LinesFault::WriteFailed),
+    }
+}
+
+// Shows each line, and passes on what is shown. It answers how the reading ended.
+fn pass_each<A: Allocator + Copy, S: Source, W: Sink>(
+    reader: &mut LineReader<S, A>,
+    output: &mut W,
+) -> Result<Result<(), LineFault>, Down>
+    requires { reader.old.failed ≡ false }
+    ensures passed { HasPassed (input_of S.remaining S.is_down reader.old.source reader.new.source)
+        (output_of W.contents W.passed_on W.is_down output.old output.new) result }
+    ensures input_loans { S.loans reader.new.source ≡ S.loans reader.old.source }
+    ensures output_loans { W.loans output.new ≡ W.loans output.old }
+{
+    let ended = show_each(reader, output)?;
+    output.flush()?;
+    Ok(ended)
+}
+
+// Shows each line that is read.
+fn show_each<A: Allocator + Copy, S: Source, W: Sink>(
+    reader: &mut LineReader<S, A>,
+    output: &mut W,
+) -> Result<Result<(), LineFault>, Down>
+    requires { reader.old.failed ≡ false }
+    ensures shows { ShowsEach (input_of S.remaining S.is_down reader.old.source reader.new.source)
+        (output_of W.contents W.passed_on W.is_down output.old output.new) result }
+    ensures input_loans { S.loans reader.new.source ≡ S.loans reader.old.source }
+    ensures output_loans { W.loans output.new ≡ W.loans output.old }
+{
+    laws::reads_join();
+    for count in 0..u32::MAX {
+        let line = match reader.next() {
+            Ok(Some(line)) => line,
+            Ok(None) => return Ok(Ok(())),
+            Err(fault) => return Ok(Err(fault)),
+        };
+        match show_line(line, output) {
+            Ok(()) => {}
+            Err(down) => return Err(down),
+        }
+    }
+    Ok(Ok(()))
+}
+
+fn show_line<W: Sink>(line: Line<'_>, output: &mut W) -> Result<(), Down>
+    ensures shown { HasPut (output_of W.contents W.passed_on W.is_down output.old output.new) result
+        (shown_line (packet_of line.entry)) }
+    ensures loans { W.loans output.new ≡ W.loans output.old }
+{
+    match line {
+        Line::Data(payload) => show_data(payload, output),
+        Line::Flush => put(b"flush\n", output),
+        Line::Delim => put(b"delim\n", output),
+        Line::ResponseEnd => put(b"response-end\n", output),
+    }
+}
+
+fn show_data<W: Sink>(payload: &[u8], output: &mut W) -> Result<(), Down>
+    ensures shown { HasPut (output_of W.contents W.passed_on W.is_down output.old output.new) result
+        ((codes "data " ++ decimal (length payload.now)) ++ (digits_part payload.now ++ codes "\n")) }
+    ensures loans { W.loans output.new ≡ W.loans output.old }
+{
+    let mut head = ArrayVec::new();
+    compose_head(payload.len(), &mut head);
+    put(head.as_slice(), output)?;
+    show_digits(payload, output)?;
+    put(b"\n", output)
+}
+
+// What stands before the digits of a data line.
+fn compose_head(len: usize, head: &mut ArrayVec<u8, MAX_DATA_HEAD>)
+    requires { head.old.items ≡ [] }
+    ensures { head.new.items ≡ codes "data " ++ decimal len }
+{
+    add(b"data ", head);
+    add_number(len as u64, head);
+}
+
+// A space and the digits, where there are some.
+fn show_digits<W: Sink>(payload: &[u8], output: &mut W) -> Result<(), Down>
+    ensures shown { HasPut (output_of W.contents W.passed_on W.is_down output.old output.new) result
+        (digits_part payload.now) }
+    ensures loans { W.loans output.new ≡ W.loans output.old }
+{
+    if payload.is_empty() {
+        return Ok(());
+    }
+    put(b" ", output)?;
+    put_digits(payload, output)
+}
+
+// The digits, chunk by chunk.
+fn put_digits<W: Sink>(bytes: &[u8], output: &mut W) -> Result<(), Down>
+    ensures put { HasPut (output_of W.contents W.passed_on W.is_down output.old output.new) result
+        (encode_lower bytes.now) }
+    ensures loans { W.loans output.new ≡ W.loans output.old }
+{
+    let mut rest = bytes;
+    while !rest.is_empty() {
+        let count = rest.len().min(CHUNK);
+        put_chunk(&rest[..count], output)?;
+        rest = &rest[count..];
+    }
+    Ok(())
+}
+
+fn put_chunk<W: Sink>(bytes: &[u8], output: &mut W) -> Result<(), Down>
+    requires { length bytes.now ≤ chunk }
+    ensures put { HasPut (output_of W.contents W.passed_on W.is_down output.old output.new) result
+        (encode_lower bytes.now) }
+    ensures loans { W.loans output.new ≡ W.loans output.old }
+{
+    let mut room = [0u8; 2 * CHUNK];
+    let digits = &mut room[..2 * bytes.len()];
+    hex::encode_to_slice(bytes, digits).unwrap();
+    put(digits, output)
+}

@@ -1,0 +1,13 @@
+pub mod StateLemmas
+pub mod FromLeft
+pub mod ReplyForms
+pub mod ReplyVerdicts
+pub mod ReplySections
+pub mod AckSections
+pub mod ReplyEndings
+pub mod ReplyManual
+pub mod CanonicalLemmas
+pub mod WritingLemmas
+pub mod KeptLemmas
+pub mod IdOfLemmas
+pub mod ReplyLemmas

@@ -1,0 +1,258 @@
+-- Each open list of a reply has an ending, and few packets.
+use Rattle.std.proofs.Common.{◌≡◌, ℕ, ◌+◌, ◌≤◌, ◌<◌, ◌^◌, List, [], ◌∷◌, ◌++◌, length, codes, inl, inr, refl, sym, ap, subst, ◌∙◌, arith}
+use Rattle.gpkt.specs.Packets.{Packet, Data, Flush, Delim, ResponseEnd, text, line_feed}
+use Rattle.gpkt.specs.Bands.{band_form}
+use Rattle.ggrammar.specs.Grammar.{Judge, Verdict, Open, Refused, IsOpen, IsWhole, HasEndings}
+use Rattle.ggrammar.specs.Endings.{ends_with}
+use Rattle.ggrammar.specs.declared.ends.Ends.{Ends}
+use Rattle.ggrammar.specs.declared.ends.Ends.TheVariants.{Plain, Response}
+use Rattle.ggrammar.specs.declared.fault.Why.{Why}
+use Rattle.ggrammar.specs.declared.fault.Why.TheVariants.{WrongSection, UnexpectedFrame}
+use Rattle.gfetchreply.specs.FetchReplies.{Reading, State, Place, Start, Acking, Naked, AfterReady, BeforePack, InPack, Over}
+use Rattle.gfetchreply.specs.FetchReplies.{ReplyForm, Acknowledgments, Nak, Readiness, Packfile, Ack, OtherForm, reply_form}
+use Rattle.gfetchreply.specs.FetchReplies.{max_acks, max_packets, state_of, judge, judge_at, judge_start, judge_before_pack, next_place, texts_there, bands_there}
+use Rattle.gfetchreply.proofs.FromLeft.{state_after, OpenFrom-from_open, IsWhole-from_left, WholeFrom-after_open}
+use Rattle.gfetchreply.proofs.ReplyForms.{heading_form, packfile_form, form_reports_none}
+use Rattle.gfetchreply.proofs.ReplyVerdicts.{start, state_from_start, judge_is, IsWholeAt, IsOpenAt, at_place, data_open, open_data, start_open, before_open, late_not_open, AckingOn, an_ack, a_nak, a_readiness, acking_open, BandOn, band_open, over_not_open, moved, next-moved}
+use Rattle.gfetchreply.proofs.ReplySections.{at_state, rest_flush, next-heading, next-delim, next-packfile}
+use Rattle.gfetchreply.proofs.StateLemmas.{next_state, state-ack, state-acking, state-band}
+
+-- ---- an ending
+
+-- at most so many packets make it whole
+record Ending (reading : Reading) (state : State) : Type 0 where
+  more : List Packet
+  few : length more ≤ 4
+  whole : IsWholeAt reading state more
+
+few_ends : (ends : Ends) → length (ends_with ends) ≤ 1
+few_ends Plain = omega arith
+few_ends Response = omega arith
+
+packfile_line : List ℕ
+packfile_line = codes "packfile" ++ line_feed ∷ []
+
+heading_line : List ℕ
+heading_line = codes "acknowledgments" ++ line_feed ∷ []
+
+packfile_is : reply_form (text packfile_line) ≡ Packfile
+unfolding packfile_line
+packfile_is = packfile_form (text packfile_line) refl
+
+heading_is : reply_form (text heading_line) ≡ Acknowledgments
+unfolding heading_line
+heading_is = heading_form (text heading_line) refl
+
+ends_before : (reading : Reading) (state : State) → state.place ≡ BeforePack → IsWholeAt reading state (Data packfile_line ∷ Flush ∷ ends_with reading.ends)
+ends_before reading state here =
+    inr (
+      open_data reading state BeforePack packfile_line here tt (form_reports_none packfile_line Packfile packfile_is tt) (ap judge_before_pack packfile_is),
+      at_state reading (moved state InPack) (next_state reading.format state (Data packfile_line)) (Flush ∷ ends_with reading.ends)
+          (sym (next-packfile reading.format state packfile_line here packfile_is))
+          (rest_flush reading (moved state InPack) (at_place reading (moved state InPack) InPack Flush refl) refl),
+    )
+
+ends_after_ready : (reading : Reading) (state : State) → state.place ≡ AfterReady
+    → IsWholeAt reading state (Delim ∷ Data packfile_line ∷ Flush ∷ ends_with reading.ends)
+ends_after_ready reading state here =
+    inr (
+      at_place reading state AfterReady Delim here,
+      at_state reading (moved state BeforePack) (next_state reading.format state Delim) (Data packfile_line ∷ Flush ∷ ends_with reading.ends)
+          (sym (next-delim reading.format state here)) (ends_before reading (moved state BeforePack) refl),
+    )
+
+ends_start : (reading : Reading) (state : State) → state.place ≡ Start → IsWholeAt reading state (Data heading_line ∷ Flush ∷ ends_with reading.ends)
+ends_start reading state here =
+    inr (
+      open_data reading state Start heading_line here tt (form_reports_none heading_line Acknowledgments heading_is tt) (ap judge_start heading_is),
+      at_state reading (moved state Acking) (next_state reading.format state (Data heading_line)) (Flush ∷ ends_with reading.ends)
+          (sym (next-heading reading.format state heading_line here heading_is))
+          (rest_flush reading (moved state Acking) (at_place reading (moved state Acking) Acking Flush refl) refl),
+    )
+
+ending : (reading : Reading) (state : State) (place : Place) → state.place ≡ place → Ending reading state
+ending reading state Start here =
+    let one = few_ends reading.ends in record { more = Data heading_line ∷ Flush ∷ ends_with reading.ends; few = omega arith; whole = ends_start reading state here }
+ending reading state Acking here =
+    let one = few_ends reading.ends in
+    record {
+      more = Flush ∷ ends_with reading.ends;
+      few = omega arith;
+      whole = rest_flush reading state (at_place reading state Acking Flush here) (ap (λ (p : Place). next_place p Flush) here);
+    }
+ending reading state Naked here =
+    let one = few_ends reading.ends in
+    record {
+      more = Flush ∷ ends_with reading.ends;
+      few = omega arith;
+      whole = rest_flush reading state (at_place reading state Naked Flush here) (ap (λ (p : Place). next_place p Flush) here);
+    }
+ending reading state AfterReady here =
+    let one = few_ends reading.ends in
+    record { more = Delim ∷ Data packfile_line ∷ Flush ∷ ends_with reading.ends; few = omega arith; whole = ends_after_ready reading state here }
+ending reading state BeforePack here =
+    let one = few_ends reading.ends in record { more = Data packfile_line ∷ Flush ∷ ends_with reading.ends; few = omega arith; whole = ends_before reading state here }
+ending reading state InPack here =
+    let one = few_ends reading.ends in
+    record {
+      more = Flush ∷ ends_with reading.ends;
+      few = omega arith;
+      whole = rest_flush reading state (at_place reading state InPack Flush here) (ap (λ (p : Place). next_place p Flush) here);
+    }
+ending reading state Over here = record { more = ResponseEnd ∷ []; few = omega arith; whole = inl (at_place reading state Over ResponseEnd here, refl) }
+
+open_at : (reading : Reading) (front : List Packet) → IsOpen (judge reading) front → IsOpenAt reading (start reading) front
+open_at reading front opened =
+    OpenFrom-from_open (judge_at reading) (next_state reading.format) (start reading) front
+    (subst (λ (j : Judge). IsOpen j front) (judge_is reading) opened)
+
+pub short_ending : (reading : Reading) (front : List Packet) → IsOpen (judge reading) front
+    → (more : List Packet) × (length more ≤ 4) × IsWhole (judge reading) (front ++ more)
+short_ending reading front opened =
+    let there = state_after (judge_at reading) (next_state reading.format) (start reading) front in
+    let last = ending reading there there.place refl in (
+      last.more,
+      last.few,
+      subst (λ (j : Judge). IsWhole j (front ++ last.more)) (sym (judge_is reading))
+          (IsWhole-from_left (judge_at reading) (next_state reading.format) (start reading) (front ++ last.more)
+          (WholeFrom-after_open (judge_at reading) (next_state reading.format) (start reading) front last.more (open_at reading front opened) last.whole)),
+    )
+
+pub HasEndings-judge : (reading : Reading) → HasEndings (judge reading)
+HasEndings-judge reading front opened = let last = short_ending reading front opened in (last.0, last.2)
+
+-- ---- few packets
+
+-- how many packets may come that are neither acknowledged ids nor of the pack
+due : Place → ℕ
+due Start = 5
+due Acking = 4
+due Naked = 1
+due AfterReady = 3
+due BeforePack = 2
+due InPack = 1
+due Over = 0
+
+record Within (reading : Reading) (state : State) : Type 0 where
+  acks : state.acks ≤ max_acks
+  packets : state.packets ≤ max_packets
+  bytes : state.bytes ≤ reading.limit
+
+-- a packet more is counted
+record Step (reading : Reading) (old new : State) : Type 0 where
+  fewer : due new.place + 1 + (old.acks + old.packets) ≤ due old.place + (new.acks + new.packets)
+  within : Within reading new
+
+as_step : (reading : Reading) (old a b : State) → a ≡ b → Step reading old b → Step reading old a
+as_step reading old a b e h = subst (λ (s : State). Step reading old s) (sym e) h
+
+move_step : (reading : Reading) (state : State) (from to : Place) → state.place ≡ from → Within reading state → due to < due from → Step reading state (moved state to)
+move_step reading state from to here within less =
+    let same : due state.place ≡ due from = ap due here in record { fewer = omega arith; within = record { acks = within.acks; packets = within.packets; bytes = within.bytes } }
+
+acking_step : (reading : Reading) (state : State) (payload : List ℕ) (form : ReplyForm) → state.place ≡ Acking → Within reading state → reply_form (text payload) ≡ form
+    → AckingOn reading.format state form → Step reading state (next_state reading.format state (Data payload))
+unfolding due
+acking_step reading state payload (Ack digits) here within is (an_ack d id spells few) =
+    let same : due state.place ≡ due Acking = ap due here in
+    as_step reading state _ _ (state-ack reading.format state payload digits id here is spells) (record { fewer = omega arith; within = record { acks = omega arith; packets = within.packets; bytes = within.bytes } })
+acking_step reading state payload Nak here within is (a_nak none) =
+    as_step reading state _ _ (state-acking reading.format state payload Nak here is refl) (move_step reading state Acking Naked here within (omega arith))
+acking_step reading state payload Readiness here within is a_readiness =
+    as_step reading state _ _ (state-acking reading.format state payload Readiness here is refl) (move_step reading state Acking AfterReady here within (omega arith))
+acking_step reading state payload Acknowledgments here within is on = elim on [ ]
+acking_step reading state payload Packfile here within is on = elim on [ ]
+acking_step reading state payload OtherForm here within is on = elim on [ ]
+
+band_step : (reading : Reading) (state : State) (payload : List ℕ) → state.place ≡ InPack → Within reading state → BandOn reading.limit state (band_form payload)
+    → Step reading state (next_state reading.format state (Data payload))
+band_step reading state payload here within on =
+    let same : due state.place ≡ due InPack = ap due here in
+    let few = on.few in
+    as_step reading state _ _ (state-band reading.format state payload here) (record { fewer = omega arith; within = record { acks = within.acks; packets = omega arith; bytes = on.short } })
+
+flush_step : (reading : Reading) (state : State) (place : Place) → state.place ≡ place → Within reading state → texts_there place Flush ≡ [] → bands_there place Flush ≡ []
+    → next_place place Flush ≡ Over → 0 < due place → Step reading state (next_state reading.format state Flush)
+unfolding due
+flush_step reading state place here within no_texts no_bands over some =
+    as_step reading state _ _
+    (next-moved reading.format state Flush Over (ap (λ (p : Place). texts_there p Flush) here ∙ no_texts) (ap (λ (p : Place). bands_there p Flush) here ∙ no_bands) (ap (λ (p : Place). next_place p Flush) here ∙ over))
+    (move_step reading state place Over here within some)
+
+no_step : (reading : Reading) (state new : State) (v : Verdict) (why : Why) → v ≡ Refused why → v ≡ Open → Step reading state new
+no_step reading state new v why is e = absurd cc
+
+step_at : (reading : Reading) (state : State) (place : Place) (packet : Packet) → state.place ≡ place → Within reading state → judge_at reading state packet ≡ Open
+    → Step reading state (next_state reading.format state packet)
+unfolding due
+step_at reading state Start (Data payload) here within goes =
+    let form : reply_form (text payload) ≡ Acknowledgments = start_open _ (data_open reading state Start payload here tt goes) in
+    as_step reading state _ _ (next-heading reading.format state payload here form) (move_step reading state Start Acking here within (omega arith))
+step_at reading state Acking (Data payload) here within goes =
+    acking_step reading state payload _ here within refl (acking_open reading.format state _ (data_open reading state Acking payload here tt goes))
+step_at reading state Naked (Data payload) here within goes = absurd (late_not_open _ (data_open reading state Naked payload here tt goes))
+step_at reading state AfterReady (Data payload) here within goes = absurd (late_not_open _ (data_open reading state AfterReady payload here tt goes))
+step_at reading state BeforePack (Data payload) here within goes =
+    let form : reply_form (text payload) ≡ Packfile = before_open _ (data_open reading state BeforePack payload here tt goes) in
+    as_step reading state _ _ (next-packfile reading.format state payload here form) (move_step reading state BeforePack InPack here within (omega arith))
+step_at reading state InPack (Data payload) here within goes =
+    band_step reading state payload here within (band_open reading.limit state (band_form payload) within.bytes (data_open reading state InPack payload here tt goes))
+step_at reading state Over packet here within goes = absurd (over_not_open packet (sym (at_place reading state Over packet here) ∙ goes))
+step_at reading state Acking Flush here within goes = flush_step reading state Acking here within refl refl refl (omega arith)
+step_at reading state Naked Flush here within goes = flush_step reading state Naked here within refl refl refl (omega arith)
+step_at reading state InPack Flush here within goes = flush_step reading state InPack here within refl refl refl (omega arith)
+step_at reading state Start Flush here within goes = no_step reading state _ _ WrongSection (at_place reading state Start Flush here) goes
+step_at reading state AfterReady Flush here within goes = no_step reading state _ _ WrongSection (at_place reading state AfterReady Flush here) goes
+step_at reading state BeforePack Flush here within goes = no_step reading state _ _ WrongSection (at_place reading state BeforePack Flush here) goes
+step_at reading state AfterReady Delim here within goes =
+    as_step reading state _ _ (next-delim reading.format state here) (move_step reading state AfterReady BeforePack here within (omega arith))
+step_at reading state Start Delim here within goes = no_step reading state _ _ WrongSection (at_place reading state Start Delim here) goes
+step_at reading state Acking Delim here within goes = no_step reading state _ _ WrongSection (at_place reading state Acking Delim here) goes
+step_at reading state Naked Delim here within goes = no_step reading state _ _ WrongSection (at_place reading state Naked Delim here) goes
+step_at reading state BeforePack Delim here within goes = no_step reading state _ _ WrongSection (at_place reading state BeforePack Delim here) goes
+step_at reading state InPack Delim here within goes = no_step reading state _ _ WrongSection (at_place reading state InPack Delim here) goes
+step_at reading state Start ResponseEnd here within goes = no_step reading state _ _ UnexpectedFrame (at_place reading state Start ResponseEnd here) goes
+step_at reading state Acking ResponseEnd here within goes = no_step reading state _ _ UnexpectedFrame (at_place reading state Acking ResponseEnd here) goes
+step_at reading state Naked ResponseEnd here within goes = no_step reading state _ _ UnexpectedFrame (at_place reading state Naked ResponseEnd here) goes
+step_at reading state AfterReady ResponseEnd here within goes = no_step reading state _ _ UnexpectedFrame (at_place reading state AfterReady ResponseEnd here) goes
+step_at reading state BeforePack ResponseEnd here within goes = no_step reading state _ _ UnexpectedFrame (at_place reading state BeforePack ResponseEnd here) goes
+step_at reading state InPack ResponseEnd here within goes = no_step reading state _ _ UnexpectedFrame (at_place reading state InPack ResponseEnd here) goes
+
+due_few : (place : Place) → due place ≤ 5
+unfolding due
+due_few Start = omega arith
+due_few Acking = omega arith
+due_few Naked = omega arith
+due_few AfterReady = omega arith
+due_few BeforePack = omega arith
+due_few InPack = omega arith
+due_few Over = omega arith
+
+few_from : (reading : Reading) (state : State) (front : List Packet) → Within reading state → IsOpenAt reading state front
+    → length front + (state.acks + state.packets) ≤ due state.place + (max_acks + max_packets)
+few_from reading state [] within opened = let acks = within.acks in let packets = within.packets in omega arith
+few_from reading state (packet ∷ rest) within opened =
+    let one = step_at reading state state.place packet refl within opened.0 in
+    let fewer = one.fewer in
+    let more = few_from reading (next_state reading.format state packet) rest one.within opened.1 in
+    omega arith
+
+pub open_is_short : (reading : Reading) (front : List Packet) → IsOpen (judge reading) front → length front < 2 ^ 60
+open_is_short reading front opened =
+    let few = few_from reading (start reading) front (record { acks = omega arith; packets = omega arith; bytes = omega arith }) (open_at reading front opened) in
+    let five = due_few (start reading).place in
+    omega arith
+
+-- ---- the pack's limit
+
+bytes_within : (reading : Reading) (state : State) (front : List Packet) → Within reading state → IsOpenAt reading state front
+    → (state_after (judge_at reading) (next_state reading.format) state front).bytes ≤ reading.limit
+bytes_within reading state [] within opened = within.bytes
+bytes_within reading state (packet ∷ rest) within opened =
+    bytes_within reading (next_state reading.format state packet) rest (step_at reading state state.place packet refl within opened.0).within opened.1
+
+-- an open list keeps it
+pub open_keeps_limit : (reading : Reading) (front : List Packet) → IsOpen (judge reading) front → (state_of reading front).bytes ≤ reading.limit
+open_keeps_limit reading front opened =
+    subst (λ (s : State). s.bytes ≤ reading.limit) (sym (state_from_start reading front))
+    (bytes_within reading (start reading) front (record { acks = omega arith; packets = omega arith; bytes = omega arith }) (open_at reading front opened))

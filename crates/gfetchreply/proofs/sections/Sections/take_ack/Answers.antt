@@ -1,0 +1,9 @@
+use Rattle.std.proofs.Common.{Some, ◌∙◌, ap}
+use Rattle.ggrammar.specs.Ids.{id_of_text}
+use Rattle.gfetchreply.proofs.IdOfLemmas.{id_is_of}
+use Rattle.gfetchreply.proofs.sections.Sections.take_ack.Goals as goal
+
+pub add-requires : goal.add-requires
+add-requires g c =
+    id_is_of c.args.self.now.commons.format c.args.id.now c.in-Some.id c.texts_have_one_reading.ensures
+    (c.in-Some.ensures ∙ ap (λ format. id_of_text format c.args.id.now) c.format.ensures)

@@ -1,0 +1,80 @@
+-- What a server may send as the reply to fetch, in the words of gitprotocol-v2(5): sections one after the other.
+use Rattle.std.specs.Prelude.{◌≡◌, ℕ, ◌≤◌, ◌⊎◌, true, false, List, [], ◌∷◌, ◌++◌, length, map, codes, All, Result, Ok}
+use Rattle.std.specs.Option.{IsSome}
+use Rattle.gpkt.specs.Packets.{Packet, Data, Flush, Delim, text}
+use Rattle.gpkt.specs.Bands.{BandPacket, band_form, Data as BandData, Progress}
+use Rattle.gpkt.specs.declared.fault.BandFault.{BandFault}
+use Rattle.gname.specs.declared.formats.Format.{Format}
+use Rattle.ggrammar.specs.Endings.{ends_with}
+use Rattle.gfetchreply.specs.FetchReplies.{Reading, FetchReply, Acks, Ready, Pack, reply_form, ack_id, acks_of, data_of}
+use Rattle.gfetchreply.specs.FetchReplies.{max_acks, max_packets}
+
+-- `ACK ` and an id
+abbrev pub IsAck : Format → List ℕ → Type 0
+IsAck format line = IsSome (ack_id format (reply_form line))
+
+-- some bytes of the pack, or of progress
+abbrev pub IsDataOrProgress : Result BandPacket BandFault → Type 0
+IsDataOrProgress (Ok (BandData bytes)) = Unit {0}
+IsDataOrProgress (Ok (Progress bytes)) = Unit {0}
+IsDataOrProgress _ = ⊥
+
+-- `acknowledgments`, and the acknowledged ids
+pub record IsAckSection (format : Format) (packets : List Packet) (commons : List (List ℕ)) : Type 0 where
+  pub heading : List ℕ
+  pub acks : List (List ℕ)
+  pub parts : packets ≡ Data heading ∷ map Data acks
+  pub is_heading : text heading ≡ codes "acknowledgments"
+  pub are_acks : All (IsAck format) (map text acks)
+  pub few : length acks ≤ max_acks
+  pub are : commons ≡ acks_of format (map text acks)
+
+-- `packfile`, side-band packets and a flush
+pub record IsPackSection (limit : ℕ) (packets : List Packet) (pack : List ℕ) : Type 0 where
+  pub heading : List ℕ
+  pub payloads : List (List ℕ)
+  pub parts : packets ≡ Data heading ∷ (map Data payloads ++ Flush ∷ [])
+  pub is_heading : text heading ≡ codes "packfile"
+  pub are_bands : All (λ payload. IsDataOrProgress (band_form payload)) payloads
+  pub few : length payloads ≤ max_packets
+  pub short : length pack ≤ limit
+  pub is_data : pack ≡ data_of payloads
+
+-- nothing is common
+pub record IsNakReply (format : Format) (packets : List Packet) : Type 0 where
+  pub section : List Packet
+  pub nak : List ℕ
+  pub acks : IsAckSection format section []
+  pub is_nak : text nak ≡ codes "NAK"
+  pub parts : packets ≡ section ++ Data nak ∷ Flush ∷ []
+
+-- some ids are common, and it is not enough
+pub record IsAckReply (format : Format) (packets : List Packet) (commons : List (List ℕ)) : Type 0 where
+  pub section : List Packet
+  pub acks : IsAckSection format section commons
+  pub parts : packets ≡ section ++ Flush ∷ []
+
+-- enough is common, and the pack follows
+pub record IsReadyReply (format : Format) (limit : ℕ) (packets : List Packet) (commons : List (List ℕ))
+    (pack : List ℕ) : Type 0 where
+  pub section : List Packet
+  pub readiness : List ℕ
+  pub rest : List Packet
+  pub acks : IsAckSection format section commons
+  pub is_readiness : text readiness ≡ codes "ready"
+  pub packs : IsPackSection limit rest pack
+  pub parts : packets ≡ section ++ Data readiness ∷ Delim ∷ rest
+
+abbrev pub IsBody : Reading → List Packet → FetchReply → Type 0
+IsBody reading packets (Acks commons) =
+    (reading.direct ≡ false)
+    × (((commons ≡ []) × IsNakReply reading.format packets) ⊎ IsAckReply reading.format packets commons)
+IsBody reading packets (Ready commons pack) =
+    (reading.direct ≡ false) × IsReadyReply reading.format reading.limit packets commons pack
+IsBody reading packets (Pack pack) = (reading.direct ≡ true) × IsPackSection reading.limit packets pack
+
+-- the packets are a reply, and say this
+pub record IsFetchReply (reading : Reading) (packets : List Packet) (reply : FetchReply) : Type 0 where
+  pub body : List Packet
+  pub is_body : IsBody reading body reply
+  pub parts : packets ≡ body ++ ends_with reading.ends

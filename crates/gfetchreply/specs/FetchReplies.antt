@@ -1,0 +1,314 @@
+-- The reply to fetch (gitprotocol-v2(5), "fetch"):
+--
+--   output = acknowledgements flush-pkt | [acknowledgments delim-pkt] packfile flush-pkt
+--   acknowledgments = "acknowledgments" (nak | *ack) (ready)
+--   packfile = "packfile" *(sideband packet)
+--
+-- A reply is `direct` where the request had `done` or no have: then it is the pack's section alone. Otherwise the
+-- acknowledgments come first, and the pack follows exactly where they are ready. Where the peer ends each reply
+-- so, a response-end follows the flush.
+use Rattle.std.specs.Prelude.{◌≡◌, ℕ, ◌+◌, ◌≤◌, ◌<◌, Bool, true, false, ◌&&◌, List, [], ◌∷◌, ◌++◌, length, map}
+use Rattle.std.specs.Prelude.{if◌then◌else◌, codes, nat_le, nat_lt, Option, Some, None, is_some, Result, Ok, Err}
+use Rattle.std.specs.List.{filter_map, flat_map, list_any}
+use Rattle.std.specs.Str.{bytes_eq}
+use Rattle.gpkt.specs.Packets.{Packet, Data, Flush, Delim, ResponseEnd, text}
+use Rattle.gpkt.specs.Bands.{BandPacket, band_form, band_payload, max_band, Data as BandData, Progress, Fatal}
+use Rattle.gpkt.specs.declared.fault.BandFault.{BandFault}
+use Rattle.gname.specs.Ids.{id_text}
+use Rattle.gname.specs.declared.formats.Format.{Format}
+use Rattle.ggrammar.specs.Grammar.{Verdict, Open, Refused, IsWhole, if_room}
+use Rattle.ggrammar.specs.Endings.{ends_with, at_flush, after_flush}
+use Rattle.ggrammar.specs.declared.ends.Ends.{Ends}
+use Rattle.ggrammar.specs.Places.{place_after, collected}
+use Rattle.ggrammar.specs.Texts.{text_packet}
+use Rattle.ggrammar.specs.Faults.{kept_text}
+use Rattle.ggrammar.specs.Ids.{id_of_text}
+use Rattle.ggrammar.specs.PeerErrors.{after_word, judge_unless_error}
+use Rattle.ggrammar.specs.declared.fault.Why.TheVariants as why
+
+-- what the reply says
+pub data FetchReply : Type 0 where
+  Acks : (commons : List (List ℕ)) → FetchReply
+  Ready : (commons : List (List ℕ)) (pack : List ℕ) → FetchReply
+  Pack : (pack : List ℕ) → FetchReply
+
+-- how a reply is read: whether the pack comes at once, the most bytes of a pack, how a reply ends, and the format
+pub record Reading : Type 0 where
+  pub format : Format
+  pub direct : Bool
+  pub limit : ℕ
+  pub ends : Ends
+
+-- the most ids that are acknowledged
+abbrev pub max_acks : ℕ
+max_acks = 4096
+
+-- ---- texts
+
+pub data ReplyForm : Type 0 where
+  Acknowledgments Nak Readiness Packfile : ReplyForm
+  Ack : (id : List ℕ) → ReplyForm
+  OtherForm : ReplyForm
+
+abbrev pub ack_or_other : Option (List ℕ) → ReplyForm
+ack_or_other None = OtherForm
+ack_or_other (Some id) = Ack id
+
+-- `ACK ` has that form whatever follows
+unfoldable pub reply_form : List ℕ → ReplyForm
+reply_form line =
+    if bytes_eq line (codes "acknowledgments") then Acknowledgments
+    else if bytes_eq line (codes "NAK") then Nak
+    else if bytes_eq line (codes "ready") then Readiness
+    else if bytes_eq line (codes "packfile") then Packfile
+    else ack_or_other (after_word (codes "ACK ") line)
+
+-- ---- where a packet stands
+
+pub data Place : Type 0 where
+  -- the acknowledgments' heading is due
+  Start : Place
+  -- after it, and after acknowledged ids
+  Acking : Place
+  -- after NAK: nothing was common
+  Naked : Place
+  -- after `ready`: the delimiter is due
+  AfterReady : Place
+  -- the pack's heading is due
+  BeforePack : Place
+  -- its bytes
+  InPack : Place
+  -- a response-end is due
+  Over : Place
+
+abbrev pub first_place : Bool → Place
+first_place true = BeforePack
+first_place false = Start
+
+-- a text of the acknowledgments leads on
+abbrev pub after_text : Place → ReplyForm → Place
+after_text Start Acknowledgments = Acking
+after_text Acking Nak = Naked
+after_text Acking Readiness = AfterReady
+after_text BeforePack Packfile = InPack
+after_text place line = place
+
+abbrev pub next_place : Place → Packet → Place
+next_place InPack (Data payload) = InPack
+next_place Over (Data payload) = Over
+next_place place (Data payload) = after_text place (reply_form (text payload))
+next_place AfterReady Delim = BeforePack
+next_place place Delim = place
+next_place Acking Flush = Over
+next_place Naked Flush = Over
+next_place InPack Flush = Over
+next_place place Flush = place
+next_place place ResponseEnd = place
+
+abbrev pub place_of : Bool → List Packet → Place
+place_of direct packets = place_after next_place (first_place direct) packets
+
+-- ---- what the packets so far say
+
+-- acknowledged ids, bytes of the pack and its packets, by where a packet stands
+abbrev pub ack_id : Format → ReplyForm → Option (List ℕ)
+ack_id format (Ack id) = id_of_text format id
+ack_id format _ = None
+
+abbrev pub texts_there : Place → Packet → List (List ℕ)
+texts_there Acking (Data payload) = text payload ∷ []
+texts_there place packet = []
+
+abbrev pub bands_there : Place → Packet → List (List ℕ)
+bands_there InPack (Data payload) = payload ∷ []
+bands_there place packet = []
+
+-- the texts of the acknowledgments, without the heading
+unfoldable pub ack_texts : Bool → List Packet → List (List ℕ)
+ack_texts direct packets = collected next_place texts_there (first_place direct) packets
+
+-- the payloads of the pack's section, without the heading
+unfoldable pub band_payloads : Bool → List Packet → List (List ℕ)
+band_payloads direct packets = collected next_place bands_there (first_place direct) packets
+
+abbrev pub acks_of : Format → List (List ℕ) → List (List ℕ)
+acks_of format texts = filter_map (λ line. ack_id format (reply_form line)) texts
+
+abbrev pub data_in : Result BandPacket BandFault → List ℕ
+data_in (Ok (BandData bytes)) = bytes
+data_in _ = []
+
+-- the data of band 1, in order
+abbrev pub data_of : List (List ℕ) → List ℕ
+data_of payloads = flat_map (λ payload. data_in (band_form payload)) payloads
+
+abbrev pub is_readiness : ReplyForm → Bool
+is_readiness Readiness = true
+is_readiness _ = false
+
+abbrev pub is_ready : List (List ℕ) → Bool
+is_ready texts = list_any (λ line. is_readiness (reply_form line)) texts
+
+abbrev pub reply_by : Reading → List (List ℕ) → List (List ℕ) → FetchReply
+reply_by reading texts payloads =
+    if reading.direct then Pack (data_of payloads)
+    else if is_ready texts then Ready (acks_of reading.format texts) (data_of payloads)
+    else Acks (acks_of reading.format texts)
+
+abbrev pub reply_of : Reading → List Packet → FetchReply
+reply_of reading packets = reply_by reading (ack_texts reading.direct packets) (band_payloads reading.direct packets)
+
+-- ---- the table
+
+-- what the packets so far count for
+pub record State : Type 0 where
+  pub place : Place
+  pub acks : ℕ
+  pub packets : ℕ
+  pub bytes : ℕ
+
+abbrev pub state_of : Reading → List Packet → State
+state_of reading packets = record {
+  place = place_of reading.direct packets;
+  acks = length (acks_of reading.format (ack_texts reading.direct packets));
+  packets = length (band_payloads reading.direct packets);
+  bytes = length (data_of (band_payloads reading.direct packets));
+}
+
+-- the most packets of a pack's section
+abbrev pub max_packets : ℕ
+max_packets = 4294967295
+
+abbrev pub judge_ack : Format → State → List ℕ → Verdict
+judge_ack format state id =
+    if is_some (id_of_text format id) then if_room (nat_lt state.acks max_acks) else Refused why.BadId
+
+abbrev pub judge_acking : Format → State → ReplyForm → Verdict
+judge_acking format state (Ack id) = judge_ack format state id
+judge_acking format state Nak = if nat_lt 0 state.acks then Refused why.WrongSection else Open
+judge_acking format state Readiness = Open
+judge_acking format state Acknowledgments = Refused why.WrongSection
+judge_acking format state Packfile = Refused why.WrongSection
+judge_acking format state OtherForm = Refused why.BadText
+
+-- after NAK and after `ready` no text is due
+abbrev pub judge_late : ReplyForm → Verdict
+judge_late OtherForm = Refused why.BadText
+judge_late _ = Refused why.WrongSection
+
+abbrev pub judge_start : ReplyForm → Verdict
+judge_start Acknowledgments = Open
+judge_start Packfile = Refused why.WrongSection
+judge_start _ = Refused why.BadText
+
+abbrev pub judge_before_pack : ReplyForm → Verdict
+judge_before_pack Packfile = Open
+judge_before_pack Acknowledgments = Refused why.WrongSection
+judge_before_pack _ = Refused why.BadText
+
+abbrev pub judge_band : ℕ → State → Result BandPacket BandFault → Verdict
+judge_band limit state (Err fault) = Refused (why.Band fault)
+judge_band limit state (Ok (Fatal bytes)) = Refused (why.RemoteFatal (kept_text bytes))
+judge_band limit state (Ok (BandData bytes)) =
+    if_room (nat_lt state.packets max_packets && nat_le (state.bytes + length bytes) limit)
+judge_band limit state (Ok (Progress bytes)) = if_room (nat_lt state.packets max_packets)
+
+abbrev pub judge_payload : Reading → Place → State → List ℕ → Verdict
+judge_payload reading Start state payload = judge_start (reply_form (text payload))
+judge_payload reading Acking state payload = judge_acking reading.format state (reply_form (text payload))
+judge_payload reading Naked state payload = judge_late (reply_form (text payload))
+judge_payload reading AfterReady state payload = judge_late (reply_form (text payload))
+judge_payload reading BeforePack state payload = judge_before_pack (reply_form (text payload))
+judge_payload reading InPack state payload = judge_band reading.limit state (band_form payload)
+judge_payload reading Over state payload = Refused why.UnexpectedFrame
+
+abbrev pub judge_flush : Ends → Place → Verdict
+judge_flush ends Acking = at_flush ends
+judge_flush ends Naked = at_flush ends
+judge_flush ends InPack = at_flush ends
+judge_flush ends _ = Refused why.WrongSection
+
+abbrev pub judge_delim : Place → Verdict
+judge_delim AfterReady = Open
+judge_delim _ = Refused why.WrongSection
+
+abbrev pub judge_there : Reading → Place → State → Packet → Verdict
+judge_there reading Over state packet = after_flush packet
+judge_there reading place state (Data payload) =
+    judge_unless_error (λ bytes. judge_payload reading place state bytes) payload
+judge_there reading place state Flush = judge_flush reading.ends place
+judge_there reading place state Delim = judge_delim place
+judge_there reading place state ResponseEnd = Refused why.UnexpectedFrame
+
+unfoldable pub judge_at : Reading → State → Packet → Verdict
+judge_at reading state packet = judge_there reading state.place state packet
+
+abbrev pub judge : Reading → List Packet → Packet → Verdict
+judge reading packets packet = judge_at reading (state_of reading packets) packet
+
+-- an acknowledged id is kept, and some data of the pack; progress is not
+abbrev pub form_brings : ReplyForm → Bool
+form_brings (Ack id) = true
+form_brings _ = false
+
+abbrev pub band_brings : Result BandPacket BandFault → Bool
+band_brings (Ok (BandData bytes)) = nat_lt 0 (length bytes)
+band_brings _ = false
+
+abbrev pub payload_brings : Place → List ℕ → Bool
+payload_brings Acking payload = form_brings (reply_form (text payload))
+payload_brings InPack payload = band_brings (band_form payload)
+payload_brings _ payload = false
+
+abbrev pub brings : Reading → List Packet → Packet → Bool
+brings reading packets (Data payload) = payload_brings (place_of reading.direct packets) payload
+brings reading packets _ = false
+
+-- the packets are a reply, and say this
+pub record Says (reading : Reading) (packets : List Packet) (reply : FetchReply) : Type 0 where
+  pub whole : IsWhole (judge reading) packets
+  pub says : reply ≡ reply_of reading packets
+
+-- ---- what is written
+
+abbrev pub ack_packet : List ℕ → Packet
+ack_packet id = text_packet (codes "ACK " ++ id_text id)
+
+abbrev pub nak_if_none : List Packet → List Packet
+nak_if_none [] = text_packet (codes "NAK") ∷ []
+nak_if_none (first ∷ acks) = first ∷ acks
+
+-- the pack in pieces of the largest size, the last one shorter or equal; none of an empty pack
+pub data IsPieces : List ℕ → List (List ℕ) → Type 0 where
+  none : IsPieces [] []
+  last : (piece : List ℕ) → 0 < length piece → length piece ≤ max_band → IsPieces piece (piece ∷ [])
+  full : (piece rest : List ℕ) (pieces : List (List ℕ)) → length piece ≡ max_band → 0 < length rest
+      → IsPieces rest pieces → IsPieces (piece ++ rest) (piece ∷ pieces)
+
+abbrev pub data_packet : List ℕ → Packet
+data_packet bytes = Data (band_payload (BandData bytes))
+
+-- `packfile`, the pack on band 1, and a flush
+pub record IsCanonicalPack (pack : List ℕ) (packets : List Packet) : Type 0 where
+  pub pieces : List (List ℕ)
+  pub are_pieces : IsPieces pack pieces
+  pub parts :
+      packets ≡ text_packet (codes "packfile") ∷ (map data_packet pieces ++ Flush ∷ [])
+
+abbrev pub heading : Packet
+heading = text_packet (codes "acknowledgments")
+
+abbrev pub readiness : Packet
+readiness = text_packet (codes "ready")
+
+abbrev pub IsCanonicalBody : FetchReply → List Packet → Type 0
+IsCanonicalBody (Acks commons) packets = packets ≡ heading ∷ (nak_if_none (map ack_packet commons) ++ Flush ∷ [])
+IsCanonicalBody (Ready commons pack) packets = (section : List Packet) × IsCanonicalPack pack section
+    × (packets ≡ heading ∷ (map ack_packet commons ++ readiness ∷ Delim ∷ section))
+IsCanonicalBody (Pack pack) packets = IsCanonicalPack pack packets
+
+-- the packets that are written of a reply
+pub record IsCanonicalReply (ends : Ends) (reply : FetchReply) (packets : List Packet) : Type 0 where
+  pub body : List Packet
+  pub is_body : IsCanonicalBody reply body
+  pub parts : packets ≡ body ++ ends_with ends

@@ -1,0 +1,12 @@
+pub mod FetchReplies
+pub mod FetchManual
+pub mod FetchHeads
+pub mod PackSinks
+pub mod Values
+pub mod WellFormed
+pub mod Laws
+pub mod Views
+pub mod ReplyState
+pub mod ReplyReading
+pub use Rattle.ggrammar.specs.Grammar
+pub use Rattle.ggrammar.specs.MessageReading

@@ -1,0 +1,176 @@
+-- What is kept of the packets of a reply that is being read, and what a packet adds to it.
+use Rattle.std.specs.Prelude.{◌≡◌, ℕ, ◌+◌, Bool, true, false, List, [], ◌∷◌, ◌++◌, length, if◌then◌else◌, nat_lt}
+use Rattle.std.specs.Prelude.{Option, Some, None, Result, Ok, Err}
+use Rattle.gpkt.specs.Packets.{Packet, Data, Flush, Delim, ResponseEnd, text}
+use Rattle.gpkt.specs.Bands.{band_form}
+use Rattle.gname.specs.declared.formats.Format.{Format}
+use Rattle.ggrammar.specs.Grammar.{Verdict, Open, Whole}
+use Rattle.ggrammar.specs.Ids.{id_of_text}
+use Rattle.ggrammar.specs.MessageReading.{IsReason}
+use Rattle.ggrammar.specs.declared.fault.Why.{Why}
+use Rattle.ggrammar.specs.declared.message.Step.{Step}
+use Rattle.ggrammar.specs.declared.message.Step.TheVariants as step
+use Rattle.gfetchreply.specs.FetchReplies.{Reading, State}
+use Rattle.gfetchreply.specs.FetchReplies.{Place, Start, Acking, Naked, AfterReady, BeforePack, InPack, Over}
+use Rattle.gfetchreply.specs.FetchReplies.{ReplyForm, Acknowledgments, Nak, Readiness, Packfile, Ack, reply_form}
+use Rattle.gfetchreply.specs.FetchReplies.{ack_texts, acks_of, band_payloads, data_in, data_of, first_place, is_ready}
+use Rattle.gfetchreply.specs.FetchReplies.{next_place, payload_brings, place_of}
+use Rattle.gfetchreply.specs.Values.{Commons}
+use Rattle.gfetchreply.specs.declared.sections.Place as coded
+use Rattle.gfetchreply.specs.declared.sections.Place.TheVariants as place
+use Rattle.gfetchreply.specs.declared.sections.Sections.{Sections}
+
+-- where the next packet stands, the acknowledged ids, whether `ready` came, and how many packets and bytes of the
+-- pack came
+pub record Kept : Type 0 where
+  pub place : Place
+  pub commons : Commons
+  pub ready : Bool
+  pub packets : ℕ
+  pub bytes : ℕ
+
+-- what is kept of these packets
+abbrev pub kept_of : Format → Bool → List Packet → Kept
+kept_of format direct packets = record {
+  place = place_of direct packets;
+  commons = record { format = format; ids = acks_of format (ack_texts direct packets) };
+  ready = is_ready (ack_texts direct packets);
+  packets = length (band_payloads direct packets);
+  bytes = length (data_of (band_payloads direct packets));
+}
+
+abbrev pub first_kept : Format → Bool → Kept
+first_kept format direct = record {
+  place = first_place direct;
+  commons = record { format = format; ids = [] };
+  ready = false;
+  packets = 0;
+  bytes = 0;
+}
+
+-- what it counts for
+abbrev pub state_kept : Kept → State
+state_kept kept = record {
+  place = kept.place;
+  acks = length kept.commons.ids;
+  packets = kept.packets;
+  bytes = kept.bytes;
+}
+
+-- ---- what a packet adds
+
+abbrev pub id_list : Option (List ℕ) → List (List ℕ)
+id_list None = []
+id_list (Some id) = id ∷ []
+
+abbrev pub with_text : Place → Kept → ReplyForm → Kept
+with_text Start kept Acknowledgments = record kept { place = Acking }
+with_text Acking kept Nak = record kept { place = Naked }
+with_text Acking kept Readiness = record kept { place = AfterReady; ready = true }
+with_text Acking kept (Ack id) = record kept {
+  commons = record kept.commons { ids = kept.commons.ids ++ id_list (id_of_text kept.commons.format id) };
+}
+with_text BeforePack kept Packfile = record kept { place = InPack }
+with_text place kept form = kept
+
+-- so many bytes of the pack in a packet more
+abbrev pub with_band : Kept → ℕ → Kept
+with_band kept more = record kept { packets = kept.packets + 1; bytes = kept.bytes + more }
+
+abbrev pub with_payload : Place → Kept → List ℕ → Kept
+with_payload InPack kept payload = with_band kept (length (data_in (band_form payload)))
+with_payload Over kept payload = kept
+with_payload place kept payload = with_text place kept (reply_form (text payload))
+
+abbrev pub with_packet : Kept → Packet → Kept
+with_packet kept (Data payload) = with_payload kept.place kept payload
+with_packet kept Flush = record kept { place = next_place kept.place Flush }
+with_packet kept Delim = record kept { place = next_place kept.place Delim }
+with_packet kept ResponseEnd = record kept { place = next_place kept.place ResponseEnd }
+
+-- what the next packet brings of the pack
+abbrev pub data_at : Place → List ℕ → List ℕ
+data_at InPack payload = data_in (band_form payload)
+data_at place payload = []
+
+abbrev pub data_there : Place → Packet → List ℕ
+data_there place (Data payload) = data_at place payload
+data_there place Flush = []
+data_there place Delim = []
+data_there place ResponseEnd = []
+
+-- whether it brings something to keep
+abbrev pub brings_there : Place → Packet → Bool
+brings_there place (Data payload) = payload_brings place payload
+brings_there place Flush = false
+brings_there place Delim = false
+brings_there place ResponseEnd = false
+
+-- ---- what is kept, without where it lies in memory
+
+abbrev pub place_in : coded.Place → Place
+place_in place.Start = Start
+place_in place.Acking = Acking
+place_in place.Naked = Naked
+place_in place.AfterReady = AfterReady
+place_in place.BeforePack = BeforePack
+place_in place.InPack = InPack
+place_in place.Over = Over
+
+abbrev pub kept_in : {A : Type 0} → Sections A → Kept
+kept_in sections = record {
+  place = place_in sections.place;
+  commons = sections.commons;
+  ready = sections.ready;
+  packets = sections.packets;
+  bytes = sections.bytes;
+}
+
+abbrev pub state_in : {A : Type 0} → Sections A → State
+state_in sections = state_kept (kept_in sections)
+
+-- The packet is taken as the verdict says, and then this holds; where it is refused, for a reason of the verdict or
+-- for memory for what it brings, that holds.
+abbrev pub TakesOr : Verdict → Bool → Type 0 → Type 0 → Result Step Why → Type 0
+TakesOr verdict brings P Q (Ok step.Open) = (verdict ≡ Open) × P
+TakesOr verdict brings P Q (Ok step.Whole) = (verdict ≡ Whole) × P
+TakesOr verdict brings P Q (Err why) = IsReason verdict brings why × Q
+
+abbrev pub TakesAs : Verdict → Bool → Type 0 → Result Step Why → Type 0
+TakesAs verdict brings P result = TakesOr verdict brings P (Unit {0}) result
+
+abbrev pub verdict_of : Step → Verdict
+verdict_of step.Open = Open
+verdict_of step.Whole = Whole
+
+-- ---- the sink
+
+module _ {S : Type 0} (taken : S → List ℕ → Type 0) where
+  -- the sink takes these bytes more
+  abbrev pub TakesMore : S → S → List ℕ → Type 0
+  TakesMore old new more = (before : List ℕ) → taken old before → taken new (before ++ more)
+
+  -- it takes none
+  abbrev pub TakesNone : S → S → Type 0
+  TakesNone old new = (before : List ℕ) → taken old before → taken new before
+
+  -- a packet is taken as the verdict says: then this is kept, and the sink takes these bytes more
+  abbrev pub TakesBoth : Verdict → Bool → Kept → Kept → List ℕ → S → S → Result Step Why → Type 0
+  TakesBoth verdict brings wanted kept more old new result =
+      TakesOr verdict brings ((kept ≡ wanted) × TakesMore old new more) (TakesNone old new) result
+
+  -- this is what is held of the packets so far, which are read as was asked: what is kept; the pack's data in the
+  -- sink, after all that it had before; and the sink is still the same one
+  pub record Holds (had : List ℕ → Type 0) (seat : ℕ) (asked reading : Reading) (kept : Kept) (sink : S) (name : ℕ)
+      (packets : List Packet) : Type 0 where
+    pub kind : reading ≡ asked
+    pub counts : kept ≡ kept_of reading.format reading.direct packets
+    pub pack : (before : List ℕ) → had before → taken sink (before ++ data_of (band_payloads reading.direct packets))
+    pub same : name ≡ seat
+
+  -- and this is left of them
+  pub record Leaves (had : List ℕ → Type 0) (seat : ℕ) (asked reading : Reading) (sink : S) (name : ℕ)
+      (packets : List Packet) : Type 0 where
+    pub kind : reading ≡ asked
+    pub pack : (before : List ℕ) → had before → taken sink (before ++ data_of (band_payloads reading.direct packets))
+    pub same : name ≡ seat

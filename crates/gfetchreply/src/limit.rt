@@ -1,0 +1,64 @@
+//! The most bytes of a pack that is read.
+
+ghost use Rattle.std.specs.Prelude.{◌≡◌, ◌≤◌, nat_le, if◌then◌else◌, Some, None};
+ghost use Rattle.gname.specs.Limits.{max_pack};
+ghost use Rattle.gfetchreply.specs.Values.{default_limit};
+
+use gname::MAX_PACK;
+use std::marker::Model;
+
+// The limit where none is asked for.
+const DEFAULT_LIMIT: usize = 16_777_216;
+
+/// The most bytes of a pack that is read, at most [`MAX_PACK`].
+#[derive(Clone, Copy, Debug, PartialEq, Eq, Drop)]
+pub struct PackLimit {
+    bytes: usize,
+}
+
+impl Model for PackLimit {
+    ghost use Rattle.std.specs.Prelude.{ℕ, ◌≤◌, refl};
+    ghost use Rattle.gname.specs.Limits.{max_pack};
+
+    ghost Value = { ℕ };
+
+    ghost view = { λ limit. limit.bytes };
+
+    ghost invariant = { λ limit. limit.bytes ≤ max_pack };
+
+    ghost inverse = { λ n. record { bytes = n } };
+
+    ghost inverse_ok = { λ limit h. refl };
+}
+
+impl PackLimit {
+    /// A limit of so many bytes, which may be none. `None` over [`MAX_PACK`].
+    pub fn new(bytes: usize) -> Option<PackLimit>
+        ensures { result ≡ if nat_le bytes max_pack then Some bytes else None }
+    {
+        if bytes <= MAX_PACK {
+            Some(PackLimit { bytes })
+        } else {
+            None
+        }
+    }
+
+    /// The number of bytes, at most [`MAX_PACK`].
+    pub fn bytes(self) -> usize
+        ensures bytes { result ≡ self }
+        ensures within { result ≤ max_pack }
+    {
+        self.bytes
+    }
+}
+
+/// 16,777,216 bytes.
+impl Default for PackLimit {
+    ghost is_default = { λ limit. limit ≡ default_limit };
+
+    fn default() -> PackLimit {
+        PackLimit {
+            bytes: DEFAULT_LIMIT,
+        }
+    }
+}

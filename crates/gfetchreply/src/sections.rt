@@ -1,0 +1,252 @@
+//! The sections of a reply to fetch, and what is kept of them.
+
+ghost use Rattle.std.specs.Prelude.{◌≡◌, ◌+◌, ◌<◌, ◌&&◌, nat_le, nat_lt, if◌then◌else◌, false, true, Some, None};
+ghost use Rattle.gpkt.specs.Packets.{Flush, Delim, ResponseEnd};
+ghost use Rattle.ggrammar.specs.Grammar.{Refused, if_room};
+ghost use Rattle.ggrammar.specs.Endings.{at_flush};
+ghost use Rattle.gfetchreply.specs.FetchReplies.{Reading, Acking, Start, BeforePack, Ack, Nak, judge_acking, judge_ack, judge_before_pack, judge_late, judge_start, judge_there, max_packets, form_brings};
+ghost use Rattle.gfetchreply.specs.FetchHeads.{head_by};
+ghost use Rattle.gfetchreply.specs.ReplyState.{TakesAs, kept_in, first_kept, place_in, state_in, verdict_of, with_band, with_packet, with_text};
+ghost use Rattle.gfetchreply.specs.Views.{form_in, head_in};
+
+use crate::form::ReplyForm;
+use crate::limit::PackLimit;
+use crate::value::{Commons, FetchHead};
+use ggrammar::{Ends, Step, Why, id_of_text};
+use gname::Format;
+use gname::laws::texts_have_one_reading;
+use std::alloc::Allocator;
+
+/// The most packets of a pack's section.
+const MAX_PACKETS: u32 = 4_294_967_295;
+
+/// Where a packet stands in a reply.
+#[derive(Clone, Copy, Debug, PartialEq, Eq)]
+pub(crate) enum Place {
+    /// The heading of the acknowledgments is due.
+    Start,
+    /// After it, and after acknowledged ids.
+    Acking,
+    /// After `NAK`.
+    Naked,
+    /// After `ready`: the delimiter is due.
+    AfterReady,
+    /// The heading of the pack is due.
+    BeforePack,
+    /// Its bytes.
+    InPack,
+    /// A response-end is due.
+    Over,
+}
+
+/// What the packets of a reply have said so far, the pack's bytes aside.
+#[derive(Drop)]
+pub(crate) struct Sections<A: Allocator + Copy> {
+    pub(crate) place: Place,
+    commons: Commons<A>,
+    ready: bool,
+    packets: u32,
+    bytes: usize,
+}
+
+impl<A: Allocator + Copy> Sections<A> {
+    /// A reply without packets.
+    pub(crate) fn new(alloc: A, format: Format, direct: bool) -> Sections<A>
+        ensures { kept_in result ≡ first_kept format direct }
+    {
+        Sections {
+            place: if direct {
+                Place::BeforePack
+            } else {
+                Place::Start
+            },
+            commons: Commons::new(alloc, format),
+            ready: false,
+            packets: 0,
+            bytes: 0,
+        }
+    }
+
+    /// Takes a text where the heading of the acknowledgments is due.
+    pub(crate) fn take_start(&mut self, form: ReplyForm<'_>) -> Result<Step, Why>
+        ensures { TakesAs (judge_start (form_in form.entry)) false
+            (kept_in self.new ≡ with_text Start (kept_in self.old) (form_in form.entry)) result }
+    {
+        match form {
+            ReplyForm::Acknowledgments => {
+                self.place = Place::Acking;
+                Ok(Step::Open)
+            }
+            ReplyForm::Packfile => Err(Why::WrongSection),
+            _ => Err(Why::BadText),
+        }
+    }
+
+    /// Takes a text of the acknowledgments.
+    pub(crate) fn take_acking(&mut self, form: ReplyForm<'_>) -> Result<Step, Why>
+        ensures { TakesAs (judge_acking self.old.commons.format (state_in self.old) (form_in form.entry)) (form_brings (form_in form.entry))
+            (kept_in self.new ≡ with_text Acking (kept_in self.old) (form_in form.entry)) result }
+    {
+        match form {
+            ReplyForm::Ack(id) => self.take_ack(id),
+            ReplyForm::Nak => self.take_nak(),
+            ReplyForm::Readiness => {
+                self.place = Place::AfterReady;
+                self.ready = true;
+                Ok(Step::Open)
+            }
+            ReplyForm::Acknowledgments | ReplyForm::Packfile => Err(Why::WrongSection),
+            ReplyForm::Other => Err(Why::BadText),
+        }
+    }
+
+    fn take_ack(&mut self, id: &[u8]) -> Result<Step, Why>
+        ensures { TakesAs (judge_ack self.old.commons.format (state_in self.old) id.now) true
+            (kept_in self.new ≡ with_text Acking (kept_in self.old) (Ack id.now)) result }
+    {
+        texts_have_one_reading();
+        let id = match id_of_text(self.commons.format(), id) {
+            Some(id) => id,
+            None => return Err(Why::BadId),
+        };
+        match self.commons.add(id) {
+            Ok(()) => Ok(Step::Open),
+            Err(why) => Err(why),
+        }
+    }
+
+    fn take_nak(&mut self) -> Result<Step, Why>
+        ensures { TakesAs (judge_acking self.old.commons.format (state_in self.old) Nak) false
+            (kept_in self.new ≡ with_text Acking (kept_in self.old) Nak) result }
+    {
+        if self.commons.ids().is_empty() {
+            self.place = Place::Naked;
+            Ok(Step::Open)
+        } else {
+            Err(Why::WrongSection)
+        }
+    }
+
+    /// Takes a text where the heading of the pack is due.
+    pub(crate) fn take_before_pack(&mut self, form: ReplyForm<'_>) -> Result<Step, Why>
+        ensures { TakesAs (judge_before_pack (form_in form.entry)) false
+            (kept_in self.new ≡ with_text BeforePack (kept_in self.old) (form_in form.entry)) result }
+    {
+        match form {
+            ReplyForm::Packfile => {
+                self.place = Place::InPack;
+                Ok(Step::Open)
+            }
+            ReplyForm::Acknowledgments => Err(Why::WrongSection),
+            _ => Err(Why::BadText),
+        }
+    }
+
+    /// How many bytes the pack has with some more. `None` where there is no room for them in a packet more.
+    pub(crate) fn with_room(&self, limit: PackLimit, more: usize) -> Option<usize>
+        ensures { result ≡ (if nat_lt self.now.packets max_packets && nat_le (self.now.bytes + more) limit
+            then Some (self.now.bytes + more) else None) }
+    {
+        match self.bytes.checked_add(more) {
+            Some(bytes) if self.packets < MAX_PACKETS && bytes <= limit.bytes() => Some(bytes),
+            _ => None,
+        }
+    }
+
+    /// Counts a packet of the pack's section, with which the pack has so many bytes.
+    pub(crate) fn count(&mut self, bytes: usize)
+        requires { self.old.packets < max_packets }
+        ensures { kept_in self.new ≡ record (kept_in self.old) { packets = self.old.packets + 1; bytes = bytes } }
+    {
+        self.packets += 1;
+        self.bytes = bytes;
+    }
+
+    /// Counts a packet of progress.
+    pub(crate) fn take_progress(&mut self) -> Result<Step, Why>
+        ensures { TakesAs (if_room (nat_lt self.old.packets max_packets)) false
+            (kept_in self.new ≡ with_band (kept_in self.old) 0) result }
+    {
+        if self.packets >= MAX_PACKETS {
+            return Err(Why::Limit);
+        }
+        self.packets += 1;
+        Ok(Step::Open)
+    }
+
+    /// Takes a flush.
+    pub(crate) fn take_flush(&mut self, ends: Ends) -> Result<Step, Why>
+        ensures { (reading : Reading) → reading.ends ≡ ends
+            → TakesAs (judge_there reading (place_in self.old.place) (state_in self.old) Flush) false
+            (kept_in self.new ≡ with_packet (kept_in self.old) Flush) result }
+    {
+        match self.place {
+            Place::Acking | Place::Naked | Place::InPack => {
+                self.place = Place::Over;
+                Ok(after_flush(ends))
+            }
+            Place::Start | Place::AfterReady | Place::BeforePack => Err(Why::WrongSection),
+            Place::Over => Err(Why::UnexpectedFrame),
+        }
+    }
+
+    /// Takes a delimiter.
+    pub(crate) fn take_delim(&mut self) -> Result<Step, Why>
+        ensures { (reading : Reading) → TakesAs (judge_there reading (place_in self.old.place) (state_in self.old) Delim) false
+            (kept_in self.new ≡ with_packet (kept_in self.old) Delim) result }
+    {
+        match self.place {
+            Place::AfterReady => {
+                self.place = Place::BeforePack;
+                Ok(Step::Open)
+            }
+            Place::Over => Err(Why::UnexpectedFrame),
+            _ => Err(Why::WrongSection),
+        }
+    }
+
+    /// Takes a response-end.
+    pub(crate) fn take_response_end(&self) -> Result<Step, Why>
+        ensures { (reading : Reading) → TakesAs (judge_there reading (place_in self.now.place) (state_in self.now) ResponseEnd) false
+            (kept_in self.now ≡ with_packet (kept_in self.now) ResponseEnd) result }
+    {
+        match self.place {
+            Place::Over => Ok(Step::Whole),
+            _ => Err(Why::UnexpectedFrame),
+        }
+    }
+
+    /// What the whole reply says, without its pack.
+    pub(crate) fn into_head(self, direct: bool) -> FetchHead<A>
+        ensures { head_in result ≡ head_by direct self.ready self.commons.ids }
+    {
+        let Sections { commons, ready, .. } = self;
+        if direct {
+            FetchHead::Pack
+        } else if ready {
+            FetchHead::Ready(commons)
+        } else {
+            FetchHead::Acks(commons)
+        }
+    }
+}
+
+// What the flush of a reply is to it.
+fn after_flush(ends: Ends) -> Step
+    ensures { verdict_of result ≡ at_flush ends }
+{
+    match ends {
+        Ends::Plain => Step::Whole,
+        Ends::Response => Step::Open,
+    }
+}
+
+/// Why a text is refused after `NAK` and after `ready`, where none is due.
+pub(crate) fn late(form: ReplyForm<'_>) -> Why
+    ensures { judge_late (form_in form.entry) ≡ Refused result }
+{
+    match form {
+        ReplyForm::Other => Why::BadText,
+        _ => Why::WrongSection,
+    }
+}

@@ -1,0 +1,25 @@
+//! What takes the pack of a reply.
+
+ghost use Rattle.std.specs.Prelude.{◌≡◌, ℕ, List};
+ghost use Rattle.gfetchreply.specs.PackSinks.{TakesPiece};
+
+use std::alloc::Allocator;
+
+/// Takes the pack of a reply to fetch, piece by piece.
+pub trait PackSink {
+    // These bytes were taken, in this order.
+    ghost taken: { Self → List ℕ → Type 0 };
+
+    /// Takes the next piece of the pack. `false` where memory for it is refused; then nothing of it is taken.
+    fn piece(&mut self, bytes: &[u8]) -> bool
+        ensures takes { TakesPiece taken self.old self.new bytes.now result };
+}
+
+/// A vector takes a pack after the bytes that it has.
+impl<A: Allocator + Copy> PackSink for Vec<u8, A> {
+    ghost taken = { λ bytes taken. bytes.items ≡ taken };
+
+    fn piece(&mut self, bytes: &[u8]) -> bool {
+        self.extend_from_slice(bytes).is_ok()
+    }
+}

@@ -1,0 +1,80 @@
+// Values keep their forms, and what a peer says is kept.
+use crate::tests::samples::direct;
+use crate::{Commons, read_fetch_reply};
+use bumpalo::Bump;
+use ggrammar::Why;
+use gname::{Format, Oid};
+use gpkt::LineReader;
+use gpkt::memory::SliceSource;
+use std::test::Fail;
+
+const SHA1: &[u8] = b"aaaaaaaaaaaaaaaaaaaaaaaaaaaaaaaaaaaaaaaa";
+
+const SHA256: &[u8] = b"aaaaaaaaaaaaaaaaaaaaaaaaaaaaaaaaaaaaaaaaaaaaaaaaaaaaaaaaaaaaaaaa";
+
+#[test]
+fn ids_are_of_one_format(rt: HostRuntime) -> Result<(), Fail> {
+    let (short, long) = (
+        Oid::from_hex(SHA1)?,
+        Oid::from_hex_in(Format::Sha256, SHA256)?,
+    );
+    let mut commons = Commons::new(rt.alloc(), Format::Sha1);
+    assert_eq!(rt;
+        commons
+            .push(long)
+            .err()
+            .map(|fault| (fault.name(), fault.frame)),
+        Some(("BadText", 0))
+    );
+    for _ in 0..4_096 {
+        commons.push(short)?;
+    }
+    assert_eq!(rt;
+        commons.push(short).err().map(|fault| fault.name()),
+        Some("Limit")
+    );
+    assert_eq!(rt;
+        commons.push(long).err().map(|fault| fault.name()),
+        Some("BadText")
+    );
+    assert_eq!(rt; commons.ids().len(), 4_096);
+    Ok(())
+}
+
+#[test]
+fn ids_take_memory(rt: HostRuntime) -> Result<(), Fail> {
+    let arena = Bump::new(rt.alloc());
+    arena.set_allocation_limit(Some(0));
+    let mut commons = Commons::new(&arena, Format::Sha1);
+    let met = commons.push(Oid::from_hex(SHA1)?);
+    assert_eq!(rt;
+        met.err().map(|fault| (fault.name(), fault.frame)),
+        Some(("Memory", 0))
+    );
+    assert_eq!(rt; commons.ids().len(), 0);
+    Ok(())
+}
+
+// What a peer says as it gives up, and that it says nothing.
+#[test]
+fn texts_of_peers_are_kept(rt: HostRuntime) -> Result<(), Fail> {
+    let cases: [(&[u8], &[u8]); 3] = [
+        (b"000dpackfile\n0009\x03disk", b"disk"),
+        (b"000dpackfile\n000a\x03disk\n", b"disk"),
+        (b"0008ERR ", b""),
+    ];
+    for (bytes, said) in &cases {
+        let mut reader = LineReader::new(rt.alloc(), SliceSource::new(bytes))?;
+        match read_fetch_reply(direct(), &mut reader, rt.alloc()) {
+            Err(fault) => match fault.why {
+                Why::RemoteFatal(text) | Why::RemoteErr(text) => assert_eq!(rt;
+                    text.as_bytes(),
+                    *said
+                ),
+                _ => assert!(rt; false),
+            },
+            Ok(_reply) => assert!(rt; false),
+        }
+    }
+    Ok(())
+}

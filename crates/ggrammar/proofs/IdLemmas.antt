@@ -1,0 +1,31 @@
+-- Reading an id answers what its text spells.
+use Rattle.std.proofs.Common.{◌≡◌, ℕ, List, length, None, Some, Result, Ok, Err, inl, inr, refl, sym, ap, ◌∙◌, ◌==◌}
+use Rattle.std.proofs.lemmas.Bool.{cond-true, cond-false, eq-eqb}
+use Rattle.std.proofs.lemmas.Bool.Decides.{eqb_tells}
+use Rattle.hex.specs.Hex.{decode_of}
+use Rattle.hex.specs.declared.error.FromHexError.{FromHexError}
+use Rattle.gname.specs.Formats.{id_text_length}
+use Rattle.gname.specs.Ids.{ReadsId}
+use Rattle.gname.specs.Laws.{TextsHaveOneReading}
+use Rattle.gname.specs.declared.formats.Format.{Format}
+use Rattle.gname.specs.declared.ids.OidFault.{OidFault}
+use Rattle.gname.specs.declared.ids.OidFault.TheVariants.{Length, Digit}
+use Rattle.ggrammar.specs.Ids.{id_of_text, ok_of}
+
+-- a text of the right length that spells none
+spells_none : (format : Format) (text : List ℕ) (fault : OidFault) (decoded : Result (List ℕ) FromHexError) → TextsHaveOneReading → ReadsId format text (Err fault)
+    → length text ≡ id_text_length format → decode_of text ≡ decoded → ok_of decoded ≡ None
+spells_none format text fault (Err other) law h long e = refl
+spells_none format text fault (Ok id) law h long e =
+    let same : Err fault ≡ Ok id = (law format text).1 (Err fault) (Ok id) h ((law format text).0 id (record { long = long; spells = e })) in cc
+
+pub id_read : (format : Format) (text id : List ℕ) → ReadsId format text (Ok id) → Some id ≡ id_of_text format text
+unfolding id_of_text
+id_read format text id h =
+    sym (cond-true (length text == id_text_length format) (ok_of (decode_of text)) None (eq-eqb _ _ h.0.long) ∙ ap ok_of h.0.spells)
+
+pub id_refused : (format : Format) (text : List ℕ) (fault : OidFault) → TextsHaveOneReading → ReadsId format text (Err fault) → None ≡ id_of_text format text
+unfolding id_of_text
+id_refused format text Length law h = sym (cond-false (length text == id_text_length format) (ok_of (decode_of text)) None (elim (eqb_tells (length text) (id_text_length format)) [ inl e ↦ absurd (h e.1) | inr n ↦ n.0 ]))
+id_refused format text (Digit at) law h =
+    sym (cond-true (length text == id_text_length format) (ok_of (decode_of text)) None (eq-eqb _ _ h.0) ∙ spells_none format text (Digit at) _ law h h.0 refl)

@@ -1,0 +1,47 @@
+-- Reading a kind of message, by what its lines say.
+use Rattle.std.proofs.Common.{◌≡◌, ℕ, Bool, List, ◌++◌, Result, Ok, Err, refl, subst, ap}
+use Rattle.std.specs.Prelude.{IfErr}
+use Rattle.gpkt.specs.Packets.{Packet, canonical_all}
+use Rattle.gpkt.specs.Laws.{CanonicalSpellsAll}
+use Rattle.ggrammar.specs.Grammar.{Judge}
+use Rattle.ggrammar.specs.MessageBytes.{known, IsOfBytes, LawsOfBytes}
+use Rattle.ggrammar.specs.Kinds.{Meaning, OneMeaning, SaysWhole, CanonicalSays, ReadsMessage, ReadsOrRefuses, SaysAtFront, ReadsExactly, ReadsBack}
+use Rattle.ggrammar.specs.declared.fault.MessageFault.{MessageFault}
+
+module _ {M : Type 0} (judge : Judge) (brings : List Packet → Packet → Bool) (Says : Meaning M) (laws : LawsOfBytes judge)
+    (says_whole : SaysWhole judge Says) (one_meaning : OneMeaning Says) where
+  -- what was read is what is said at the front
+  read_is_said : (bytes new rest : List ℕ) (message other : M) (read : ReadsMessage judge Says (known bytes new) message)
+      → SaysAtFront Says bytes rest other → (message ≡ other) × (new ≡ rest)
+  read_is_said bytes new rest message other read (lines, at, says) =
+      let whole = (says_whole lines).1 (other, says) in
+      let same = laws.no_other lines read.lines bytes rest new whole at read.read in
+      (one_meaning lines message other (subst (λ (ls : List Packet). Says ls message) same.0 read.says) says, same.1)
+
+  said_at_front : (bytes new : List ℕ) (message : M) → ReadsMessage judge Says (known bytes new) message → SaysAtFront Says bytes new message
+  said_at_front bytes new message read =
+      (read.lines, record { front = read.read.bytes.0; parts = read.read.bytes.1; spelt = read.read.bytes.2 }, read.says)
+
+  answers : (bytes new rest : List ℕ) (result : Result M MessageFault) (message : M) → ReadsOrRefuses judge brings Says (known bytes new) result
+      → IfErr result (λ fault. IsOfBytes fault.why) → SaysAtFront Says bytes rest message → (result ≡ Ok message) × (new ≡ rest)
+  answers bytes new rest (Ok other) message read certain at =
+      let same = read_is_said bytes new rest other message read at in (ap Ok same.0, same.1)
+  answers bytes new rest (Err fault) message refused certain (lines, at, says) =
+      absurd (laws.refused brings refused.0 lines bytes new rest fault refused.1 certain at ((says_whole lines).1 (message, says)))
+
+  said : (bytes new rest : List ℕ) (result : Result M MessageFault) (message : M) → ReadsOrRefuses judge brings Says (known bytes new) result
+      → (result ≡ Ok message) × (new ≡ rest) → SaysAtFront Says bytes rest message
+  said bytes new rest result message read same =
+      subst (λ (xs : List ℕ). SaysAtFront Says bytes xs message) same.1
+      (said_at_front bytes new message (subst (ReadsOrRefuses judge brings Says (known bytes new)) same.0 read))
+
+  pub reads_exactly : ReadsExactly judge brings Says
+  reads_exactly bytes new rest result message read certain =
+      (said bytes new rest result message read, answers bytes new rest result message read certain)
+
+  pub reads_back : CanonicalSpellsAll → (IsValue : M → Type 0) (IsCanonical : Meaning M) → CanonicalSays Says IsValue IsCanonical
+      → ReadsBack judge brings Says IsValue IsCanonical
+  reads_back spells IsValue IsCanonical canonical_says lines rest new result message value canonical read certain =
+      let h = canonical_says lines message value canonical in
+      answers (canonical_all lines ++ rest) new rest result message read certain
+      (lines, record { front = canonical_all lines; parts = refl; spelt = spells lines h.1 }, h.0)

@@ -1,0 +1,25 @@
+-- Places and what packets give there, with a packet more; the texts of packets.
+use Rattle.std.proofs.Common.{◌≡◌, List, [], ◌∷◌, ◌++◌, Some, refl, sym, ap, ◌∙◌, append_assoc, append-nil}
+use Rattle.std.proofs.lemmas.List.Elements.{filter_map-append}
+use Rattle.gpkt.specs.Packets.{Packet}
+use Rattle.gpkt.specs.Laws.{TextOfLine}
+use Rattle.ggrammar.specs.Places.{place_after, collected}
+use Rattle.ggrammar.specs.Texts.{text_in, TextsOfMore, TextIsRead}
+
+pub place_after-push : {Place : Type 0} (next : Place → Packet → Place) (place : Place) (front : List Packet) (packet : Packet)
+    → place_after next place (front ++ packet ∷ []) ≡ next (place_after next place front) packet
+place_after-push next place [] packet = refl
+place_after-push next place (first ∷ front) packet = place_after-push next (next place first) front packet
+
+pub collected-push : {Place X : Type 0} (next : Place → Packet → Place) (give : Place → Packet → List X) (place : Place) (front : List Packet) (packet : Packet)
+    → collected next give place (front ++ packet ∷ []) ≡ collected next give place front ++ give (place_after next place front) packet
+collected-push next give place [] packet = append-nil (give place packet)
+collected-push next give place (first ∷ front) packet =
+    ap (λ xs. give place first ++ xs) (collected-push next give (next place first) front packet)
+    ∙ sym (append_assoc (give place first) (collected next give (next place first) front) (give (place_after next (next place first) front) packet))
+
+pub texts_of_more : TextsOfMore
+texts_of_more packets more = filter_map-append text_in packets more
+
+pub text_is_read : TextOfLine → TextIsRead
+text_is_read line_text line = ap Some (line_text line)

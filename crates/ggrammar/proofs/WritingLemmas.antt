@@ -1,0 +1,88 @@
+-- Lines written one after the other.
+use Rattle.std.proofs.Common.{◌≡◌, ◌≢◌, ℕ, ◌<◌, ◌↔◌, Bool, false, List, [], ◌++◌, length, Option, Result, Ok, Err, sym, subst, ap, ◌∙◌, append_assoc, append-nil, arith}
+use Rattle.std.specs.Prelude.{IfErr, IsErrOf}
+use Rattle.gpkt.specs.Packets.{Packet, canonical, canonical_all, max_payload, payload_of}
+use Rattle.gpkt.specs.Laws.{Fits, CanonicalJoins, WritesJoin, FailsOfMore}
+use Rattle.gpkt.specs.LineWriting.{Writer, HasWritten}
+use Rattle.gpkt.specs.declared.fault.WriteFault.{WriteFault}
+use Rattle.gpkt.specs.declared.fault.WriteFault.TheVariants.{Payload}
+use Rattle.ggrammar.specs.Writing.{WritesLines, WritesLine, WritesFitting, LinesArePart, StartsWriting, GoesOnWriting, GoesOnAfterPart, FailsWriting, EndsWriting}
+
+-- a call that was not to write too long a line
+not_payload : (result : Result (Unit {0}) WriteFault) → IfErr result (λ fault. fault ≢ Payload) → result ≢ Err Payload
+not_payload (Ok done) other = λ e. cc
+not_payload (Err fault) other = λ e. other cc
+
+module _ {W : Type 0} (contents passed_on : W → Option (List ℕ)) (is_down : W → Bool) (loans : W → List ℕ) where
+  -- a call that was to write the lines of an equal list
+  as_lines : (old new : Writer W) (result : Result (Unit {0}) WriteFault) (lines others : List Packet) → lines ≡ others
+      → WritesLines contents passed_on is_down loans old new result lines → WritesLines contents passed_on is_down loans old new result others
+  as_lines old new result lines others same = subst (WritesLines contents passed_on is_down loans old new result) same
+
+  pub writes_line : WritesLine contents passed_on is_down loans
+  writes_line old new result line h fits = record {
+    written = subst (HasWritten contents passed_on is_down loans old new result) (sym (append-nil (canonical line))) h;
+    fits = fits;
+  }
+
+  fitting : (old : Writer W) (result : Result (Unit {0}) WriteFault) (line : Packet)
+      → (IsErrOf result Payload ↔ ((old.failed ≡ false) × (max_payload < length (payload_of line)))) → Fits line
+      → IfErr result (λ fault. fault ≢ Payload)
+  fitting old (Ok done) line h short = tt
+  fitting old (Err fault) line h short = λ e. let long = (h.0 cc).1 in omega (arith, long, short)
+
+  pub writes_fitting : WritesFitting contents passed_on is_down loans
+  writes_fitting old new result line h long short = writes_line old new result line h (fitting old result line long short)
+
+  -- lines that were written, and then more
+  followed : CanonicalJoins → WritesJoin contents passed_on is_down loans → (old mid new : Writer W) (front more : List Packet)
+      (result : Result (Unit {0}) WriteFault) → WritesLines contents passed_on is_down loans old mid (Ok tt) front
+      → WritesLines contents passed_on is_down loans mid new result more → WritesLines contents passed_on is_down loans old new result (front ++ more)
+  followed canonical_joins join old mid new front more result wrote h = record {
+    written = subst (HasWritten contents passed_on is_down loans old new result) (sym (canonical_joins front more))
+        (join old mid new (canonical_all front) (canonical_all more) result wrote.written h.written (not_payload result h.fits));
+    fits = h.fits;
+  }
+
+  -- lines that could not be written, and no more after them
+  cut : CanonicalJoins → FailsOfMore contents passed_on is_down loans → (old new : Writer W) (front more : List Packet) (fault : WriteFault)
+      → WritesLines contents passed_on is_down loans old new (Err fault) front → WritesLines contents passed_on is_down loans old new (Err fault) (front ++ more)
+  cut canonical_joins fails old new front more fault wrote = record {
+    written = subst (HasWritten contents passed_on is_down loans old new (Err fault)) (sym (canonical_joins front more))
+        (fails old new (canonical_all front) (canonical_all more) fault wrote.written wrote.fits);
+    fits = wrote.fits;
+  }
+
+  pub starts_writing : StartsWriting contents passed_on is_down loans
+  starts_writing start lines = record { joins = λ more new result h. h }
+
+  pub goes_on_writing : CanonicalJoins → WritesJoin contents passed_on is_down loans → GoesOnWriting contents passed_on is_down loans
+  goes_on_writing canonical_joins join start now next lines coming front rest before parts wrote = record {
+    joins = λ more new result h. before.joins more new result
+        (as_lines now new result (front ++ (rest ++ more)) (coming ++ more) (sym (append_assoc front rest more) ∙ ap (λ (xs : List Packet). xs ++ more) (sym parts))
+        (followed canonical_joins join now next new front (rest ++ more) result wrote h));
+  }
+
+  pub goes_on_after_part : GoesOnAfterPart contents passed_on is_down loans
+  goes_on_after_part start now next lines coming part rest before parts wrote = record {
+    joins = λ more new result h. before.joins more new result
+        (as_lines now new result (part ++ (rest ++ more)) (coming ++ more) (sym (append_assoc part rest more) ∙ ap (λ (xs : List Packet). xs ++ more) (sym parts))
+        (wrote.joins (rest ++ more) new result h));
+  }
+
+  pub ends_writing : EndsWriting contents passed_on is_down loans
+  ends_writing start now new lines coming result before h =
+      as_lines start new result (lines ++ []) lines (append-nil lines)
+      (before.joins [] new result (as_lines now new result coming (coming ++ []) (sym (append-nil coming)) h))
+
+  pub fails_writing : CanonicalJoins → FailsOfMore contents passed_on is_down loans → FailsWriting contents passed_on is_down loans
+  fails_writing canonical_joins fails start now new lines coming front rest fault (Ok done) before parts wrote same = absurd same
+  fails_writing canonical_joins fails start now new lines coming front rest fault (Err other) before parts wrote same =
+      subst (λ (f : WriteFault). WritesLines contents passed_on is_down loans start new (Err f) lines) (sym same)
+      (ends_writing start now new lines coming (Err fault) before
+      (as_lines now new (Err fault) (front ++ rest) coming (sym parts) (cut canonical_joins fails now new front rest fault wrote)))
+
+  pub lines_are_part : CanonicalJoins → WritesJoin contents passed_on is_down loans → LinesArePart contents passed_on is_down loans
+  lines_are_part canonical_joins join old new (Ok done) lines wrote =
+      goes_on_writing canonical_joins join old old new lines lines lines [] (starts_writing old lines) (sym (append-nil lines)) wrote
+  lines_are_part canonical_joins join old new (Err fault) lines wrote = wrote

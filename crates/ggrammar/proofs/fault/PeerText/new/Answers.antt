@@ -1,0 +1,11 @@
+-- What is kept is the first of the text.
+use Rattle.std.proofs.Common.{◌≡◌, ◌++◌, ℕ, List, length, take, ap, ◌∙◌, min, arith}
+use Rattle.std.proofs.lemmas.List.{take_min}
+use Rattle.ggrammar.specs.Faults.{max_peer_text}
+use Rattle.ggrammar.proofs.fault.PeerText.new.Goals as goal
+
+pub returns : goal.returns
+returns c =
+    let line = c.text_of-line.result.now in
+    let least : c.min.result ≡ min max_peer_text (length line) = omega arith in
+    c.add_short.ensures ∙ (ap (λ (xs : List ℕ). xs ++ take c.min.result line) c.new-text.ensures ∙ (ap (λ (n : ℕ). take n line) least ∙ (take_min max_peer_text line ∙ ap (λ (xs : List ℕ). take max_peer_text xs) c.text_of-line.ensures)))

@@ -1,0 +1,15 @@
+-- The message is going, as its grammar at the beginning says, and the reader has failed exactly where it had before,
+-- which it had only at the first packet.
+use Rattle.std.proofs.Common.{◌≡◌, ◌≤◌, ◌^◌, true}
+use Rattle.ggrammar.proofs.ReadingLemmas.{IsGoing}
+use Rattle.ggrammar.proofs.message.read_message.Given as goal
+
+abbrev pub invariant-loop-frame : goal.invariant-loop-frame
+invariant-loop-frame g l =
+    IsGoing (g.M.Message.judge l.initial.message) g.M.Message.holds (g.S.Source.remaining l.initial.reader.source) (g.S.Source.remaining l.reader.source) l.message l.frame
+    × (g.M.Message.judge l.message ≡ g.M.Message.judge l.initial.message)
+    × (g.M.Message.brings l.message ≡ g.M.Message.brings l.initial.message)
+    × (g.S.Source.loans l.reader.source ≡ g.S.Source.loans l.initial.reader.source)
+    × (l.reader.failed ≡ l.initial.reader.failed)
+    × (l.initial.reader.failed ≡ true → l.frame ≡ 0)
+    × (l.frame ≤ 2 ^ 60)

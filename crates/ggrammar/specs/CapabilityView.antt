@@ -1,0 +1,7 @@
+-- A capability without where its bytes lie in memory.
+use Rattle.std.specs.Option.{option_copied}
+use Rattle.ggrammar.specs.Capabilities.{Capability}
+use Rattle.ggrammar.specs.declared.capability.Capability as lent
+
+abbrev pub capability_view : lent.Capability → Capability
+capability_view capability = record { key = capability.key.now; value = option_copied capability.value }

@@ -1,0 +1,55 @@
+-- The table of faults of messages: the number and the name of each, and what the peer is told; and what is kept of a
+-- peer's text.
+use Rattle.std.specs.Prelude.{ℕ, List, codes, take}
+use Rattle.gpkt.specs.Faults.{FaultRow, band_fault_row, line_fault_row}
+use Rattle.gpkt.specs.Packets.{text}
+use Rattle.gpkt.specs.declared.fault.LineFault.{LineFault}
+use Rattle.gpkt.specs.declared.fault.LineFault.TheVariants as line
+use Rattle.ggrammar.specs.declared.fault.Why.{Why}
+use Rattle.ggrammar.specs.declared.fault.Why.TheVariants as why
+
+-- the most bytes of a peer's error that are kept
+abbrev pub max_peer_text : ℕ
+max_peer_text = 256
+
+-- the first 256 bytes of what the peer says, one line feed at its end left out before
+abbrev pub kept_text : List ℕ → List ℕ
+kept_text said = take max_peer_text (text said)
+
+-- a fault's number and name, and what the peer is told of it
+pub record WhyRow : Type 0 where
+  pub code : ℕ
+  pub name : List ℕ
+  pub phrase : List ℕ
+
+abbrev pub row_of : FaultRow → List ℕ → WhyRow
+row_of row phrase = record { code = row.0; name = row.1; phrase = phrase }
+
+-- why no line is read, in a peer's words
+abbrev pub line_phrase : LineFault → List ℕ
+line_phrase line.BadDigits = codes "bad packet line"
+line_phrase line.Reserved = codes "bad packet line"
+line_phrase line.TooLong = codes "bad packet line"
+line_phrase line.Truncated = codes "unexpected end"
+line_phrase line.Io = codes "read failed"
+line_phrase line.Failed = codes "read failed"
+line_phrase line.Memory = codes "out of memory"
+
+-- why a message is refused
+abbrev pub why_row : Why → WhyRow
+why_row (why.Line fault) = row_of (line_fault_row fault) (line_phrase fault)
+why_row (why.Band fault) = row_of (band_fault_row fault) (codes "refused")
+why_row why.UnexpectedFrame = row_of (41, codes "UnexpectedFrame") (codes "unexpected packet")
+why_row why.BadText = row_of (42, codes "BadText") (codes "bad line")
+why_row why.UnknownCommand = row_of (43, codes "UnknownCommand") (codes "unknown command")
+why_row why.UnknownCapability = row_of (44, codes "UnknownCapability") (codes "unknown capability")
+why_row why.UnknownArgument = row_of (45, codes "UnknownArgument") (codes "unknown argument")
+why_row why.BadId = row_of (46, codes "BadId") (codes "bad object id")
+why_row why.BadName = row_of (47, codes "BadName") (codes "bad ref name")
+why_row why.Limit = row_of (48, codes "Limit") (codes "limit exceeded")
+why_row (why.RemoteErr said) = row_of (49, codes "RemoteErr") (codes "peer reported an error")
+why_row (why.RemoteFatal said) = row_of (50, codes "RemoteFatal") (codes "refused")
+why_row why.WrongSection = row_of (51, codes "WrongSection") (codes "refused")
+why_row why.Format = row_of (52, codes "Format") (codes "object format mismatch")
+why_row why.Memory = row_of (53, codes "Memory") (codes "out of memory")
+why_row why.Ended = row_of (54, codes "Ended") (codes "unexpected end")

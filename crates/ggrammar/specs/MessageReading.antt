@@ -1,0 +1,88 @@
+-- What reading a message takes from its source, and what it answers.
+use Rattle.std.specs.Prelude.{◌≡◌, ℕ, Bool, true, false, List, [], ◌∷◌, ◌++◌, length, Option, Some, None, Result}
+use Rattle.std.specs.Prelude.{IsTrue, Ok, Err}
+use Rattle.gpkt.specs.Packets.{Packet}
+use Rattle.gpkt.specs.Change.{Change}
+use Rattle.gpkt.specs.LineReading.{Reads, ReadsLines}
+use Rattle.gpkt.specs.declared.fault.LineFault.TheVariants.{Io, Failed, Memory as LineMemory}
+use Rattle.ggrammar.specs.Grammar.{Judge, Verdict, Open, Whole, Refused, IsOpen, IsUnfinished, IsWhole}
+use Rattle.ggrammar.specs.declared.fault.Why.{Why}
+use Rattle.ggrammar.specs.declared.fault.Why.TheVariants.{Line, Memory, Ended}
+use Rattle.ggrammar.specs.declared.fault.MessageFault.{MessageFault}
+use Rattle.ggrammar.specs.declared.message.Step.{Step}
+use Rattle.ggrammar.specs.declared.message.Step.TheVariants as step
+
+-- these lines are read, a whole message
+pub record ReadsWhole (judge : Judge) (read : Change) (lines : List Packet) : Type 0 where
+  pub whole : IsWhole judge lines
+  pub bytes : ReadsLines read lines
+
+-- the packet goes on with the message, or ends it
+abbrev pub IsAccepted : Verdict → Type 0
+IsAccepted Open = Unit {0}
+IsAccepted Whole = Unit {0}
+IsAccepted (Refused why) = ⊥
+
+-- Why a packet is refused that stands there: the judge says so; or the judge accepts it, and there is no memory for
+-- what it brings, if it brings something.
+abbrev pub IsReason : Verdict → Bool → Why → Type 0
+IsReason verdict brings (Line fault) = ⊥
+IsReason verdict brings Ended = ⊥
+IsReason verdict brings Memory = IsAccepted verdict × IsTrue brings
+IsReason verdict brings why = verdict ≡ Refused why
+
+-- the next packet is read, and refused for this reason
+abbrev pub ReadsRefusedPacket : Judge → (List Packet → Packet → Bool) → List Packet → Change → Why → Type 0
+ReadsRefusedPacket judge brings front bytes why =
+    (packet : Packet) × Reads bytes (Ok (Some packet)) × IsReason (judge front packet) (brings front packet) why
+
+-- why the message is refused after these lines: no line is spelt there; the input ends; or a packet is refused
+abbrev pub IsReasonAfter : Judge → (List Packet → Packet → Bool) → List Packet → Change → Why → Type 0
+IsReasonAfter judge brings front bytes (Line fault) = Reads bytes (Err fault)
+IsReasonAfter judge brings front bytes Ended = Reads bytes (Ok None)
+IsReasonAfter judge brings front bytes why = ReadsRefusedPacket judge brings front bytes why
+
+-- the message is refused after these lines, which begin a message and hold no whole one
+pub record ReadsRefused (judge : Judge) (brings : List Packet → Packet → Bool) (front : List Packet) (bytes : Change)
+    (fault : MessageFault) : Type 0 where
+  pub between : Option (List ℕ)
+  pub goes : IsOpen judge front
+  pub unfinished : IsUnfinished judge front
+  pub frame : fault.frame ≡ length front
+  pub before : ReadsLines (record { old = bytes.old; new = between }) front
+  pub reason : IsReasonAfter judge brings front (record { old = between; new = bytes.new }) fault.why
+
+-- ---- what a message that is being read does with a packet
+
+module _ {M : Type 0} (judge : Judge) (brings : List Packet → Packet → Bool)
+    (holds left : M → List Packet → Type 0) where
+  -- it takes a packet after these as the judge says; where it refuses it, this is left of the lines before
+  abbrev pub TakesPacket : List Packet → Packet → M → Result Step Why → Type 0
+  TakesPacket front packet new (Ok step.Open) = (judge front packet ≡ Open) × holds new (front ++ packet ∷ [])
+  TakesPacket front packet new (Ok step.Whole) = (judge front packet ≡ Whole) × holds new (front ++ packet ∷ [])
+  TakesPacket front packet new (Err why) = IsReason (judge front packet) (brings front packet) why × left new front
+
+  -- a whole message was read, and it holds its packets
+  pub record HasTaken (bytes : Change) (message : M) : Type 0 where
+    pub lines : List Packet
+    pub read : ReadsWhole judge bytes lines
+    pub held : holds message lines
+
+  -- it was refused, and this is left of it
+  pub record HasRefused (bytes : Change) (message : M) (fault : MessageFault) : Type 0 where
+    pub front : List Packet
+    pub refused : ReadsRefused judge brings front bytes fault
+    pub leaves : left message front
+
+-- The fault is the device's exactly where the device is down now and the reader had not failed before, and that of a
+-- failed reader exactly where it had. Reading a line takes no memory.
+abbrev pub IsReadFailure : Bool → Bool → Why → Type 0
+IsReadFailure failed down (Line Io) = (failed ≡ false) × (down ≡ true)
+IsReadFailure failed down (Line Failed) = failed ≡ true
+IsReadFailure failed down (Line LineMemory) = ⊥
+IsReadFailure failed down why = (failed ≡ false) × (down ≡ false)
+
+-- the reader has failed now exactly where the line itself was refused
+abbrev pub IsFailedBy : Why → Bool → Type 0
+IsFailedBy (Line fault) failed = failed ≡ true
+IsFailedBy why failed = failed ≡ false

@@ -1,0 +1,22 @@
+-- A peer may report an error in the place of any packet (gitprotocol-pack(5), "error-line").
+use Rattle.std.specs.Prelude.{ℕ, List, codes, drop, length, if◌then◌else◌, nat_eq, Option, Some, None}
+use Rattle.std.specs.List.{starts_with}
+use Rattle.ggrammar.specs.Faults.{kept_text}
+use Rattle.ggrammar.specs.Grammar.{Verdict, Refused}
+use Rattle.ggrammar.specs.declared.fault.Why.TheVariants.{RemoteErr}
+
+-- what follows a word at the front of a text
+unfoldable pub after_word : List ℕ → List ℕ → Option (List ℕ)
+after_word word line = if starts_with nat_eq line word then Some (drop (length word) line) else None
+
+-- what the peer reports: the text after `ERR `
+abbrev pub peer_error : List ℕ → Option (List ℕ)
+peer_error payload = after_word (codes "ERR ") payload
+
+abbrev pub unless_error : Option (List ℕ) → Verdict → Verdict
+unless_error (Some said) verdict = Refused (RemoteErr (kept_text said))
+unless_error None verdict = verdict
+
+-- a payload is judged unless it reports an error
+abbrev pub judge_unless_error : (List ℕ → Verdict) → List ℕ → Verdict
+judge_unless_error table payload = unless_error (peer_error payload) (table payload)

@@ -1,0 +1,14 @@
+-- Where a packet stands in a message, and what packets give at their places. A grammar says which place is the next.
+use Rattle.std.specs.Prelude.{List, [], ◌∷◌, ◌++◌}
+use Rattle.gpkt.specs.Packets.{Packet}
+
+-- the place after these packets
+abbrev pub place_after : {Place : Type 0} → (Place → Packet → Place) → Place → List Packet → Place
+place_after next place [] = place
+place_after next place (packet ∷ packets) = place_after next (next place packet) packets
+
+-- what packets give, each at its place, in order
+abbrev pub collected : {Place X : Type 0} → (Place → Packet → Place) → (Place → Packet → List X) → Place
+    → List Packet → List X
+collected next give place [] = []
+collected next give place (packet ∷ packets) = give place packet ++ collected next give (next place packet) packets

@@ -1,0 +1,25 @@
+-- The text lines of messages (gitprotocol-common(5), "pkt-line Format"): a text is written with a line feed after it,
+-- and read with or without.
+use Rattle.std.specs.Prelude.{◌≡◌, ℕ, List, [], ◌∷◌, ◌++◌, Option, Some, None}
+use Rattle.std.specs.List.{filter_map}
+use Rattle.gpkt.specs.Packets.{Packet, Data, line_feed, text}
+
+-- the line of a text that is written
+abbrev pub text_packet : List ℕ → Packet
+text_packet line = Data (line ++ line_feed ∷ [])
+
+abbrev pub text_in : Packet → Option (List ℕ)
+text_in (Data payload) = Some (text payload)
+text_in _ = None
+
+-- the texts of all data lines, in order
+abbrev pub texts_of : List Packet → List (List ℕ)
+texts_of packets = filter_map text_in packets
+
+-- texts come in the order of their packets
+abbrev pub TextsOfMore : Type 0
+TextsOfMore = (packets more : List Packet) → texts_of (packets ++ more) ≡ texts_of packets ++ texts_of more
+
+-- the line of a text is read as that text
+abbrev pub TextIsRead : Type 0
+TextIsRead = (line : List ℕ) → text_in (text_packet line) ≡ Some line

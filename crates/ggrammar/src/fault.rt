@@ -1,0 +1,205 @@
+//! Why a message is refused, and at which of its packets.
+
+ghost use Rattle.std.specs.Prelude.{◌≡◌, ◌+◌, ◌≤◌, ◌++◌, length};
+ghost use Rattle.ggrammar.specs.Faults.{why_row, row_of, line_phrase, kept_text, max_peer_text};
+ghost use Rattle.ggrammar.specs.FaultViews.{row_view};
+
+use arrayvec::ArrayVec;
+use gpkt::{BandFault, LineFault, text_of};
+use std::error::Error;
+use std::fmt;
+use std::marker::Model;
+
+/// The most bytes of a peer's error that are kept.
+pub const MAX_PEER_TEXT: usize = 256;
+
+/// The text of a peer's error, of which the first 256 bytes are kept.
+#[derive(Drop)]
+pub struct PeerText {
+    text: ArrayVec<u8, MAX_PEER_TEXT>,
+}
+
+impl Model for PeerText {
+    ghost use Rattle.std.specs.Prelude.{List, ℕ};
+
+    ghost Value = { List ℕ };
+
+    ghost view = { λ t. t.text.items };
+}
+
+impl PeerText {
+    /// Keeps what a peer says, after the word of an `ERR` line or on the side band for fatal errors: one
+    /// line feed at its end is left out, and then all after the first 256 bytes. Takes no memory.
+    pub fn new(text: &[u8]) -> PeerText
+        ensures { result ≡ kept_text text.now }
+    {
+        let line = text_of(text);
+        let mut text = ArrayVec::new();
+        add_short(&line[..line.len().min(MAX_PEER_TEXT)], &mut text);
+        PeerText { text }
+    }
+
+    /// The bytes, at most 256.
+    pub fn as_bytes(&self) -> &[u8]
+        ensures bytes { result.now ≡ self.now }
+        ensures short { length result.now ≤ max_peer_text }
+    {
+        self.text.as_slice()
+    }
+}
+
+// Adds a piece that fits.
+fn add_short(piece: &[u8], text: &mut ArrayVec<u8, MAX_PEER_TEXT>)
+    requires { length text.old.items + length piece.now ≤ max_peer_text }
+    ensures { text.new.items ≡ text.old.items ++ piece.now }
+{
+    text.try_extend_from_slice(piece).unwrap()
+}
+
+impl fmt::Debug for PeerText {
+    fn fmt<W: fmt::Write>(&self, f: &mut fmt::Formatter<W>) -> fmt::Result {
+        write!(f, "PeerText")
+    }
+}
+
+/// Why a packet, or the end of the input in its place, is no part of the message.
+#[derive(Debug, Drop)]
+pub enum Why {
+    /// 20 to 28: the packet line itself was refused.
+    Line(LineFault),
+    /// 29, 30: the payload is of no side band.
+    Band(BandFault),
+    /// 41: a flush, delimiter or response-end where the grammar has none.
+    UnexpectedFrame,
+    /// 42: a text that no case of the grammar has.
+    BadText,
+    /// 43: a command that is not served.
+    UnknownCommand,
+    /// 44: a capability that is not served.
+    UnknownCapability,
+    /// 45: an argument that the command does not have.
+    UnknownArgument,
+    /// 46: an object id is due.
+    BadId,
+    /// 47: a ref name, or a prefix of ref names, is due.
+    BadName,
+    /// 48: one more than the most that is taken.
+    Limit,
+    /// 49: the peer reported an error.
+    RemoteErr(PeerText),
+    /// 50: the peer gave up, on the side band for fatal errors.
+    RemoteFatal(PeerText),
+    /// 51: a section, a line or an end out of its place in a reply to fetch.
+    WrongSection,
+    /// 52: another object format.
+    Format,
+    /// 53: no memory for what the packet brings.
+    Memory,
+    /// 54: the input ends where a packet of the message is due.
+    Ended,
+}
+
+// The number and the name of a fault, and what the peer is told of it.
+#[derive(Clone, Copy)]
+struct WhyRow {
+    code: u32,
+    name: &'static str,
+    phrase: &'static str,
+}
+
+fn row(code: u32, name: &'static str, phrase: &'static str) -> WhyRow
+    ensures { row_view result ≡ row_of (code, name.now) phrase.now }
+{
+    WhyRow { code, name, phrase }
+}
+
+// Why no line is read, in a peer's words.
+fn line_phrase(fault: &LineFault) -> &'static str
+    ensures { result.now ≡ line_phrase fault.now }
+{
+    match fault {
+        LineFault::BadDigits | LineFault::Reserved | LineFault::TooLong => "bad packet line",
+        LineFault::Truncated => "unexpected end",
+        LineFault::Io | LineFault::Failed => "read failed",
+        LineFault::Memory => "out of memory",
+    }
+}
+
+impl Why {
+    /// The number of the fault.
+    pub fn code(&self) -> u32
+        ensures { result ≡ (why_row self.now).code }
+    {
+        self.row().code
+    }
+
+    /// The name of the fault.
+    pub fn name(&self) -> &'static str
+        ensures { result.now ≡ (why_row self.now).name }
+    {
+        self.row().name
+    }
+
+    /// What a peer is told of the fault, as in `ERR upload-pack: bad line`; it is also what the fault displays.
+    pub fn phrase(&self) -> &'static str
+        ensures { result.now ≡ (why_row self.now).phrase }
+    {
+        self.row().phrase
+    }
+
+    // The table of faults.
+    fn row(&self) -> WhyRow
+        ensures { row_view result ≡ why_row self.now }
+    {
+        match self {
+            Why::Line(fault) => row(fault.code(), fault.name(), line_phrase(fault)),
+            Why::Band(fault) => row(fault.code(), fault.name(), "refused"),
+            Why::UnexpectedFrame => row(41, "UnexpectedFrame", "unexpected packet"),
+            Why::BadText => row(42, "BadText", "bad line"),
+            Why::UnknownCommand => row(43, "UnknownCommand", "unknown command"),
+            Why::UnknownCapability => row(44, "UnknownCapability", "unknown capability"),
+            Why::UnknownArgument => row(45, "UnknownArgument", "unknown argument"),
+            Why::BadId => row(46, "BadId", "bad object id"),
+            Why::BadName => row(47, "BadName", "bad ref name"),
+            Why::Limit => row(48, "Limit", "limit exceeded"),
+            Why::RemoteErr(_) => row(49, "RemoteErr", "peer reported an error"),
+            Why::RemoteFatal(_) => row(50, "RemoteFatal", "refused"),
+            Why::WrongSection => row(51, "WrongSection", "refused"),
+            Why::Format => row(52, "Format", "object format mismatch"),
+            Why::Memory => row(53, "Memory", "out of memory"),
+            Why::Ended => row(54, "Ended", "unexpected end"),
+        }
+    }
+}
+
+impl fmt::Display for Why {
+    fn fmt<W: fmt::Write>(&self, f: &mut fmt::Formatter<W>) -> fmt::Result {
+        f.write_str(self.phrase())
+    }
+}
+
+impl Error for Why {}
+
+/// A message that was refused: at which of its packets, from 0, and why.
+#[derive(Debug, Drop, thiserror::Error)]
+#[error("packet {frame}: {why}")]
+pub struct MessageFault {
+    pub frame: u64,
+    pub why: Why,
+}
+
+impl MessageFault {
+    /// The number of the fault.
+    pub fn code(&self) -> u32
+        ensures { result ≡ (why_row self.now.why).code }
+    {
+        self.why.code()
+    }
+
+    /// The name of the fault.
+    pub fn name(&self) -> &'static str
+        ensures { result.now ≡ (why_row self.now.why).name }
+    {
+        self.why.name()
+    }
+}

@@ -1,0 +1,18 @@
+//! Object ids in messages.
+
+ghost use Rattle.std.specs.Prelude.{◌≡◌};
+ghost use Rattle.ggrammar.specs.Ids.{id_of_text};
+
+use gname::laws::texts_have_one_reading;
+use gname::{Format, Oid};
+
+/// The id of a format that a text spells, in either case of digits. `None` where it spells none.
+pub fn id_of_text(format: Format, text: &[u8]) -> Option<Oid>
+    ensures { result ≡ id_of_text format text.now }
+{
+    texts_have_one_reading();
+    match Oid::from_hex_in(format, text) {
+        Ok(id) => Some(id),
+        Err(_fault) => None,
+    }
+}

@@ -1,0 +1,54 @@
+//! The laws of every grammar: functions without effect, whose contracts they are.
+
+ghost use Rattle.ggrammar.specs.Grammar.{Judge, LawsOf};
+ghost use Rattle.ggrammar.specs.MessageBytes.{LawsOfBytes};
+ghost use Rattle.ggrammar.specs.Texts.{TextIsRead, TextsOfMore};
+ghost use Rattle.ggrammar.specs.Writing.{EndsWriting, FailsWriting, GoesOnAfterPart, GoesOnWriting, LinesArePart, StartsWriting, WritesFitting, WritesLine};
+
+use gpkt::Sink;
+use gpkt::laws::{
+    canonical_spells, has_four_bytes, one_begins, one_reading, refused_front, text_reads_back,
+    writes_join,
+};
+
+/// Open lists grow packet by packet. No message begins another. Where each open list has an ending, it begins a
+/// message and holds none, and a refused packet is the first that does not fit.
+pub fn grammars_are_exact()
+    ensures { (judge : Judge) → LawsOf judge }
+{}
+
+/// Whole lines at the front of some bytes are read, and no others, and what follows them stays. Where reading
+/// is refused for a reason in the bytes, no whole lines are at their front. No spelling of a message begins
+/// another.
+pub fn messages_are_read()
+    ensures { (judge : Judge) → LawsOfBytes judge }
+{
+    one_begins();
+    one_reading();
+    refused_front();
+    has_four_bytes();
+}
+
+/// The texts of packets come in their order, and the line of a text is read as that text.
+pub fn texts_are_read()
+    ensures more { TextsOfMore }
+    ensures line { TextIsRead }
+{
+    text_reads_back();
+}
+
+/// Lines that are written one after the other are one write of all of them; where one fails, all of them do.
+/// A writer starts with all its lines to come, goes on after each call, and ends with its last one.
+pub fn writes_lines<W: Sink>()
+    ensures line { WritesLine W.contents W.passed_on W.is_down W.loans }
+    ensures fitting { WritesFitting W.contents W.passed_on W.is_down W.loans }
+    ensures part { LinesArePart W.contents W.passed_on W.is_down W.loans }
+    ensures starts { StartsWriting W.contents W.passed_on W.is_down W.loans }
+    ensures goes_on { GoesOnWriting W.contents W.passed_on W.is_down W.loans }
+    ensures after_part { GoesOnAfterPart W.contents W.passed_on W.is_down W.loans }
+    ensures fails { FailsWriting W.contents W.passed_on W.is_down W.loans }
+    ensures ends { EndsWriting W.contents W.passed_on W.is_down W.loans }
+{
+    canonical_spells();
+    writes_join::<W>();
+}

@@ -1,0 +1,54 @@
+//! What all messages of the protocol have in common: a grammar over packet lines, a reader that follows it
+//! packet by packet, the faults of messages, and the capabilities that two of them carry.
+//!
+//! # Proved
+//!
+//! - [`read_message`] reads a message exactly to its end, in whatever pieces its bytes come; else it refuses
+//!   it at the first packet that does not fit, with the grammar's reason: what the line reader refuses comes
+//!   first, then the end of the input, then what the grammar refuses. What came before begins a message and
+//!   holds no whole one. Out of memory comes only at a packet that brings something to keep.
+//! - [`laws`]: no message begins another, and a refused packet is the first that does not fit, in every
+//!   grammar whose beginnings have endings. Whole lines at the front of some bytes are read and no others;
+//!   where reading is refused for a reason in the bytes, none are there. Lines written one after the other
+//!   are one write of all of them, also where one fails.
+//! - [`capability_of`] splits a capability into its key and its value exactly where it is one.
+//! - The number, the name and the phrase of each fault stand in one row, `why_row`; of a peer's error the
+//!   first 256 bytes are kept.
+//!
+//! # Only tested
+//!
+//! That a fault displays its phrase.
+//!
+//! # What a body can still get away with
+//!
+//! It may take as long as it likes. Where a packet brings something to keep, a message may be refused for
+//! want of memory that was there. Where the bytes of a source are not known, nothing is said of the lines that
+//! were read; what a device has done is said all the same. What is kept of a message after a refusal is for
+//! its kind to say.
+//!
+//! # Stands on
+//!
+//! `gpkt` for packet lines, `gname` for ids and names, `hex` for what spells an id, `arrayvec` for texts of
+//! bounded length, `thiserror` for the text of a fault with its packet; in the tests `bumpalo`, for memory
+//! that ends.
+#![tactic(auto)]
+
+mod capability;
+mod ends;
+mod fault;
+mod id;
+pub mod laws;
+mod message;
+mod peer;
+
+pub use crate::capability::{
+    Capability, MAX_CAPABILITY, capability_of, is_key, is_value, is_word_value,
+};
+pub use crate::ends::Ends;
+pub use crate::fault::{MAX_PEER_TEXT, MessageFault, PeerText, Why};
+pub use crate::id::id_of_text;
+pub use crate::message::{Message, Step, read_message};
+pub use crate::peer::{after_word, peer_error};
+
+#[cfg(test)]
+mod tests;

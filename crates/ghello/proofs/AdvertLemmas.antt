@@ -1,0 +1,260 @@
+-- Facts on advertisements: what is kept of the packets, and what may be added.
+use Rattle.std.proofs.Common.{◌≡◌, ℕ, zero, suc, ◌+◌, ◌<◌, ◌≤◌, Bool, true, false, not, ◌&&◌, if◌then◌else◌, ◌==◌, nat_le, nat_lt, Bor, map, List, [], ◌∷◌, ◌++◌, length, take, drop, get_or, ◌⊎◌, inl, inr, Option, Some, None, Result, Ok, Err, refl, sym, ap, subst, ◌∙◌, append-nil, arith}
+use Rattle.std.specs.Prelude.{All, IfSome, IsTrue, ⊤}
+use Rattle.std.specs.List.{cons_option, filter_map, list_all}
+use Rattle.std.proofs.lemmas.List.{drop_more, drop_all, length_push}
+use Rattle.std.proofs.lemmas.List.Elements.{All-append}
+use Rattle.std.proofs.lemmas.Bool.{and_parts, cond-true, cond-false}
+use Rattle.std.proofs.lemmas.Bool.Decides.{nat_tests}
+use Rattle.gpkt.specs.Packets.{Packet, Data, Flush, Delim, ResponseEnd, text}
+use Rattle.gpkt.specs.Change.{Change}
+use Rattle.ggrammar.specs.Grammar.{Open, Whole, Refused, if_room}
+use Rattle.ggrammar.specs.Texts.{TextsOfMore, texts_of}
+use Rattle.ggrammar.specs.PeerErrors.{peer_error, unless_error}
+use Rattle.ggrammar.specs.Faults.{kept_text}
+use Rattle.ggrammar.specs.Capabilities.{Capability, IsWellFormed, capability_of, capability_split, has_length, is_key, is_key_byte, is_printable, is_value, max_capability}
+use Rattle.std.specs.Option.{option_copied}
+use Rattle.ggrammar.specs.CapabilityView.{capability_view}
+use Rattle.ggrammar.specs.declared.capability.Capability as lent
+use Rattle.ggrammar.specs.MessageReading.{IsReason, TakesPacket, HasTaken}
+use Rattle.ggrammar.specs.declared.fault.Why.{Why}
+use Rattle.ggrammar.specs.declared.fault.Why.TheVariants as why
+use Rattle.ggrammar.specs.declared.fault.MessageFault.{MessageFault}
+use Rattle.ggrammar.specs.declared.message.Step.{Step}
+use Rattle.ggrammar.specs.declared.message.Step.TheVariants as step
+use Rattle.ghello.specs.Building.{building_fault}
+use Rattle.ghello.specs.Reading.{ReadsMessage, TakesAs}
+use Rattle.ghello.specs.Adverts.{AreCapabilities, Says, adding_fault, brings, capabilities_in, capabilities_of, capability_packet, first_with, has_key, is_capability, is_value_or_none, judge, judge_at, judge_capability, judge_text, judge_version, max_capabilities}
+use Rattle.ghello.specs.AdvertReading.{IsKept, added_by, brings_after, capability_list, judge_after, texts_at_least}
+
+-- ---- looking up
+
+-- the capability at a place is the first there with its key
+pub first_with-here : (key : List ℕ) (capabilities : List Capability) (at : ℕ) (found : Capability) → at < length capabilities → found ≡ get_or capabilities at found
+    → has_key key found ≡ true → first_with key (drop at capabilities) ≡ Some found
+first_with-here key capabilities at found inside is has =
+    let rest : drop at capabilities ≡ found ∷ drop (at + 1) capabilities = drop_more capabilities at found inside ∙ ap (λ (x : Capability). x ∷ drop (at + 1) capabilities) (sym is) in
+    ap (first_with key) rest ∙ cond-true (has_key key found) (Some found) (first_with key (drop (at + 1) capabilities)) has
+
+-- or the first is after it
+pub first_with-later : (key : List ℕ) (capabilities : List Capability) (at : ℕ) (passed : Capability) → at < length capabilities → passed ≡ get_or capabilities at passed
+    → has_key key passed ≡ false → first_with key (drop at capabilities) ≡ first_with key (drop (at + 1) capabilities)
+first_with-later key capabilities at passed inside is has =
+    let rest : drop at capabilities ≡ passed ∷ drop (at + 1) capabilities = drop_more capabilities at passed inside ∙ ap (λ (x : Capability). x ∷ drop (at + 1) capabilities) (sym is) in
+    ap (first_with key) rest ∙ cond-false (has_key key passed) (Some passed) (first_with key (drop (at + 1) capabilities)) has
+
+pub first_with-end : (key : List ℕ) (capabilities : List Capability) (at : ℕ) → length capabilities ≤ at → first_with key (drop at capabilities) ≡ None
+first_with-end key capabilities at past = ap (first_with key) (drop_all at capabilities past)
+
+-- ---- forms
+
+longest : (bytes : List ℕ) (rest : Bool) → (has_length bytes && rest) ≡ true → length bytes ≤ max_capability
+longest bytes rest h =
+    let few : nat_le (length bytes) max_capability ≡ true = (and_parts (nat_le 1 (length bytes)) (nat_le (length bytes) max_capability) (and_parts (has_length bytes) rest h).0).1 in
+    grind (arith, nat_tests)
+
+pub key_within : (capability : Capability) → IsWellFormed capability → length capability.key ≤ max_capability
+unfolding is_key
+key_within capability form = longest capability.key (list_all is_key_byte capability.key) form.key
+
+value_at : (value : Option (List ℕ)) → IfSome value (λ bytes. IsTrue (is_value bytes)) → IfSome value (λ bytes. length bytes ≤ max_capability)
+unfolding is_value
+value_at None h = tt
+value_at (Some value) h = longest value (list_all is_printable value) h
+
+pub value_within : (capability : Capability) → IsWellFormed capability → IfSome capability.value (λ bytes. length bytes ≤ max_capability)
+value_within capability form = value_at capability.value form.value
+
+lent_value : (value : Option (Bor (List ℕ))) → IfSome (option_copied value) (λ bytes. length bytes ≤ max_capability) → IfSome value (λ bytes. length bytes.now ≤ max_capability)
+lent_value None h = tt
+lent_value (Some value) h = h
+
+pub lent_key_within : (capability : lent.Capability) (kept : Capability) → capability_view capability ≡ kept → IsWellFormed kept → length capability.key.now ≤ max_capability
+lent_key_within capability kept same form = subst (λ (c : Capability). length c.key ≤ max_capability) (sym same) (key_within kept form)
+
+pub lent_value_within : (capability : lent.Capability) (kept : Capability) → capability_view capability ≡ kept → IsWellFormed kept → IfSome capability.value (λ bytes. length bytes.now ≤ max_capability)
+lent_value_within capability kept same form =
+    lent_value capability.value (subst (λ (c : Capability). IfSome c.value (λ bytes. length bytes ≤ max_capability)) (sym same) (value_within kept form))
+
+-- ---- adding
+
+value_form : (value : Option (List ℕ)) → is_value_or_none value ≡ true → IfSome value (λ bytes. IsTrue (is_value bytes))
+value_form None h = tt
+value_form (Some value) h = h
+
+pub capability_form : (capability : Capability) → is_capability capability ≡ true → IsWellFormed capability
+capability_form capability h =
+    let parts = and_parts (is_key capability.key) (is_value_or_none capability.value) h in
+    record { key = parts.0; value = value_form capability.value parts.1 }
+
+one_is : {X : Type 0} (P : X → Type 0) (x : X) → P x → All P (x ∷ [])
+one_is P x h zero d within = h
+one_is P x h (suc k) d within = absurd (omega (arith, within))
+
+pub AreCapabilities-push : (capabilities : List Capability) (capability : Capability) → AreCapabilities capabilities → IsWellFormed capability → length capabilities < max_capabilities
+    → AreCapabilities (capabilities ++ capability ∷ [])
+AreCapabilities-push capabilities capability are form room = record {
+  each = All-append IsWellFormed capabilities (capability ∷ []) are.each (one_is IsWellFormed capability form);
+  few = rw (length_push capabilities capability) (omega (arith, room));
+}
+
+of_test : (b : Bool) (found capability : Capability) → is_capability found ≡ b → (if b then Some found else None) ≡ Some capability → is_capability capability ≡ true
+of_test true found capability is e = let same : found ≡ capability = cc in ap is_capability (sym same) ∙ is
+of_test false found capability is e = absurd (let no : None ≡ Some capability = e in cc)
+
+key_alone_form : (b : Bool) (key : List ℕ) (capability : Capability) → is_key key ≡ b → (if b then Some (record { key = key; value = None }) else None) ≡ Some capability → is_capability capability ≡ true
+key_alone_form true key capability is e = let same : record { key = key; value = None } ≡ capability = cc in ap is_capability (sym same) ∙ rw is refl
+key_alone_form false key capability is e = absurd (let no : None ≡ Some capability = e in cc)
+
+split_form : (line : List ℕ) (place : Option ℕ) (capability : Capability) → capability_split line place ≡ Some capability → is_capability capability ≡ true
+split_form line None capability e = key_alone_form (is_key line) line capability refl e
+split_form line (Some at) capability e = of_test _ (record { key = take at line; value = Some (drop (at + 1) line) }) capability refl e
+
+-- a capability that is read has its form
+pub capability_of_form : (line : List ℕ) (capability : Capability) → capability_of line ≡ Some capability → is_capability capability ≡ true
+unfolding capability_of
+capability_of_form line capability e = split_form line _ capability e
+
+added : (form room : Bool) → form ≡ true → (if form then (if room then None else Some why.Limit) else Some why.BadText) ≡ None → if_room room ≡ Open
+added true true is e = refl
+added true false is e = absurd (let no : Some why.Limit ≡ None = e in cc)
+added false room is e = absurd cc
+
+not_added : (form room : Bool) (fault : MessageFault) → form ≡ true → fault ≡ building_fault (if form then (if room then None else Some why.Limit) else Some why.BadText)
+    → IsReason (if_room room) true fault.why
+not_added true true fault is e = subst (λ (f : MessageFault). IsReason Open true f.why) (sym e) (tt, refl)
+not_added true false fault is e = subst (λ (f : MessageFault). IsReason (Refused why.Limit) true f.why) (sym e) refl
+not_added false room fault is e = absurd cc
+
+pub capability_is_added : (line : List ℕ) (capability : Capability) (capabilities : List Capability) → capability_of line ≡ Some capability
+    → adding_fault capabilities capability ≡ None → judge_capability (length capabilities) (capability_of line) ≡ Open
+capability_is_added line capability capabilities is none =
+    ap (judge_capability (length capabilities)) is ∙ added (is_capability capability) (nat_lt (length capabilities) max_capabilities) (capability_of_form line capability is) none
+
+pub capability_is_not_added : (line : List ℕ) (capability : Capability) (capabilities : List Capability) (fault : MessageFault) → capability_of line ≡ Some capability
+    → fault ≡ building_fault (adding_fault capabilities capability) → IsReason (judge_capability (length capabilities) (capability_of line)) true fault.why
+capability_is_not_added line capability capabilities fault is e =
+    subst (λ (o : Option Capability). IsReason (judge_capability (length capabilities) o) true fault.why) (sym is)
+    (not_added (is_capability capability) (nat_lt (length capabilities) max_capabilities) fault (capability_of_form line capability is) e)
+
+-- the lines of the capabilities from a place on
+pub packets_from : (capabilities : List Capability) (at : ℕ) (found : Capability) → at < length capabilities → found ≡ get_or capabilities at found
+    → map capability_packet (drop at capabilities) ≡ capability_packet found ∷ [] ++ map capability_packet (drop (at + 1) capabilities)
+packets_from capabilities at found inside is =
+    ap (map capability_packet) (drop_more capabilities at found inside ∙ ap (λ (x : Capability). x ∷ drop (at + 1) capabilities) (sym is))
+
+-- ---- what is kept of the packets
+
+one_text : (found : Option Capability) → cons_option found [] ≡ capability_list found
+one_text None = refl
+one_text (Some capability) = refl
+
+text_and_more : (found : Option Capability) (texts : List (List ℕ)) (line : List ℕ) → filter_map capability_of (texts ++ line ∷ []) ≡ filter_map capability_of texts ++ capability_list (capability_of line)
+    → cons_option found (filter_map capability_of (texts ++ line ∷ [])) ≡ cons_option found (filter_map capability_of texts) ++ capability_list (capability_of line)
+text_and_more None texts line e = e
+text_and_more (Some capability) texts line e = ap (λ (xs : List Capability). capability ∷ xs) e
+
+pub filter_map-push : (texts : List (List ℕ)) (line : List ℕ) → filter_map capability_of (texts ++ line ∷ []) ≡ filter_map capability_of texts ++ capability_list (capability_of line)
+filter_map-push [] line = one_text (capability_of line)
+filter_map-push (first ∷ texts) line = text_and_more (capability_of first) texts line (filter_map-push texts line)
+
+none_yet : (texts : List (List ℕ)) → true ≡ (length texts == 0) → texts ≡ []
+none_yet [] e = refl
+none_yet (first ∷ texts) e = absurd (grind (arith, nat_tests))
+
+capabilities_in-push : (has : Bool) (texts : List (List ℕ)) (payload : List ℕ) → not has ≡ (length texts == 0)
+    → capabilities_in (texts ++ text payload ∷ []) ≡ capabilities_in texts ++ added_by has (Data payload)
+capabilities_in-push true [] payload e = absurd (let no : false ≡ true = e in cc)
+capabilities_in-push false [] payload e = refl
+capabilities_in-push true (first ∷ texts) payload e = filter_map-push texts (text payload)
+capabilities_in-push false (first ∷ texts) payload e = absurd (grind (arith, nat_tests))
+
+same_test : (has : Bool) (count : ℕ) → not has ≡ (count == 0) → (count == 0) ≡ (texts_at_least has == 0)
+same_test true count e = sym e
+same_test false count e = sym e
+
+same_brings : (has : Bool) (count : ℕ) → not has ≡ (count == 0) → nat_lt 0 count ≡ has
+same_brings true count e = grind (arith, nat_tests)
+same_brings false count e = grind (arith, nat_tests)
+
+-- the judge of the packets judges by what is kept of them
+pub judge_kept : (front : List Packet) (has : Bool) (capabilities : List Capability) (packet : Packet) → IsKept front has capabilities → judge front packet ≡ judge_after has capabilities packet
+unfolding judge_at
+judge_kept front has capabilities (Data payload) kept =
+    ap (λ (b : Bool). unless_error (peer_error payload) (if b then judge_version (text payload) else judge_capability (length (capabilities_of front)) (capability_of (text payload)))) (same_test has (length (texts_of front)) kept.begun)
+    ∙ ap (λ (xs : List Capability). unless_error (peer_error payload) (if texts_at_least has == 0 then judge_version (text payload) else judge_capability (length xs) (capability_of (text payload)))) (sym kept.listed)
+judge_kept front has capabilities Flush kept = ap (λ (b : Bool). if b then Refused why.UnexpectedFrame else Whole) (same_test has (length (texts_of front)) kept.begun)
+judge_kept front has capabilities Delim kept = refl
+judge_kept front has capabilities ResponseEnd kept = refl
+
+pub brings_kept : (front : List Packet) (has : Bool) (capabilities : List Capability) (packet : Packet) → IsKept front has capabilities → brings front packet ≡ brings_after has packet
+brings_kept front has capabilities (Data payload) kept = same_brings has (length (texts_of front)) kept.begun
+brings_kept front has capabilities Flush kept = refl
+brings_kept front has capabilities Delim kept = refl
+brings_kept front has capabilities ResponseEnd kept = refl
+
+pub IsKept-nil : IsKept [] false []
+IsKept-nil = record { begun = refl; listed = refl }
+
+pub IsKept-push : TextsOfMore → (front : List Packet) (has : Bool) (capabilities : List Capability) (packet : Packet) (new_has : Bool) (new_capabilities : List Capability)
+    → IsKept front has capabilities → (judge_after has capabilities packet ≡ Open) ⊎ (judge_after has capabilities packet ≡ Whole) → new_has ≡ true → new_capabilities ≡ capabilities ++ added_by has packet
+    → IsKept (front ++ packet ∷ []) new_has new_capabilities
+unfolding judge_at
+IsKept-push law front has capabilities (Data payload) new_has new_capabilities kept taken is_new adds =
+    let texts : texts_of (front ++ Data payload ∷ []) ≡ texts_of front ++ text payload ∷ [] = law front (Data payload ∷ []) in
+    record {
+      begun = rw (is_new, texts, length_push (texts_of front) (text payload)) (grind (arith, nat_tests));
+      listed = adds ∙ (ap (λ (xs : List Capability). xs ++ added_by has (Data payload)) kept.listed
+          ∙ (sym (capabilities_in-push has (texts_of front) payload kept.begun) ∙ ap capabilities_in (sym texts)));
+    }
+IsKept-push law front true capabilities Flush new_has new_capabilities kept taken is_new adds =
+    let texts : texts_of (front ++ Flush ∷ []) ≡ texts_of front = law front (Flush ∷ []) ∙ append-nil (texts_of front) in
+    record {
+      begun = rw (is_new, texts) kept.begun;
+      listed = adds ∙ (append-nil capabilities ∙ (kept.listed ∙ ap capabilities_in (sym texts)));
+    }
+IsKept-push law front false capabilities Flush new_has new_capabilities kept (inl e) is_new adds = absurd cc
+IsKept-push law front false capabilities Flush new_has new_capabilities kept (inr e) is_new adds = absurd cc
+IsKept-push law front has capabilities Delim new_has new_capabilities kept (inl e) is_new adds = absurd cc
+IsKept-push law front has capabilities Delim new_has new_capabilities kept (inr e) is_new adds = absurd cc
+IsKept-push law front has capabilities ResponseEnd new_has new_capabilities kept (inl e) is_new adds = absurd cc
+IsKept-push law front has capabilities ResponseEnd new_has new_capabilities kept (inr e) is_new adds = absurd cc
+
+-- ---- taking a packet
+
+pub error_is_taken : (has : Bool) (capabilities : List Capability) (payload said : List ℕ) (brought : Bool) → peer_error payload ≡ Some said
+    → IsReason (judge_after has capabilities (Data payload)) brought (why.RemoteErr (kept_text said))
+unfolding judge_at
+error_is_taken has capabilities payload said brought is =
+    ap (λ (o : Option (List ℕ)). unless_error o (judge_text (texts_at_least has) (length capabilities) (text payload))) is
+
+pub version_is_taken : (has new_has : Bool) (capabilities new_capabilities : List Capability) (payload line : List ℕ) (result : Result Step Why) → has ≡ false → peer_error payload ≡ None
+    → line ≡ text payload → TakesAs (judge_version line) false ((new_has ≡ true) × (new_capabilities ≡ capabilities)) result
+    → TakesAs (judge_after has capabilities (Data payload)) has ((new_has ≡ true) × (new_capabilities ≡ capabilities ++ added_by has (Data payload))) result
+unfolding judge_at
+version_is_taken true new_has capabilities new_capabilities payload line result is none same h = absurd cc
+version_is_taken false new_has capabilities new_capabilities payload line result is none same h =
+    rw (none, append-nil capabilities) (subst (λ (l : List ℕ). TakesAs (judge_version l) false ((new_has ≡ true) × (new_capabilities ≡ capabilities)) result) same h)
+
+pub capability_is_taken : (has new_has : Bool) (capabilities new_capabilities : List Capability) (payload line : List ℕ) (result : Result Step Why) → has ≡ true → peer_error payload ≡ None
+    → line ≡ text payload → TakesAs (judge_capability (length capabilities) (capability_of line)) true ((new_has ≡ has) × (new_capabilities ≡ capabilities ++ capability_list (capability_of line))) result
+    → TakesAs (judge_after has capabilities (Data payload)) has ((new_has ≡ true) × (new_capabilities ≡ capabilities ++ added_by has (Data payload))) result
+unfolding judge_at
+capability_is_taken false new_has capabilities new_capabilities payload line result is none same h = absurd cc
+capability_is_taken true new_has capabilities new_capabilities payload line result is none same h =
+    rw none (subst (λ (l : List ℕ). TakesAs (judge_capability (length capabilities) (capability_of l)) true ((new_has ≡ true) × (new_capabilities ≡ capabilities ++ capability_list (capability_of l))) result) same h)
+
+module _ {M : Type 0} (has : M → Bool) (kept : M → List Capability) where
+  pub advert_takes : TextsOfMore → (front : List Packet) (packet : Packet) (old new : M) (result : Result Step Why) → IsKept front (has old) (kept old)
+      → TakesAs (judge_after (has old) (kept old) packet) (brings_after (has old) packet) ((has new ≡ true) × (kept new ≡ kept old ++ added_by (has old) packet)) result
+      → TakesPacket judge brings (λ reader packets. IsKept packets (has reader) (kept reader)) (λ reader packets. ⊤) front packet new result
+  advert_takes law front packet old new (Ok step.Open) held h =
+      (judge_kept front (has old) (kept old) packet held ∙ h.0, IsKept-push law front (has old) (kept old) packet (has new) (kept new) held (inl h.0) h.1.0 h.1.1)
+  advert_takes law front packet old new (Ok step.Whole) held h =
+      (judge_kept front (has old) (kept old) packet held ∙ h.0, IsKept-push law front (has old) (kept old) packet (has new) (kept new) held (inr h.0) h.1.0 h.1.1)
+  advert_takes law front packet old new (Err why) held h =
+      (rw (judge_kept front (has old) (kept old) packet held, brings_kept front (has old) (kept old) packet held) h, tt)
+
+  pub advert_is_read : (bytes : Change) (message : M) → HasTaken judge brings (λ reader packets. IsKept packets (has reader) (kept reader)) (λ reader packets. ⊤) bytes message
+      → ReadsMessage judge brings Says bytes (Ok (kept message))
+  advert_is_read bytes message taken = (taken.lines, taken.read, record { whole = taken.read.whole; says = taken.held.listed })

@@ -1,0 +1,100 @@
+-- The first line of a `git://` connection (gitprotocol-pack(5), "Git Transport"):
+--
+--   git-proto-request = request-command SP pathname NUL [host-parameter NUL] [NUL extra-parameters]
+--   request-command = "git-upload-pack"
+--   host-parameter = "host=" hostname
+--   extra-parameters = "version=2" NUL
+--
+-- The host and the version are demanded here, and there is no other parameter.
+use Rattle.std.specs.Prelude.{◌≡◌, ℕ, Bool, false, ◌&&◌, IsTrue, List, [], ◌∷◌, ◌++◌, length, codes, nat_eq, nat_le}
+use Rattle.std.specs.Prelude.{if◌then◌else◌, Option, Some, None, is_some}
+use Rattle.std.specs.List.{list_all, slice_split, starts_with}
+use Rattle.std.specs.Str.{bytes_eq}
+use Rattle.gpkt.specs.Packets.{Packet, Data, Flush, Delim, ResponseEnd}
+use Rattle.ggrammar.specs.Grammar.{Verdict, Whole, Refused}
+use Rattle.ggrammar.specs.Capabilities.{is_graphic, is_printable}
+use Rattle.ggrammar.specs.PeerErrors.{after_word}
+use Rattle.ggrammar.specs.declared.fault.Why.{Why}
+use Rattle.ggrammar.specs.declared.fault.Why.TheVariants.{UnexpectedFrame, BadText}
+
+-- the most bytes of a path, and of a host
+abbrev pub max_path : ℕ
+max_path = 1000
+
+abbrev pub max_host : ℕ
+max_host = 255
+
+-- a path begins with a slash and has printable bytes
+unfoldable pub is_path : List ℕ → Bool
+is_path path =
+    starts_with nat_eq path (codes "/") && nat_le (length path) max_path && list_all is_printable path
+
+-- a host has graphic bytes, one at least
+unfoldable pub is_host : List ℕ → Bool
+is_host host = nat_le 1 (length host) && nat_le (length host) max_host && list_all is_graphic host
+
+pub record Hello : Type 0 where
+  pub path : List ℕ
+  pub host : List ℕ
+
+pub record IsHello (hello : Hello) : Type 0 where
+  pub path : IsTrue (is_path hello.path)
+  pub host : IsTrue (is_host hello.host)
+
+-- why there is no such hello, if there is a reason
+abbrev pub hello_fault : Hello → Option Why
+hello_fault hello = if is_path hello.path && is_host hello.host then None else Some BadText
+
+-- ---- what is written
+
+-- the payload of the line: no line feed is left out of it
+abbrev pub hello_payload : Hello → List ℕ
+hello_payload hello =
+    codes "git-upload-pack " ++ hello.path ++ 0 ∷ codes "host=" ++ hello.host ++ 0 ∷ 0 ∷ codes "version=2" ++ 0 ∷ []
+
+unfoldable pub canonical_hello : Hello → List Packet
+canonical_hello hello = Data (hello_payload hello) ∷ []
+
+-- the packets say this: they are written so, and in no other way
+pub record Says (packets : List Packet) (hello : Hello) : Type 0 where
+  pub form : IsHello hello
+  pub line : packets ≡ canonical_hello hello
+
+-- ---- the table
+
+abbrev pub is_nul : ℕ → Bool
+is_nul byte = nat_eq byte 0
+
+abbrev pub hello_with : Option (List ℕ) → Option (List ℕ) → Option Hello
+hello_with (Some path) (Some host) =
+    if is_path path && is_host host then Some (record { path = path; host = host }) else None
+hello_with (Some path) None = None
+hello_with None host = None
+
+-- the command with its path, the host, and the version after an empty part; the last NUL ends the payload
+abbrev pub hello_of_parts : List (List ℕ) → Option Hello
+hello_of_parts (command ∷ host ∷ [] ∷ version ∷ [] ∷ []) =
+    if bytes_eq version (codes "version=2")
+    then hello_with (after_word (codes "git-upload-pack ") command) (after_word (codes "host=") host)
+    else None
+hello_of_parts parts = None
+
+-- what a payload says, by its parts between NULs
+unfoldable pub hello_of : List ℕ → Option Hello
+hello_of payload = hello_of_parts (slice_split is_nul payload)
+
+abbrev pub judge_payload : Option Hello → Verdict
+judge_payload (Some hello) = Whole
+judge_payload None = Refused BadText
+
+-- one line is the whole message; that it reports an error is no reason of its own
+abbrev pub judge : List Packet → Packet → Verdict
+judge packets (Data payload) = judge_payload (hello_of payload)
+judge packets Flush = Refused UnexpectedFrame
+judge packets Delim = Refused UnexpectedFrame
+judge packets ResponseEnd = Refused UnexpectedFrame
+
+-- the path and the host are kept
+abbrev pub brings : List Packet → Packet → Bool
+brings packets (Data payload) = is_some (hello_of payload)
+brings packets _ = false

@@ -1,0 +1,9 @@
+pub mod Hello
+pub mod Adverts
+pub mod Building
+pub mod Reading
+pub mod HelloReading
+pub mod AdvertReading
+pub mod Laws
+pub use Rattle.ggrammar.specs.Grammar
+pub use Rattle.ggrammar.specs.MessageReading

@@ -1,0 +1,467 @@
+//! The capability advertisement (gitprotocol-v2(5), "Capability Advertisement").
+
+ghost use Rattle.std.specs.Prelude.{All, map, ◌≡◌, ◌<◌, ◌≤◌, ◌↔◌, ◌++◌, ◌∷◌, [], IsTrue, IfErr, IfSome, OnOk, OnErr, IfOk, MatchResult, None, Some, true, false, length, slice_get, codes, ⊤};
+ghost use Rattle.std.specs.List.{list_any};
+ghost use Rattle.std.specs.Option.{option_copied, option_map};
+ghost use Rattle.gname.specs.declared.formats.Format.TheVariants.{Sha1};
+ghost use Rattle.gpkt.specs.Packets.{Data, Flush, packet_of, text};
+ghost use Rattle.gpkt.specs.Change.{change_of};
+ghost use Rattle.ggrammar.specs.Capabilities.{IsWellFormed, capability_of, max_capability};
+ghost use Rattle.ggrammar.specs.CapabilityView.{capability_view};
+ghost use Rattle.ggrammar.specs.MessageReading.{IsFailedBy, IsReadFailure};
+ghost use Rattle.ggrammar.specs.Texts.{text_packet};
+ghost use Rattle.ggrammar.specs.Writing.{WritesLines, WritesPart};
+ghost use Rattle.ghello.specs.Building.{building_fault};
+ghost use Rattle.ghello.specs.Reading.{ReadsMessage, TakesAs};
+ghost use Rattle.ghello.specs.Adverts.{AreCapabilities, Says, adding_fault, brings, canonical_advert, capability_packet, capability_text, version, check_fault, first_with, has_key, is_capability, is_value_or_none, judge, judge_version, judge_capability, max_capabilities, named_format, names_format};
+ghost use Rattle.ghello.specs.AdvertReading.{IsKept, added_by, brings_after, judge_after, capability_list};
+
+use crate::building::refused;
+use crate::compose::add;
+use arrayvec::ArrayVec;
+use ggrammar::laws::{grammars_are_exact, texts_are_read, writes_lines};
+use ggrammar::{
+    Capability, Message, MessageFault, PeerText, Step, Why, capability_of, is_key, is_value,
+    peer_error, read_message,
+};
+use gname::Format;
+use gpkt::{Line, LineReader, LineWriter, Sink, Source, WriteFault, text_of};
+use std::alloc::{AllocError, Allocator};
+use std::marker::Model;
+
+/// The most capabilities of an advertisement.
+pub const MAX_CAPABILITIES: usize = 64;
+
+// The text of the first line.
+const VERSION: &[u8] = b"version 2";
+
+// The most bytes of a capability's text: a key, an equals sign and a value.
+const MAX_TEXT: usize = 2_001;
+
+// What a client of this protocol needs of a server: it lists refs, and fetches.
+const LS_REFS: &[u8] = b"ls-refs";
+
+const FETCH: &[u8] = b"fetch";
+
+// The capability that names the hash of the ids.
+const OBJECT_FORMAT: &[u8] = b"object-format";
+
+// A capability that is kept.
+#[derive(Debug, Drop)]
+struct OwnedCapability<A: Allocator + Copy> {
+    key: Vec<u8, A>,
+    value: Option<Vec<u8, A>>,
+}
+
+impl<A: Allocator + Copy> Model for OwnedCapability<A> {
+    ghost use Rattle.std.specs.Option.{option_map};
+    ghost use Rattle.ggrammar.specs.Capabilities.{Capability};
+
+    ghost Value = { Capability };
+
+    ghost view = { λ kept. record {
+      key = kept.key.items;
+      value = option_map (λ value. value.items) kept.value;
+    } };
+}
+
+impl<A: Allocator + Copy> OwnedCapability<A> {
+    fn new(alloc: A, capability: Capability<'_>) -> Result<OwnedCapability<A>, AllocError>
+        ensures { IfOk result (λ kept. kept ≡ capability_view capability.entry) }
+    {
+        let key = Vec::from_slice(alloc, capability.key)?;
+        let value = match capability.value {
+            Some(value) => Some(Vec::from_slice(alloc, value)?),
+            None => None,
+        };
+        Ok(OwnedCapability { key, value })
+    }
+
+    fn as_capability(&self) -> Capability<'_>
+        ensures { capability_view result ≡ self.now }
+    {
+        Capability {
+            key: self.key.as_slice(),
+            value: self.value.as_ref().map(|value| value.as_slice()),
+        }
+    }
+
+    // Writes the line of the capability.
+    fn write<W: Sink>(&self, writer: &mut LineWriter<W>) -> Result<(), WriteFault>
+        requires { IsWellFormed self.now }
+        ensures { WritesLines W.contents W.passed_on W.is_down W.loans writer.old writer.new result (capability_packet self.now ∷ []) }
+    {
+        writes_lines::<W>();
+        let mut text = ArrayVec::new();
+        compose(self.as_capability(), &mut text);
+        writer.text(text.as_slice())
+    }
+
+    fn has_key(&self, key: &[u8]) -> bool
+        ensures { result ≡ has_key key.now self.now }
+    {
+        self.key.as_slice() == key
+    }
+}
+
+/// What a server advertises: its capabilities in order, at most 64.
+#[derive(Debug, Drop)]
+pub struct Advert<A: Allocator + Copy> {
+    alloc: A,
+    capabilities: Vec<OwnedCapability<A>, A>,
+}
+
+impl<A: Allocator + Copy> Model for Advert<A> {
+    ghost use Rattle.std.specs.Prelude.{List};
+    ghost use Rattle.ggrammar.specs.Capabilities.{Capability};
+    ghost use Rattle.ghello.specs.Adverts.{AreCapabilities};
+
+    ghost Value = { List Capability };
+
+    ghost view = { λ advert. advert.capabilities.items };
+
+    ghost invariant = { λ advert. AreCapabilities advert.capabilities.items };
+}
+
+impl<A: Allocator + Copy> Advert<A> {
+    /// An advertisement without capabilities. It takes no memory.
+    pub fn new(alloc: A) -> Advert<A>
+        ensures { result ≡ [] }
+    {
+        Advert {
+            alloc,
+            capabilities: Vec::new(alloc),
+        }
+    }
+
+    /// Adds a capability after the others.
+    ///
+    /// It fails with `BadText` where the key is not 1 to 1,000 letters, digits, `-` and `_`, or the value
+    /// not 1 to 1,000 bytes from space to `~`; else with `Limit` where there are 64 capabilities; else with
+    /// `Memory` only where the capability could not be kept. The fault's packet is 0, and the
+    /// advertisement is then as before.
+    pub fn push(&mut self, capability: Capability<'_>) -> Result<(), MessageFault>
+        ensures pushed { MatchResult result
+            (λ _. (self.new ≡ self.old ++ capability_view capability.entry ∷ []) × (adding_fault self.old (capability_view capability.entry) ≡ None))
+            (λ fault. fault ≡ building_fault (adding_fault self.old (capability_view capability.entry))) }
+        ensures refused { OnErr result (self.new ≡ self.old) }
+    {
+        if !is_capability(capability) {
+            return Err(refused(Why::BadText));
+        }
+        if self.capabilities.len() >= MAX_CAPABILITIES {
+            return Err(refused(Why::Limit));
+        }
+        match self.add(capability) {
+            Ok(()) => Ok(()),
+            Err(_) => Err(refused(Why::Memory)),
+        }
+    }
+
+    // Adds a capability for which there is room.
+    fn add(&mut self, capability: Capability<'_>) -> Result<(), AllocError>
+        requires form { IsWellFormed (capability_view capability) }
+        requires room { length self.old < max_capabilities }
+        ensures ok { OnOk result (self.new ≡ self.old ++ capability_view capability.entry ∷ []) }
+        ensures err { OnErr result (self.new ≡ self.old) }
+    {
+        let capability = OwnedCapability::new(self.alloc, capability)?;
+        self.capabilities.push(capability)?;
+        Ok(())
+    }
+
+    /// How many capabilities there are, at most 64.
+    pub fn len(&self) -> usize
+        ensures count { result ≡ length self.now }
+        ensures form { AreCapabilities self.now }
+    {
+        self.capabilities.len()
+    }
+
+    /// Whether there is no capability.
+    pub fn is_empty(&self) -> bool
+        ensures { IsTrue result ↔ (self.now ≡ []) }
+    {
+        self.capabilities.is_empty()
+    }
+
+    /// The capability at a place of their order, which counts from 0.
+    pub fn at(&self, place: usize) -> Option<Capability<'_>>
+        ensures capability { option_map capability_view result ≡ slice_get self.now place }
+        ensures form { AreCapabilities self.now }
+    {
+        let kept = self.capabilities.get(place)?;
+        Some(kept.as_capability())
+    }
+
+    /// The first capability with a key.
+    pub fn value_of(&self, key: &[u8]) -> Option<Capability<'_>>
+        ensures { option_map capability_view result ≡ first_with key.now self.now }
+    {
+        first_with(key, self.capabilities.as_slice()).map(|kept| kept.as_capability())
+    }
+
+    /// Whether a client of SHA-1 ids can go on with the server, as [`check_in`](Self::check_in) says.
+    pub fn check(&self) -> Result<(), MessageFault>
+        ensures { MatchResult result (λ _. check_fault Sha1 self.now ≡ None)
+            (λ fault. (check_fault Sha1 self.now ≡ Some fault.why) × (fault.frame ≡ 0)) }
+    {
+        self.check_in(Format::Sha1)
+    }
+
+    /// Whether a client of ids in a format can go on with the server.
+    ///
+    /// It fails with `UnknownCommand` where `ls-refs` or `fetch` is no key of a capability, else with `Format`
+    /// where the first `object-format` names another format or none, or where there is no `object-format` and
+    /// the format is not SHA-1. The fault's packet is 0.
+    pub fn check_in(&self, format: Format) -> Result<(), MessageFault>
+        ensures { MatchResult result (λ _. check_fault format self.now ≡ None)
+            (λ fault. (check_fault format self.now ≡ Some fault.why) × (fault.frame ≡ 0)) }
+    {
+        if !self.has_key(LS_REFS) || !self.has_key(FETCH) {
+            return Err(refused(Why::UnknownCommand));
+        }
+        if !self.names_format(format) {
+            return Err(refused(Why::Format));
+        }
+        Ok(())
+    }
+
+    fn has_key(&self, key: &[u8]) -> bool
+        ensures { result ≡ list_any (has_key key.now) self.now }
+    {
+        self.capabilities.iter().any(|kept| kept.has_key(key))
+    }
+
+    // An advertisement that names no format is for SHA-1.
+    fn names_format(&self, format: Format) -> bool
+        ensures { result ≡ names_format format (named_format (first_with (codes "object-format") self.now)) }
+    {
+        let name = match self.value_of(OBJECT_FORMAT) {
+            Some(capability) => capability.value,
+            None => Some(Format::Sha1.name().as_bytes()),
+        };
+        match name {
+            Some(name) => name == format.name().as_bytes(),
+            None => false,
+        }
+    }
+}
+
+// Puts the text of a capability together.
+fn compose(capability: Capability<'_>, text: &mut ArrayVec<u8, MAX_TEXT>)
+    requires key { length capability.key.now ≤ max_capability }
+    requires value { IfSome capability.value (λ value. length value.now ≤ max_capability) }
+    requires empty { text.old.items ≡ [] }
+    ensures text { text.new.items ≡ capability_text (capability_view capability.entry) }
+    ensures short { length text.new.items ≤ MAX_TEXT }
+{
+    add(capability.key, text);
+    if let Some(value) = capability.value {
+        add(b"=", text);
+        add(value, text);
+    }
+}
+
+// The first capability with a key.
+fn first_with<'a, A: Allocator + Copy>(
+    key: &[u8],
+    capabilities: &'a [OwnedCapability<A>],
+) -> Option<&'a OwnedCapability<A>>
+    ensures { option_copied result ≡ first_with key.now capabilities.now }
+{
+    for kept in capabilities {
+        if kept.has_key(key) {
+            return Some(kept);
+        }
+    }
+    None
+}
+
+// Whether the key and the value have their forms.
+fn is_capability(capability: Capability<'_>) -> bool
+    ensures { result ≡ is_capability (capability_view capability.entry) }
+{
+    is_key(capability.key) && is_value_or_none(capability.value)
+}
+
+fn is_value_or_none(value: Option<&[u8]>) -> bool
+    ensures { result ≡ is_value_or_none (option_copied value.entry) }
+{
+    match value {
+        Some(value) => is_value(value),
+        None => true,
+    }
+}
+
+/// Reads an advertisement to its flush, and nothing after it.
+///
+/// The fault has the packet's place, from 0. What the line reader refuses comes first, then the end of the
+/// input, then an error that the peer reports. Then it is `UnexpectedFrame` for a delimiter, a response-end,
+/// or a flush in the first place; `BadText` for a first text that is not `version 2`, and for a later one
+/// that is no capability; `Limit` for a 65th capability; and `Memory` only where a capability could not be
+/// kept. After a refusal the line reader has failed exactly where the line itself was refused.
+pub fn read_advert<S: Source, A: Allocator + Copy, B: Allocator + Copy>(
+    alloc: A,
+    reader: &mut LineReader<S, B>,
+) -> Result<Advert<A>, MessageFault>
+    ensures read { ReadsMessage judge brings Says (change_of S.remaining reader.old.source reader.new.source) result }
+    ensures loans { S.loans reader.new.source ≡ S.loans reader.old.source }
+    ensures device { IfErr result (λ fault. IsReadFailure reader.old.failed (S.is_down reader.new.source) fault.why) }
+    ensures failed { IfErr result (λ fault. IsFailedBy fault.why reader.new.failed) }
+    ensures goes_on { OnOk result (reader.new.failed ≡ false) }
+    ensures well { OnOk result ((reader.old.failed ≡ false) × (S.is_down reader.new.source ≡ false)) }
+    ensures at_once { reader.old.failed ≡ true → IfErr result (λ fault. fault.frame ≡ 0) }
+{
+    let mut message = AdvertReader::new(alloc);
+    read_message(reader, &mut message)?;
+    let AdvertReader { advert, .. } = message;
+    Ok(advert)
+}
+
+/// Writes an advertisement: the version, the capabilities in order, and a flush. It takes no memory.
+///
+/// It fails with `Io` where the sink fails, and then a beginning of the advertisement stands written; with
+/// `Failed` where the writer had failed before.
+pub fn write_advert<A: Allocator + Copy, W: Sink>(
+    advert: &Advert<A>,
+    writer: &mut LineWriter<W>,
+) -> Result<(), WriteFault>
+    ensures { WritesLines W.contents W.passed_on W.is_down W.loans writer.old writer.new result (canonical_advert advert.now) }
+{
+    writes_lines::<W>();
+    write_version(writer)?;
+    write_capabilities(advert.capabilities.as_slice(), writer)?;
+    write_flush(writer)
+}
+
+fn write_version<W: Sink>(writer: &mut LineWriter<W>) -> Result<(), WriteFault>
+    ensures { WritesLines W.contents W.passed_on W.is_down W.loans writer.old writer.new result (text_packet version ∷ []) }
+{
+    writes_lines::<W>();
+    writer.text(VERSION)
+}
+
+fn write_flush<W: Sink>(writer: &mut LineWriter<W>) -> Result<(), WriteFault>
+    ensures { WritesLines W.contents W.passed_on W.is_down W.loans writer.old writer.new result (Flush ∷ []) }
+{
+    writes_lines::<W>();
+    writer.flush_pkt()
+}
+
+fn write_capabilities<A: Allocator + Copy, W: Sink>(
+    capabilities: &[OwnedCapability<A>],
+    writer: &mut LineWriter<W>,
+) -> Result<(), WriteFault>
+    requires { All IsWellFormed capabilities.now }
+    ensures { WritesPart W.contents W.passed_on W.is_down W.loans writer.old writer.new result (map capability_packet capabilities.now) }
+{
+    writes_lines::<W>();
+    for kept in capabilities {
+        kept.write(writer)?;
+    }
+    Ok(())
+}
+
+// An advertisement that is being read.
+#[derive(Drop)]
+struct AdvertReader<A: Allocator + Copy> {
+    has_version: bool,
+    advert: Advert<A>,
+}
+
+impl<A: Allocator + Copy> AdvertReader<A> {
+    fn new(alloc: A) -> AdvertReader<A>
+        ensures { IsKept [] result.has_version result.advert }
+    {
+        AdvertReader {
+            has_version: false,
+            advert: Advert::new(alloc),
+        }
+    }
+
+    #[tactic(auto, unfolding(crate::specs::Adverts::judge_at))]
+    fn take_packet(&mut self, line: Line<'_>) -> Result<Step, Why>
+        ensures { TakesAs (judge_after self.old.has_version self.old.advert (packet_of line.entry))
+            (brings_after self.old.has_version (packet_of line.entry))
+            ((self.new.has_version ≡ true) × (self.new.advert ≡ self.old.advert ++ added_by self.old.has_version (packet_of line.entry)))
+            result }
+    {
+        match line {
+            Line::Data(payload) => self.take_payload(payload),
+            Line::Flush => self.take_flush(),
+            Line::Delim | Line::ResponseEnd => Err(Why::UnexpectedFrame),
+        }
+    }
+
+    #[tactic(auto, unfolding(crate::specs::Adverts::judge_at))]
+    fn take_flush(&self) -> Result<Step, Why>
+        ensures { TakesAs (judge_after self.now.has_version self.now.advert Flush) false (self.now.has_version ≡ true) result }
+    {
+        if self.has_version {
+            Ok(Step::Whole)
+        } else {
+            Err(Why::UnexpectedFrame)
+        }
+    }
+
+    fn take_payload(&mut self, payload: &[u8]) -> Result<Step, Why>
+        ensures { TakesAs (judge_after self.old.has_version self.old.advert (Data payload.now))
+            self.old.has_version
+            ((self.new.has_version ≡ true) × (self.new.advert ≡ self.old.advert ++ added_by self.old.has_version (Data payload.now)))
+            result }
+    {
+        if let Some(said) = peer_error(payload) {
+            return Err(Why::RemoteErr(PeerText::new(said)));
+        }
+        let text = text_of(payload);
+        if self.has_version {
+            self.take_capability(text)
+        } else {
+            self.take_version(text)
+        }
+    }
+
+    fn take_version(&mut self, text: &[u8]) -> Result<Step, Why>
+        ensures { TakesAs (judge_version text.now) false ((self.new.has_version ≡ true) × (self.new.advert ≡ self.old.advert)) result }
+    {
+        if text != VERSION {
+            return Err(Why::BadText);
+        }
+        self.has_version = true;
+        Ok(Step::Open)
+    }
+
+    fn take_capability(&mut self, text: &[u8]) -> Result<Step, Why>
+        ensures { TakesAs (judge_capability (length self.old.advert) (capability_of text.now)) true
+            ((self.new.has_version ≡ self.old.has_version) × (self.new.advert ≡ self.old.advert ++ capability_list (capability_of text.now)))
+            result }
+    {
+        let Some(capability) = capability_of(text) else {
+            return Err(Why::BadText);
+        };
+        match self.advert.push(capability) {
+            Ok(()) => Ok(Step::Open),
+            Err(fault) => Err(fault.why),
+        }
+    }
+}
+
+impl<A: Allocator + Copy> Message for AdvertReader<A> {
+    ghost judge = { λ _. judge };
+
+    ghost brings = { λ _. brings };
+
+    ghost holds = { λ reader packets. IsKept packets reader.has_version reader.advert };
+
+    ghost left = { λ reader packets. ⊤ };
+
+    fn take(&mut self, line: Line<'_>) -> Result<Step, Why> {
+        texts_are_read();
+        self.take_packet(line)
+    }
+
+    fn laws() {
+        grammars_are_exact();
+    }
+}

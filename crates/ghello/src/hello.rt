@@ -1,0 +1,318 @@
+//! The first line of a `git://` connection (gitprotocol-pack(5), "Git Transport").
+
+ghost use Rattle.std.specs.Prelude.{◌≡◌, ◌<◌, ◌≤◌, ◌∷◌, [], IfOk, IfErr, IfSome, OnOk, MatchResult, false, length, position, is_some, ⊤};
+ghost use Rattle.std.specs.List.{list_all, slice_split};
+ghost use Rattle.std.specs.Option.{option_copied, option_map, option_map_or};
+ghost use Rattle.gpkt.specs.Packets.{max_payload, packet_of};
+ghost use Rattle.gpkt.specs.Change.{change_of};
+ghost use Rattle.ggrammar.specs.Capabilities.{is_graphic, is_printable};
+ghost use Rattle.ggrammar.specs.MessageReading.{IsFailedBy, IsReadFailure};
+ghost use Rattle.ggrammar.specs.Writing.{WritesLines};
+ghost use Rattle.ghello.specs.Building.{building_fault};
+ghost use Rattle.ghello.specs.Reading.{ReadsMessage, TakesAs};
+ghost use Rattle.ghello.specs.Hello.{IsHello, Says, brings, canonical_hello, hello_fault, hello_payload, hello_of, hello_of_parts, hello_with, is_host, is_nul, is_path, judge, judge_payload, max_host, max_path};
+ghost use Rattle.ghello.specs.HelloReading.{hello_in, hello_view};
+
+use crate::building::refused;
+use crate::compose::add;
+use arrayvec::ArrayVec;
+use ggrammar::laws::{grammars_are_exact, writes_lines};
+use ggrammar::{Message, MessageFault, Step, Why, after_word, read_message};
+use gpkt::{Line, LineReader, LineWriter, Sink, Source, WriteFault};
+use std::alloc::{AllocError, Allocator};
+use std::marker::Model;
+
+/// The most bytes of a path.
+pub const MAX_PATH: usize = 1_000;
+
+/// The most bytes of a host.
+pub const MAX_HOST: usize = 255;
+
+// What stands before the path, before the host, and after them.
+const COMMAND: &[u8] = b"git-upload-pack ";
+
+const HOST: &[u8] = b"host=";
+
+const VERSION: &[u8] = b"version=2";
+
+// The most bytes of the line: its words, a path, a host, and the NULs.
+const MAX_LINE: usize = 1_289;
+
+/// The first line of a client on a `git://` connection: which repository it asks for, and of which host.
+#[derive(Debug, Drop)]
+pub struct Hello<A: Allocator + Copy> {
+    path: Vec<u8, A>,
+    host: Vec<u8, A>,
+}
+
+impl<A: Allocator + Copy> Model for Hello<A> {
+    ghost use Rattle.ghello.specs.Hello.{Hello, IsHello};
+
+    ghost Value = { Hello };
+
+    ghost view = { λ hello. record { path = hello.path.items; host = hello.host.items } };
+
+    ghost invariant = { λ hello. IsHello (record { path = hello.path.items; host = hello.host.items }) };
+}
+
+impl<A: Allocator + Copy> Hello<A> {
+    /// A hello for a path and a host. The path begins with a slash and has at most 1,000 bytes, from
+    /// space to `~`; the host has 1 to 255 bytes, from `!` to `~`.
+    ///
+    /// It fails with `BadText` where one of them is not so, and else with `Memory` only where it could
+    /// not be kept. The fault's packet is 0.
+    pub fn new(alloc: A, path: &[u8], host: &[u8]) -> Result<Hello<A>, MessageFault>
+        ensures { MatchResult result
+            (λ hello. (hello ≡ record { path = path.now; host = host.now }) × IsHello hello)
+            (λ fault. fault ≡ building_fault (hello_fault (record { path = path.now; host = host.now }))) }
+    {
+        if !is_path(path) || !is_host(host) {
+            return Err(refused(Why::BadText));
+        }
+        match Hello::keep(alloc, path, host) {
+            Ok(hello) => Ok(hello),
+            Err(_) => Err(refused(Why::Memory)),
+        }
+    }
+
+    // Keeps a path and a host.
+    fn keep(alloc: A, path: &[u8], host: &[u8]) -> Result<Hello<A>, AllocError>
+        requires { IsHello (record { path = path.now; host = host.now }) }
+        ensures { IfOk result (λ hello. hello ≡ record { path = path.now; host = host.now }) }
+    {
+        let path = Vec::from_slice(alloc, path)?;
+        let host = Vec::from_slice(alloc, host)?;
+        Ok(Hello { path, host })
+    }
+
+    /// The path of the repository, with its slash: at most 1,000 bytes.
+    #[tactic(auto, using(crate::proofs::HelloLemmas::path_within))]
+    pub fn path(&self) -> &[u8]
+        ensures path { result.now ≡ self.now.path }
+        ensures form { IsHello self.now }
+        ensures within { length self.now.path ≤ max_path }
+    {
+        self.path.as_slice()
+    }
+
+    /// The host that the client means: 1 to 255 bytes.
+    #[tactic(auto, using(crate::proofs::HelloLemmas::host_within))]
+    pub fn host(&self) -> &[u8]
+        ensures host { result.now ≡ self.now.host }
+        ensures form { IsHello self.now }
+        ensures within { length self.now.host ≤ max_host }
+    {
+        self.host.as_slice()
+    }
+}
+
+/// Whether the bytes are a path: a slash first, at most 1,000 bytes, from space to `~`.
+#[tactic(auto, unfolding(crate::specs::Hello::is_path))]
+pub fn is_path(path: &[u8]) -> bool
+    ensures { result ≡ is_path path.now }
+{
+    path.starts_with(b"/") && path.len() <= MAX_PATH && are_printable(path)
+}
+
+/// Whether the bytes are a host: 1 to 255 bytes from `!` to `~`.
+#[tactic(auto, unfolding(crate::specs::Hello::is_host))]
+pub fn is_host(host: &[u8]) -> bool
+    ensures { result ≡ is_host host.now }
+{
+    1 <= host.len() && host.len() <= MAX_HOST && are_graphic(host)
+}
+
+fn is_printable(byte: u8) -> bool
+    ensures { result ≡ is_printable byte }
+{
+    b' ' <= byte && byte <= b'~'
+}
+
+fn are_printable(bytes: &[u8]) -> bool
+    ensures { result ≡ list_all is_printable bytes.now }
+{
+    bytes.iter().all(|byte| is_printable(*byte))
+}
+
+fn are_graphic(bytes: &[u8]) -> bool
+    ensures { result ≡ list_all is_graphic bytes.now }
+{
+    bytes.iter().all(|byte| byte.is_ascii_graphic())
+}
+
+/// Reads the first line of a connection, and nothing after it.
+///
+/// The fault has the packet's place, which is 0. What the line reader refuses comes first, then the end of
+/// the input, then `UnexpectedFrame` for another kind of packet and `BadText` for a line of another form, one
+/// that reports an error too; `Memory` comes only where a hello could not be kept. After a refusal the line
+/// reader has failed exactly where the line itself was refused.
+pub fn read_hello<S: Source, A: Allocator + Copy, B: Allocator + Copy>(
+    alloc: A,
+    reader: &mut LineReader<S, B>,
+) -> Result<Hello<A>, MessageFault>
+    ensures read { ReadsMessage judge brings Says (change_of S.remaining reader.old.source reader.new.source) result }
+    ensures loans { S.loans reader.new.source ≡ S.loans reader.old.source }
+    ensures device { IfErr result (λ fault. IsReadFailure reader.old.failed (S.is_down reader.new.source) fault.why) }
+    ensures failed { IfErr result (λ fault. IsFailedBy fault.why reader.new.failed) }
+    ensures goes_on { OnOk result (reader.new.failed ≡ false) }
+    ensures well { OnOk result ((reader.old.failed ≡ false) × (S.is_down reader.new.source ≡ false)) }
+    ensures first { IfErr result (λ fault. fault.frame ≡ 0) }
+{
+    let mut message = HelloReader { alloc, hello: None };
+    read_message(reader, &mut message)?;
+    let HelloReader { hello, .. } = message;
+    match hello {
+        Some(hello) => Ok(hello),
+        None => unreachable!(),
+    }
+}
+
+/// Writes the line of a hello. It takes no memory.
+///
+/// It fails with `Io` where the sink fails, and then a beginning of the line stands written; with `Failed`
+/// where the writer had failed before.
+#[tactic(auto, unfolding(crate::specs::Hello::canonical_hello))]
+pub fn write_hello<A: Allocator + Copy, W: Sink>(
+    hello: &Hello<A>,
+    writer: &mut LineWriter<W>,
+) -> Result<(), WriteFault>
+    ensures { WritesLines W.contents W.passed_on W.is_down W.loans writer.old writer.new result (canonical_hello hello.now) }
+{
+    writes_lines::<W>();
+    let mut line = ArrayVec::new();
+    compose(hello, &mut line);
+    writer.put(line.as_slice())
+}
+
+// Puts the payload of the line together.
+fn compose<A: Allocator + Copy>(hello: &Hello<A>, line: &mut ArrayVec<u8, MAX_LINE>)
+    requires { line.old.items ≡ [] }
+    ensures line { line.new.items ≡ hello_payload hello.now }
+    ensures short { length line.new.items ≤ max_payload }
+{
+    add(COMMAND, line);
+    add(hello.path(), line);
+    add(b"\0host=", line);
+    add(hello.host(), line);
+    add(b"\0\0version=2", line);
+    add(b"\0", line);
+}
+
+// What a payload says, lent from it.
+#[derive(Clone, Copy, Debug, PartialEq, Eq)]
+struct HelloText<'a> {
+    path: &'a [u8],
+    host: &'a [u8],
+}
+
+// What stands before the first NUL, and what after it, if there is one.
+fn cut(text: &[u8]) -> (&[u8], Option<&[u8]>)
+    ensures { slice_split is_nul text.now
+        ≡ result.0.now ∷ option_map_or (λ rest. slice_split is_nul rest.now) result.1 [] }
+{
+    match first_nul(text) {
+        Some(at) => (&text[..at], Some(&text[at + 1..])),
+        None => (text, None),
+    }
+}
+
+// Where the first NUL stands.
+fn first_nul(text: &[u8]) -> Option<usize>
+    ensures place { result ≡ position is_nul text.now }
+    ensures within { IfSome result (λ at. at < length text.now) }
+{
+    text.iter().position(|byte| *byte == 0)
+}
+
+// What a payload says, by its parts between NULs.
+#[tactic(auto, unfolding(crate::specs::Hello::hello_of))]
+fn hello_of(payload: &[u8]) -> Option<HelloText<'_>>
+    ensures { option_map hello_view result ≡ hello_of payload.now }
+{
+    let (command, rest) = cut(payload);
+    let (host, rest) = cut(rest?);
+    let (nothing, rest) = cut(rest?);
+    let (version, rest) = cut(rest?);
+    let (end, more) = cut(rest?);
+    if !nothing.is_empty() || !end.is_empty() {
+        return None;
+    }
+    match more {
+        Some(_) => None,
+        None => hello_of_words(command, host, version),
+    }
+}
+
+// What a payload of three words says.
+fn hello_of_words<'a>(command: &'a [u8], host: &'a [u8], version: &[u8]) -> Option<HelloText<'a>>
+    ensures { option_map hello_view result ≡ hello_of_parts (command.now ∷ host.now ∷ [] ∷ version.now ∷ [] ∷ []) }
+{
+    if version != VERSION {
+        return None;
+    }
+    hello_with(after_word(COMMAND, command), after_word(HOST, host))
+}
+
+fn hello_with<'a>(path: Option<&'a [u8]>, host: Option<&'a [u8]>) -> Option<HelloText<'a>>
+    ensures { option_map hello_view result ≡ hello_with (option_copied path.entry) (option_copied host.entry) }
+{
+    match (path, host) {
+        (Some(path), Some(host)) if is_path(path) && is_host(host) => {
+            Some(HelloText { path, host })
+        }
+        _ => None,
+    }
+}
+
+// A hello that is being read.
+#[derive(Drop)]
+struct HelloReader<A: Allocator + Copy> {
+    alloc: A,
+    hello: Option<Hello<A>>,
+}
+
+impl<A: Allocator + Copy> HelloReader<A> {
+    fn take_packet(&mut self, line: Line<'_>) -> Result<Step, Why>
+        ensures { TakesAs (judge [] (packet_of line.entry)) (brings [] (packet_of line.entry))
+            (self.new.hello ≡ hello_in (packet_of line.entry ∷ [])) result }
+    {
+        match line {
+            Line::Data(payload) => self.take_payload(payload),
+            Line::Flush | Line::Delim | Line::ResponseEnd => Err(Why::UnexpectedFrame),
+        }
+    }
+
+    fn take_payload(&mut self, payload: &[u8]) -> Result<Step, Why>
+        ensures { TakesAs (judge_payload (hello_of payload.now)) (is_some (hello_of payload.now))
+            (self.new.hello ≡ hello_of payload.now) result }
+    {
+        let Some(text) = hello_of(payload) else {
+            return Err(Why::BadText);
+        };
+        match Hello::keep(self.alloc, text.path, text.host) {
+            Ok(hello) => {
+                self.hello = Some(hello);
+                Ok(Step::Whole)
+            }
+            Err(_) => Err(Why::Memory),
+        }
+    }
+}
+
+impl<A: Allocator + Copy> Message for HelloReader<A> {
+    ghost judge = { λ _. judge };
+
+    ghost brings = { λ _. brings };
+
+    ghost holds = { λ reader packets. reader.hello ≡ hello_in packets };
+
+    ghost left = { λ reader packets. ⊤ };
+
+    fn take(&mut self, line: Line<'_>) -> Result<Step, Why> {
+        self.take_packet(line)
+    }
+
+    fn laws() {
+        grammars_are_exact();
+    }
+}

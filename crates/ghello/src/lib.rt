@@ -1,0 +1,46 @@
+//! What opens a connection: the first line of a client on a `git://` connection (gitprotocol-pack(5), "Git
+//! Transport"), and the advertisement of a server (gitprotocol-v2(5), "Capability Advertisement"). Each is a
+//! value, a reader and a writer.
+//!
+//! # Proved
+//!
+//! - [`Hello`] and [`Advert`] keep their forms and limits: a call that would break a form fails with
+//!   `BadText`, else one that would pass a limit with `Limit`, and nothing changes then.
+//! - [`read_hello`] and [`read_advert`] read exactly one message, in whatever pieces its bytes come, and
+//!   nothing after it; else they refuse it at the first packet that does not fit, with the reason of the
+//!   table (`specs/Hello.antt`, `specs/Adverts.antt`). Out of memory comes only at a packet that brings
+//!   something to keep.
+//! - [`write_hello`] and [`write_advert`] write the canonical lines of the value, or a beginning of them
+//!   where the sink fails.
+//! - What a client looks for: [`Advert::value_of`] gives the first capability with a key, and
+//!   [`Advert::check_in`] says why a client of an object format can't go on.
+//! - [`laws`]: the tables have exactly the messages of the manual's words, with the same value; packets say
+//!   one value at most; each beginning has an ending; what is written says its value, in lines that fit.
+//!
+//! # Only tested
+//!
+//! That a value is kept where there is memory for it, and that look-ups and writers take none. Where a sink
+//! fails, that all it had taken stands written.
+//!
+//! # What a body can still get away with
+//!
+//! It may take as long as it likes, and answer that it is out of memory wherever something is to be kept.
+//! Where a sink fails, a shorter beginning may stand written. Where the bytes of a source or of a sink are not
+//! known, nothing is said of those that were read or written; what a device has done is said all the same.
+//!
+//! # Stands on
+//!
+//! `ggrammar` for reading by a grammar and for capabilities, `gpkt` for packet lines, `gname` for the names of
+//! object formats, `arrayvec` for texts of bounded length; in tests `bumpalo`, for memory that ends.
+#![tactic(auto)]
+
+mod advert;
+mod building;
+mod compose;
+mod hello;
+pub mod laws;
+#[cfg(test)]
+mod tests;
+
+pub use crate::advert::{Advert, MAX_CAPABILITIES, read_advert, write_advert};
+pub use crate::hello::{Hello, MAX_HOST, MAX_PATH, is_host, is_path, read_hello, write_hello};

@@ -1,0 +1,42 @@
+-- The lines that are written.
+use Rattle.std.proofs.Common.{◌≡◌, ℕ, ◌<◌, ◌≤◌, List, Option, [], ◌∷◌, ◌++◌, length, map, drop, get_or, codes, zero, suc, refl, sym, ap, ◌∙◌, append_assoc, length-append, arith}
+use Rattle.gpkt.specs.Laws.{Fits}
+use Rattle.gpkt.specs.Packets.{Packet, Data, Flush, line_feed}
+use Rattle.gname.specs.Names.{max_name}
+use Rattle.ggrammar.specs.Endings.{ends_with}
+use Rattle.ggrammar.specs.Texts.{text_packet}
+use Rattle.ggrammar.specs.declared.ends.Ends.{Ends}
+use Rattle.glsreply.specs.RefTexts.{RefLine, unborn_text}
+use Rattle.glsreply.specs.LsReplies.{LsReply, ref_packet, unborn_packets, canonical_reply}
+use Rattle.std.proofs.lemmas.List.{drop_all}
+
+pub unborn_line : (name : List ℕ) → Data (codes "unborn HEAD symref-target:" ++ (name ++ line_feed ∷ [])) ≡ text_packet (unborn_text name)
+unfolding unborn_text
+unborn_line name = refl
+
+pub unborn_fits : (name : List ℕ) → length name ≤ max_name → Fits (Data (codes "unborn HEAD symref-target:" ++ (name ++ line_feed ∷ [])))
+unborn_fits name short = let long = length-append name (line_feed ∷ []) in omega (arith, long, short)
+
+-- what is to come after some of the lines
+abbrev pub coming : Ends → List RefLine → List Packet
+coming ends lines = map ref_packet lines ++ Flush ∷ ends_with ends
+
+pub drop-line : (lines : List RefLine) (i : ℕ) (line : RefLine) → i < length lines → line ≡ get_or lines i line → drop i lines ≡ line ∷ drop (suc i) lines
+drop-line [] i line inside at = absurd (omega (arith, inside))
+drop-line (x ∷ lines) zero line inside at = ap (λ (l : RefLine). l ∷ lines) (sym at)
+drop-line (x ∷ lines) (suc i) line inside at = drop-line lines i line (omega (arith, inside)) at
+
+pub coming-line : (ends : Ends) (lines : List RefLine) (i : ℕ) (line : RefLine) → i < length lines → line ≡ get_or lines i line
+    → coming ends (drop i lines) ≡ (ref_packet line ∷ []) ++ coming ends (drop (suc i) lines)
+coming-line ends lines i line inside at = ap (coming ends) (drop-line lines i line inside at)
+
+pub coming-end : (ends : Ends) (lines : List RefLine) (i : ℕ) → length lines ≤ i → coming ends (drop i lines) ≡ Flush ∷ ends_with ends
+coming-end ends lines i past = ap (coming ends) (drop_all i lines past)
+
+-- a reply is an unborn HEAD, where there is one, and what comes after it
+pub reply_parts : (ends : Ends) (reply : LsReply) (unborn : Option (List ℕ)) → unborn ≡ reply.unborn
+    → canonical_reply ends reply ≡ unborn_packets unborn ++ coming ends reply.lines
+unfolding canonical_reply
+reply_parts ends reply unborn e =
+    append_assoc (unborn_packets reply.unborn) (map ref_packet reply.lines) (Flush ∷ ends_with ends)
+    ∙ ap (λ (u : Option (List ℕ)). unborn_packets u ++ (map ref_packet reply.lines ++ Flush ∷ ends_with ends)) (sym e)

@@ -1,0 +1,11 @@
+pub mod RefTexts
+pub mod LsReplies
+pub mod LsManual
+pub mod WellFormed
+pub mod LineViews
+pub mod ReplyState
+pub mod ReplyReading
+pub mod TextLengths
+pub mod Laws
+pub use Rattle.ggrammar.specs.Grammar
+pub use Rattle.ggrammar.specs.MessageReading

@@ -1,0 +1,19 @@
+-- The most bytes of the texts that are written.
+use Rattle.std.specs.Prelude.{ℕ, ◌+◌}
+use Rattle.gname.specs.Formats.{id_text_length}
+use Rattle.gname.specs.Names.{max_name}
+use Rattle.gname.specs.declared.formats.Format.TheVariants.{Sha256}
+
+abbrev pub max_id_text : ℕ
+max_id_text = id_text_length Sha256
+
+-- ` symref-target:` and a name
+abbrev pub max_symref_text : ℕ
+max_symref_text = 15 + max_name
+
+-- ` peeled:` and an id
+abbrev pub max_peeled_text : ℕ
+max_peeled_text = 8 + max_id_text
+
+abbrev pub max_ref_text : ℕ
+max_ref_text = max_id_text + 1 + max_name + max_symref_text + max_peeled_text

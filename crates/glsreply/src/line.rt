@@ -1,0 +1,213 @@
+//! The texts of a reply, read from left to right.
+
+ghost use Rattle.std.specs.Prelude.{◌≡◌, ◌∷◌, ◌<◌, codes, length, position, IfSome, Ok};
+ghost use Rattle.ggrammar.specs.PeerErrors.{after_word};
+ghost use Rattle.glsreply.specs.RefTexts.{is_space, parts_of, is_name, attribute_of, with_attributes, line_with_name, line_of, first_form, unborn_target, unborn_of_parts, unborn_after_head};
+ghost use Rattle.glsreply.specs.LineViews.{line_parts, line_read, attribute_view, form_view, target_read, parts_left};
+
+use bumpalo::Bump;
+use ggrammar::{Why, after_word, id_of_text};
+use gname::laws::rules_never_report_memory;
+use gname::{Format, NameFault, Oid, RefName};
+use std::alloc::Allocator;
+
+/// The line of a ref, lent from its text.
+#[derive(Clone, Copy)]
+pub(crate) struct LentLine<'a> {
+    pub(crate) id: Oid,
+    pub(crate) name: &'a [u8],
+    pub(crate) symref: Option<&'a [u8]>,
+    pub(crate) peeled: Option<Oid>,
+}
+
+// A part after the name; what follows its word is not looked at yet.
+#[derive(Clone, Copy)]
+enum Attribute<'a> {
+    Symref(&'a [u8]),
+    Peeled(&'a [u8]),
+    Unknown,
+}
+
+/// What the first text of a reply is.
+pub(crate) enum FirstText<'a> {
+    /// An unborn `HEAD`, and its target, or why the text is refused.
+    Unborn(Result<&'a [u8], Why>),
+    /// The line of a ref.
+    Ref,
+}
+
+// What stands before the first space, and after it if there is one.
+fn cut(text: &[u8]) -> (&[u8], Option<&[u8]>)
+    ensures parts { parts_of text.now ≡ result.0.now ∷ parts_left result.1 }
+    ensures shorter { IfSome result.1 (λ rest. length rest.now < length text.now) }
+{
+    match first_space(text) {
+        Some(at) => (&text[..at], Some(&text[at + 1..])),
+        None => (text, None),
+    }
+}
+
+// Where the first space stands.
+fn first_space(text: &[u8]) -> Option<usize>
+    ensures place { result ≡ position is_space text.now }
+    ensures within { IfSome result (λ at. at < length text.now) }
+{
+    text.iter().position(|byte| *byte == b' ')
+}
+
+// Whether a text is a ref name. An arena without room has the name judged and not kept.
+fn is_name<A: Allocator + Copy>(alloc: A, text: &[u8]) -> bool
+    ensures { result ≡ is_name text.now }
+{
+    rules_never_report_memory();
+    let arena = Bump::new(alloc);
+    arena.set_allocation_limit(Some(0));
+    match RefName::new(&arena, text) {
+        Ok(_name) => true,
+        Err(NameFault::Memory) => true,
+        Err(_fault) => false,
+    }
+}
+
+/// What a text says as the line of a ref, or why it is none. It takes no memory.
+#[tactic(auto, unfolding(crate::specs::RefTexts::line_of))]
+pub(crate) fn line_of<A: Allocator + Copy>(
+    alloc: A,
+    format: Format,
+    text: &[u8],
+) -> Result<LentLine<'_>, Why>
+    ensures { line_read result ≡ line_of format text.now }
+{
+    let (first, rest) = cut(text);
+    let Some(id) = id_of_text(format, first) else {
+        return Err(Why::BadId);
+    };
+    let Some(rest) = rest else {
+        return Err(Why::BadText);
+    };
+    line_with_name(alloc, format, id, rest)
+}
+
+fn line_with_name<A: Allocator + Copy>(
+    alloc: A,
+    format: Format,
+    id: Oid,
+    rest: &[u8],
+) -> Result<LentLine<'_>, Why>
+    ensures { line_read result ≡ line_with_name format id (parts_of rest.now) }
+{
+    let (name, attributes) = cut(rest);
+    if !is_name(alloc, name) {
+        return Err(Why::BadName);
+    }
+    with_attributes(alloc, format, id, name, None, None, attributes)
+}
+
+// The line with its attributes, of which each comes once; so this goes at most three calls deep.
+fn with_attributes<'a, A: Allocator + Copy>(
+    alloc: A,
+    format: Format,
+    id: Oid,
+    name: &'a [u8],
+    symref: Option<&'a [u8]>,
+    peeled: Option<Oid>,
+    rest: Option<&'a [u8]>,
+) -> Result<LentLine<'a>, Why>
+    ensures { line_read result ≡ with_attributes format (Ok (line_parts id name.now symref.entry peeled)) (parts_left rest.entry) }
+{
+    let Some(text) = rest else {
+        return Ok(LentLine {
+            id,
+            name,
+            symref,
+            peeled,
+        });
+    };
+    let (part, rest) = cut(text);
+    match attribute_of(part) {
+        Attribute::Symref(target) => {
+            if symref.is_some() {
+                return Err(Why::BadText);
+            }
+            if !is_name(alloc, target) {
+                return Err(Why::BadName);
+            }
+            with_attributes(alloc, format, id, name, Some(target), peeled, rest)
+        }
+        Attribute::Peeled(text) => {
+            if peeled.is_some() {
+                return Err(Why::BadText);
+            }
+            let Some(peeled) = id_of_text(format, text) else {
+                return Err(Why::BadId);
+            };
+            with_attributes(alloc, format, id, name, symref, Some(peeled), rest)
+        }
+        Attribute::Unknown => Err(Why::BadText),
+    }
+}
+
+#[tactic(auto, unfolding(crate::specs::RefTexts::attribute_of))]
+fn attribute_of(part: &[u8]) -> Attribute<'_>
+    ensures { attribute_view result ≡ attribute_of part.now }
+{
+    if let Some(target) = after_word(b"symref-target:", part) {
+        return Attribute::Symref(target);
+    }
+    match after_word(b"peeled:", part) {
+        Some(id) => Attribute::Peeled(id),
+        None => Attribute::Unknown,
+    }
+}
+
+/// What the first text of a reply is, by its first part. It takes no memory.
+#[tactic(auto, unfolding(crate::specs::RefTexts::first_form))]
+pub(crate) fn first_form<A: Allocator + Copy>(alloc: A, text: &[u8]) -> FirstText<'_>
+    ensures { form_view result ≡ first_form text.now }
+{
+    let (first, rest) = cut(text);
+    if first == b"unborn".as_slice() {
+        FirstText::Unborn(unborn_of_parts(alloc, rest))
+    } else {
+        FirstText::Ref
+    }
+}
+
+fn unborn_of_parts<A: Allocator + Copy>(alloc: A, rest: Option<&[u8]>) -> Result<&[u8], Why>
+    ensures { target_read result ≡ unborn_of_parts (parts_left rest.entry) }
+{
+    let Some(rest) = rest else {
+        return Err(Why::BadText);
+    };
+    let (head, rest) = cut(rest);
+    if head == b"HEAD".as_slice() {
+        unborn_after_head(alloc, rest)
+    } else {
+        Err(Why::BadText)
+    }
+}
+
+fn unborn_after_head<A: Allocator + Copy>(alloc: A, rest: Option<&[u8]>) -> Result<&[u8], Why>
+    ensures { target_read result ≡ unborn_after_head (parts_left rest.entry) }
+{
+    let Some(rest) = rest else {
+        return Err(Why::BadText);
+    };
+    match cut(rest) {
+        (part, None) => unborn_target(alloc, part),
+        (_part, Some(_more)) => Err(Why::BadText),
+    }
+}
+
+fn unborn_target<A: Allocator + Copy>(alloc: A, part: &[u8]) -> Result<&[u8], Why>
+    ensures { target_read result ≡ unborn_target (after_word (codes "symref-target:") part.now) }
+{
+    let Some(name) = after_word(b"symref-target:", part) else {
+        return Err(Why::BadText);
+    };
+    if is_name(alloc, name) {
+        Ok(name)
+    } else {
+        Err(Why::BadName)
+    }
+}

@@ -1,0 +1,290 @@
+//! Reading a reply.
+
+ghost use Rattle.std.specs.Prelude.{◌≡◌, ◌<◌, true, false, [], IfOk, IfErr, OnOk, Ok};
+ghost use Rattle.gpkt.specs.Packets.{Data, Flush, ResponseEnd, packet_of, text};
+ghost use Rattle.gpkt.specs.Change.{change_of};
+ghost use Rattle.ggrammar.specs.MessageReading.{IsReadFailure, IsFailedBy};
+ghost use Rattle.glsreply.specs.LsReplies.{judge, judge_at, judge_text, judge_line, max_lines, within_limit, brings};
+ghost use Rattle.glsreply.specs.RefTexts.{line_of};
+ghost use Rattle.glsreply.specs.LineViews.{line_view};
+ghost use Rattle.ggrammar.specs.Grammar.{Open};
+ghost use Rattle.glsreply.specs.ReplyReading.{HasReadReply};
+ghost use Rattle.glsreply.specs.ReplyState.{Holds, KeepsKind, TakesAs, state_in, state_of, with_packet, with_text, with_line, with_unborn, with_flush};
+ghost use Rattle.glsreply.specs.WellFormed.{IsLsReplyIn, IsReplyValue};
+ghost use Rattle.gname.specs.declared.formats.Format.TheVariants as format;
+
+use crate::line::{FirstText, LentLine, first_form, line_of};
+use crate::reply::{LsReply, MAX_LINES, RefLine};
+use ggrammar::laws::grammars_are_exact;
+use ggrammar::{Ends, Message, MessageFault, PeerText, Step, Why, peer_error, read_message};
+use gname::laws::texts_have_one_reading;
+use gname::{Format, RefName};
+use gpkt::{Line, LineReader, Source, text_of};
+use std::alloc::{AllocError, Allocator};
+
+/// Reads the reply to ls-refs of a repository whose ids are SHA-1, as [`read_ls_reply_in`] does.
+pub fn read_ls_reply<S: Source, A: Allocator + Copy>(
+    ends: Ends,
+    reader: &mut LineReader<S, A>,
+    alloc: A,
+) -> Result<LsReply<A>, MessageFault>
+    ensures read { HasReadReply format.Sha1 ends (change_of S.remaining reader.old.source reader.new.source) result }
+    ensures formed { IfOk result (λ reply. IsLsReplyIn format.Sha1 reply) }
+    ensures loans { S.loans reader.new.source ≡ S.loans reader.old.source }
+    ensures device { IfErr result (λ fault. IsReadFailure reader.old.failed (S.is_down reader.new.source) fault.why) }
+    ensures failed { IfErr result (λ fault. IsFailedBy fault.why reader.new.failed) }
+    ensures goes_on { OnOk result (reader.new.failed ≡ false) }
+    ensures well { OnOk result ((reader.old.failed ≡ false) × (S.is_down reader.new.source ≡ false)) }
+    ensures at_once { reader.old.failed ≡ true → IfErr result (λ fault. fault.frame ≡ 0) }
+{
+    read_ls_reply_in(Format::Sha1, ends, reader, alloc)
+}
+
+/// Reads one reply to ls-refs to its end, and nothing after it (gitprotocol-v2(5), "ls-refs"). Its ids are of
+/// the format.
+///
+/// The fault has the first packet, from 0, that does not fit, and why. What the line reader refuses comes first
+/// ([`Why::Line`]), then the end of the input ([`Why::Ended`]), then an error that the peer reports
+/// ([`Why::RemoteErr`]), then what the grammar refuses, its text read from left to right. One line more than
+/// 65,537 is refused with [`Why::Limit`] where its form is right. [`Why::Memory`] comes only at a line that is
+/// accepted. After a refusal the line reader has failed exactly where the line itself was refused.
+pub fn read_ls_reply_in<S: Source, A: Allocator + Copy>(
+    format: Format,
+    ends: Ends,
+    reader: &mut LineReader<S, A>,
+    alloc: A,
+) -> Result<LsReply<A>, MessageFault>
+    ensures read { HasReadReply format ends (change_of S.remaining reader.old.source reader.new.source) result }
+    ensures formed { IfOk result (λ reply. IsLsReplyIn format reply) }
+    ensures loans { S.loans reader.new.source ≡ S.loans reader.old.source }
+    ensures device { IfErr result (λ fault. IsReadFailure reader.old.failed (S.is_down reader.new.source) fault.why) }
+    ensures failed { IfErr result (λ fault. IsFailedBy fault.why reader.new.failed) }
+    ensures goes_on { OnOk result (reader.new.failed ≡ false) }
+    ensures well { OnOk result ((reader.old.failed ≡ false) × (S.is_down reader.new.source ≡ false)) }
+    ensures at_once { reader.old.failed ≡ true → IfErr result (λ fault. fault.frame ≡ 0) }
+{
+    let mut reply = LsReplyReader::new(alloc, format, ends);
+    match read_message(reader, &mut reply) {
+        Ok(()) => {
+            texts_have_one_reading();
+            Ok(reply.finish())
+        }
+        Err(fault) => Err(fault),
+    }
+}
+
+/// A reply that is being read.
+#[derive(Drop)]
+pub(crate) struct LsReplyReader<A: Allocator + Copy> {
+    alloc: A,
+    format: Format,
+    ends: Ends,
+    // The flush has come, and a response-end is due.
+    is_over: bool,
+    // How many texts there were.
+    count: usize,
+    unborn: Option<RefName<A>>,
+    lines: Vec<RefLine<A>, A>,
+}
+
+impl<A: Allocator + Copy> LsReplyReader<A> {
+    /// A reply without packets.
+    pub(crate) fn new(alloc: A, format: Format, ends: Ends) -> LsReplyReader<A>
+        ensures format { result.format ≡ format }
+        ensures ends { result.ends ≡ ends }
+        ensures state { state_in result ≡ state_of format [] }
+    {
+        LsReplyReader {
+            alloc,
+            format,
+            ends,
+            is_over: false,
+            count: 0,
+            unborn: None,
+            lines: Vec::new(alloc),
+        }
+    }
+
+    /// What the packets say.
+    fn finish(self) -> LsReply<A>
+        requires { IsReplyValue (state_in self).reply }
+        ensures { result ≡ (state_in self).reply }
+    {
+        let LsReplyReader { unborn, lines, .. } = self;
+        LsReply::of_parts(unborn, lines)
+    }
+
+    #[tactic(auto, unfolding(crate::specs::LsReplies::judge_at))]
+    fn take_packet(&mut self, line: Line<'_>) -> Result<Step, Why>
+        ensures kept { KeepsKind self.old self.new }
+        ensures takes { TakesAs (judge_at self.old.format self.old.ends self.old.is_over self.old.count (packet_of line.entry))
+            (brings [] (packet_of line.entry))
+            (state_in self.new ≡ with_packet self.old.format (state_in self.old) (packet_of line.entry)) result }
+    {
+        match line {
+            Line::Data(payload) => self.take_data(payload),
+            Line::Flush => self.take_flush(),
+            Line::Delim => Err(Why::UnexpectedFrame),
+            Line::ResponseEnd => self.take_response_end(),
+        }
+    }
+
+    #[tactic(auto, unfolding(crate::specs::LsReplies::judge_at))]
+    fn take_flush(&mut self) -> Result<Step, Why>
+        ensures kept { KeepsKind self.old self.new }
+        ensures takes { TakesAs (judge_at self.old.format self.old.ends self.old.is_over self.old.count Flush) false
+            (state_in self.new ≡ with_flush (state_in self.old)) result }
+    {
+        if self.is_over {
+            return Err(Why::UnexpectedFrame);
+        }
+        self.is_over = true;
+        match self.ends {
+            Ends::Plain => Ok(Step::Whole),
+            Ends::Response => Ok(Step::Open),
+        }
+    }
+
+    #[tactic(auto, unfolding(crate::specs::LsReplies::judge_at))]
+    fn take_response_end(&self) -> Result<Step, Why>
+        ensures { TakesAs (judge_at self.now.format self.now.ends self.now.is_over self.now.count ResponseEnd) false
+            (Unit {0}) result }
+    {
+        if self.is_over {
+            Ok(Step::Whole)
+        } else {
+            Err(Why::UnexpectedFrame)
+        }
+    }
+
+    #[tactic(auto, unfolding(crate::specs::LsReplies::judge_at))]
+    fn take_data(&mut self, payload: &[u8]) -> Result<Step, Why>
+        ensures kept { KeepsKind self.old self.new }
+        ensures takes { TakesAs (judge_at self.old.format self.old.ends self.old.is_over self.old.count (Data payload.now)) true
+            (state_in self.new ≡ with_text self.old.format (state_in self.old) (text payload.now)) result }
+    {
+        if let Some(said) = peer_error(payload) {
+            return Err(Why::RemoteErr(PeerText::new(said)));
+        }
+        if self.is_over {
+            return Err(Why::UnexpectedFrame);
+        }
+        self.take_text(text_of(payload))
+    }
+
+    fn take_text(&mut self, text: &[u8]) -> Result<Step, Why>
+        ensures kept { KeepsKind self.old self.new }
+        ensures takes { TakesAs (judge_text self.old.format self.old.count text.now) true
+            (state_in self.new ≡ with_text self.old.format (state_in self.old) text.now) result }
+    {
+        if self.count > 0 {
+            return self.take_ref(text);
+        }
+        match first_form(self.alloc, text) {
+            FirstText::Unborn(Ok(target)) => self.take_unborn(target),
+            FirstText::Unborn(Err(why)) => Err(why),
+            FirstText::Ref => self.take_ref(text),
+        }
+    }
+
+    fn take_unborn(&mut self, target: &[u8]) -> Result<Step, Why>
+        requires { self.old.count ≡ 0 }
+        ensures kept { KeepsKind self.old self.new }
+        ensures takes { TakesAs Open true (state_in self.new ≡ with_unborn (state_in self.old) (Ok target.now)) result }
+    {
+        match RefName::new(self.alloc, target) {
+            Ok(name) => {
+                self.unborn = Some(name);
+                self.count += 1;
+                Ok(Step::Open)
+            }
+            Err(_fault) => Err(Why::Memory),
+        }
+    }
+
+    fn take_ref(&mut self, text: &[u8]) -> Result<Step, Why>
+        ensures kept { KeepsKind self.old self.new }
+        ensures takes { TakesAs (within_limit self.old.count (judge_line (line_of self.old.format text.now))) true
+            (state_in self.new ≡ with_line (state_in self.old) (line_of self.old.format text.now)) result }
+    {
+        texts_have_one_reading();
+        match line_of(self.alloc, self.format, text) {
+            Ok(line) => self.take_line(&line),
+            Err(why) => Err(why),
+        }
+    }
+
+    fn take_line(&mut self, line: &LentLine<'_>) -> Result<Step, Why>
+        ensures kept { KeepsKind self.old self.new }
+        ensures takes { TakesAs (within_limit self.old.count Open) true
+            (state_in self.new ≡ with_line (state_in self.old) (Ok (line_view line.now))) result }
+    {
+        if self.count >= MAX_LINES {
+            return Err(Why::Limit);
+        }
+        match keep_line(self.alloc, line) {
+            Ok(line) => self.add_line(line),
+            Err(_) => Err(Why::Memory),
+        }
+    }
+
+    fn add_line(&mut self, line: RefLine<A>) -> Result<Step, Why>
+        requires { self.old.count < max_lines }
+        ensures kept { KeepsKind self.old self.new }
+        ensures takes { TakesAs Open true
+            (state_in self.new ≡ with_line (state_in self.old) (Ok line)) result }
+    {
+        match self.lines.push(line) {
+            Ok(()) => {
+                self.count += 1;
+                Ok(Step::Open)
+            }
+            Err(_) => Err(Why::Memory),
+        }
+    }
+}
+
+// The line as a value.
+fn keep_line<A: Allocator + Copy>(alloc: A, line: &LentLine<'_>) -> Result<RefLine<A>, AllocError>
+    ensures { IfOk result (λ kept. kept ≡ line_view line.now) }
+{
+    let name = keep_name(alloc, line.name)?;
+    let symref = match line.symref {
+        Some(target) => Some(keep_name(alloc, target)?),
+        None => None,
+    };
+    Ok(RefLine {
+        id: line.id,
+        name,
+        symref,
+        peeled: line.peeled,
+    })
+}
+
+// A name that has been judged.
+fn keep_name<A: Allocator + Copy>(alloc: A, text: &[u8]) -> Result<RefName<A>, AllocError>
+    ensures { IfOk result (λ kept. kept ≡ text.now) }
+{
+    match RefName::new(alloc, text) {
+        Ok(name) => Ok(name),
+        Err(_fault) => Err(AllocError),
+    }
+}
+
+impl<A: Allocator + Copy> Message for LsReplyReader<A> {
+    ghost judge = { λ reply. judge reply.format reply.ends };
+
+    ghost brings = { λ _. brings };
+
+    ghost holds = { Holds };
+
+    ghost left = { λ _ _. Unit {0} };
+
+    fn take(&mut self, line: Line<'_>) -> Result<Step, Why> {
+        self.take_packet(line)
+    }
+
+    fn laws() {
+        grammars_are_exact();
+    }
+}

@@ -1,0 +1,202 @@
+//! The reply as a value.
+
+ghost use Rattle.std.specs.Prelude.{◌≡◌, ◌≤◌, ◌↔◌, true, [], length, IsTrue, None};
+ghost use Rattle.std.specs.List.{slice_get};
+ghost use Rattle.std.specs.Option.{option_copied};
+ghost use Rattle.glsreply.specs.LsReplies.{max_lines};
+ghost use Rattle.glsreply.specs.RefTexts.{is_name};
+ghost use Rattle.glsreply.specs.WellFormed.{Adds, IsLine, IsReplyValue, Pushes, SetsUnborn, has_one_format, line_count};
+
+use ggrammar::{MessageFault, Why};
+use gname::laws::ids_have_one_format;
+use gname::{Oid, RefName};
+use std::alloc::Allocator;
+use std::marker::Model;
+
+/// The most lines of a reply: `HEAD` and 65,536 refs, or an unborn `HEAD` and these.
+pub const MAX_LINES: usize = 65_537;
+
+/// A ref of the reply (gitprotocol-v2(5), "ls-refs").
+#[derive(Debug, Drop)]
+pub struct RefLine<A: Allocator + Copy> {
+    pub id: Oid,
+    pub name: RefName<A>,
+    /// The name that a symbolic ref points at.
+    pub symref: Option<RefName<A>>,
+    /// The object to which a tag leads.
+    pub peeled: Option<Oid>,
+}
+
+impl<A: Allocator + Copy> Model for RefLine<A> {
+    ghost use Rattle.glsreply.specs.RefTexts.{RefLine};
+
+    ghost Value = { RefLine };
+
+    ghost view = { λ line. record { id = line.id; name = line.name; symref = line.symref; peeled = line.peeled } };
+}
+
+/// The reply to ls-refs: the ref that an unborn `HEAD` points at, and the refs, in order. All ids have one
+/// format.
+#[derive(Drop)]
+pub struct LsReply<A: Allocator + Copy> {
+    unborn: Option<RefName<A>>,
+    lines: Vec<RefLine<A>, A>,
+}
+
+impl<A: Allocator + Copy> Model for LsReply<A> {
+    ghost use Rattle.glsreply.specs.LsReplies.{LsReply};
+    ghost use Rattle.glsreply.specs.WellFormed.{IsReplyValue};
+
+    ghost Value = { LsReply };
+
+    ghost view = { λ reply. record { unborn = reply.unborn; lines = reply.lines.items } };
+
+    ghost invariant = { λ reply. IsReplyValue (record { unborn = reply.unborn; lines = reply.lines.items }) };
+}
+
+impl<A: Allocator + Copy> LsReply<A> {
+    /// A reply without lines. It takes no memory yet.
+    pub fn new(alloc: A) -> LsReply<A>
+        ensures { result ≡ record { unborn = None; lines = [] } }
+    {
+        LsReply {
+            unborn: None,
+            lines: Vec::new(alloc),
+        }
+    }
+
+    // The reply of these parts.
+    pub(crate) fn of_parts(unborn: Option<RefName<A>>, lines: Vec<RefLine<A>, A>) -> LsReply<A>
+        requires { IsReplyValue (record { unborn = unborn; lines = lines.items }) }
+        ensures { result ≡ record { unborn = unborn; lines = lines.items } }
+    {
+        LsReply { unborn, lines }
+    }
+
+    /// Says that `HEAD` points at a ref that is not there. It fails with `Limit` where the reply has no room
+    /// for a line more, and nothing changes then.
+    pub fn set_unborn(&mut self, target: RefName<A>) -> Result<(), MessageFault>
+        ensures { SetsUnborn self.old target self.new result }
+    {
+        keeps_rules(&target);
+        if self.unborn.is_none() && self.lines.len() >= MAX_LINES {
+            return Err(refused(Why::Limit));
+        }
+        self.unborn = Some(target);
+        Ok(())
+    }
+
+    /// Adds a line. It fails with `BadText` where its ids are not of one format with each other and with those
+    /// of the lines before it, else with `Limit` where the reply has no room for a line more, else with
+    /// `Memory`; and nothing changes then.
+    pub fn push(&mut self, line: RefLine<A>) -> Result<(), MessageFault>
+        ensures { Pushes self.old line self.new result }
+    {
+        ids_have_one_format();
+        keeps_forms(&line);
+        if !goes_with(self.lines(), &line) {
+            return Err(refused(Why::BadText));
+        }
+        if self.is_full() {
+            return Err(refused(Why::Limit));
+        }
+        add_line(&mut self.lines, line)
+    }
+
+    // Whether there is no room for a line more.
+    fn is_full(&self) -> bool
+        ensures full { IsTrue result ↔ (max_lines ≤ line_count self.now) }
+        ensures formed { IsReplyValue self.now }
+    {
+        match &self.unborn {
+            Some(_target) => self.lines.len() >= MAX_LINES - 1,
+            None => self.lines.len() >= MAX_LINES,
+        }
+    }
+
+    /// The number of refs.
+    pub fn len(&self) -> usize
+        ensures len { result ≡ length self.now.lines }
+        ensures formed { IsReplyValue self.now }
+    {
+        self.lines.len()
+    }
+
+    /// The ref at this place.
+    pub fn at(&self, place: usize) -> Option<&RefLine<A>>
+        ensures { option_copied result ≡ slice_get self.now.lines place }
+    {
+        self.lines.get(place)
+    }
+
+    /// The refs, in order.
+    pub(crate) fn lines(&self) -> &[RefLine<A>]
+        ensures { result.now ≡ self.now.lines }
+    {
+        self.lines.as_slice()
+    }
+
+    /// The ref that an unborn `HEAD` points at.
+    pub fn unborn(&self) -> Option<&RefName<A>>
+        ensures { option_copied result ≡ self.now.unborn }
+    {
+        self.unborn.as_ref()
+    }
+}
+
+// Whether the ids of a line are of one format with each other and with those of these lines.
+fn goes_with<A: Allocator + Copy>(lines: &[RefLine<A>], line: &RefLine<A>) -> bool
+    ensures { result ≡ has_one_format lines.now line.now }
+{
+    let format = line.id.format();
+    let is_first = match lines.first() {
+        Some(first) => first.id.format() == format,
+        None => true,
+    };
+    let is_peeled = match &line.peeled {
+        Some(id) => id.format() == format,
+        None => true,
+    };
+    is_first && is_peeled
+}
+
+// Adds a line where there is memory for it.
+fn add_line<A: Allocator + Copy>(
+    lines: &mut Vec<RefLine<A>, A>,
+    line: RefLine<A>,
+) -> Result<(), MessageFault>
+    ensures { Adds lines.old.items line lines.new.items result }
+{
+    match lines.push(line) {
+        Ok(()) => Ok(()),
+        Err(_) => Err(refused(Why::Memory)),
+    }
+}
+
+// What the type of a line says of it; the call has no effect.
+fn keeps_forms<A: Allocator + Copy>(line: &RefLine<A>)
+    ensures { IsLine line.now }
+{
+    let _id = line.id.as_bytes();
+    keeps_rules(&line.name);
+    if let Some(target) = &line.symref {
+        keeps_rules(target);
+    }
+    if let Some(id) = &line.peeled {
+        let _peeled = id.as_bytes();
+    }
+}
+
+// What the type of a name says of it; the call has no effect.
+fn keeps_rules<A: Allocator + Copy>(name: &RefName<A>)
+    ensures { is_name name.now ≡ true }
+{
+    let _bytes = name.as_bytes();
+}
+
+// A value that is refused, before any packet.
+fn refused(why: Why) -> MessageFault
+    ensures { result ≡ record { frame = 0; why = why } }
+{
+    MessageFault { frame: 0, why }
+}

@@ -1,0 +1,235 @@
+-- The lines that are written of a request ask it, and each fits a packet.
+use Rattle.std.proofs.Common.{◌≡◌, ℕ, ◌+◌, ◌≤◌, Bool, true, false, List, [], ◌∷◌, ◌++◌, length, map, codes, inl, inr, Option, Some, None, refl, sym, ap, subst, ◌∙◌, append_assoc, arith}
+use Rattle.std.specs.Prelude.{All}
+use Rattle.std.proofs.lemmas.List.{length-append, length-map}
+use Rattle.std.proofs.lemmas.List.Elements.{All-nil, All-cons, All-append, All-map}
+use Rattle.gpkt.specs.Packets.{Packet, Data, Flush, Delim, text}
+use Rattle.gpkt.specs.Laws.{Fits}
+use Rattle.gname.specs.Formats.{format_name}
+use Rattle.gname.specs.Ids.{IsIdOf, id_text}
+use Rattle.gname.specs.declared.formats.Format.{Format}
+use Rattle.gname.specs.declared.formats.Format.TheVariants.{Sha1, Sha256}
+use Rattle.gname.specs.Laws.{PrefixesAreClean}
+use Rattle.ggrammar.specs.Grammar.{Judge, LawsOf}
+use Rattle.ggrammar.specs.Texts.{text_packet}
+use Rattle.grequest.specs.declared.command.Command.{Command}
+use Rattle.grequest.specs.declared.command.Command.TheVariants.{LsRefs, Fetch}
+use Rattle.grequest.specs.Arguments.{command_name, capability_form}
+use Rattle.grequest.specs.Asked.{LsRefsAsked, FetchAsked, Asked, Empty, Ls, Fetches, max_prefixes, max_wants, max_haves, max_arguments}
+use Rattle.grequest.specs.RequestLines.{agents, prefixes, wants, haves, is_thin_pack, is_no_progress, is_include_tag, is_ofs_delta, first_of, asked_by}
+use Rattle.grequest.specs.RequestWriting.{agent_packets, format_packets, ls_argument_packets, fetch_argument_packets, command_packets, canonical_request}
+use Rattle.grequest.specs.WellFormed.{IsAgent, IsPrefix, IsLsRefsAsked, IsFetchAsked, IsAsked}
+use Rattle.grequest.specs.Manual.{IsCapability, IsArgument, NamesFormat, AreFew, IsCommandRequest, IsRequest}
+use Rattle.grequest.specs.Requests.{Says}
+use Rattle.grequest.proofs.StateLemmas.{list_of}
+use Rattle.grequest.proofs.Texts.{text_of_line}
+use Rattle.grequest.proofs.ManualRequests.{judge_from_manual}
+use Rattle.grequest.proofs.WrittenLists.{flag_texts, line_of, lines_are_packets, texts_of_lines, All-flag, All-imply}
+use Rattle.grequest.proofs.WrittenTexts.{agent_text, agent_texts, format_texts, capability_words, prefix_text, want_text, have_text, ls_texts, fetch_texts, capability_lines, ls_lines, fetch_lines}
+use Rattle.grequest.proofs.WrittenCapabilities.{word_value_is_short, Capable, capable, AreSpelt, id_text_is_short}
+use Rattle.grequest.proofs.WrittenArguments.{says_ls, flags_texts, then_ids, done_said, thin_said, quiet_said, tags_said, delta_said, wants_said, haves_said, are_fetch}
+
+-- ---- the whole request
+
+first_of_list : (o : Option (List ℕ)) → first_of (list_of o) ≡ o
+first_of_list None = refl
+first_of_list (Some value) = refl
+
+one_of_list : (o : Option (List ℕ)) → length (list_of o) ≤ 1
+one_of_list None = omega arith
+one_of_list (Some value) = omega arith
+
+command_parts : (format : Format) (command : Command) (agent : Option (List ℕ)) (packets : List Packet) (texts : List (List ℕ)) → packets ≡ map text_packet texts
+    → command_packets format command agent packets
+    ≡ Data (line_of (codes "command=" ++ command_name command)) ∷ (map Data (map line_of (capability_words format agent)) ++ (Delim ∷ map Data (map line_of texts)) ++ Flush ∷ [])
+command_parts format command agent packets texts e =
+    let words = map line_of (capability_words format agent) in
+    let front : agent_packets agent ++ format_packets format ≡ map Data words = capability_lines format agent ∙ sym (lines_are_packets (capability_words format agent)) in
+    let back : packets ≡ map Data (map line_of texts) = e ∙ sym (lines_are_packets texts) in
+    (λ i. Data (line_of (codes "command=" ++ command_name command)) ∷ (front i ++ Delim ∷ (back i ++ Flush ∷ [])))
+    ∙ ap (λ (xs : List Packet). Data (line_of (codes "command=" ++ command_name command)) ∷ xs) (sym (append_assoc (map Data words) (Delim ∷ map Data (map line_of texts)) (Flush ∷ [])))
+
+command_request : (format : Format) (command : Command) (agent : Option (List ℕ)) (packets : List Packet) (texts : List (List ℕ)) (asked : Asked) → packets ≡ map text_packet texts
+    → Capable format agent → All (IsArgument format command) texts → AreFew format command texts → length texts ≤ max_arguments
+    → asked ≡ asked_by format command (capability_words format agent) texts → IsCommandRequest format (command_packets format command agent packets) asked
+command_request format command agent packets texts asked e able are few room asks =
+    let words = capability_words format agent in
+    let read : map text (map line_of words) ≡ words = texts_of_lines words in
+    let back : map text (map line_of texts) ≡ texts = texts_of_lines texts in
+    record {
+      command = command;
+      first = line_of (codes "command=" ++ command_name command);
+      capabilities = map line_of words;
+      arguments = map line_of texts;
+      section = Delim ∷ map Data (map line_of texts);
+      parts = command_parts format command agent packets texts e;
+      separated = inl refl;
+      is_command = text_of_line (codes "command=" ++ command_name command);
+      are_capabilities = subst (All (λ line. IsCapability format (capability_form line))) (sym read) able.are;
+      are_arguments = subst (All (IsArgument format command)) (sym back) are;
+      one_agent = (let count : length (agents (map text (map line_of words))) ≡ length (list_of agent) = ap (λ (xs : List (List ℕ)). length (agents xs)) read ∙ ap length able.named in omega (arith, one_of_list agent));
+      one_format = subst (NamesFormat format) (sym read) able.one_format;
+      few = subst (AreFew format command) (sym back) few;
+      few_arguments = omega (arith, room, length-map texts line_of);
+      asks = asks ∙ sym (λ i. asked_by format command (read i) (back i));
+    }
+
+same_ls : {a b : LsRefsAsked} → a.agent ≡ b.agent → a.symrefs ≡ b.symrefs → a.peel ≡ b.peel → a.unborn ≡ b.unborn → a.prefixes ≡ b.prefixes → a ≡ b
+same_ls agent symrefs peel unborn prefixes = λ i. record { agent = agent i; symrefs = symrefs i; peel = peel i; unborn = unborn i; prefixes = prefixes i }
+
+same_fetch : {a b : FetchAsked} → a.agent ≡ b.agent → a.wants ≡ b.wants → a.haves ≡ b.haves → a.done ≡ b.done → a.thin_pack ≡ b.thin_pack
+    → a.no_progress ≡ b.no_progress → a.include_tag ≡ b.include_tag → a.ofs_delta ≡ b.ofs_delta → a ≡ b
+same_fetch agent wants haves done thin_pack no_progress include_tag ofs_delta =
+    λ i. record { agent = agent i; wants = wants i; haves = haves i; done = done i; thin_pack = thin_pack i; no_progress = no_progress i; include_tag = include_tag i; ofs_delta = ofs_delta i }
+
+flag_count : (word : List ℕ) (is_set : Bool) → length (flag_texts word is_set) ≤ 1
+flag_count word false = omega arith
+flag_count word true = omega arith
+
+-- counts of lists one after the other
+count_both : (xs ys : List (List ℕ)) (m n : ℕ) → length xs ≤ m → length ys ≤ n → length (xs ++ ys) ≤ m + n
+count_both xs ys m n a b = omega (arith, length-append xs ys)
+
+count_values : (give : List ℕ → List ℕ) (values : List (List ℕ)) (n : ℕ) → length values ≤ n → length (map give values) ≤ n
+count_values give values n h = omega (arith, length-map values give)
+
+ls_count : (asked : LsRefsAsked) → length asked.prefixes ≤ max_prefixes → length (ls_texts asked) ≤ 1 + 1 + 1 + max_prefixes
+ls_count asked few =
+    count_both (flag_texts (codes "peel") asked.peel ++ flag_texts (codes "symrefs") asked.symrefs ++ flag_texts (codes "unborn") asked.unborn) (map prefix_text asked.prefixes) (1 + 1 + 1) max_prefixes
+    (count_both (flag_texts (codes "peel") asked.peel ++ flag_texts (codes "symrefs") asked.symrefs) (flag_texts (codes "unborn") asked.unborn) (1 + 1) 1
+    (count_both (flag_texts (codes "peel") asked.peel) (flag_texts (codes "symrefs") asked.symrefs) 1 1 (flag_count (codes "peel") asked.peel) (flag_count (codes "symrefs") asked.symrefs))
+    (flag_count (codes "unborn") asked.unborn))
+    (count_values prefix_text asked.prefixes max_prefixes few)
+
+flags_count : (asked : FetchAsked) → length (flags_texts asked) ≤ 1 + 1 + 1 + 1
+flags_count asked =
+    let thin = flag_texts (codes "thin-pack") asked.thin_pack in
+    let quiet = flag_texts (codes "no-progress") asked.no_progress in
+    let tags = flag_texts (codes "include-tag") asked.include_tag in
+    count_both (thin ++ quiet ++ tags) (flag_texts (codes "ofs-delta") asked.ofs_delta) (1 + 1 + 1) 1
+    (count_both (thin ++ quiet) tags (1 + 1) 1
+    (count_both thin quiet 1 1 (flag_count (codes "thin-pack") asked.thin_pack) (flag_count (codes "no-progress") asked.no_progress))
+    (flag_count (codes "include-tag") asked.include_tag))
+    (flag_count (codes "ofs-delta") asked.ofs_delta)
+
+fetch_count : (asked : FetchAsked) → length asked.wants ≤ max_wants → length asked.haves ≤ max_haves → length (fetch_texts asked) ≤ 1 + 1 + 1 + 1 + max_wants + max_haves + 1
+fetch_count asked few many =
+    let want = map want_text asked.wants in
+    let have = map have_text asked.haves in
+    count_both (flags_texts asked ++ want ++ have) (flag_texts (codes "done") asked.done) (1 + 1 + 1 + 1 + max_wants + max_haves) 1
+    (count_both (flags_texts asked ++ want) have (1 + 1 + 1 + 1 + max_wants) max_haves
+    (count_both (flags_texts asked) want (1 + 1 + 1 + 1) max_wants (flags_count asked) (count_values want_text asked.wants max_wants few))
+    (count_values have_text asked.haves max_haves many))
+    (flag_count (codes "done") asked.done)
+
+ls_request : (format : Format) (asked : LsRefsAsked) → IsLsRefsAsked asked → IsCommandRequest format (command_packets format LsRefs asked.agent (ls_argument_packets asked)) (Ls asked)
+ls_request format asked h =
+    let says = says_ls format asked h in
+    let able = capable format asked.agent h.agent in
+    command_request format LsRefs asked.agent (ls_argument_packets asked) (ls_texts asked) (Ls asked) (ls_lines asked) able says.are
+    (omega (arith, ap length says.prefixes, h.few))
+    (omega (arith, ls_count asked h.few))
+    (ap Ls (same_ls (sym (ap first_of able.named ∙ first_of_list asked.agent)) (sym says.symrefs) (sym says.peel) (sym says.unborn) (sym says.prefixes)))
+
+fetch_request : AreSpelt → (format : Format) (asked : FetchAsked) → IsFetchAsked format asked → IsCommandRequest format (command_packets format Fetch asked.agent (fetch_argument_packets asked)) (Fetches asked)
+fetch_request spelt format asked h =
+    let able = capable format asked.agent h.agent in
+    let want = wants_said spelt format asked h.wants in
+    let have = haves_said spelt format asked h.haves in
+    command_request format Fetch asked.agent (fetch_argument_packets asked) (fetch_texts asked) (Fetches asked) (fetch_lines asked) able (are_fetch spelt format asked h)
+    (omega (arith, ap length want, h.few_wants), omega (arith, ap length have, h.few_haves))
+    (omega (arith, fetch_count asked h.few_wants h.few_haves))
+    (ap Fetches (same_fetch (sym (ap first_of able.named ∙ first_of_list asked.agent)) (sym want) (sym have) (sym (done_said asked))
+    (sym (then_ids is_thin_pack asked asked.thin_pack (λ id. refl) (λ id. refl) refl (thin_said asked)))
+    (sym (then_ids is_no_progress asked asked.no_progress (λ id. refl) (λ id. refl) refl (quiet_said asked)))
+    (sym (then_ids is_include_tag asked asked.include_tag (λ id. refl) (λ id. refl) refl (tags_said asked)))
+    (sym (then_ids is_ofs_delta asked asked.ofs_delta (λ id. refl) (λ id. refl) refl (delta_said asked)))))
+
+canonical_is_request : AreSpelt → (format : Format) (asked : Asked) → IsAsked format asked → IsRequest format (canonical_request format asked) asked
+unfolding canonical_request
+canonical_is_request spelt format Empty h = inl (refl, refl)
+canonical_is_request spelt format (Ls asked) h = inr (ls_request format asked h)
+canonical_is_request spelt format (Fetches asked) h = inr (fetch_request spelt format asked h)
+
+-- ---- each line fits a packet
+
+-- no text is longer
+abbrev longest : ℕ
+longest = 1011
+
+abbrev IsShort : List ℕ → Type 0
+IsShort words = length words ≤ longest
+
+fits_text : (words : List ℕ) → IsShort words → Fits (text_packet words)
+fits_text words h = omega (arith, length-append words (10 ∷ []))
+
+fit_texts : (packets : List Packet) (texts : List (List ℕ)) → packets ≡ map text_packet texts → All IsShort texts → All Fits packets
+fit_texts packets texts e h = subst (All Fits) (sym e) (All-map Fits text_packet texts (All-imply IsShort (λ words. Fits (text_packet words)) fits_text texts h))
+
+command_fits : (command : Command) → Fits (text_packet (codes "command=" ++ command_name command))
+command_fits LsRefs = omega arith
+command_fits Fetch = omega arith
+
+short_capabilities : (format : Format) (agent : Option (List ℕ)) → IsAgent agent → All IsShort (capability_words format agent)
+short_capabilities format agent h = All-append IsShort (agent_texts agent) (format_texts format) (short_agent agent h) (short_format format)
+  where
+    short_agent : (agent : Option (List ℕ)) → IsAgent agent → All IsShort (agent_texts agent)
+    short_agent None h = All-nil IsShort
+    short_agent (Some value) h = All-cons IsShort (agent_text value) [] (omega (arith, length-append (codes "agent=") value, word_value_is_short value h)) (All-nil IsShort)
+
+    short_format : (format : Format) → All IsShort (format_texts format)
+    short_format Sha1 = All-nil IsShort
+    short_format Sha256 = All-cons IsShort (codes "object-format=" ++ format_name Sha256) [] (omega arith) (All-nil IsShort)
+
+request_fits : (format : Format) (command : Command) (agent : Option (List ℕ)) (packets : List Packet) (texts : List (List ℕ)) → packets ≡ map text_packet texts → IsAgent agent → All IsShort texts
+    → All Fits (command_packets format command agent packets)
+request_fits format command agent packets texts e able short =
+    All-cons Fits (text_packet (codes "command=" ++ command_name command)) (agent_packets agent ++ format_packets format ++ Delim ∷ (packets ++ Flush ∷ [])) (command_fits command)
+    (All-append Fits (agent_packets agent ++ format_packets format) (Delim ∷ (packets ++ Flush ∷ []))
+    (fit_texts (agent_packets agent ++ format_packets format) (capability_words format agent) (capability_lines format agent) (short_capabilities format agent able))
+    (All-cons Fits Delim (packets ++ Flush ∷ []) (omega arith)
+    (All-append Fits packets (Flush ∷ []) (fit_texts packets texts e short) (All-cons Fits Flush [] (omega arith) (All-nil Fits)))))
+
+short_ls : PrefixesAreClean → (asked : LsRefsAsked) → IsLsRefsAsked asked → All IsShort (ls_texts asked)
+short_ls clean asked h =
+    let peel = flag_texts (codes "peel") asked.peel in
+    let symrefs = flag_texts (codes "symrefs") asked.symrefs in
+    let unborn = flag_texts (codes "unborn") asked.unborn in
+    All-append IsShort (peel ++ symrefs ++ unborn) (map prefix_text asked.prefixes)
+    (All-append IsShort (peel ++ symrefs) unborn
+    (All-append IsShort peel symrefs (All-flag IsShort (codes "peel") asked.peel (omega arith)) (All-flag IsShort (codes "symrefs") asked.symrefs (omega arith)))
+    (All-flag IsShort (codes "unborn") asked.unborn (omega arith)))
+    (All-map IsShort prefix_text asked.prefixes (All-imply IsPrefix (λ prefix. IsShort (prefix_text prefix)) (λ prefix well. omega (arith, length-append (codes "ref-prefix ") prefix, (clean prefix well).within)) asked.prefixes h.prefixes))
+
+short_fetch : AreSpelt → (format : Format) (asked : FetchAsked) → IsFetchAsked format asked → All IsShort (fetch_texts asked)
+short_fetch spelt format asked h =
+    let thin = flag_texts (codes "thin-pack") asked.thin_pack in
+    let quiet = flag_texts (codes "no-progress") asked.no_progress in
+    let tags = flag_texts (codes "include-tag") asked.include_tag in
+    let delta = flag_texts (codes "ofs-delta") asked.ofs_delta in
+    let want = map want_text asked.wants in
+    let have = map have_text asked.haves in
+    All-append IsShort (flags_texts asked ++ want ++ have) (flag_texts (codes "done") asked.done)
+    (All-append IsShort (flags_texts asked ++ want) have
+    (All-append IsShort (flags_texts asked) want
+    (All-append IsShort (thin ++ quiet ++ tags) delta
+    (All-append IsShort (thin ++ quiet) tags
+    (All-append IsShort thin quiet (All-flag IsShort (codes "thin-pack") asked.thin_pack (omega arith)) (All-flag IsShort (codes "no-progress") asked.no_progress (omega arith)))
+    (All-flag IsShort (codes "include-tag") asked.include_tag (omega arith)))
+    (All-flag IsShort (codes "ofs-delta") asked.ofs_delta (omega arith)))
+    (All-map IsShort want_text asked.wants (All-imply (IsIdOf format) (λ id. IsShort (want_text id)) (λ id is. omega (arith, length-append (codes "want ") (id_text id), id_text_is_short spelt format id is)) asked.wants h.wants)))
+    (All-map IsShort have_text asked.haves (All-imply (IsIdOf format) (λ id. IsShort (have_text id)) (λ id is. omega (arith, length-append (codes "have ") (id_text id), id_text_is_short spelt format id is)) asked.haves h.haves)))
+    (All-flag IsShort (codes "done") asked.done (omega arith))
+
+pub canonical_fits : AreSpelt → PrefixesAreClean → (format : Format) (asked : Asked) → IsAsked format asked → All Fits (canonical_request format asked)
+unfolding canonical_request
+canonical_fits spelt clean format Empty h = All-cons Fits Flush [] (omega arith) (All-nil Fits)
+canonical_fits spelt clean format (Ls asked) h = request_fits format LsRefs asked.agent (ls_argument_packets asked) (ls_texts asked) (ls_lines asked) h.agent (short_ls clean asked h)
+canonical_fits spelt clean format (Fetches asked) h = request_fits format Fetch asked.agent (fetch_argument_packets asked) (fetch_texts asked) (fetch_lines asked) h.agent (short_fetch spelt format asked h)
+
+pub canonical_says_all : ((j : Judge) → LawsOf j) → AreSpelt → PrefixesAreClean → (format : Format) (asked : Asked) → IsAsked format asked
+    → Says format (canonical_request format asked) asked × All Fits (canonical_request format asked)
+canonical_says_all laws spelt clean format asked h = (
+  judge_from_manual laws format (canonical_request format asked) asked (canonical_is_request spelt format asked h),
+  canonical_fits spelt clean format asked h,
+)

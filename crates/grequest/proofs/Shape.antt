@@ -1,0 +1,310 @@
+-- What an open request is: nothing yet, a command and its capabilities, or these, a delimiter and arguments.
+use Rattle.std.proofs.Common.{◌≡◌, ℕ, ◌+◌, ◌≤◌, suc, List, [], ◌∷◌, ◌++◌, length, map, codes, ◌⊎◌, inl, inr, refl, sym, ap, subst, ◌∙◌, append_assoc, append-nil, arith}
+use Rattle.std.proofs.lemmas.List.{length-append, length-map, map_push}
+use Rattle.gpkt.specs.Packets.{Packet, Data, Flush, Delim, ResponseEnd, text}
+use Rattle.gname.specs.declared.formats.Format.{Format}
+use Rattle.ggrammar.specs.Grammar.{Judge, Open, IsOpen, LawsOf}
+use Rattle.ggrammar.specs.Places.{place_after, collected}
+use Rattle.grequest.specs.declared.command.Command.{Command}
+use Rattle.grequest.specs.declared.command.CommandForm.TheVariants.{Known}
+use Rattle.grequest.specs.Arguments.{command_name, command_form, capability_form}
+use Rattle.grequest.specs.Asked.{max_arguments}
+use Rattle.grequest.specs.RequestLines.{Place, InCapabilities, InArguments, place_of_command, next_place, capability_there, argument_there, capability_texts, argument_texts}
+use Rattle.grequest.specs.Requests.{State, state_of, judge_command, judge_at, judge}
+use Rattle.grequest.specs.Manual.{IsCapability, IsArgument, NamesFormat}
+use Rattle.grequest.proofs.LineLemmas.{place_after-append, collected-append}
+use Rattle.grequest.proofs.StateLemmas.{state_at}
+use Rattle.grequest.proofs.Texts.{command_form-line, no_error, command_no_error, capability_no_error, argument_no_error}
+use Rattle.grequest.proofs.Sections.{All-parts, AreCapabilities, AreCapabilities-nil, AreCapabilities-push, AreCapabilities-parts, TakesCapability, few_capabilities, AreArguments, AreArguments-nil, AreArguments-push, AreArguments-parts, TakesArgument}
+use Rattle.grequest.proofs.Verdicts.{text-open, open-text, known_command, judge-delim, response_end-never_open, flush-never_open, names_format, named-taken}
+
+-- ---- lists that grow
+
+-- what holds of a list, and of a list with one more where it holds of the list, holds of each list that begins so
+pub by_pushes : {X : Type 0} (P : List X → Type 0) → ((xs : List X) (x : X) → P xs → P (xs ++ x ∷ [])) → (xs ys : List X) → P xs → P (xs ++ ys)
+by_pushes P step xs [] h = subst P (sym (append-nil xs)) h
+by_pushes P step xs (y ∷ ys) h = subst P (append_assoc xs (y ∷ []) ys) (by_pushes P step (xs ++ y ∷ []) ys (step xs y h))
+
+-- ---- the two lists of lines
+
+-- a command and its capabilities
+abbrev pub listing : List ℕ → List (List ℕ) → List Packet
+listing first capabilities = Data first ∷ map Data capabilities
+
+-- and a delimiter and arguments
+abbrev pub arguing : List ℕ → List (List ℕ) → List (List ℕ) → List Packet
+arguing first capabilities arguments = Data first ∷ (map Data capabilities ++ Delim ∷ map Data arguments)
+
+listing-push : (first : List ℕ) (capabilities : List (List ℕ)) (line : List ℕ) → listing first capabilities ++ Data line ∷ [] ≡ listing first (capabilities ++ line ∷ [])
+listing-push first capabilities line = ap (λ (xs : List Packet). Data first ∷ xs) (sym (map_push Data capabilities line))
+
+arguing-push : (first : List ℕ) (capabilities arguments : List (List ℕ)) (line : List ℕ) → arguing first capabilities arguments ++ Data line ∷ [] ≡ arguing first capabilities (arguments ++ line ∷ [])
+arguing-push first capabilities arguments line =
+    ap (λ (xs : List Packet). Data first ∷ xs)
+    (append_assoc (map Data capabilities) (Delim ∷ map Data arguments) (Data line ∷ []) ∙ ap (λ (xs : List Packet). map Data capabilities ++ Delim ∷ xs) (sym (map_push Data arguments line)))
+
+-- ---- what they come to
+
+place-capabilities : (command : Command) (capabilities : List (List ℕ)) → place_after next_place (InCapabilities command) (map Data capabilities) ≡ InCapabilities command
+place-capabilities command [] = refl
+place-capabilities command (line ∷ capabilities) = place-capabilities command capabilities
+
+place-arguments : (command : Command) (arguments : List (List ℕ)) → place_after next_place (InArguments command) (map Data arguments) ≡ InArguments command
+place-arguments command [] = refl
+place-arguments command (line ∷ arguments) = place-arguments command arguments
+
+capabilities-there : (command : Command) (capabilities : List (List ℕ)) → collected next_place capability_there (InCapabilities command) (map Data capabilities) ≡ map text capabilities
+capabilities-there command [] = refl
+capabilities-there command (line ∷ capabilities) = ap (λ (xs : List (List ℕ)). text line ∷ xs) (capabilities-there command capabilities)
+
+no_arguments-there : (command : Command) (capabilities : List (List ℕ)) → collected next_place argument_there (InCapabilities command) (map Data capabilities) ≡ []
+no_arguments-there command [] = refl
+no_arguments-there command (line ∷ capabilities) = no_arguments-there command capabilities
+
+arguments-there : (command : Command) (arguments : List (List ℕ)) → collected next_place argument_there (InArguments command) (map Data arguments) ≡ map text arguments
+arguments-there command [] = refl
+arguments-there command (line ∷ arguments) = ap (λ (xs : List (List ℕ)). text line ∷ xs) (arguments-there command arguments)
+
+no_capabilities-there : (command : Command) (arguments : List (List ℕ)) → collected next_place capability_there (InArguments command) (map Data arguments) ≡ []
+no_capabilities-there command [] = refl
+no_capabilities-there command (line ∷ arguments) = no_capabilities-there command arguments
+
+same_at : (format : Format) {place place' : Place} {capabilities capabilities' arguments arguments' : List (List ℕ)} → place ≡ place' → capabilities ≡ capabilities' → arguments ≡ arguments'
+    → state_at format place capabilities arguments ≡ state_at format place' capabilities' arguments'
+same_at format place capabilities arguments = λ i. state_at format (place i) (capabilities i) (arguments i)
+
+-- the first text is a command, and so is what follows it
+after_first : (first : List ℕ) (command : Command) → command_form (text first) ≡ Known command → place_of_command (command_form (text first)) ≡ InCapabilities command
+after_first first command is = ap place_of_command is
+
+pub state_of-listing : (format : Format) (command : Command) (first : List ℕ) (capabilities : List (List ℕ)) → command_form (text first) ≡ Known command
+    → state_of format (listing first capabilities) ≡ state_at format (InCapabilities command) (map text capabilities) []
+unfolding capability_texts argument_texts
+state_of-listing format command first capabilities is =
+    let at = after_first first command is in
+    same_at format
+    (ap (λ (place : Place). place_after next_place place (map Data capabilities)) at ∙ place-capabilities command capabilities)
+    (ap (λ (place : Place). collected next_place capability_there place (map Data capabilities)) at ∙ capabilities-there command capabilities)
+    (ap (λ (place : Place). collected next_place argument_there place (map Data capabilities)) at ∙ no_arguments-there command capabilities)
+
+place-arguing : (command : Command) (capabilities arguments : List (List ℕ)) → place_after next_place (InCapabilities command) (map Data capabilities ++ Delim ∷ map Data arguments) ≡ InArguments command
+place-arguing command capabilities arguments =
+    place_after-append (InCapabilities command) (map Data capabilities) (Delim ∷ map Data arguments)
+    ∙ ap (λ (place : Place). place_after next_place place (Delim ∷ map Data arguments)) (place-capabilities command capabilities)
+    ∙ place-arguments command arguments
+
+-- what the packets of both sections give
+both-there : (give : Place → Packet → List (List ℕ)) (command : Command) (capabilities arguments : List (List ℕ))
+    → collected next_place give (InCapabilities command) (map Data capabilities ++ Delim ∷ map Data arguments)
+    ≡ collected next_place give (InCapabilities command) (map Data capabilities) ++ collected next_place give (InCapabilities command) (Delim ∷ map Data arguments)
+both-there give command capabilities arguments =
+    collected-append give (InCapabilities command) (map Data capabilities) (Delim ∷ map Data arguments)
+    ∙ ap (λ (place : Place). collected next_place give (InCapabilities command) (map Data capabilities) ++ collected next_place give place (Delim ∷ map Data arguments)) (place-capabilities command capabilities)
+
+capabilities-arguing : (command : Command) (capabilities arguments : List (List ℕ))
+    → collected next_place capability_there (InCapabilities command) (map Data capabilities ++ Delim ∷ map Data arguments) ≡ map text capabilities
+capabilities-arguing command capabilities arguments =
+    both-there capability_there command capabilities arguments
+    ∙ ap (λ (xs : List (List ℕ)). collected next_place capability_there (InCapabilities command) (map Data capabilities) ++ xs) (no_capabilities-there command arguments)
+    ∙ append-nil (collected next_place capability_there (InCapabilities command) (map Data capabilities)) ∙ capabilities-there command capabilities
+
+arguments-arguing : (command : Command) (capabilities arguments : List (List ℕ))
+    → collected next_place argument_there (InCapabilities command) (map Data capabilities ++ Delim ∷ map Data arguments) ≡ map text arguments
+arguments-arguing command capabilities arguments =
+    both-there argument_there command capabilities arguments
+    ∙ ap (λ (xs : List (List ℕ)). xs ++ collected next_place argument_there (InArguments command) (map Data arguments)) (no_arguments-there command capabilities)
+    ∙ arguments-there command arguments
+
+pub state_of-arguing : (format : Format) (command : Command) (first : List ℕ) (capabilities arguments : List (List ℕ)) → command_form (text first) ≡ Known command
+    → state_of format (arguing first capabilities arguments) ≡ state_at format (InArguments command) (map text capabilities) (map text arguments)
+unfolding capability_texts argument_texts
+state_of-arguing format command first capabilities arguments is =
+    let at = after_first first command is in
+    same_at format
+    (ap (λ (place : Place). place_after next_place place (map Data capabilities ++ Delim ∷ map Data arguments)) at ∙ place-arguing command capabilities arguments)
+    (ap (λ (place : Place). collected next_place capability_there place (map Data capabilities ++ Delim ∷ map Data arguments)) at ∙ capabilities-arguing command capabilities arguments)
+    (ap (λ (place : Place). collected next_place argument_there place (map Data capabilities ++ Delim ∷ map Data arguments)) at ∙ arguments-arguing command capabilities arguments)
+
+-- ---- what an open request is
+
+pub record IsListed (format : Format) (front : List Packet) : Type 0 where
+  pub command : Command
+  pub first : List ℕ
+  pub capabilities : List (List ℕ)
+  pub parts : front ≡ listing first capabilities
+  pub is_command : command_form (text first) ≡ Known command
+  pub are_capabilities : AreCapabilities format (map text capabilities)
+
+pub record IsArgued (format : Format) (front : List Packet) : Type 0 where
+  pub command : Command
+  pub first : List ℕ
+  pub capabilities : List (List ℕ)
+  pub arguments : List (List ℕ)
+  pub parts : front ≡ arguing first capabilities arguments
+  pub is_command : command_form (text first) ≡ Known command
+  pub are_capabilities : AreCapabilities format (map text capabilities)
+  pub named : NamesFormat format (map text capabilities)
+  pub are_arguments : AreArguments format command (map text arguments)
+
+abbrev pub Shape : Format → List Packet → Type 0
+Shape format front = (front ≡ []) ⊎ (IsListed format front ⊎ IsArgued format front)
+
+pub listed_state : (format : Format) (front : List Packet) (h : IsListed format front) → state_of format front ≡ state_at format (InCapabilities h.command) (map text h.capabilities) []
+listed_state format front h = ap (state_of format) h.parts ∙ state_of-listing format h.command h.first h.capabilities h.is_command
+
+pub argued_state : (format : Format) (front : List Packet) (h : IsArgued format front) → state_of format front ≡ state_at format (InArguments h.command) (map text h.capabilities) (map text h.arguments)
+argued_state format front h = ap (state_of format) h.parts ∙ state_of-arguing format h.command h.first h.capabilities h.arguments h.is_command
+
+-- the verdict by an equal state
+verdict_at : (format : Format) (front : List Packet) (packet : Packet) (state : State) → state_of format front ≡ state → judge format front packet ≡ Open → judge_at format state packet ≡ Open
+verdict_at format front packet state is goes = ap (λ (s : State). judge_at format s packet) (sym is) ∙ goes
+
+first_push : (format : Format) (packet : Packet) → judge format [] packet ≡ Open → Shape format (packet ∷ [])
+unfolding capability_texts argument_texts
+first_push format (Data payload) goes =
+    let h = known_command (command_form (text payload)) (text-open format (state_of format []) payload goes) in
+    inr (inl (record { command = h.0; first = payload; capabilities = []; parts = refl; is_command = h.1; are_capabilities = AreCapabilities-nil format }))
+first_push format Flush goes = absurd (flush-never_open format (state_of format []) goes)
+first_push format Delim goes = absurd (let refuses = sym (judge-delim format (state_of format [])) ∙ goes in cc)
+first_push format ResponseEnd goes = absurd (response_end-never_open format (state_of format []) goes)
+
+listed_push : (format : Format) (front : List Packet) (packet : Packet) → IsListed format front → judge format front packet ≡ Open → Shape format (front ++ packet ∷ [])
+listed_push format front (Data payload) h goes =
+    let state = state_at format (InCapabilities h.command) (map text h.capabilities) [] in
+    let takes : TakesCapability format h.command (map text h.capabilities) [] (capability_form (text payload)) = text-open format state payload (verdict_at format front (Data payload) state (listed_state format front h) goes) in
+    inr (inl (record {
+      command = h.command;
+      first = h.first;
+      capabilities = h.capabilities ++ payload ∷ [];
+      parts = ap (λ (xs : List Packet). xs ++ Data payload ∷ []) h.parts ∙ listing-push h.first h.capabilities payload;
+      is_command = h.is_command;
+      are_capabilities = subst (AreCapabilities format) (sym (map_push text h.capabilities payload)) (AreCapabilities-push format h.command (map text h.capabilities) [] (text payload) h.are_capabilities takes);
+    }))
+listed_push format front Flush h goes = absurd (flush-never_open format (state_of format front) goes)
+listed_push format front Delim h goes =
+    let state = state_at format (InCapabilities h.command) (map text h.capabilities) [] in
+    let ends = sym (judge-delim format state) ∙ verdict_at format front Delim state (listed_state format front h) goes in
+    inr (inr (record {
+      command = h.command;
+      first = h.first;
+      capabilities = h.capabilities;
+      arguments = [];
+      parts = ap (λ (xs : List Packet). xs ++ Delim ∷ []) h.parts;
+      is_command = h.is_command;
+      are_capabilities = h.are_capabilities;
+      named = names_format format h.command (map text h.capabilities) [] Open (λ why e. cc) h.are_capabilities.one_format ends;
+      are_arguments = AreArguments-nil format h.command;
+    }))
+listed_push format front ResponseEnd h goes = absurd (response_end-never_open format (state_of format front) goes)
+
+argued_push : (format : Format) (front : List Packet) (packet : Packet) → IsArgued format front → judge format front packet ≡ Open → Shape format (front ++ packet ∷ [])
+argued_push format front (Data payload) h goes =
+    let state = state_at format (InArguments h.command) (map text h.capabilities) (map text h.arguments) in
+    let takes : TakesArgument format h.command (map text h.capabilities) (map text h.arguments) (text payload) = text-open format state payload (verdict_at format front (Data payload) state (argued_state format front h) goes) in
+    inr (inr (record {
+      command = h.command;
+      first = h.first;
+      capabilities = h.capabilities;
+      arguments = h.arguments ++ payload ∷ [];
+      parts = ap (λ (xs : List Packet). xs ++ Data payload ∷ []) h.parts ∙ arguing-push h.first h.capabilities h.arguments payload;
+      is_command = h.is_command;
+      are_capabilities = h.are_capabilities;
+      named = h.named;
+      are_arguments = subst (AreArguments format h.command) (sym (map_push text h.arguments payload)) (AreArguments-push format h.command (map text h.capabilities) (map text h.arguments) (text payload) h.are_arguments takes);
+    }))
+argued_push format front Flush h goes = absurd (flush-never_open format (state_of format front) goes)
+argued_push format front Delim h goes =
+    let state = state_at format (InArguments h.command) (map text h.capabilities) (map text h.arguments) in
+    absurd (let refuses = sym (judge-delim format state) ∙ verdict_at format front Delim state (argued_state format front h) goes in cc)
+argued_push format front ResponseEnd h goes = absurd (response_end-never_open format (state_of format front) goes)
+
+shape_push : (format : Format) (front : List Packet) (packet : Packet) → Shape format front → judge format front packet ≡ Open → Shape format (front ++ packet ∷ [])
+shape_push format front packet (inl e) goes =
+    subst (λ (xs : List Packet). Shape format (xs ++ packet ∷ [])) (sym e) (first_push format packet (ap (λ (xs : List Packet). judge format xs packet) (sym e) ∙ goes))
+shape_push format front packet (inr (inl h)) goes = listed_push format front packet h goes
+shape_push format front packet (inr (inr h)) goes = argued_push format front packet h goes
+
+-- an open list is one of these
+pub shape_of_open : ((j : Judge) → LawsOf j) → (format : Format) (front : List Packet) → IsOpen (judge format) front → Shape format front
+shape_of_open laws format front =
+    by_pushes (λ (xs : List Packet). IsOpen (judge format) xs → Shape format xs)
+    (λ xs x before opened. shape_push format xs x (before ((laws (judge format)).front xs (x ∷ []) opened)) (opened.each xs x [] refl)) [] front (λ _. inl refl)
+
+-- ---- and each of these is open
+
+verdict_from : (format : Format) (front : List Packet) (packet : Packet) (state : State) → state_of format front ≡ state → judge_at format state packet ≡ Open → judge format front packet ≡ Open
+verdict_from format front packet state is goes = ap (λ (s : State). judge_at format s packet) is ∙ goes
+
+first_open : (format : Format) (command : Command) (first : List ℕ) → text first ≡ codes "command=" ++ command_name command → judge format [] (Data first) ≡ Open
+unfolding capability_texts argument_texts
+first_open format command first is =
+    open-text format (state_of format []) first (no_error first (command_no_error (text first) command is))
+    (ap judge_command (command_form-line (text first) command is))
+
+pub listing-is_open : ((j : Judge) → LawsOf j) → (format : Format) (command : Command) (first : List ℕ) (capabilities : List (List ℕ)) → text first ≡ codes "command=" ++ command_name command
+    → AreCapabilities format (map text capabilities) → IsOpen (judge format) (listing first capabilities)
+listing-is_open laws format command first capabilities is =
+    let start : IsOpen (judge format) (listing first []) = (laws (judge format)).goes_on [] (Data first) (laws (judge format)).nothing (first_open format command first is) in
+    by_pushes (λ (xs : List (List ℕ)). AreCapabilities format (map text xs) → IsOpen (judge format) (listing first xs)) (step laws format command first is) [] capabilities (λ _. start)
+  where
+    step : ((j : Judge) → LawsOf j) → (format : Format) (command : Command) (first : List ℕ) → text first ≡ codes "command=" ++ command_name command → (xs : List (List ℕ)) (x : List ℕ)
+        → (AreCapabilities format (map text xs) → IsOpen (judge format) (listing first xs)) → AreCapabilities format (map text (xs ++ x ∷ [])) → IsOpen (judge format) (listing first (xs ++ x ∷ []))
+    step laws format command first is xs x before h =
+        let all = subst (AreCapabilities format) (map_push text xs x) h in
+        let parts = AreCapabilities-parts format command (map text xs) [] (text x) all in
+        let last = (All-parts (λ line. IsCapability format (capability_form line)) (map text xs) (text x) all.are).1 in
+        let state = state_at format (InCapabilities command) (map text xs) [] in
+        let goes : judge format (listing first xs) (Data x) ≡ Open =
+        verdict_from format (listing first xs) (Data x) state (state_of-listing format command first xs (command_form-line (text first) command is))
+        (open-text format state x (no_error x (λ rest. capability_no_error format (text x) rest last)) parts.1) in
+        subst (IsOpen (judge format)) (listing-push first xs x) ((laws (judge format)).goes_on (listing first xs) (Data x) (before parts.0) goes)
+
+pub arguing-is_open : ((j : Judge) → LawsOf j) → (format : Format) (command : Command) (first : List ℕ) (capabilities arguments : List (List ℕ)) → text first ≡ codes "command=" ++ command_name command
+    → AreCapabilities format (map text capabilities) → NamesFormat format (map text capabilities) → AreArguments format command (map text arguments)
+    → IsOpen (judge format) (arguing first capabilities arguments)
+arguing-is_open laws format command first capabilities arguments is are named =
+    let known = command_form-line (text first) command is in
+    let state = state_at format (InCapabilities command) (map text capabilities) [] in
+    let delimited : judge format (listing first capabilities) Delim ≡ Open =
+    verdict_from format (listing first capabilities) Delim state (state_of-listing format command first capabilities known)
+    (judge-delim format state ∙ named-taken format command (map text capabilities) [] Open named) in
+    let start : IsOpen (judge format) (arguing first capabilities []) =
+    (laws (judge format)).goes_on (listing first capabilities) Delim (listing-is_open laws format command first capabilities is are) delimited in
+    by_pushes (λ (xs : List (List ℕ)). AreArguments format command (map text xs) → IsOpen (judge format) (arguing first capabilities xs)) (step laws format command first capabilities known) [] arguments (λ _. start)
+  where
+    step : ((j : Judge) → LawsOf j) → (format : Format) (command : Command) (first : List ℕ) (capabilities : List (List ℕ)) → command_form (text first) ≡ Known command → (xs : List (List ℕ)) (x : List ℕ)
+        → (AreArguments format command (map text xs) → IsOpen (judge format) (arguing first capabilities xs))
+        → AreArguments format command (map text (xs ++ x ∷ [])) → IsOpen (judge format) (arguing first capabilities (xs ++ x ∷ []))
+    step laws format command first capabilities known xs x before h =
+        let all = subst (AreArguments format command) (map_push text xs x) h in
+        let parts = AreArguments-parts format command (map text capabilities) (map text xs) (text x) all in
+        let last = (All-parts (IsArgument format command) (map text xs) (text x) all.are).1 in
+        let state = state_at format (InArguments command) (map text capabilities) (map text xs) in
+        let goes : judge format (arguing first capabilities xs) (Data x) ≡ Open =
+        verdict_from format (arguing first capabilities xs) (Data x) state (state_of-arguing format command first capabilities xs known)
+        (open-text format state x (no_error x (λ rest. argument_no_error format command (text x) rest last)) parts.1) in
+        subst (IsOpen (judge format)) (arguing-push first capabilities xs x) ((laws (judge format)).goes_on (arguing first capabilities xs) (Data x) (before parts.0) goes)
+
+-- ---- how long it gets
+
+length-listing : (first : List ℕ) (capabilities : List (List ℕ)) → length (listing first capabilities) ≡ suc (length capabilities)
+length-listing first capabilities = ap suc (length-map capabilities Data)
+
+length-arguing : (first : List ℕ) (capabilities arguments : List (List ℕ)) → length (arguing first capabilities arguments) ≡ length capabilities + length arguments + 2
+length-arguing first capabilities arguments =
+    let e = length-append (map Data capabilities) (Delim ∷ map Data arguments) in
+    omega (arith, length-map capabilities Data, length-map arguments Data)
+
+-- a command, two capabilities, a delimiter and the arguments at most
+bounded : (format : Format) (front : List Packet) → Shape format front → length front ≤ max_arguments + 4
+bounded format front (inl e) = let none : length front ≡ 0 = ap length e in omega arith
+bounded format front (inr (inl h)) =
+    let long : length front ≡ suc (length h.capabilities) = ap length h.parts ∙ length-listing h.first h.capabilities in
+    omega (arith, few_capabilities format (map text h.capabilities) h.are_capabilities, length-map h.capabilities text)
+bounded format front (inr (inr h)) =
+    let long : length front ≡ length h.capabilities + length h.arguments + 2 = ap length h.parts ∙ length-arguing h.first h.capabilities h.arguments in
+    let few = h.are_arguments.room in
+    omega (arith, few_capabilities format (map text h.capabilities) h.are_capabilities, length-map h.capabilities text, length-map h.arguments text)
+
+pub open_is_bounded : ((j : Judge) → LawsOf j) → (format : Format) (front : List Packet) → IsOpen (judge format) front → length front ≤ max_arguments + 4
+open_is_bounded laws format front opened = bounded format front (shape_of_open laws format front opened)

@@ -1,0 +1,72 @@
+-- The lines that are still to be written of a request.
+use Rattle.std.proofs.Common.{◌≡◌, ℕ, ◌+◌, ◌<◌, ◌≤◌, Bool, List, [], ◌∷◌, ◌++◌, length, map, drop, get_or, codes, Option, Some, None, sym, ap, ◌∙◌, suc, add-one, append_assoc}
+use Rattle.std.proofs.Math.Seq.{drop-cons}
+use Rattle.std.proofs.lemmas.Bool.{and_parts, leb-true}
+use Rattle.std.specs.Prelude.{IsTrue}
+use Rattle.gpkt.specs.Packets.{Packet, Delim, Flush}
+use Rattle.gname.specs.declared.formats.Format.{Format}
+use Rattle.ggrammar.specs.Capabilities.{is_word_value, has_length, max_capability}
+use Rattle.grequest.specs.declared.command.Command.{Command}
+use Rattle.grequest.specs.RequestWriting.{command_packet, command_packets, agent_packets, format_packets, flag_packets, prefix_packet, id_packet, ls_argument_packets, fetch_argument_packets}
+use Rattle.grequest.specs.Asked.{LsRefsAsked, FetchAsked}
+use Rattle.grequest.specs.WellFormed.{IsAgent}
+
+-- ---- the next of some lines
+
+module _ {X : Type 0} (line : X → Packet) where
+  pub coming_next : (values : List X) (at : ℕ) (value : X) → at < length values → value ≡ get_or values at value
+      → map line (drop at values) ≡ line value ∷ map line (drop (at + 1) values)
+  coming_next values at value inside is =
+      rw add-one (ap (map line) (drop-cons values at value inside ∙ ap (λ (x : X). x ∷ drop (suc at) values) (sym is)))
+
+  pub list_first : (values lent : List X) (rest : List Packet) → lent ≡ values → map line values ++ rest ≡ map line lent ++ rest
+  list_first values lent rest is = ap (λ xs. map line xs ++ rest) (sym is)
+
+pub flag_first : (word : List ℕ) (is_set lent : Bool) (rest : List Packet) → lent ≡ is_set → flag_packets word is_set ++ rest ≡ flag_packets word lent ++ rest
+flag_first word is_set lent rest is = ap (λ (b : Bool). flag_packets word b ++ rest) (sym is)
+
+-- ---- the arguments one after the other
+
+four : (a b c d e : List Packet) → (((a ++ b) ++ c) ++ d) ++ e ≡ a ++ (b ++ (c ++ (d ++ e)))
+four a b c d e = simp append_assoc
+
+seven : (a b c d e f g h : List Packet) → ((((((a ++ b) ++ c) ++ d) ++ e) ++ f) ++ g) ++ h ≡ a ++ (b ++ (c ++ (d ++ (e ++ (f ++ (g ++ h))))))
+seven a b c d e f g h = simp append_assoc
+
+pub ls_arguments_first : (asked : LsRefsAsked) → ls_argument_packets asked ++ Flush ∷ []
+    ≡ flag_packets (codes "peel") asked.peel ++ (flag_packets (codes "symrefs") asked.symrefs ++ (flag_packets (codes "unborn") asked.unborn
+    ++ (map prefix_packet asked.prefixes ++ Flush ∷ [])))
+ls_arguments_first asked =
+    four (flag_packets (codes "peel") asked.peel) (flag_packets (codes "symrefs") asked.symrefs) (flag_packets (codes "unborn") asked.unborn)
+    (map prefix_packet asked.prefixes) (Flush ∷ [])
+
+pub fetch_arguments_first : (asked : FetchAsked) → fetch_argument_packets asked ++ Flush ∷ []
+    ≡ flag_packets (codes "thin-pack") asked.thin_pack ++ (flag_packets (codes "no-progress") asked.no_progress
+    ++ (flag_packets (codes "include-tag") asked.include_tag ++ (flag_packets (codes "ofs-delta") asked.ofs_delta
+    ++ (map (id_packet (codes "want ")) asked.wants ++ (map (id_packet (codes "have ")) asked.haves ++ (flag_packets (codes "done") asked.done ++ Flush ∷ []))))))
+fetch_arguments_first asked =
+    seven (flag_packets (codes "thin-pack") asked.thin_pack) (flag_packets (codes "no-progress") asked.no_progress)
+    (flag_packets (codes "include-tag") asked.include_tag) (flag_packets (codes "ofs-delta") asked.ofs_delta)
+    (map (id_packet (codes "want ")) asked.wants) (map (id_packet (codes "have ")) asked.haves) (flag_packets (codes "done") asked.done) (Flush ∷ [])
+
+-- ---- before the arguments
+
+pub head_first : (format : Format) (command : Command) (agent lent : Option (List ℕ)) (arguments rest : List Packet) → lent ≡ agent
+    → arguments ++ Flush ∷ [] ≡ rest
+    → command_packets format command agent arguments ≡ (command_packet command ∷ (agent_packets lent ++ format_packets format ++ Delim ∷ [])) ++ rest
+head_first format command agent lent arguments rest is flat =
+    ap (λ (a : Option (List ℕ)). command_packets format command a arguments) (sym is)
+    ∙ ap (λ (xs : List Packet). command_packet command ∷ xs)
+    (ap (λ (xs : List Packet). (agent_packets lent ++ format_packets format) ++ Delim ∷ xs) flat
+    ∙ sym (append_assoc (agent_packets lent ++ format_packets format) (Delim ∷ []) rest))
+
+-- an agent fits a line
+word_is_short : (value : List ℕ) → IsTrue (is_word_value value) → length value ≤ max_capability
+unfolding is_word_value
+word_is_short value word =
+    let long = (and_parts (has_length value) _ word).0 in
+    leb-true (length value) max_capability (and_parts _ _ long).1
+
+pub agent_is_short : (agent : Option (List ℕ)) (value : List ℕ) → IsAgent agent → agent ≡ Some value → length value ≤ max_capability
+agent_is_short None value word is = cc
+agent_is_short (Some other) value word is = rw (let same : value ≡ other = cc in same) (word_is_short other word)

@@ -1,0 +1,5 @@
+use Rattle.grequest.proofs.ManualRequests.{manual_from_judge, judge_from_manual}
+use Rattle.grequest.proofs.laws.manual.Goals as goal
+
+pub returns : goal.returns
+returns c = λ format lines asked. (manual_from_judge c.grammars_are_exact.ensures format lines asked, judge_from_manual c.grammars_are_exact.ensures format lines asked)

@@ -1,0 +1,84 @@
+-- What a client may send, in the words of gitprotocol-v2(5):
+--
+--   request = empty-request | command-request
+--   empty-request = flush-pkt
+--   command-request = command capability-list delim-pkt command-args flush-pkt
+--
+-- The delimiter may be left out where there are no arguments. Each part is a list of payloads, and a payload's
+-- text is the payload without one line feed at its end. The format is that of the repository's objects.
+use Rattle.std.specs.Prelude.{◌≡◌, ℕ, ◌≤◌, ◌⊎◌, List, [], ◌∷◌, ◌++◌, length, map, codes, All, None}
+use Rattle.gpkt.specs.Packets.{Packet, Data, Flush, Delim, text}
+use Rattle.gname.specs.Names.{prefix_fault}
+use Rattle.gname.specs.Formats.{format_name}
+use Rattle.gname.specs.declared.formats.Format.{Format}
+use Rattle.gname.specs.declared.formats.Format.TheVariants.{Sha1, Sha256}
+use Rattle.ggrammar.specs.Ids.{id_of_text}
+use Rattle.grequest.specs.declared.command.Command.{Command}
+use Rattle.grequest.specs.declared.command.Command.TheVariants.{LsRefs, Fetch}
+use Rattle.grequest.specs.Arguments.{command_name, CapabilityForm, Agent, ObjectFormat}
+use Rattle.grequest.specs.Arguments.{OtherCapability, BadCapability, capability_form, LsArgument}
+use Rattle.grequest.specs.Arguments.{RefPrefix, UnknownLsArgument, ls_argument, FetchArgument, Want, Have}
+use Rattle.grequest.specs.Arguments.{UnknownFetchArgument, fetch_argument}
+use Rattle.grequest.specs.Asked.{Asked, Empty, max_prefixes, max_wants, max_haves, max_arguments}
+use Rattle.grequest.specs.RequestLines.{agents, formats, prefixes, wants, haves, asked_by}
+use Rattle.std.specs.Option.{IsSome}
+
+-- a client may say who it is, and has to name the object format unless it is sha1
+abbrev pub IsCapability : Format → CapabilityForm → Type 0
+IsCapability format (Agent value) = Unit {0}
+IsCapability format (ObjectFormat value) = value ≡ format_name format
+IsCapability format OtherCapability = ⊥
+IsCapability format BadCapability = ⊥
+
+abbrev pub NamesFormat : Format → List (List ℕ) → Type 0
+NamesFormat Sha1 capabilities = length (formats capabilities) ≤ 1
+NamesFormat Sha256 capabilities = length (formats capabilities) ≡ 1
+
+-- an argument of ls-refs
+abbrev pub IsLsArgument : LsArgument → Type 0
+IsLsArgument (RefPrefix prefix) = prefix_fault prefix ≡ None
+IsLsArgument UnknownLsArgument = ⊥
+IsLsArgument _ = Unit {0}
+
+-- an argument of fetch
+abbrev pub IsFetchArgument : Format → FetchArgument → Type 0
+IsFetchArgument format (Want id) = IsSome (id_of_text format id)
+IsFetchArgument format (Have id) = IsSome (id_of_text format id)
+IsFetchArgument format UnknownFetchArgument = ⊥
+IsFetchArgument format _ = Unit {0}
+
+abbrev pub IsArgument : Format → Command → List ℕ → Type 0
+IsArgument format LsRefs line = IsLsArgument (ls_argument line)
+IsArgument format Fetch line = IsFetchArgument format (fetch_argument line)
+
+-- so many prefixes, wants and haves at most
+abbrev pub AreFew : Format → Command → List (List ℕ) → Type 0
+AreFew format LsRefs arguments = length (prefixes arguments) ≤ max_prefixes
+AreFew format Fetch arguments =
+    (length (wants format arguments) ≤ max_wants) × (length (haves format arguments) ≤ max_haves)
+
+-- the arguments' section, which may be left out where there are none
+abbrev pub IsSection : List (List ℕ) → List Packet → Type 0
+IsSection arguments packets = (packets ≡ Delim ∷ map Data arguments) ⊎ ((arguments ≡ []) × (packets ≡ []))
+
+-- the lines are a command with its capabilities and arguments, and ask this
+pub record IsCommandRequest (format : Format) (lines : List Packet) (asked : Asked) : Type 0 where
+  pub command : Command
+  pub first : List ℕ
+  pub capabilities : List (List ℕ)
+  pub arguments : List (List ℕ)
+  pub section : List Packet
+  pub parts : lines ≡ Data first ∷ (map Data capabilities ++ section ++ Flush ∷ [])
+  pub separated : IsSection arguments section
+  pub is_command : text first ≡ codes "command=" ++ command_name command
+  pub are_capabilities : All (λ line. IsCapability format (capability_form line)) (map text capabilities)
+  pub are_arguments : All (IsArgument format command) (map text arguments)
+  pub one_agent : length (agents (map text capabilities)) ≤ 1
+  pub one_format : NamesFormat format (map text capabilities)
+  pub few : AreFew format command (map text arguments)
+  pub few_arguments : length arguments ≤ max_arguments
+  pub asks : asked ≡ asked_by format command (map text capabilities) (map text arguments)
+
+-- the lines are a request, and ask this
+abbrev pub IsRequest : Format → List Packet → Asked → Type 0
+IsRequest format lines asked = ((lines ≡ Flush ∷ []) × (asked ≡ Empty)) ⊎ IsCommandRequest format lines asked

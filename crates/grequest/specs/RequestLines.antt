@@ -1,0 +1,180 @@
+-- What the lines of a request say: where each stands, and what all lines of a kind say together.
+use Rattle.std.specs.Prelude.{true, false}
+use Rattle.std.specs.Prelude.{ℕ, Bool, List, [], ◌∷◌, Option, Some, None}
+use Rattle.std.specs.List.{filter_map, list_any}
+use Rattle.gpkt.specs.Packets.{Packet, Data, Flush, Delim, ResponseEnd, text}
+use Rattle.gname.specs.declared.formats.Format.{Format}
+use Rattle.ggrammar.specs.Ids.{id_of_text}
+use Rattle.ggrammar.specs.Places.{place_after, collected}
+use Rattle.grequest.specs.declared.command.Command.{Command}
+use Rattle.grequest.specs.declared.command.Command.TheVariants.{LsRefs, Fetch}
+use Rattle.grequest.specs.declared.command.CommandForm.{CommandForm}
+use Rattle.grequest.specs.declared.command.CommandForm.TheVariants.{Known, Other as OtherCommand, Bad as BadCommand}
+use Rattle.grequest.specs.Arguments.{command_form, CapabilityForm, Agent, ObjectFormat, capability_form}
+use Rattle.grequest.specs.Arguments.{LsArgument, Symrefs, Peel, Unborn, RefPrefix, ls_argument}
+use Rattle.grequest.specs.Arguments.{FetchArgument, ThinPack, NoProgress, IncludeTag, OfsDelta, Done, Want, Have}
+use Rattle.grequest.specs.Arguments.{fetch_argument}
+use Rattle.grequest.specs.Asked.{LsRefsAsked, FetchAsked, Asked, Empty, Ls, Fetches}
+
+-- ---- where a packet stands
+
+pub data Place : Type 0 where
+  First : Place
+  InCapabilities : (command : Command) → Place
+  InArguments : (command : Command) → Place
+
+-- the place after the first text
+abbrev pub place_of_command : CommandForm → Place
+place_of_command (Known command) = InCapabilities command
+place_of_command OtherCommand = First
+place_of_command BadCommand = First
+
+-- the first text is the command, and a delimiter separates the capabilities from the arguments
+abbrev pub next_place : Place → Packet → Place
+next_place First (Data payload) = place_of_command (command_form (text payload))
+next_place First Flush = First
+next_place First Delim = First
+next_place First ResponseEnd = First
+next_place (InCapabilities command) (Data payload) = InCapabilities command
+next_place (InCapabilities command) Flush = InCapabilities command
+next_place (InCapabilities command) Delim = InArguments command
+next_place (InCapabilities command) ResponseEnd = InCapabilities command
+next_place (InArguments command) packet = InArguments command
+
+-- the place after these lines
+abbrev pub place_of : List Packet → Place
+place_of lines = place_after next_place First lines
+
+-- ---- the texts of the capability list, and of the arguments
+
+abbrev pub capability_there : Place → Packet → List (List ℕ)
+capability_there (InCapabilities command) (Data payload) = text payload ∷ []
+capability_there place packet = []
+
+unfoldable pub capability_texts : List Packet → List (List ℕ)
+capability_texts lines = collected next_place capability_there First lines
+
+abbrev pub argument_there : Place → Packet → List (List ℕ)
+argument_there (InArguments command) (Data payload) = text payload ∷ []
+argument_there place packet = []
+
+unfoldable pub argument_texts : List Packet → List (List ℕ)
+argument_texts lines = collected next_place argument_there First lines
+
+-- ---- what the texts say, each kind in order
+
+abbrev pub agent_value : CapabilityForm → Option (List ℕ)
+agent_value (Agent value) = Some value
+agent_value _ = None
+
+abbrev pub format_value : CapabilityForm → Option (List ℕ)
+format_value (ObjectFormat value) = Some value
+format_value _ = None
+
+abbrev pub agents : List (List ℕ) → List (List ℕ)
+agents texts = filter_map (λ line. agent_value (capability_form line)) texts
+
+abbrev pub formats : List (List ℕ) → List (List ℕ)
+formats texts = filter_map (λ line. format_value (capability_form line)) texts
+
+abbrev pub prefix_value : LsArgument → Option (List ℕ)
+prefix_value (RefPrefix prefix) = Some prefix
+prefix_value _ = None
+
+abbrev pub prefixes : List (List ℕ) → List (List ℕ)
+prefixes texts = filter_map (λ line. prefix_value (ls_argument line)) texts
+
+abbrev pub want_value : Format → FetchArgument → Option (List ℕ)
+want_value format (Want id) = id_of_text format id
+want_value format _ = None
+
+abbrev pub have_value : Format → FetchArgument → Option (List ℕ)
+have_value format (Have id) = id_of_text format id
+have_value format _ = None
+
+abbrev pub wants : Format → List (List ℕ) → List (List ℕ)
+wants format texts = filter_map (λ line. want_value format (fetch_argument line)) texts
+
+abbrev pub haves : Format → List (List ℕ) → List (List ℕ)
+haves format texts = filter_map (λ line. have_value format (fetch_argument line)) texts
+
+-- ---- flags
+
+abbrev pub is_symrefs : LsArgument → Bool
+is_symrefs Symrefs = true
+is_symrefs _ = false
+
+abbrev pub is_peel : LsArgument → Bool
+is_peel Peel = true
+is_peel _ = false
+
+abbrev pub is_unborn : LsArgument → Bool
+is_unborn Unborn = true
+is_unborn _ = false
+
+abbrev pub is_thin_pack : FetchArgument → Bool
+is_thin_pack ThinPack = true
+is_thin_pack _ = false
+
+abbrev pub is_no_progress : FetchArgument → Bool
+is_no_progress NoProgress = true
+is_no_progress _ = false
+
+abbrev pub is_include_tag : FetchArgument → Bool
+is_include_tag IncludeTag = true
+is_include_tag _ = false
+
+abbrev pub is_ofs_delta : FetchArgument → Bool
+is_ofs_delta OfsDelta = true
+is_ofs_delta _ = false
+
+abbrev pub is_done : FetchArgument → Bool
+is_done Done = true
+is_done _ = false
+
+-- an argument of ls-refs, and one of fetch, is among the texts
+abbrev pub has_ls_argument : (LsArgument → Bool) → List (List ℕ) → Bool
+has_ls_argument is_it texts = list_any (λ line. is_it (ls_argument line)) texts
+
+abbrev pub has_fetch_argument : (FetchArgument → Bool) → List (List ℕ) → Bool
+has_fetch_argument is_it texts = list_any (λ line. is_it (fetch_argument line)) texts
+
+abbrev pub first_of : List (List ℕ) → Option (List ℕ)
+first_of [] = None
+first_of (x ∷ xs) = Some x
+
+-- ---- what a request asks, by the texts of its capabilities and of its arguments
+
+abbrev pub ls_refs_asked : List (List ℕ) → List (List ℕ) → LsRefsAsked
+ls_refs_asked capabilities arguments = record {
+  agent = first_of (agents capabilities);
+  symrefs = has_ls_argument is_symrefs arguments;
+  peel = has_ls_argument is_peel arguments;
+  unborn = has_ls_argument is_unborn arguments;
+  prefixes = prefixes arguments;
+}
+
+abbrev pub fetch_asked : Format → List (List ℕ) → List (List ℕ) → FetchAsked
+fetch_asked format capabilities arguments = record {
+  agent = first_of (agents capabilities);
+  wants = wants format arguments;
+  haves = haves format arguments;
+  done = has_fetch_argument is_done arguments;
+  thin_pack = has_fetch_argument is_thin_pack arguments;
+  no_progress = has_fetch_argument is_no_progress arguments;
+  include_tag = has_fetch_argument is_include_tag arguments;
+  ofs_delta = has_fetch_argument is_ofs_delta arguments;
+}
+
+abbrev pub asked_by : Format → Command → List (List ℕ) → List (List ℕ) → Asked
+asked_by format LsRefs capabilities arguments = Ls (ls_refs_asked capabilities arguments)
+asked_by format Fetch capabilities arguments = Fetches (fetch_asked format capabilities arguments)
+
+-- a request without a command is empty
+abbrev pub asked_at : Format → Place → List (List ℕ) → List (List ℕ) → Asked
+asked_at format First capabilities arguments = Empty
+asked_at format (InCapabilities command) capabilities arguments = asked_by format command capabilities arguments
+asked_at format (InArguments command) capabilities arguments = asked_by format command capabilities arguments
+
+abbrev pub asked_of : Format → List Packet → Asked
+asked_of format lines = asked_at format (place_of lines) (capability_texts lines) (argument_texts lines)

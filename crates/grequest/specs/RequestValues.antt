@@ -1,0 +1,21 @@
+-- What a request says, without where it lies in memory.
+use Rattle.std.specs.Prelude.{◌≡◌, Option, Some, None, IfSome}
+use Rattle.gname.specs.declared.formats.Format.{Format}
+use Rattle.grequest.specs.Asked.{Asked, Empty, Ls, Fetches}
+use Rattle.grequest.specs.declared.request.Request.{Request}
+use Rattle.grequest.specs.declared.request.Request.TheVariants as request
+
+abbrev pub asked_by_request : {A : Type 0} → Request A → Asked
+asked_by_request request.Empty = Empty
+asked_by_request (request.Ls asked) = Ls asked
+asked_by_request (request.Fetch fetch) = Fetches fetch.asked
+
+-- the format of the ids that a request may have
+abbrev pub ids_format : {A : Type 0} → Request A → Option Format
+ids_format request.Empty = None
+ids_format (request.Ls asked) = None
+ids_format (request.Fetch fetch) = Some fetch.format
+
+-- its ids are of this format
+abbrev pub IsOfFormat : {A : Type 0} → Format → Request A → Type 0
+IsOfFormat format request = IfSome (ids_format request) (λ other. other ≡ format)

@@ -1,0 +1,67 @@
+-- The lines of a request that are written: each argument that is set, in one order.
+use Rattle.std.specs.Prelude.{ℕ, Bool, true, false, List, [], ◌∷◌, ◌++◌, map, codes, Option, Some, None}
+use Rattle.gpkt.specs.Packets.{Packet, Flush, Delim}
+use Rattle.gname.specs.Ids.{id_text}
+use Rattle.gname.specs.Formats.{format_name}
+use Rattle.gname.specs.declared.formats.Format.{Format}
+use Rattle.gname.specs.declared.formats.Format.TheVariants.{Sha1, Sha256}
+use Rattle.grequest.specs.declared.command.Command.{Command}
+use Rattle.grequest.specs.declared.command.Command.TheVariants.{LsRefs, Fetch}
+use Rattle.grequest.specs.Arguments.{command_name}
+use Rattle.ggrammar.specs.Texts.{text_packet}
+use Rattle.grequest.specs.Asked.{LsRefsAsked, FetchAsked, Asked, Empty, Ls, Fetches}
+
+abbrev pub command_packet : Command → Packet
+command_packet command = text_packet (codes "command=" ++ command_name command)
+
+abbrev pub agent_packets : Option (List ℕ) → List Packet
+agent_packets None = []
+agent_packets (Some value) = text_packet (codes "agent=" ++ value) ∷ []
+
+-- sha1 is assumed where no format is named
+abbrev pub format_packets : Format → List Packet
+format_packets Sha1 = []
+format_packets Sha256 = text_packet (codes "object-format=" ++ format_name Sha256) ∷ []
+
+abbrev pub flag_packets : List ℕ → Bool → List Packet
+flag_packets word false = []
+flag_packets word true = text_packet word ∷ []
+
+abbrev pub prefix_packet : List ℕ → Packet
+prefix_packet prefix = text_packet (codes "ref-prefix " ++ prefix)
+
+-- an id after a word
+abbrev pub id_packet : List ℕ → List ℕ → Packet
+id_packet word id = text_packet (word ++ id_text id)
+
+-- the most bytes of a word before a value
+abbrev pub max_word : ℕ
+max_word = 16
+
+abbrev pub ls_argument_packets : LsRefsAsked → List Packet
+ls_argument_packets asked =
+    flag_packets (codes "peel") asked.peel
+    ++ flag_packets (codes "symrefs") asked.symrefs
+    ++ flag_packets (codes "unborn") asked.unborn
+    ++ map prefix_packet asked.prefixes
+
+abbrev pub fetch_argument_packets : FetchAsked → List Packet
+fetch_argument_packets asked =
+    flag_packets (codes "thin-pack") asked.thin_pack
+    ++ flag_packets (codes "no-progress") asked.no_progress
+    ++ flag_packets (codes "include-tag") asked.include_tag
+    ++ flag_packets (codes "ofs-delta") asked.ofs_delta
+    ++ map (id_packet (codes "want ")) asked.wants
+    ++ map (id_packet (codes "have ")) asked.haves
+    ++ flag_packets (codes "done") asked.done
+
+-- a command, its capabilities, a delimiter, its arguments and a flush
+abbrev pub command_packets : Format → Command → Option (List ℕ) → List Packet → List Packet
+command_packets format command agent arguments =
+    command_packet command ∷ (agent_packets agent ++ format_packets format ++ Delim ∷ (arguments ++ Flush ∷ []))
+
+-- the packets of a request, in the format of the repository's objects
+unfoldable pub canonical_request : Format → Asked → List Packet
+canonical_request format Empty = Flush ∷ []
+canonical_request format (Ls asked) = command_packets format LsRefs asked.agent (ls_argument_packets asked)
+canonical_request format (Fetches asked) = command_packets format Fetch asked.agent (fetch_argument_packets asked)

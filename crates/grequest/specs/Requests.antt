@@ -1,0 +1,164 @@
+-- A request's grammar with its reasons: what is refused at each place, and why. The lines before a packet count
+-- only by what is in `State`.
+use Rattle.std.specs.Prelude.{◌≡◌, ℕ, Bool, true, false, ◌&&◌, List, [], length, if◌then◌else◌, nat_lt, ◌==◌, Option}
+use Rattle.std.specs.Prelude.{None, is_none, is_some}
+use Rattle.gpkt.specs.Packets.{Packet, Data, Flush, Delim, ResponseEnd, text}
+use Rattle.gname.specs.Names.{prefix_fault}
+use Rattle.gname.specs.Formats.{format_name}
+use Rattle.gname.specs.declared.formats.Format.{Format}
+use Rattle.gname.specs.declared.formats.Format.TheVariants.{Sha1, Sha256}
+use Rattle.ggrammar.specs.Grammar.{Verdict, Open, Whole, Refused, IsWhole, if_room}
+use Rattle.ggrammar.specs.Ids.{id_of_text}
+use Rattle.ggrammar.specs.PeerErrors.{judge_unless_error}
+use Rattle.ggrammar.specs.declared.fault.Why.TheVariants as why
+use Rattle.grequest.specs.declared.command.Command.{Command}
+use Rattle.grequest.specs.declared.command.Command.TheVariants.{LsRefs, Fetch}
+use Rattle.grequest.specs.declared.command.CommandForm.{CommandForm}
+use Rattle.grequest.specs.declared.command.CommandForm.TheVariants.{Known, Other as OtherCommand, Bad as BadCommand}
+use Rattle.grequest.specs.Arguments.{command_form}
+use Rattle.grequest.specs.Arguments.{CapabilityForm, Agent, ObjectFormat, OtherCapability, BadCapability}
+use Rattle.grequest.specs.Arguments.{capability_form, LsArgument, RefPrefix, UnknownLsArgument}
+use Rattle.grequest.specs.Arguments.{ls_argument, FetchArgument, Want}
+use Rattle.grequest.specs.Arguments.{Have, UnknownFetchArgument, fetch_argument, is_word}
+use Rattle.grequest.specs.Asked.{Asked, Empty, Ls, Fetches, max_prefixes, max_wants, max_haves, max_arguments}
+use Rattle.grequest.specs.RequestLines.{Place, First, InCapabilities, InArguments, place_of, capability_texts}
+use Rattle.grequest.specs.RequestLines.{argument_texts, formats, asked_of}
+
+-- what the lines so far come to
+pub record State : Type 0 where
+  pub place : Place
+  pub formats : ℕ
+  pub arguments : ℕ
+  pub asked : Asked
+
+abbrev pub state_of : Format → List Packet → State
+state_of format lines = record {
+  place = place_of lines;
+  formats = length (formats (capability_texts lines));
+  arguments = length (argument_texts lines);
+  asked = asked_of format lines;
+}
+
+abbrev pub agent_of : Asked → Option (List ℕ)
+agent_of Empty = None
+agent_of (Ls asked) = asked.agent
+agent_of (Fetches asked) = asked.agent
+
+abbrev pub prefixes_of : Asked → List (List ℕ)
+prefixes_of (Ls asked) = asked.prefixes
+prefixes_of _ = []
+
+abbrev pub wants_of : Asked → List (List ℕ)
+wants_of (Fetches asked) = asked.wants
+wants_of _ = []
+
+abbrev pub haves_of : Asked → List (List ℕ)
+haves_of (Fetches asked) = asked.haves
+haves_of _ = []
+
+-- ---- the tables, a row a case
+
+abbrev pub judge_command : CommandForm → Verdict
+judge_command (Known command) = Open
+judge_command OtherCommand = Refused why.UnknownCommand
+judge_command BadCommand = Refused why.BadText
+
+-- a capability comes once
+abbrev pub once : Bool → Verdict → Verdict
+once is_first verdict = if is_first then verdict else Refused why.BadText
+
+abbrev pub judge_capability : Format → State → CapabilityForm → Verdict
+judge_capability format state (Agent value) = once (is_none (agent_of state.asked)) Open
+judge_capability format state (ObjectFormat value) =
+    once (state.formats == 0) (if is_word (format_name format) value then Open else Refused why.Format)
+judge_capability format state OtherCapability = Refused why.UnknownCapability
+judge_capability format state BadCapability = Refused why.BadText
+
+abbrev pub has_room : State → Bool
+has_room state = nat_lt state.arguments max_arguments
+
+-- a well-formed argument of which only so many are taken, after these
+abbrev pub of_few : State → List (List ℕ) → ℕ → Verdict
+of_few state before limit = if_room (has_room state && nat_lt (length before) limit)
+
+abbrev pub judge_ls_argument : State → LsArgument → Verdict
+judge_ls_argument state (RefPrefix prefix) =
+    if is_none (prefix_fault prefix) then of_few state (prefixes_of state.asked) max_prefixes else Refused why.BadName
+judge_ls_argument state UnknownLsArgument = Refused why.UnknownArgument
+judge_ls_argument state _ = if_room (has_room state)
+
+abbrev pub judge_fetch_argument : Format → State → FetchArgument → Verdict
+judge_fetch_argument format state (Want id) =
+    if is_some (id_of_text format id) then of_few state (wants_of state.asked) max_wants else Refused why.BadId
+judge_fetch_argument format state (Have id) =
+    if is_some (id_of_text format id) then of_few state (haves_of state.asked) max_haves else Refused why.BadId
+judge_fetch_argument format state UnknownFetchArgument = Refused why.UnknownArgument
+judge_fetch_argument format state _ = if_room (has_room state)
+
+abbrev pub judge_argument : Format → Command → State → List ℕ → Verdict
+judge_argument format LsRefs state line = judge_ls_argument state (ls_argument line)
+judge_argument format Fetch state line = judge_fetch_argument format state (fetch_argument line)
+
+abbrev pub judge_text : Format → Place → State → List ℕ → Verdict
+judge_text format First state line = judge_command (command_form line)
+judge_text format (InCapabilities command) state line = judge_capability format state (capability_form line)
+judge_text format (InArguments command) state line = judge_argument format command state line
+
+-- the packet that ends the capabilities comes after the object format, which only sha1 may leave out
+abbrev pub unless_unnamed : Format → State → Verdict → Verdict
+unless_unnamed Sha1 state verdict = verdict
+unless_unnamed Sha256 state verdict = if state.formats == 0 then Refused why.Format else verdict
+
+-- a flush ends the request; a lone one is the empty request
+abbrev pub judge_flush : Format → Place → State → Verdict
+judge_flush format First state = Whole
+judge_flush format (InCapabilities command) state = unless_unnamed format state Whole
+judge_flush format (InArguments command) state = Whole
+
+abbrev pub judge_delim : Format → Place → State → Verdict
+judge_delim format First state = Refused why.UnexpectedFrame
+judge_delim format (InCapabilities command) state = unless_unnamed format state Open
+judge_delim format (InArguments command) state = Refused why.UnexpectedFrame
+
+unfoldable pub judge_at : Format → State → Packet → Verdict
+judge_at format state (Data payload) =
+    judge_unless_error (λ bytes. judge_text format state.place state (text bytes)) payload
+judge_at format state Flush = judge_flush format state.place state
+judge_at format state Delim = judge_delim format state.place state
+judge_at format state ResponseEnd = Refused why.UnexpectedFrame
+
+abbrev pub judge : Format → List Packet → Packet → Verdict
+judge format lines packet = judge_at format (state_of format lines) packet
+
+-- ---- what brings something to keep
+
+abbrev pub capability_brings : CapabilityForm → Bool
+capability_brings (Agent value) = true
+capability_brings _ = false
+
+abbrev pub ls_argument_brings : LsArgument → Bool
+ls_argument_brings (RefPrefix prefix) = true
+ls_argument_brings _ = false
+
+abbrev pub fetch_argument_brings : FetchArgument → Bool
+fetch_argument_brings (Want id) = true
+fetch_argument_brings (Have id) = true
+fetch_argument_brings _ = false
+
+abbrev pub text_brings : Place → List ℕ → Bool
+text_brings First line = false
+text_brings (InCapabilities command) line = capability_brings (capability_form line)
+text_brings (InArguments LsRefs) line = ls_argument_brings (ls_argument line)
+text_brings (InArguments Fetch) line = fetch_argument_brings (fetch_argument line)
+
+-- an agent, a prefix, a want or a have is kept
+abbrev pub brings : List Packet → Packet → Bool
+brings lines (Data payload) = text_brings (place_of lines) (text payload)
+brings lines _ = false
+
+-- ---- what whole lists say
+
+-- the lines are a request, and ask this
+pub record Says (format : Format) (lines : List Packet) (asked : Asked) : Type 0 where
+  pub whole : IsWhole (judge format) lines
+  pub asks : asked ≡ asked_of format lines

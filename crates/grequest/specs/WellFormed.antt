@@ -1,0 +1,31 @@
+-- The requests that can be written.
+use Rattle.std.specs.Prelude.{◌≡◌, ℕ, ◌≤◌, List, length, All, Option, None, IfSome, IsTrue}
+use Rattle.gname.specs.Ids.{IsIdOf}
+use Rattle.gname.specs.Names.{prefix_fault}
+use Rattle.gname.specs.declared.formats.Format.{Format}
+use Rattle.ggrammar.specs.Capabilities.{is_word_value}
+use Rattle.grequest.specs.Asked.{LsRefsAsked, FetchAsked, Asked, Empty, Ls, Fetches, max_prefixes, max_wants, max_haves}
+
+abbrev pub IsAgent : Option (List ℕ) → Type 0
+IsAgent agent = IfSome agent (λ value. IsTrue (is_word_value value))
+
+abbrev pub IsPrefix : List ℕ → Type 0
+IsPrefix prefix = prefix_fault prefix ≡ None
+
+pub record IsLsRefsAsked (asked : LsRefsAsked) : Type 0 where
+  pub agent : IsAgent asked.agent
+  pub prefixes : All IsPrefix asked.prefixes
+  pub few : length asked.prefixes ≤ max_prefixes
+
+pub record IsFetchAsked (format : Format) (asked : FetchAsked) : Type 0 where
+  pub agent : IsAgent asked.agent
+  pub wants : All (IsIdOf format) asked.wants
+  pub haves : All (IsIdOf format) asked.haves
+  pub few_wants : length asked.wants ≤ max_wants
+  pub few_haves : length asked.haves ≤ max_haves
+
+-- what a request can ask of a repository with this format
+abbrev pub IsAsked : Format → Asked → Type 0
+IsAsked format Empty = Unit {0}
+IsAsked format (Ls asked) = IsLsRefsAsked asked
+IsAsked format (Fetches asked) = IsFetchAsked format asked

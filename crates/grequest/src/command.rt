@@ -1,0 +1,60 @@
+//! The commands of requests.
+
+ghost use Rattle.std.specs.Prelude.{◌≡◌};
+ghost use Rattle.std.specs.Option.{option_copied};
+ghost use Rattle.grequest.specs.Arguments.{command_of_key, command_form, command_name};
+
+use ggrammar::{after_word, is_key};
+
+/// A command (gitprotocol-v2(5), "Command Request").
+#[derive(Clone, Copy, Debug, PartialEq, Eq)]
+pub(crate) enum Command {
+    LsRefs,
+    Fetch,
+}
+
+impl Command {
+    /// The word for the command.
+    pub(crate) fn name(self) -> &'static str
+        ensures { result.now ≡ command_name self }
+    {
+        match self {
+            Command::LsRefs => "ls-refs",
+            Command::Fetch => "fetch",
+        }
+    }
+}
+
+/// The first text of a request.
+#[derive(Clone, Copy, Debug, PartialEq, Eq)]
+pub(crate) enum CommandForm {
+    Known(Command),
+    /// `command=` and another key.
+    Other,
+    Bad,
+}
+
+/// What the first text of a request says.
+#[tactic(auto, unfolding(crate::specs::Arguments::command_form))]
+pub(crate) fn command_form(text: &[u8]) -> CommandForm
+    ensures { result ≡ command_form text.now }
+{
+    match after_word(b"command=", text) {
+        Some(key) => command_of_key(key),
+        None => CommandForm::Bad,
+    }
+}
+
+fn command_of_key(key: &[u8]) -> CommandForm
+    ensures { result ≡ command_of_key key.now }
+{
+    if key == b"ls-refs".as_slice() {
+        CommandForm::Known(Command::LsRefs)
+    } else if key == b"fetch".as_slice() {
+        CommandForm::Known(Command::Fetch)
+    } else if is_key(key) {
+        CommandForm::Other
+    } else {
+        CommandForm::Bad
+    }
+}

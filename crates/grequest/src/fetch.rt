@@ -1,0 +1,383 @@
+//! What a request for fetch asks (gitprotocol-v2(5), "fetch").
+
+ghost use Rattle.std.specs.Prelude.{◌≡◌, ◌≤◌, ◌<◌, ◌++◌, ◌∷◌, [], true, length, nat_lt, IfSome, IsTrue, OnOk, OnErr, Some};
+ghost use Rattle.std.specs.Option.{option_copied};
+ghost use Rattle.gname.specs.Ids.{IsIdOf};
+ghost use Rattle.ggrammar.specs.Capabilities.{is_word_value};
+ghost use Rattle.ggrammar.specs.Ids.{id_of_text};
+ghost use Rattle.grequest.specs.Arguments.{Have, Want, fetch_argument};
+ghost use Rattle.grequest.specs.Asked.{max_wants, max_haves, max_arguments};
+ghost use Rattle.grequest.specs.Building.{Builds, Keeps, has_format, no_fetch};
+ghost use Rattle.grequest.specs.Requests.{judge_fetch_argument, fetch_argument_brings};
+ghost use Rattle.grequest.specs.RequestReading.{AddsAs, fetch_state};
+ghost use Rattle.grequest.specs.RequestState.{with_fetch_argument};
+ghost use Rattle.grequest.specs.WellFormed.{IsFetchAsked};
+
+use crate::kept::{NotKept, refused};
+use crate::line::{FetchArgument, fetch_argument};
+use crate::reading::MAX_ARGUMENTS;
+use ggrammar::{MessageFault, Why, id_of_text, is_word_value};
+use gname::laws::texts_have_one_reading;
+use gname::{Format, Oid};
+use std::alloc::{AllocError, Allocator, Global};
+use std::marker::Model;
+
+/// The most objects that a request wants.
+pub const MAX_WANTS: usize = 1_024;
+
+/// The most objects that a client names in a request as those it has.
+pub const MAX_HAVES: usize = 4_096;
+
+/// A request for fetch, whose ids have one format.
+#[derive(Debug, Drop)]
+pub struct FetchRequest<A: Allocator + Copy = Global> {
+    format: Format,
+    agent: Option<Vec<u8, A>>,
+    wants: Vec<Oid, A>,
+    haves: Vec<Oid, A>,
+    done: bool,
+    thin_pack: bool,
+    no_progress: bool,
+    include_tag: bool,
+    ofs_delta: bool,
+}
+
+impl<A: Allocator + Copy> Model for FetchRequest<A> {
+    ghost use Rattle.std.specs.Prelude.{option_map};
+    ghost use Rattle.grequest.specs.Building.{FormattedFetch};
+    ghost use Rattle.grequest.specs.WellFormed.{IsFetchAsked};
+
+    ghost Value = { FormattedFetch };
+
+    ghost view = { λ r. record {
+      format = r.format;
+      asked = record {
+        agent = option_map (λ value. value.items) r.agent;
+        wants = r.wants.items;
+        haves = r.haves.items;
+        done = r.done;
+        thin_pack = r.thin_pack;
+        no_progress = r.no_progress;
+        include_tag = r.include_tag;
+        ofs_delta = r.ofs_delta;
+      };
+    } };
+
+    ghost invariant = { λ r. IsFetchAsked r.format (record {
+      agent = option_map (λ value. value.items) r.agent;
+      wants = r.wants.items;
+      haves = r.haves.items;
+      done = r.done;
+      thin_pack = r.thin_pack;
+      no_progress = r.no_progress;
+      include_tag = r.include_tag;
+      ofs_delta = r.ofs_delta;
+    }) };
+}
+
+impl<A: Allocator + Copy> FetchRequest<A> {
+    /// A request of a repository with this format that wants nothing yet. It takes no memory yet.
+    pub fn new(alloc: A, format: Format) -> FetchRequest<A>
+        ensures { result ≡ record { format = format; asked = no_fetch } }
+    {
+        FetchRequest {
+            format,
+            agent: None,
+            wants: Vec::new(alloc),
+            haves: Vec::new(alloc),
+            done: false,
+            thin_pack: false,
+            no_progress: false,
+            include_tag: false,
+            ofs_delta: false,
+        }
+    }
+
+    /// The format of the ids.
+    pub fn format(&self) -> Format
+        ensures { result ≡ self.now.format }
+    {
+        self.format
+    }
+
+    /// The client's name for itself, 1 to 1,000 bytes from `!` to `~`, where it gave one.
+    pub fn agent(&self) -> Option<&[u8]>
+        ensures agent { option_copied result ≡ self.now.asked.agent }
+        ensures well_formed { IsFetchAsked self.now.format self.now.asked }
+    {
+        self.agent.as_ref().map(|value| value.as_slice())
+    }
+
+    /// The objects that the client wants, at most 1,024, in their order.
+    pub fn wants(&self) -> &[Oid]
+        ensures wants { result.now ≡ self.now.asked.wants }
+        ensures well_formed { IsFetchAsked self.now.format self.now.asked }
+    {
+        self.wants.as_slice()
+    }
+
+    /// The objects that the client has, at most 4,096 of them, in their order.
+    pub fn haves(&self) -> &[Oid]
+        ensures haves { result.now ≡ self.now.asked.haves }
+        ensures well_formed { IsFetchAsked self.now.format self.now.asked }
+    {
+        self.haves.as_slice()
+    }
+
+    /// Whether the reply is to have a pack at once.
+    pub fn done(&self) -> bool
+        ensures { result ≡ self.now.asked.done }
+    {
+        self.done
+    }
+
+    /// Whether the pack may leave out objects on which others are based.
+    pub fn thin_pack(&self) -> bool
+        ensures { result ≡ self.now.asked.thin_pack }
+    {
+        self.thin_pack
+    }
+
+    /// Whether the reply is to report no progress.
+    pub fn no_progress(&self) -> bool
+        ensures { result ≡ self.now.asked.no_progress }
+    {
+        self.no_progress
+    }
+
+    /// Whether the tags are asked for that lead to objects which are sent.
+    pub fn include_tag(&self) -> bool
+        ensures { result ≡ self.now.asked.include_tag }
+    {
+        self.include_tag
+    }
+
+    /// Whether the client reads bases that are given by their place in the pack.
+    pub fn ofs_delta(&self) -> bool
+        ensures { result ≡ self.now.asked.ofs_delta }
+    {
+        self.ofs_delta
+    }
+
+    /// Asks for a pack at once, or not.
+    pub fn set_done(&mut self, done: bool)
+        ensures { self.new ≡ record self.old { asked = record self.old.asked { done = done } } }
+    {
+        self.done = done;
+    }
+
+    /// Allows the pack to leave out objects on which others are based, or not.
+    pub fn set_thin_pack(&mut self, thin_pack: bool)
+        ensures { self.new ≡ record self.old { asked = record self.old.asked { thin_pack = thin_pack } } }
+    {
+        self.thin_pack = thin_pack;
+    }
+
+    /// Asks for no progress, or not.
+    pub fn set_no_progress(&mut self, no_progress: bool)
+        ensures { self.new ≡ record self.old { asked = record self.old.asked { no_progress = no_progress } } }
+    {
+        self.no_progress = no_progress;
+    }
+
+    /// Asks for the tags that lead to objects which are sent, or not.
+    pub fn set_include_tag(&mut self, include_tag: bool)
+        ensures { self.new ≡ record self.old { asked = record self.old.asked { include_tag = include_tag } } }
+    {
+        self.include_tag = include_tag;
+    }
+
+    /// Allows bases that are given by their place in the pack, or not.
+    pub fn set_ofs_delta(&mut self, ofs_delta: bool)
+        ensures { self.new ≡ record self.old { asked = record self.old.asked { ofs_delta = ofs_delta } } }
+    {
+        self.ofs_delta = ofs_delta;
+    }
+
+    /// Says who the client is, in the place of what was said before.
+    ///
+    /// It fails with `BadText` where the name does not have 1 to 1,000 bytes from `!` to `~`, and with
+    /// `Memory`, both at packet 0. Nothing changes then.
+    pub fn set_agent(&mut self, agent: &[u8]) -> Result<(), MessageFault>
+        ensures { Builds (is_word_value agent.now) true self.old self.new
+            (record self.old { asked = record self.old.asked { agent = Some agent.now } }) result }
+    {
+        if !is_word_value(agent) {
+            return Err(refused(Why::BadText));
+        }
+        match self.keep_agent(agent) {
+            Ok(()) => Ok(()),
+            Err(_) => Err(refused(Why::Memory)),
+        }
+    }
+
+    /// Wants an object, too.
+    ///
+    /// It fails with `BadText` where the id has another format than the request, with `Limit` where there
+    /// are 1,024 wants, and with `Memory`, all at packet 0. Nothing changes then.
+    pub fn push_want(&mut self, id: Oid) -> Result<(), MessageFault>
+        ensures { Builds (has_format self.old.format id) (nat_lt (length self.old.asked.wants) max_wants)
+            self.old self.new (record self.old { asked = record self.old.asked { wants = self.old.asked.wants ++ id ∷ [] } }) result }
+    {
+        let has_room = self.wants.len() < MAX_WANTS;
+        match self.keep_want(has_room, id) {
+            Ok(()) => Ok(()),
+            Err(NotKept::WrongForm) => Err(refused(Why::BadText)),
+            Err(NotKept::NoRoom) => Err(refused(Why::Limit)),
+            Err(NotKept::NoMemory) => Err(refused(Why::Memory)),
+        }
+    }
+
+    /// Names an object that the client has, too.
+    ///
+    /// It fails with `BadText` where the id has another format than the request, with `Limit` where there
+    /// are 4,096 haves, and with `Memory`, all at packet 0. Nothing changes then.
+    pub fn push_have(&mut self, id: Oid) -> Result<(), MessageFault>
+        ensures { Builds (has_format self.old.format id) (nat_lt (length self.old.asked.haves) max_haves)
+            self.old self.new (record self.old { asked = record self.old.asked { haves = self.old.asked.haves ++ id ∷ [] } }) result }
+    {
+        let has_room = self.haves.len() < MAX_HAVES;
+        match self.keep_have(has_room, id) {
+            Ok(()) => Ok(()),
+            Err(NotKept::WrongForm) => Err(refused(Why::BadText)),
+            Err(NotKept::NoRoom) => Err(refused(Why::Limit)),
+            Err(NotKept::NoMemory) => Err(refused(Why::Memory)),
+        }
+    }
+
+    // Keeps who the client is.
+    pub(crate) fn keep_agent(&mut self, agent: &[u8]) -> Result<(), AllocError>
+        requires { is_word_value agent.now ≡ true }
+        ensures ok { OnOk result (self.new ≡ record self.old { asked = record self.old.asked { agent = Some agent.now } }) }
+        ensures err { OnErr result (self.new ≡ self.old) }
+    {
+        let agent = Vec::from_slice(*self.wants.allocator(), agent)?;
+        self.agent = Some(agent);
+        Ok(())
+    }
+
+    // Keeps an object that is wanted where there is room for it.
+    fn keep_want(&mut self, has_room: bool, id: Oid) -> Result<(), NotKept>
+        requires { has_room ≡ true → length self.old.asked.wants < max_wants }
+        ensures { Keeps (has_format self.old.format id) has_room
+            self.old self.new (record self.old { asked = record self.old.asked { wants = self.old.asked.wants ++ id ∷ [] } }) result }
+    {
+        if !is_of(self.format, &id) {
+            return Err(NotKept::WrongForm);
+        }
+        if !has_room {
+            return Err(NotKept::NoRoom);
+        }
+        match self.wants.push(id) {
+            Ok(()) => Ok(()),
+            Err(_) => Err(NotKept::NoMemory),
+        }
+    }
+
+    // Keeps an object that the client has where there is room for it.
+    fn keep_have(&mut self, has_room: bool, id: Oid) -> Result<(), NotKept>
+        requires { has_room ≡ true → length self.old.asked.haves < max_haves }
+        ensures { Keeps (has_format self.old.format id) has_room
+            self.old self.new (record self.old { asked = record self.old.asked { haves = self.old.asked.haves ++ id ∷ [] } }) result }
+    {
+        if !is_of(self.format, &id) {
+            return Err(NotKept::WrongForm);
+        }
+        if !has_room {
+            return Err(NotKept::NoRoom);
+        }
+        match self.haves.push(id) {
+            Ok(()) => Ok(()),
+            Err(_) => Err(NotKept::NoMemory),
+        }
+    }
+
+    // Takes an argument that comes after so many others.
+    pub(crate) fn take_argument(&mut self, arguments: u32, text: &[u8]) -> Result<(), Why>
+        ensures adds { AddsAs (judge_fetch_argument self.old.format (fetch_state arguments self.old.asked) (fetch_argument text.now))
+            (fetch_argument_brings (fetch_argument text.now))
+            (self.new ≡ record self.old { asked = with_fetch_argument self.old.format self.old.asked (fetch_argument text.now) }) result }
+        ensures room { OnOk result (arguments < max_arguments) }
+        ensures format { self.new.format ≡ self.old.format }
+    {
+        match fetch_argument(text) {
+            FetchArgument::Want(id) => self.take_want(arguments, id),
+            FetchArgument::Have(id) => self.take_have(arguments, id),
+            FetchArgument::Unknown => Err(Why::UnknownArgument),
+            _ if arguments >= MAX_ARGUMENTS => Err(Why::Limit),
+            FetchArgument::ThinPack => {
+                self.thin_pack = true;
+                Ok(())
+            }
+            FetchArgument::NoProgress => {
+                self.no_progress = true;
+                Ok(())
+            }
+            FetchArgument::IncludeTag => {
+                self.include_tag = true;
+                Ok(())
+            }
+            FetchArgument::OfsDelta => {
+                self.ofs_delta = true;
+                Ok(())
+            }
+            FetchArgument::Done => {
+                self.done = true;
+                Ok(())
+            }
+        }
+    }
+
+    fn take_want(&mut self, arguments: u32, text: &[u8]) -> Result<(), Why>
+        ensures adds { AddsAs (judge_fetch_argument self.old.format (fetch_state arguments self.old.asked) (Want text.now)) true
+            (self.new ≡ record self.old { asked = with_fetch_argument self.old.format self.old.asked (Want text.now) }) result }
+        ensures room { OnOk result (arguments < max_arguments) }
+        ensures format { self.new.format ≡ self.old.format }
+    {
+        let has_room = arguments < MAX_ARGUMENTS && self.wants.len() < MAX_WANTS;
+        match id_in(self.format, text) {
+            None => Err(Why::BadId),
+            Some(id) => match self.keep_want(has_room, id) {
+                Ok(()) => Ok(()),
+                Err(NotKept::WrongForm) => Err(Why::BadId),
+                Err(NotKept::NoRoom) => Err(Why::Limit),
+                Err(NotKept::NoMemory) => Err(Why::Memory),
+            },
+        }
+    }
+
+    fn take_have(&mut self, arguments: u32, text: &[u8]) -> Result<(), Why>
+        ensures adds { AddsAs (judge_fetch_argument self.old.format (fetch_state arguments self.old.asked) (Have text.now)) true
+            (self.new ≡ record self.old { asked = with_fetch_argument self.old.format self.old.asked (Have text.now) }) result }
+        ensures room { OnOk result (arguments < max_arguments) }
+        ensures format { self.new.format ≡ self.old.format }
+    {
+        let has_room = arguments < MAX_ARGUMENTS && self.haves.len() < MAX_HAVES;
+        match id_in(self.format, text) {
+            None => Err(Why::BadId),
+            Some(id) => match self.keep_have(has_room, id) {
+                Ok(()) => Ok(()),
+                Err(NotKept::WrongForm) => Err(Why::BadId),
+                Err(NotKept::NoRoom) => Err(Why::Limit),
+                Err(NotKept::NoMemory) => Err(Why::Memory),
+            },
+        }
+    }
+}
+
+// Whether an id has the format.
+fn is_of(format: Format, id: &Oid) -> bool
+    ensures same { result ≡ has_format format id.now }
+    ensures of_format { IsTrue result → IsIdOf format id.now }
+{
+    id.as_bytes().len() == format.id_length()
+}
+
+// The id of the format that a text spells.
+fn id_in(format: Format, text: &[u8]) -> Option<Oid>
+    ensures id { result ≡ id_of_text format text.now }
+    ensures same { IfSome result (λ id. has_format format id ≡ true) }
+{
+    texts_have_one_reading();
+    id_of_text(format, text)
+}

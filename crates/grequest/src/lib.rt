@@ -1,0 +1,56 @@
+//! Requests of Git's protocol version 2 (gitprotocol-v2(5), "Command Request", "ls-refs" and "fetch"): what a
+//! client asks, built, read and written.
+//!
+//! # Proved
+//!
+//! - [`read_request_in`] reads a request exactly to its end, in whatever pieces its bytes come, and answers
+//!   what its lines say; `None` where the input ends before the first packet. It refuses every other input at
+//!   the first packet that does not fit, with the reason that the grammar has for it (`judge` in
+//!   `specs/Requests.antt`): the peer's error first, then a wrong form, then a limit. Out of memory comes only
+//!   at an agent, a prefix, a want or a have.
+//! - In a repository of SHA-256 ids the object format has to be named, and ids have its format.
+//! - [`LsRefsRequest`] and [`FetchRequest`] keep their forms and limits. A call that would break a form is
+//!   refused with `BadText`, else one that would pass a limit with `Limit`, else one for which there is no
+//!   memory with `Memory`; each at packet 0, and nothing changes then.
+//! - [`write_request`] writes the one list of lines that a request has (`specs/RequestWriting.antt`), or a
+//!   beginning of it where the sink fails, and takes no memory.
+//! - [`laws`]: the requests that are read are those of the manual (`specs/Manual.antt`); a request asks one
+//!   thing; none begins another, and each beginning of one can be ended; the lines that are written ask what
+//!   was asked, and fit packets.
+//!
+//! # Only tested
+//!
+//! That memory which is there is used. The texts of faults, which `ggrammar` has.
+//!
+//! # What a body can still get away with
+//!
+//! A call that keeps something may report out of memory, whatever there is. It may take as long as it likes,
+//! and more memory than it needs. Where the bytes of a source are not known, nothing is said of the lines that
+//! were read; what a device has done is said all the same.
+//!
+//! # Stands on
+//!
+//! `ggrammar` for the reader and the laws that all messages share, `gpkt` for packet lines, `gname` for ids
+//! and prefixes, `hex` for what spells an id; in tests `bumpalo`, for memory that ends.
+#![tactic(auto)]
+
+mod command;
+mod fetch;
+mod kept;
+pub mod laws;
+mod line;
+mod ls_refs;
+mod read;
+mod reading;
+mod request;
+mod section;
+mod write;
+
+pub use crate::fetch::{FetchRequest, MAX_HAVES, MAX_WANTS};
+pub use crate::ls_refs::{LsRefsRequest, MAX_PREFIXES};
+pub use crate::read::{read_request, read_request_in};
+pub use crate::request::Request;
+pub use crate::write::write_request;
+
+#[cfg(test)]
+mod tests;

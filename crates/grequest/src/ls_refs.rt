@@ -1,0 +1,235 @@
+//! What a request for ls-refs asks (gitprotocol-v2(5), "ls-refs").
+
+ghost use Rattle.std.specs.Prelude.{◌≡◌, ◌≤◌, ◌<◌, ◌++◌, ◌∷◌, [], true, length, nat_lt, is_none, IfOk, IfErr, OnOk, OnErr, Some};
+ghost use Rattle.std.specs.Option.{option_copied};
+ghost use Rattle.gname.specs.Names.{prefix_fault};
+ghost use Rattle.ggrammar.specs.Capabilities.{is_word_value};
+ghost use Rattle.grequest.specs.Arguments.{RefPrefix, ls_argument};
+ghost use Rattle.grequest.specs.Asked.{max_prefixes, max_arguments};
+ghost use Rattle.grequest.specs.Building.{Builds, Keeps, no_ls_refs};
+ghost use Rattle.grequest.specs.Requests.{judge_ls_argument, ls_argument_brings};
+ghost use Rattle.grequest.specs.RequestReading.{AddsAs, ls_refs_state};
+ghost use Rattle.grequest.specs.RequestState.{with_ls_argument};
+ghost use Rattle.grequest.specs.WellFormed.{IsLsRefsAsked};
+
+use crate::kept::{NotKept, refused};
+use crate::line::{LsArgument, ls_argument};
+use crate::reading::MAX_ARGUMENTS;
+use ggrammar::{MessageFault, Why, is_word_value};
+use gname::laws::rules_never_report_memory;
+use gname::{NameFault, Prefix};
+use std::alloc::{AllocError, Allocator, Global};
+use std::marker::Model;
+
+/// The most prefixes of a request.
+pub const MAX_PREFIXES: usize = 64;
+
+/// A request for ls-refs.
+#[derive(Debug, Drop)]
+pub struct LsRefsRequest<A: Allocator + Copy = Global> {
+    agent: Option<Vec<u8, A>>,
+    symrefs: bool,
+    peel: bool,
+    unborn: bool,
+    prefixes: Vec<Prefix<A>, A>,
+}
+
+impl<A: Allocator + Copy> Model for LsRefsRequest<A> {
+    ghost use Rattle.std.specs.Prelude.{option_map};
+    ghost use Rattle.grequest.specs.Asked.{LsRefsAsked};
+    ghost use Rattle.grequest.specs.WellFormed.{IsLsRefsAsked};
+
+    ghost Value = { LsRefsAsked };
+
+    ghost view = { λ r. record {
+      agent = option_map (λ value. value.items) r.agent;
+      symrefs = r.symrefs;
+      peel = r.peel;
+      unborn = r.unborn;
+      prefixes = r.prefixes.items;
+    } };
+
+    ghost invariant = { λ r. IsLsRefsAsked (record {
+      agent = option_map (λ value. value.items) r.agent;
+      symrefs = r.symrefs;
+      peel = r.peel;
+      unborn = r.unborn;
+      prefixes = r.prefixes.items;
+    }) };
+}
+
+impl<A: Allocator + Copy> LsRefsRequest<A> {
+    /// A request that asks for every ref, and for nothing more. It takes no memory yet.
+    pub fn new(alloc: A) -> LsRefsRequest<A>
+        ensures { result ≡ no_ls_refs }
+    {
+        LsRefsRequest {
+            agent: None,
+            symrefs: false,
+            peel: false,
+            unborn: false,
+            prefixes: Vec::new(alloc),
+        }
+    }
+
+    /// The client's name for itself, 1 to 1,000 bytes from `!` to `~`, where it gave one.
+    pub fn agent(&self) -> Option<&[u8]>
+        ensures agent { option_copied result ≡ self.now.agent }
+        ensures well_formed { IsLsRefsAsked self.now }
+    {
+        self.agent.as_ref().map(|value| value.as_slice())
+    }
+
+    /// Whether the targets of symbolic refs are asked for.
+    pub fn symrefs(&self) -> bool
+        ensures { result ≡ self.now.symrefs }
+    {
+        self.symrefs
+    }
+
+    /// Whether the objects that tags lead to are asked for.
+    pub fn peel(&self) -> bool
+        ensures { result ≡ self.now.peel }
+    {
+        self.peel
+    }
+
+    /// Whether the target of a `HEAD` is asked for whose ref is not there yet.
+    pub fn unborn(&self) -> bool
+        ensures { result ≡ self.now.unborn }
+    {
+        self.unborn
+    }
+
+    /// What the names may begin with, at most 64 prefixes in their order. Without a prefix every name is
+    /// asked for.
+    pub fn prefixes(&self) -> &[Prefix<A>]
+        ensures prefixes { result.now ≡ self.now.prefixes }
+        ensures well_formed { IsLsRefsAsked self.now }
+    {
+        self.prefixes.as_slice()
+    }
+
+    /// Asks for the targets of symbolic refs, or not.
+    pub fn set_symrefs(&mut self, symrefs: bool)
+        ensures { self.new ≡ record self.old { symrefs = symrefs } }
+    {
+        self.symrefs = symrefs;
+    }
+
+    /// Asks for the objects that tags lead to, or not.
+    pub fn set_peel(&mut self, peel: bool)
+        ensures { self.new ≡ record self.old { peel = peel } }
+    {
+        self.peel = peel;
+    }
+
+    /// Asks for the target of a `HEAD` whose ref is not there yet, or not.
+    pub fn set_unborn(&mut self, unborn: bool)
+        ensures { self.new ≡ record self.old { unborn = unborn } }
+    {
+        self.unborn = unborn;
+    }
+
+    /// Says who the client is, in the place of what was said before.
+    ///
+    /// It fails with `BadText` where the name does not have 1 to 1,000 bytes from `!` to `~`, and with
+    /// `Memory`, both at packet 0. Nothing changes then.
+    pub fn set_agent(&mut self, agent: &[u8]) -> Result<(), MessageFault>
+        ensures { Builds (is_word_value agent.now) true self.old self.new (record self.old { agent = Some agent.now }) result }
+    {
+        if !is_word_value(agent) {
+            return Err(refused(Why::BadText));
+        }
+        match self.keep_agent(agent) {
+            Ok(()) => Ok(()),
+            Err(_) => Err(refused(Why::Memory)),
+        }
+    }
+
+    /// Asks for the names that begin with a prefix, too.
+    ///
+    /// It fails with `BadText` where the text is no prefix of names, with `Limit` where there are 64
+    /// prefixes, and with `Memory`, all at packet 0. Nothing changes then.
+    pub fn push_prefix(&mut self, prefix: &[u8]) -> Result<(), MessageFault>
+        ensures { Builds (is_none (prefix_fault prefix.now)) (nat_lt (length self.old.prefixes) max_prefixes)
+            self.old self.new (record self.old { prefixes = self.old.prefixes ++ prefix.now ∷ [] }) result }
+    {
+        let has_room = self.prefixes.len() < MAX_PREFIXES;
+        match self.keep_prefix(has_room, prefix) {
+            Ok(()) => Ok(()),
+            Err(NotKept::WrongForm) => Err(refused(Why::BadText)),
+            Err(NotKept::NoRoom) => Err(refused(Why::Limit)),
+            Err(NotKept::NoMemory) => Err(refused(Why::Memory)),
+        }
+    }
+
+    // Keeps who the client is.
+    pub(crate) fn keep_agent(&mut self, agent: &[u8]) -> Result<(), AllocError>
+        requires { is_word_value agent.now ≡ true }
+        ensures ok { OnOk result (self.new ≡ record self.old { agent = Some agent.now }) }
+        ensures err { OnErr result (self.new ≡ self.old) }
+    {
+        let agent = Vec::from_slice(*self.prefixes.allocator(), agent)?;
+        self.agent = Some(agent);
+        Ok(())
+    }
+
+    // Keeps a prefix where there is room for it.
+    fn keep_prefix(&mut self, has_room: bool, prefix: &[u8]) -> Result<(), NotKept>
+        requires { has_room ≡ true → length self.old.prefixes < max_prefixes }
+        ensures { Keeps (is_none (prefix_fault prefix.now)) has_room
+            self.old self.new (record self.old { prefixes = self.old.prefixes ++ prefix.now ∷ [] }) result }
+    {
+        rules_never_report_memory();
+        match Prefix::new(*self.prefixes.allocator(), prefix) {
+            Ok(prefix) if has_room => match self.prefixes.push(prefix) {
+                Ok(()) => Ok(()),
+                Err(_) => Err(NotKept::NoMemory),
+            },
+            Err(NameFault::Memory) if has_room => Err(NotKept::NoMemory),
+            Ok(_) | Err(NameFault::Memory) => Err(NotKept::NoRoom),
+            Err(_) => Err(NotKept::WrongForm),
+        }
+    }
+
+    // Takes an argument that comes after so many others.
+    pub(crate) fn take_argument(&mut self, arguments: u32, text: &[u8]) -> Result<(), Why>
+        ensures adds { AddsAs (judge_ls_argument (ls_refs_state arguments self.old) (ls_argument text.now))
+            (ls_argument_brings (ls_argument text.now))
+            (self.new ≡ with_ls_argument self.old (ls_argument text.now)) result }
+        ensures room { OnOk result (arguments < max_arguments) }
+    {
+        match ls_argument(text) {
+            LsArgument::Symrefs if arguments < MAX_ARGUMENTS => {
+                self.symrefs = true;
+                Ok(())
+            }
+            LsArgument::Peel if arguments < MAX_ARGUMENTS => {
+                self.peel = true;
+                Ok(())
+            }
+            LsArgument::Unborn if arguments < MAX_ARGUMENTS => {
+                self.unborn = true;
+                Ok(())
+            }
+            LsArgument::Symrefs | LsArgument::Peel | LsArgument::Unborn => Err(Why::Limit),
+            LsArgument::RefPrefix(prefix) => self.take_prefix(arguments, prefix),
+            LsArgument::Unknown => Err(Why::UnknownArgument),
+        }
+    }
+
+    fn take_prefix(&mut self, arguments: u32, prefix: &[u8]) -> Result<(), Why>
+        ensures adds { AddsAs (judge_ls_argument (ls_refs_state arguments self.old) (RefPrefix prefix.now)) true
+            (self.new ≡ with_ls_argument self.old (RefPrefix prefix.now)) result }
+        ensures room { OnOk result (arguments < max_arguments) }
+    {
+        let has_room = arguments < MAX_ARGUMENTS && self.prefixes.len() < MAX_PREFIXES;
+        match self.keep_prefix(has_room, prefix) {
+            Ok(()) => Ok(()),
+            Err(NotKept::WrongForm) => Err(Why::BadName),
+            Err(NotKept::NoRoom) => Err(Why::Limit),
+            Err(NotKept::NoMemory) => Err(Why::Memory),
+        }
+    }
+}

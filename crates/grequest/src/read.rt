@@ -1,0 +1,73 @@
+//! Reading a request.
+
+ghost use Rattle.std.specs.Prelude.{◌≡◌, ◌<◌, ◌↔◌, [], IsTrue, IfOk, IfErr, IfSome, OnOk, true, false};
+ghost use Rattle.gname.specs.declared.formats.Format.TheVariants.{Sha1};
+ghost use Rattle.gpkt.specs.Change.{change_of};
+ghost use Rattle.ggrammar.specs.MessageReading.{IsReadFailure, IsFailedBy};
+ghost use Rattle.ggrammar.specs.declared.fault.Why.{Why as WhyCases};
+ghost use Rattle.grequest.specs.RequestReading.{ReadsRequest};
+ghost use Rattle.grequest.specs.RequestValues.{asked_by_request, IsOfFormat};
+
+use crate::reading::RequestReader;
+use crate::request::Request;
+use ggrammar::{MessageFault, Why, read_message};
+use gname::Format;
+use gpkt::{LineReader, Source};
+use std::alloc::Allocator;
+
+/// Reads a request of a SHA-1 repository, as [`read_request_in`] does.
+pub fn read_request<S: Source, A: Allocator + Copy, B: Allocator + Copy>(
+    reader: &mut LineReader<S, A>,
+    alloc: B,
+) -> Result<Option<Request<B>>, MessageFault>
+    ensures read { ReadsRequest Sha1 asked_by_request (change_of S.remaining reader.old.source reader.new.source) result }
+    ensures format { IfOk result (λ read. IfSome read (IsOfFormat Sha1)) }
+    ensures loans { S.loans reader.new.source ≡ S.loans reader.old.source }
+    ensures device { IfErr result (λ fault. IsReadFailure reader.old.failed (S.is_down reader.new.source) fault.why) }
+    ensures failed { IfErr result (λ fault. IsFailedBy fault.why reader.new.failed) }
+    ensures goes_on { OnOk result (reader.new.failed ≡ false) }
+    ensures well { OnOk result ((reader.old.failed ≡ false) × (S.is_down reader.new.source ≡ false)) }
+    ensures at_once { reader.old.failed ≡ true → IfErr result (λ fault. fault.frame ≡ 0) }
+    ensures not_ended { IfErr result (λ fault. fault.why ≡ Why.Ended → 0 < fault.frame) }
+{
+    read_request_in(Format::Sha1, reader, alloc)
+}
+
+/// Reads a request to its end, and nothing after it (gitprotocol-v2(5), "Command Request"). The format is
+/// that of the repository's objects. It answers `None` where the input ends before the first packet. After
+/// a request the reader has not failed, and the next one can be read.
+///
+/// The fault has the place of the first packet that does not fit, from 0, and why. What the line reader
+/// refuses comes first ([`Why::Line`]), then the end of the input ([`Why::Ended`], after the first packet
+/// alone), then what the grammar refuses. [`Why::Memory`] comes only at an agent, a prefix, a want or a
+/// have. What was read, a refused packet too, is taken from the source. The line reader has then failed
+/// exactly where the line itself was refused; one that had failed before is refused at once, at packet 0.
+pub fn read_request_in<S: Source, A: Allocator + Copy, B: Allocator + Copy>(
+    format: Format,
+    reader: &mut LineReader<S, A>,
+    alloc: B,
+) -> Result<Option<Request<B>>, MessageFault>
+    ensures read { ReadsRequest format asked_by_request (change_of S.remaining reader.old.source reader.new.source) result }
+    ensures format { IfOk result (λ read. IfSome read (IsOfFormat format)) }
+    ensures loans { S.loans reader.new.source ≡ S.loans reader.old.source }
+    ensures device { IfErr result (λ fault. IsReadFailure reader.old.failed (S.is_down reader.new.source) fault.why) }
+    ensures failed { IfErr result (λ fault. IsFailedBy fault.why reader.new.failed) }
+    ensures goes_on { OnOk result (reader.new.failed ≡ false) }
+    ensures well { OnOk result ((reader.old.failed ≡ false) × (S.is_down reader.new.source ≡ false)) }
+    ensures at_once { reader.old.failed ≡ true → IfErr result (λ fault. fault.frame ≡ 0) }
+    ensures not_ended { IfErr result (λ fault. fault.why ≡ Why.Ended → 0 < fault.frame) }
+{
+    let mut request = RequestReader::new(alloc, format);
+    match read_message(reader, &mut request) {
+        Ok(()) => Ok(Some(request.finish())),
+        Err(fault) if is_missing(&fault) => Ok(None),
+        Err(fault) => Err(fault),
+    }
+}
+
+// Whether the input ended before the first packet.
+fn is_missing(fault: &MessageFault) -> bool
+    ensures { IsTrue result ↔ ((fault.now.frame ≡ 0) × (fault.now.why ≡ Why.Ended)) }
+{
+    fault.frame == 0 && matches!(fault.why, Why::Ended)
+}

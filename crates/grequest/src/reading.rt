@@ -1,0 +1,266 @@
+//! What reading a request keeps of the packets so far.
+
+ghost use Rattle.std.specs.Prelude.{◌≡◌, [], true, false, if◌then◌else◌};
+ghost use Rattle.gpkt.specs.Packets.{packet_of, text};
+ghost use Rattle.ggrammar.specs.Capabilities.{is_word_value};
+ghost use Rattle.ggrammar.specs.PeerErrors.{judge_unless_error};
+ghost use Rattle.ggrammar.specs.Grammar.{Verdict, Refused};
+ghost use Rattle.ggrammar.specs.declared.fault.Why.TheVariants as why;
+ghost use Rattle.grequest.specs.Arguments.{Agent, ObjectFormat, capability_form, command_form};
+ghost use Rattle.grequest.specs.Requests.{brings, capability_brings, judge, judge_at, judge_capability, judge_command, judge_delim, judge_flush, judge_text, state_of, text_brings, unless_unnamed};
+ghost use Rattle.grequest.specs.RequestReading.{HoldsPackets, LeavesNothing, TakesAs, packet_brings};
+ghost use Rattle.grequest.specs.RequestState.{with_capability, with_command, with_delim, with_packet, with_text};
+
+use crate::command::{Command, CommandForm, command_form};
+use crate::fetch::FetchRequest;
+use crate::line::{CapabilityForm, capability_form};
+use crate::ls_refs::LsRefsRequest;
+use crate::request::Request;
+use crate::section::Section;
+use ggrammar::laws::grammars_are_exact;
+use ggrammar::{Message, PeerText, Step, Why, peer_error};
+use gname::Format;
+use gpkt::{Line, text_of};
+use std::alloc::Allocator;
+use std::marker::Model;
+
+/// The most argument lines of a request.
+pub(crate) const MAX_ARGUMENTS: u32 = 4_294_967_295;
+
+/// A request that is being read.
+#[derive(Drop)]
+pub(crate) struct RequestReader<A: Allocator + Copy> {
+    alloc: A,
+    format: Format,
+    section: Section,
+    names_format: bool,
+    arguments: u32,
+    request: Request<A>,
+}
+
+impl<A: Allocator + Copy> Model for RequestReader<A> {
+    ghost use Rattle.grequest.specs.RequestReading.{Reading, one};
+    ghost use Rattle.grequest.specs.RequestValues.{asked_by_request, IsOfFormat};
+    ghost use Rattle.grequest.specs.Sections.{place_in};
+
+    ghost Value = { Reading };
+
+    ghost view = { λ r. record {
+      format = r.format;
+      state = record {
+        place = place_in r.section (asked_by_request r.request);
+        formats = one r.names_format;
+        arguments = r.arguments;
+        asked = asked_by_request r.request;
+      };
+    } };
+
+    ghost invariant = { λ r. IsOfFormat r.format r.request };
+}
+
+impl<A: Allocator + Copy> RequestReader<A> {
+    ghost use Rattle.grequest.specs.RequestValues.{asked_by_request, IsOfFormat};
+
+    /// A request without packets.
+    #[tactic(auto, unfolding(crate::specs::RequestLines::capability_texts, crate::specs::RequestLines::argument_texts))]
+    pub(crate) fn new(alloc: A, format: Format) -> RequestReader<A>
+        ensures { result ≡ record { format = format; state = state_of format [] } }
+    {
+        RequestReader {
+            alloc,
+            format,
+            section: Section::Capabilities,
+            names_format: false,
+            arguments: 0,
+            request: Request::Empty,
+        }
+    }
+
+    /// What the packets asked, once the last is taken.
+    pub(crate) fn finish(self) -> Request<A>
+        ensures asked { asked_by_request result ≡ self.state.asked }
+        ensures format { IsOfFormat self.format result }
+    {
+        let RequestReader { request, .. } = self;
+        request
+    }
+
+    #[tactic(auto, unfolding(crate::specs::Requests::judge_at, crate::specs::RequestState::with_packet))]
+    fn take_packet(&mut self, line: Line<'_>) -> Result<Step, Why>
+        ensures takes { TakesAs (judge_at self.old.format self.old.state (packet_of line.entry)) (packet_brings self.old.state.place (packet_of line.entry))
+            (self.new.state ≡ with_packet self.old.format self.old.state (packet_of line.entry)) result }
+        ensures format { self.new.format ≡ self.old.format }
+    {
+        match line {
+            Line::Data(payload) => self.take_data(payload),
+            Line::Flush => self.take_flush(),
+            Line::Delim => self.take_delim(),
+            Line::ResponseEnd => Err(Why::UnexpectedFrame),
+        }
+    }
+
+    // Takes the flush that ends a request.
+    fn take_flush(&mut self) -> Result<Step, Why>
+        ensures takes { TakesAs (judge_flush self.old.format self.old.state.place self.old.state) false (self.new.state ≡ self.old.state) result }
+        ensures format { self.new.format ≡ self.old.format }
+    {
+        match (&self.request, self.section) {
+            (Request::Ls(_) | Request::Fetch(_), Section::Capabilities) if self.is_unnamed() => Err(
+                Why::Format,
+            ),
+            _ => Ok(Step::Whole),
+        }
+    }
+
+    // Takes the delimiter between the capabilities and the arguments.
+    fn take_delim(&mut self) -> Result<Step, Why>
+        ensures takes { TakesAs (judge_delim self.old.format self.old.state.place self.old.state) false
+            (self.new.state ≡ with_delim self.old.state.place self.old.state) result }
+        ensures format { self.new.format ≡ self.old.format }
+    {
+        match (&self.request, self.section) {
+            (Request::Ls(_) | Request::Fetch(_), Section::Capabilities) if self.is_unnamed() => Err(
+                Why::Format,
+            ),
+            (Request::Ls(_) | Request::Fetch(_), Section::Capabilities) => {
+                self.section = Section::Arguments;
+                Ok(Step::Open)
+            }
+            _ => Err(Why::UnexpectedFrame),
+        }
+    }
+
+    // Whether the object format has to be named and was not.
+    fn is_unnamed(&self) -> bool
+        ensures { (verdict : Verdict) → unless_unnamed self.now.format self.now.state verdict ≡ (if result then Refused why.Format else verdict) }
+    {
+        match self.format {
+            Format::Sha1 => false,
+            Format::Sha256 => !self.names_format,
+        }
+    }
+
+    fn take_data(&mut self, payload: &[u8]) -> Result<Step, Why>
+        ensures takes { TakesAs (judge_unless_error (λ bytes. judge_text self.old.format self.old.state.place self.old.state (text bytes)) payload.now)
+            (text_brings self.old.state.place (text payload.now))
+            (self.new.state ≡ with_text self.old.format self.old.state.place self.old.state (text payload.now)) result }
+        ensures format { self.new.format ≡ self.old.format }
+    {
+        match peer_error(payload) {
+            Some(said) => Err(Why::RemoteErr(PeerText::new(said))),
+            None => self.take_text(text_of(payload)),
+        }
+    }
+
+    fn take_text(&mut self, text: &[u8]) -> Result<Step, Why>
+        ensures takes { TakesAs (judge_text self.old.format self.old.state.place self.old.state text.now) (text_brings self.old.state.place text.now)
+            (self.new.state ≡ with_text self.old.format self.old.state.place self.old.state text.now) result }
+        ensures format { self.new.format ≡ self.old.format }
+    {
+        match (&mut self.request, self.section) {
+            (Request::Empty, _) => self.take_command(text),
+            (Request::Ls(_) | Request::Fetch(_), Section::Capabilities) => self.take_capability(
+                text,
+            ),
+            (Request::Ls(asked), Section::Arguments) => match asked.take_argument(
+                self.arguments,
+                text,
+            ) {
+                Ok(()) => {
+                    self.arguments += 1;
+                    Ok(Step::Open)
+                }
+                Err(why) => Err(why),
+            },
+            (Request::Fetch(asked), Section::Arguments) => match asked.take_argument(
+                self.arguments,
+                text,
+            ) {
+                Ok(()) => {
+                    self.arguments += 1;
+                    Ok(Step::Open)
+                }
+                Err(why) => Err(why),
+            },
+        }
+    }
+
+    fn take_command(&mut self, text: &[u8]) -> Result<Step, Why>
+        ensures takes { TakesAs (judge_command (command_form text.now)) false
+            (self.new.state ≡ with_command self.old.format self.old.state (command_form text.now)) result }
+        ensures format { self.new.format ≡ self.old.format }
+    {
+        self.request = match command_form(text) {
+            CommandForm::Known(Command::LsRefs) => Request::Ls(LsRefsRequest::new(self.alloc)),
+            CommandForm::Known(Command::Fetch) => Request::Fetch(FetchRequest::new(
+                self.alloc,
+                self.format,
+            )),
+            CommandForm::Other => return Err(Why::UnknownCommand),
+            CommandForm::Bad => return Err(Why::BadText),
+        };
+        self.section = Section::Capabilities;
+        Ok(Step::Open)
+    }
+
+    fn take_capability(&mut self, text: &[u8]) -> Result<Step, Why>
+        ensures takes { TakesAs (judge_capability self.old.format self.old.state (capability_form text.now)) (capability_brings (capability_form text.now))
+            (self.new.state ≡ with_capability self.old.state (capability_form text.now)) result }
+        ensures format { self.new.format ≡ self.old.format }
+    {
+        match capability_form(text) {
+            CapabilityForm::Agent(agent) => self.take_agent(agent),
+            CapabilityForm::ObjectFormat(name) => self.take_format(name),
+            CapabilityForm::Other => Err(Why::UnknownCapability),
+            CapabilityForm::Bad => Err(Why::BadText),
+        }
+    }
+
+    fn take_agent(&mut self, agent: &[u8]) -> Result<Step, Why>
+        requires { is_word_value agent.now ≡ true }
+        ensures takes { TakesAs (judge_capability self.old.format self.old.state (Agent agent.now)) true
+            (self.new.state ≡ with_capability self.old.state (Agent agent.now)) result }
+        ensures format { self.new.format ≡ self.old.format }
+    {
+        if self.request.agent().is_some() {
+            return Err(Why::BadText);
+        }
+        match self.request.keep_agent(agent) {
+            Ok(()) => Ok(Step::Open),
+            Err(_) => Err(Why::Memory),
+        }
+    }
+
+    fn take_format(&mut self, name: &[u8]) -> Result<Step, Why>
+        ensures takes { TakesAs (judge_capability self.old.format self.old.state (ObjectFormat name.now)) false
+            (self.new.state ≡ with_capability self.old.state (ObjectFormat name.now)) result }
+        ensures format { self.new.format ≡ self.old.format }
+    {
+        if self.names_format {
+            return Err(Why::BadText);
+        }
+        if name != self.format.name().as_bytes() {
+            return Err(Why::Format);
+        }
+        self.names_format = true;
+        Ok(Step::Open)
+    }
+}
+
+impl<A: Allocator + Copy> Message for RequestReader<A> {
+    ghost judge = { λ reader. judge reader.format };
+
+    ghost brings = { λ reader. brings };
+
+    ghost holds = { HoldsPackets };
+
+    ghost left = { LeavesNothing };
+
+    fn take(&mut self, line: Line<'_>) -> Result<Step, Why> {
+        self.take_packet(line)
+    }
+
+    fn laws() {
+        grammars_are_exact();
+    }
+}

@@ -1,0 +1,51 @@
+//! Requests (gitprotocol-v2(5), "Command Request").
+
+ghost use Rattle.std.specs.Prelude.{◌≡◌, OnOk, OnErr, true};
+ghost use Rattle.std.specs.Option.{option_copied};
+ghost use Rattle.ggrammar.specs.Capabilities.{is_word_value};
+
+use crate::fetch::FetchRequest;
+use crate::ls_refs::LsRefsRequest;
+use std::alloc::{AllocError, Allocator, Global};
+
+/// A request.
+#[derive(Debug, Drop)]
+pub enum Request<A: Allocator + Copy = Global> {
+    /// No command: a lone flush, which ends the conversation.
+    Empty,
+    /// Asks for refs.
+    Ls(LsRefsRequest<A>),
+    /// Asks for objects.
+    Fetch(FetchRequest<A>),
+}
+
+impl<A: Allocator + Copy> Request<A> {
+    ghost use Rattle.grequest.specs.Requests.{agent_of};
+    ghost use Rattle.grequest.specs.RequestState.{with_agent};
+    ghost use Rattle.grequest.specs.Building.{FormattedFetch};
+    ghost use Rattle.grequest.specs.RequestValues.{asked_by_request, ids_format};
+
+    /// The client's name for itself, where it gave one.
+    pub(crate) fn agent(&self) -> Option<&[u8]>
+        ensures { option_copied result ≡ agent_of (asked_by_request self.now) }
+    {
+        match self {
+            Request::Empty => None,
+            Request::Ls(asked) => asked.agent(),
+            Request::Fetch(asked) => asked.agent(),
+        }
+    }
+
+    // Keeps who the client is.
+    pub(crate) fn keep_agent(&mut self, agent: &[u8]) -> Result<(), AllocError>
+        requires { is_word_value agent.now ≡ true }
+        ensures ok { OnOk result (asked_by_request self.new ≡ with_agent agent.now (asked_by_request self.old)) }
+        ensures format { ids_format self.new ≡ ids_format self.old }
+    {
+        match self {
+            Request::Empty => Ok(()),
+            Request::Ls(asked) => asked.keep_agent(agent),
+            Request::Fetch(asked) => asked.keep_agent(agent),
+        }
+    }
+}

@@ -1,0 +1,189 @@
+//! Writing a request.
+
+ghost use Rattle.std.specs.Prelude.{◌≡◌, ◌≢◌, ◌≤◌, ◌++◌, [], ◌∷◌, IfErr, codes, length, map};
+ghost use Rattle.std.specs.Option.{option_copied};
+ghost use Rattle.gpkt.specs.LineWriting.{HasWritten};
+ghost use Rattle.gpkt.specs.Packets.{Delim, canonical_all};
+ghost use Rattle.ggrammar.specs.Capabilities.{max_capability};
+ghost use Rattle.ggrammar.specs.Texts.{text_packet};
+ghost use Rattle.ggrammar.specs.Writing.{WritesLines, WritesPart};
+ghost use Rattle.grequest.specs.Asked.{Ls, Fetches};
+ghost use Rattle.grequest.specs.RequestWriting.{agent_packets, canonical_request, command_packet, flag_packets, format_packets, id_packet, max_word, prefix_packet};
+ghost use Rattle.grequest.specs.RequestValues.{asked_by_request};
+ghost use Rattle.grequest.specs.WellFormed.{IsAgent};
+
+use crate::command::Command;
+use crate::fetch::FetchRequest;
+use crate::ls_refs::LsRefsRequest;
+use crate::request::Request;
+use ggrammar::laws::writes_lines;
+use gname::{Format, MAX_ID_TEXT, Oid, Prefix};
+use gpkt::{LineWriter, Sink, WriteFault};
+use std::alloc::Allocator;
+
+/// Writes a request in its one order of lines (gitprotocol-v2(5), "Command Request"): what is asked for, and
+/// nothing else. The format is that of the repository's objects; ids of another format are written as they
+/// are, and no reader takes them. It takes no memory.
+///
+/// It fails with `Io` where the sink fails, and then a beginning of the request stands written; with `Failed`
+/// where the writer had failed before.
+pub fn write_request<A: Allocator + Copy, W: Sink>(
+    request: &Request<A>,
+    format: Format,
+    writer: &mut LineWriter<W>,
+) -> Result<(), WriteFault>
+    ensures written { HasWritten W.contents W.passed_on W.is_down W.loans writer.old writer.new result
+        (canonical_all (canonical_request format (asked_by_request request.now))) }
+    ensures fits { IfErr result (λ fault. fault ≢ WriteFault.Payload) }
+{
+    writes_lines::<W>();
+    match request {
+        Request::Empty => writer.flush_pkt(),
+        Request::Ls(asked) => write_ls_refs(asked, format, writer),
+        Request::Fetch(asked) => write_fetch(asked, format, writer),
+    }
+}
+
+fn write_ls_refs<A: Allocator + Copy, W: Sink>(
+    asked: &LsRefsRequest<A>,
+    format: Format,
+    writer: &mut LineWriter<W>,
+) -> Result<(), WriteFault>
+    ensures { WritesLines W.contents W.passed_on W.is_down W.loans writer.old writer.new result
+        (canonical_request format (Ls asked.now)) }
+{
+    writes_lines::<W>();
+    write_head(Command::LsRefs, asked.agent(), format, writer)?;
+    write_flag(b"peel", asked.peel(), writer)?;
+    write_flag(b"symrefs", asked.symrefs(), writer)?;
+    write_flag(b"unborn", asked.unborn(), writer)?;
+    write_prefixes(asked.prefixes(), writer)?;
+    writer.flush_pkt()
+}
+
+fn write_fetch<A: Allocator + Copy, W: Sink>(
+    asked: &FetchRequest<A>,
+    format: Format,
+    writer: &mut LineWriter<W>,
+) -> Result<(), WriteFault>
+    ensures { WritesLines W.contents W.passed_on W.is_down W.loans writer.old writer.new result
+        (canonical_request format (Fetches asked.now.asked)) }
+{
+    writes_lines::<W>();
+    write_head(Command::Fetch, asked.agent(), format, writer)?;
+    write_flag(b"thin-pack", asked.thin_pack(), writer)?;
+    write_flag(b"no-progress", asked.no_progress(), writer)?;
+    write_flag(b"include-tag", asked.include_tag(), writer)?;
+    write_flag(b"ofs-delta", asked.ofs_delta(), writer)?;
+    write_ids(b"want ", asked.wants(), writer)?;
+    write_ids(b"have ", asked.haves(), writer)?;
+    write_flag(b"done", asked.done(), writer)?;
+    writer.flush_pkt()
+}
+
+// Writes a request up to its arguments.
+fn write_head<W: Sink>(
+    command: Command,
+    agent: Option<&[u8]>,
+    format: Format,
+    writer: &mut LineWriter<W>,
+) -> Result<(), WriteFault>
+    requires { IsAgent (option_copied agent) }
+    ensures { WritesLines W.contents W.passed_on W.is_down W.loans writer.old writer.new result
+        (command_packet command ∷ (agent_packets (option_copied agent.entry) ++ format_packets format ++ Delim ∷ [])) }
+{
+    writes_lines::<W>();
+    write_text(b"command=", command.name().as_bytes(), writer)?;
+    write_agent(agent, writer)?;
+    write_format(format, writer)?;
+    writer.delim()
+}
+
+fn write_agent<W: Sink>(agent: Option<&[u8]>, writer: &mut LineWriter<W>) -> Result<(), WriteFault>
+    requires { IsAgent (option_copied agent) }
+    ensures { WritesPart W.contents W.passed_on W.is_down W.loans writer.old writer.new result (agent_packets (option_copied agent.entry)) }
+{
+    writes_lines::<W>();
+    match agent {
+        Some(agent) => write_text(b"agent=", agent, writer),
+        None => Ok(()),
+    }
+}
+
+fn write_format<W: Sink>(format: Format, writer: &mut LineWriter<W>) -> Result<(), WriteFault>
+    ensures { WritesPart W.contents W.passed_on W.is_down W.loans writer.old writer.new result (format_packets format) }
+{
+    writes_lines::<W>();
+    match format {
+        Format::Sha1 => Ok(()),
+        Format::Sha256 => write_text(b"object-format=", format.name().as_bytes(), writer),
+    }
+}
+
+fn write_flag<W: Sink>(
+    word: &[u8],
+    is_set: bool,
+    writer: &mut LineWriter<W>,
+) -> Result<(), WriteFault>
+    requires { length word.now ≤ max_capability }
+    ensures { WritesPart W.contents W.passed_on W.is_down W.loans writer.old writer.new result (flag_packets word.now is_set) }
+{
+    writes_lines::<W>();
+    if is_set {
+        write_text(b"", word, writer)
+    } else {
+        Ok(())
+    }
+}
+
+fn write_prefixes<A: Allocator + Copy, W: Sink>(
+    prefixes: &[Prefix<A>],
+    writer: &mut LineWriter<W>,
+) -> Result<(), WriteFault>
+    ensures { WritesPart W.contents W.passed_on W.is_down W.loans writer.old writer.new result (map prefix_packet prefixes.now) }
+{
+    writes_lines::<W>();
+    for prefix in prefixes {
+        write_text(b"ref-prefix ", prefix.as_bytes(), writer)?;
+    }
+    Ok(())
+}
+
+// Writes a line for each id, after a word.
+fn write_ids<W: Sink>(
+    word: &[u8],
+    ids: &[Oid],
+    writer: &mut LineWriter<W>,
+) -> Result<(), WriteFault>
+    requires { length word.now ≤ max_word }
+    ensures { WritesPart W.contents W.passed_on W.is_down W.loans writer.old writer.new result (map (id_packet word.now) ids.now) }
+{
+    writes_lines::<W>();
+    for id in ids {
+        write_id(word, id, writer)?;
+    }
+    Ok(())
+}
+
+fn write_id<W: Sink>(word: &[u8], id: &Oid, writer: &mut LineWriter<W>) -> Result<(), WriteFault>
+    requires { length word.now ≤ max_word }
+    ensures { WritesLines W.contents W.passed_on W.is_down W.loans writer.old writer.new result (id_packet word.now id.now ∷ []) }
+{
+    let mut text = [0u8; MAX_ID_TEXT];
+    let len = id.to_hex(&mut text);
+    write_text(word, &text[..len], writer)
+}
+
+// Writes a text line of a word and what follows it.
+fn write_text<W: Sink>(
+    word: &[u8],
+    rest: &[u8],
+    writer: &mut LineWriter<W>,
+) -> Result<(), WriteFault>
+    requires word { length word.now ≤ max_word }
+    requires rest { length rest.now ≤ max_capability }
+    ensures { WritesLines W.contents W.passed_on W.is_down W.loans writer.old writer.new result (text_packet (word.now ++ rest.now) ∷ []) }
+{
+    writes_lines::<W>();
+    writer.text2(word, rest)
+}
