@@ -2,7 +2,7 @@
 use Rattle.std.proofs.Common.{◌≡◌, ◌≢◌, ℕ, Bool, List, [], ◌++◌, Option, false, Result, Ok, Err, refl, sym, ◌∙◌, append_assoc, append-nil}
 use Rattle.std.proofs.lemmas.Bool.{false≢true}
 use Rattle.std.specs.Result.{IfErr}
-use Rattle.gcmd.specs.Sending.{output_of, HasSent}
+use Rattle.gpkt.specs.Sending.{output_of, HasSent}
 use Rattle.gpkt.specs.Laws.{WritesJoin, PushesWritten}
 use Rattle.gpkt.specs.LineWriting.{Writer, HasWritten, HasPushed}
 use Rattle.gpkt.specs.declared.fault.WriteFault.{WriteFault}
