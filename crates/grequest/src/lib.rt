@@ -40,6 +40,7 @@ mod kept;
 pub mod laws;
 mod line;
 mod ls_refs;
+mod parts;
 mod read;
 mod reading;
 mod request;
