@@ -16,5 +16,6 @@ pub mod WrittenCapabilities
 pub mod WrittenArguments
 pub mod Canonical
 pub mod ReaderLemmas
+pub mod MissingLemmas
 pub mod FormatOfJudge
 pub mod WriteLemmas

@@ -143,7 +143,7 @@ abbrev pub first_of : List (List ℕ) → Option (List ℕ)
 first_of [] = None
 first_of (x ∷ xs) = Some x
 
--- ---- what a request asks, by the texts of its capabilities and of its arguments
+-- ---- what a request asks: by its command and texts, by the place it has come to, and by its lines
 
 abbrev pub ls_refs_asked : List (List ℕ) → List (List ℕ) → LsRefsAsked
 ls_refs_asked capabilities arguments = record {
@@ -173,8 +173,10 @@ asked_by_command format Fetch capabilities arguments = Fetches (fetch_asked form
 -- a request without a command is empty
 abbrev pub asked_by_texts : Format → Place → List (List ℕ) → List (List ℕ) → Asked
 asked_by_texts format First capabilities arguments = Empty
-asked_by_texts format (InCapabilities command) capabilities arguments = asked_by_command format command capabilities arguments
-asked_by_texts format (InArguments command) capabilities arguments = asked_by_command format command capabilities arguments
+asked_by_texts format (InCapabilities command) capabilities arguments =
+    asked_by_command format command capabilities arguments
+asked_by_texts format (InArguments command) capabilities arguments =
+    asked_by_command format command capabilities arguments
 
 abbrev pub asked_by_lines : Format → List Packet → Asked
 asked_by_lines format lines = asked_by_texts format (place_of lines) (capability_texts lines) (argument_texts lines)

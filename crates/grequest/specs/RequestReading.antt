@@ -1,11 +1,14 @@
 -- What reading a request keeps of the packets so far, and what it answers.
-use Rattle.std.specs.Prelude.{◌≡◌, ℕ, Bool, true, false, List, Option, Some, None, Result, Ok, Err}
+use Rattle.std.specs.Prelude.{◌≡◌, ◌↔◌, ℕ, ◌<◌, Bool, true, false, List, [], Option, Some, None, Result, Ok, Err}
+use Rattle.std.specs.Prelude.{IfErr}
 use Rattle.gpkt.specs.Packets.{Packet, Data, text}
 use Rattle.gpkt.specs.Change.{Change}
 use Rattle.gpkt.specs.LineReading.{Reads}
 use Rattle.gname.specs.declared.formats.Format.{Format}
-use Rattle.ggrammar.specs.Kinds.{ReadsMessage}
+use Rattle.ggrammar.specs.Kinds.{ReadsMessage, ReadsIfAny}
+use Rattle.ggrammar.specs.MessageBytes.{known, IsOfBytes}
 use Rattle.ggrammar.specs.MessageReading.{ReadsRefused}
+use Rattle.ggrammar.specs.declared.fault.Why.TheVariants.{Ended}
 use Rattle.ggrammar.specs.declared.fault.MessageFault.{MessageFault}
 use Rattle.grequest.specs.Arguments.{CapabilityForm, Agent}
 use Rattle.ggrammar.specs.Capabilities.{is_word_value}
@@ -42,8 +45,18 @@ packet_brings place _ = false
 
 -- reading a request that may be missing: one is read whole; the input is empty; or it is refused, and why
 abbrev pub ReadsRequest : {T : Type 0} → Format → (T → Asked) → Change → Result (Option T) MessageFault → Type 0
-ReadsRequest format asked_by bytes (Ok (Some request)) =
-    ReadsMessage (judge format) (Says format) bytes (asked_by request)
-ReadsRequest format asked_by bytes (Ok None) = Reads bytes (Ok None)
-ReadsRequest format asked_by bytes (Err fault) =
+ReadsRequest format asks bytes (Ok (Some request)) = ReadsMessage (judge format) (Says format) bytes (asks request)
+ReadsRequest format asks bytes (Ok None) = Reads bytes (Ok None)
+ReadsRequest format asks bytes (Err fault) =
     (front : List Packet) × ReadsRefused (judge format) brings front bytes fault
+
+-- the fault comes of the bytes, and the end of the input is one only after the first packet
+abbrev pub IsNotMissing : MessageFault → Type 0
+IsNotMissing fault = IsOfBytes fault.why × (fault.why ≡ Ended → 0 < fault.frame)
+
+-- a request is missing exactly where the input is empty
+abbrev pub IsMissingWhereEmpty : Format → Type 0
+IsMissingWhereEmpty format =
+    (bytes new : List ℕ) (result : Result (Option Asked) MessageFault)
+    → ReadsIfAny (judge format) brings (Says format) (known bytes new) result → IfErr result IsNotMissing
+    → (result ≡ Ok None) ↔ (bytes ≡ [])

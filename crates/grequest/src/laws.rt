@@ -2,15 +2,18 @@
 
 ghost use Rattle.gname.specs.declared.formats.Format.{Format};
 ghost use Rattle.ggrammar.specs.Grammar.{HasEndings, IsPrefixFree, RefusesFirstMisfits};
-ghost use Rattle.ggrammar.specs.Kinds.{AsInManual, CanonicalSays, OneMeaning, SaysWhole};
+ghost use Rattle.ggrammar.specs.Kinds.{AsInManual, CanonicalSays, OneMeaning, ReadsBackIfAny, ReadsExactlyIfAny, SaysWhole};
 ghost use Rattle.ggrammar.specs.MessageBytes.{SpellingsPrefixFree};
 ghost use Rattle.grequest.specs.Manual.{IsRequest};
-ghost use Rattle.grequest.specs.Requests.{Says, judge};
+ghost use Rattle.grequest.specs.Requests.{Says, brings, judge};
+ghost use Rattle.grequest.specs.RequestReading.{IsMissingWhereEmpty};
 ghost use Rattle.grequest.specs.RequestWriting.{IsCanonicalRequest};
 ghost use Rattle.grequest.specs.WellFormed.{IsAsked};
 
-use ggrammar::laws::{grammars_are_exact, messages_are_read};
+use ggrammar::Kind;
+use ggrammar::laws::{grammars_are_exact, kinds_are_read, messages_are_read};
 use gname::laws::{ids_have_one_format, ids_have_texts, prefixes_are_clean};
+use gpkt::laws::has_four_bytes;
 
 /// The lists of packets that are read as a request are those that the manual has, and they ask the same
 /// (gitprotocol-v2(5), "Command Request", "ls-refs" and "fetch").
@@ -51,4 +54,50 @@ pub fn canonical_says()
     ids_have_one_format();
     ids_have_texts();
     prefixes_are_clean();
+}
+
+/// A request is read exactly where the bytes begin with packets that ask it: these are taken, and nothing after
+/// them. It is missing exactly where there are no bytes.
+pub fn reads_exactly()
+    ensures request { (format : Format) → ReadsExactlyIfAny (judge format) brings (Says format) }
+    ensures missing { (format : Format) → IsMissingWhereEmpty format }
+{
+    one_meaning();
+    messages_are_read();
+    has_four_bytes();
+    kinds_are_read::<Requests>();
+}
+
+/// What is written of a request reads back, whatever follows.
+pub fn reads_back()
+    ensures { (format : Format) → ReadsBackIfAny (judge format) brings (Says format) (IsAsked format) (IsCanonicalRequest format) }
+{
+    one_meaning();
+    canonical_says();
+    kinds_are_read::<Requests>();
+}
+
+// Requests, as a kind of message.
+struct Requests;
+
+impl Kind for Requests {
+    ghost use Rattle.gname.specs.declared.formats.Format.{Format};
+    ghost use Rattle.grequest.specs.Asked.{Asked};
+    ghost use Rattle.grequest.specs.Requests.{Says, brings, judge};
+    ghost use Rattle.grequest.specs.RequestWriting.{IsCanonicalRequest};
+    ghost use Rattle.grequest.specs.WellFormed.{IsAsked};
+
+    ghost Given = { Format };
+
+    ghost Said = { Asked };
+
+    ghost judge = { judge };
+
+    ghost brings = { λ format. brings };
+
+    ghost says = { Says };
+
+    ghost is_value = { IsAsked };
+
+    ghost is_canonical = { IsCanonicalRequest };
 }
