@@ -3,6 +3,7 @@ pub mod LsReplies
 pub mod LsManual
 pub mod WellFormed
 pub mod LineViews
+pub mod LentViews
 pub mod ReplyState
 pub mod ReplyReading
 pub mod TextLengths

@@ -6,14 +6,14 @@ ghost use Rattle.gpkt.specs.Change.{change_of};
 ghost use Rattle.ggrammar.specs.MessageReading.{IsReadFailure, IsFailedBy};
 ghost use Rattle.glsreply.specs.LsReplies.{judge, judge_at, judge_text, judge_line, max_lines, within_limit, brings};
 ghost use Rattle.glsreply.specs.RefTexts.{line_of};
-ghost use Rattle.glsreply.specs.LineViews.{line_view};
+ghost use Rattle.glsreply.specs.LineViews.{parts_view};
 ghost use Rattle.ggrammar.specs.Grammar.{Open};
 ghost use Rattle.glsreply.specs.ReplyReading.{HasReadReply};
 ghost use Rattle.glsreply.specs.ReplyState.{Holds, KeepsKind, TakesAs, state_in, state_of, with_packet, with_text, with_line, with_unborn, with_flush};
 ghost use Rattle.glsreply.specs.WellFormed.{IsLsReplyIn, IsReplyValue};
 ghost use Rattle.gname.specs.declared.formats.Format.TheVariants as format;
 
-use crate::line::{FirstText, LentLine, first_form, line_of};
+use crate::line::{FirstText, LineParts, first_form, line_of};
 use crate::reply::{LsReply, MAX_LINES, RefLine};
 use ggrammar::laws::grammars_are_exact;
 use ggrammar::{Ends, Message, MessageFault, PeerText, Step, Why, peer_error, read_message};
@@ -214,10 +214,10 @@ impl<A: Allocator + Copy> LsReplyReader<A> {
         }
     }
 
-    fn take_line(&mut self, line: &LentLine<'_>) -> Result<Step, Why>
+    fn take_line(&mut self, line: &LineParts<'_>) -> Result<Step, Why>
         ensures kept { KeepsKind self.old self.new }
         ensures takes { TakesAs (within_limit self.old.count Open) true
-            (state_in self.new ≡ with_line (state_in self.old) (Ok (line_view line.now))) result }
+            (state_in self.new ≡ with_line (state_in self.old) (Ok (parts_view line.now))) result }
     {
         if self.count >= MAX_LINES {
             return Err(Why::Limit);
@@ -245,8 +245,8 @@ impl<A: Allocator + Copy> LsReplyReader<A> {
 }
 
 // The line as a value.
-fn keep_line<A: Allocator + Copy>(alloc: A, line: &LentLine<'_>) -> Result<RefLine<A>, AllocError>
-    ensures { IfOk result (λ kept. kept ≡ line_view line.now) }
+fn keep_line<A: Allocator + Copy>(alloc: A, line: &LineParts<'_>) -> Result<RefLine<A>, AllocError>
+    ensures { IfOk result (λ kept. kept ≡ parts_view line.now) }
 {
     let name = keep_name(alloc, line.name)?;
     let symref = match line.symref {

@@ -3,10 +3,12 @@
 ghost use Rattle.std.specs.Prelude.{◌≡◌, ◌≤◌, ◌↔◌, true, [], length, IsTrue, None};
 ghost use Rattle.std.specs.List.{slice_get};
 ghost use Rattle.std.specs.Option.{option_copied};
+ghost use Rattle.glsreply.specs.LentViews.{lent_view};
 ghost use Rattle.glsreply.specs.LsReplies.{max_lines};
 ghost use Rattle.glsreply.specs.RefTexts.{is_name};
 ghost use Rattle.glsreply.specs.WellFormed.{Adds, IsLine, IsReplyValue, Pushes, SetsUnborn, has_one_format, line_count};
 
+use crate::lent::LentLine;
 use ggrammar::{MessageFault, Why};
 use gname::laws::ids_have_one_format;
 use gname::{Oid, RefName};
@@ -33,6 +35,20 @@ impl<A: Allocator + Copy> Model for RefLine<A> {
     ghost Value = { RefLine };
 
     ghost view = { λ line. record { id = line.id; name = line.name; symref = line.symref; peeled = line.peeled } };
+}
+
+impl<A: Allocator + Copy> RefLine<A> {
+    /// The line, with its names lent.
+    pub fn lend(&self) -> LentLine<'_, A>
+        ensures { lent_view result ≡ self.now }
+    {
+        LentLine {
+            id: self.id,
+            name: &self.name,
+            symref: self.symref.as_ref(),
+            peeled: self.peeled,
+        }
+    }
 }
 
 /// The reply to ls-refs: the ref that an unborn `HEAD` points at, and the refs, in order. All ids have one
