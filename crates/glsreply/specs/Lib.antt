@@ -5,7 +5,6 @@ pub mod WellFormed
 pub mod LineViews
 pub mod LentViews
 pub mod ReplyState
-pub mod ReplyReading
 pub mod TextLengths
 pub mod Laws
 pub use Rattle.ggrammar.specs.Grammar
