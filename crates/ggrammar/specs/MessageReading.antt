@@ -87,9 +87,9 @@ abbrev pub IsFailedBy : Why → Bool → Type 0
 IsFailedBy (Line fault) failed = failed ≡ true
 IsFailedBy why failed = failed ≡ false
 
--- How a call leaves the reader that it reads a message with. After a message the reader goes on, and its device is well.
--- After a fault it has failed exactly where the line itself was refused; the device is down exactly where the fault is
--- the device's; and a reader that had failed is refused at once, at packet 0.
+-- How a call leaves the reader that it reads a message with. After a message the reader goes on, and its device is
+-- well. After a fault it has failed exactly where the line itself was refused; the device is down exactly where the
+-- fault is the device's; and a reader that had failed is refused at once, at packet 0.
 abbrev pub LeavesReader : {S M : Type 0} → (S → Bool) → Reader S → Reader S → Result M MessageFault → Type 0
 LeavesReader is_down old new (Ok message) =
     (old.failed ≡ false) × (new.failed ≡ false) × (is_down new.source ≡ false)
