@@ -6,6 +6,5 @@ pub mod LineViews
 pub mod LentViews
 pub mod ReplyState
 pub mod TextLengths
-pub mod Laws
 pub use Rattle.ggrammar.specs.Grammar
 pub use Rattle.ggrammar.specs.MessageReading

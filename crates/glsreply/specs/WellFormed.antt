@@ -6,6 +6,8 @@ use Rattle.gname.specs.Ids.{IsId, IsIdOf, format_of}
 use Rattle.gname.specs.declared.formats.Format.{Format}
 use Rattle.gname.specs.declared.formats.Format.TheVariants.{Sha1, Sha256}
 use Rattle.ggrammar.specs.Building.{Builds}
+use Rattle.ggrammar.specs.Endings.{ends_with}
+use Rattle.ggrammar.specs.declared.ends.Ends.{Ends}
 use Rattle.ggrammar.specs.declared.fault.Why.TheVariants.{Memory}
 use Rattle.ggrammar.specs.declared.fault.MessageFault.{MessageFault}
 use Rattle.glsreply.specs.RefTexts.{RefLine, is_name}
@@ -28,6 +30,10 @@ pub record IsRefLine (format : Format) (line : RefLine) : Type 0 where
 -- an unborn HEAD counts as a line
 abbrev pub line_count : LsReply → ℕ
 line_count reply = length (unborn_packets reply.unborn) + length reply.lines
+
+-- the number of the last packet, from 0: of the flush after the lines, or of the response-end after that
+abbrev pub last_frame : Ends → LsReply → ℕ
+last_frame ends reply = line_count reply + length (ends_with ends)
 
 pub record IsLsReplyIn (format : Format) (reply : LsReply) : Type 0 where
   pub unborn : IfSome reply.unborn (λ target. IsTrue (is_name target))

@@ -6,10 +6,10 @@ ghost use Rattle.std.specs.Option.{option_copied};
 ghost use Rattle.ggrammar.specs.declared.fault.Why.TheVariants.{Limit};
 ghost use Rattle.glsreply.specs.LentViews.{lent_view};
 ghost use Rattle.glsreply.specs.RefTexts.{is_name};
-ghost use Rattle.glsreply.specs.WellFormed.{Adds, IsLine, IsReplyValue, Pushes, SetsUnborn, has_one_format, has_room};
+ghost use Rattle.glsreply.specs.WellFormed.{Adds, IsLine, IsReplyValue, Pushes, SetsUnborn, has_one_format, has_room, last_frame};
 
 use crate::lent::LentLine;
-use ggrammar::{MessageFault, Why};
+use ggrammar::{Ends, MessageFault, Why};
 use gname::laws::ids_have_one_format;
 use gname::{Oid, RefName};
 use std::alloc::Allocator;
@@ -137,6 +137,18 @@ impl<A: Allocator + Copy> LsReply<A> {
         ensures formed { IsReplyValue self.now }
     {
         self.lines.len()
+    }
+
+    /// The number of the reply's last packet, from 0, where replies end so: of the flush, or of the response-end
+    /// after it.
+    pub fn last_frame(&self, ends: Ends) -> u64
+        ensures { result ≡ last_frame ends self.now }
+    {
+        let lines = self.unborn.iter().len() + self.len();
+        match ends {
+            Ends::Plain => lines as u64,
+            Ends::Response => lines as u64 + 1,
+        }
     }
 
     /// The ref at this place.
