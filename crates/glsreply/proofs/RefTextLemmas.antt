@@ -330,17 +330,17 @@ module _ (format : Format) where
       (refl, refl, subst (λ (bytes : List ℕ). AreAttributes format bytes line.symref line.peeled) (sym (append-nil text)) so)
   attributes_are line ref (part ∷ parts) text e so =
       by_read (with_attribute format line (attribute_of part)) refl e (λ next bytes all more. attributes_are next ref parts bytes all more) where
-    by_read : (read : Result RefLine Why) → with_attribute format line (attribute_of part) ≡ read → with_attributes format read parts ≡ Ok ref
-        → ((next : RefLine) (bytes : List ℕ) → with_attributes format (Ok next) parts ≡ Ok ref → AreAttributes format bytes next.symref next.peeled → IsNext next ref (bytes ++ spaced parts))
-        → IsNext line ref (text ++ spaced (part ∷ parts))
-    by_read (Err why) is all later = absurd (let no : Err why ≡ Ok ref = all in cc)
-    by_read (Ok next) is all later =
-        let one = next_attribute line next part text (attribute_of part) refl is so in
-        let more = later next (text ++ 32 ∷ part) all one.2 in (
-          more.0 ∙ one.0,
-          more.1 ∙ one.1,
-          subst (λ (bytes : List ℕ). AreAttributes format bytes ref.symref ref.peeled) (append_assoc text (32 ∷ part) (spaced parts)) more.2,
-        )
+        by_read : (read : Result RefLine Why) → with_attribute format line (attribute_of part) ≡ read → with_attributes format read parts ≡ Ok ref
+            → ((next : RefLine) (bytes : List ℕ) → with_attributes format (Ok next) parts ≡ Ok ref → AreAttributes format bytes next.symref next.peeled → IsNext next ref (bytes ++ spaced parts))
+            → IsNext line ref (text ++ spaced (part ∷ parts))
+        by_read (Err why) is all later = absurd (let no : Err why ≡ Ok ref = all in cc)
+        by_read (Ok next) is all later =
+            let one = next_attribute line next part text (attribute_of part) refl is so in
+            let more = later next (text ++ 32 ∷ part) all one.2 in (
+              more.0 ∙ one.0,
+              more.1 ∙ one.1,
+              subst (λ (bytes : List ℕ). AreAttributes format bytes ref.symref ref.peeled) (append_assoc text (32 ∷ part) (spaced parts)) more.2,
+            )
 
   by_id : (text : List ℕ) (ref : RefLine) (digits : List ℕ) (parts : List (List ℕ)) (found : Option (List ℕ)) → parts_of text ≡ digits ∷ parts
       → id_of_text format digits ≡ found → line_with_id format found parts ≡ Ok ref → IsRefText format text ref

@@ -6,7 +6,7 @@ ghost use Rattle.std.specs.Option.{option_copied};
 ghost use Rattle.ggrammar.specs.declared.fault.Why.TheVariants.{Limit};
 ghost use Rattle.glsreply.specs.LentViews.{lent_view};
 ghost use Rattle.glsreply.specs.RefTexts.{is_name};
-ghost use Rattle.glsreply.specs.WellFormed.{Adds, IsLine, IsReplyValue, Pushes, SetsUnborn, has_one_format, has_room, last_frame};
+ghost use Rattle.glsreply.specs.WellFormed.{Adds, IsLine, IsReplyValue, Pushes, SetsUnborn, has_one_format, has_room, last_frame, line_count};
 
 use crate::lent::LentLine;
 use ggrammar::{Ends, MessageFault, Why};
@@ -125,9 +125,17 @@ impl<A: Allocator + Copy> LsReply<A> {
         ensures room { result ≡ has_room self.now }
         ensures formed { IsReplyValue self.now }
     {
+        self.line_count() < MAX_LINES
+    }
+
+    // The number of lines, that of an unborn HEAD too.
+    fn line_count(&self) -> usize
+        ensures count { result ≡ line_count self.now }
+        ensures formed { IsReplyValue self.now }
+    {
         match &self.unborn {
-            Some(_target) => self.lines.len() < MAX_LINES - 1,
-            None => self.lines.len() < MAX_LINES,
+            Some(_target) => self.lines.len() + 1,
+            None => self.lines.len(),
         }
     }
 
@@ -144,10 +152,10 @@ impl<A: Allocator + Copy> LsReply<A> {
     pub fn last_frame(&self, ends: Ends) -> u64
         ensures { result ≡ last_frame ends self.now }
     {
-        let lines = self.unborn.iter().len() + self.len();
+        let flush = self.line_count() as u64;
         match ends {
-            Ends::Plain => lines as u64,
-            Ends::Response => lines as u64 + 1,
+            Ends::Plain => flush,
+            Ends::Response => flush + 1,
         }
     }
 
