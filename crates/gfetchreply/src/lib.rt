@@ -9,7 +9,7 @@
 //!   (`judge` in `specs/FetchReplies.antt`), and the sink has taken exactly the data of the packets before. Out of
 //!   memory comes only at an acknowledged id and at a packet with some of the pack. [`read_fetch_reply_into`] does
 //!   the same in SHA-1, and [`read_fetch_reply`] keeps the pack in memory.
-//! - [`Commons`] holds ids of one format, at most 4,096, [`PackBytes`] at most `gname::MAX_PACK` bytes, and a
+//! - [`Acks`] holds ids of one format, at most 4,096, [`PackBytes`] at most `gname::MAX_PACK` bytes, and a
 //!   [`PackLimit`] is at most that; a building call reports another format first, then the limit, and changes
 //!   nothing then.
 //! - [`write_fetch_reply`] writes exactly the bytes of the canonical lines of a reply, and where the sink fails a
@@ -46,8 +46,9 @@ mod write;
 
 pub use crate::limit::PackLimit;
 pub use crate::reading::{
-    FetchReading, read_fetch_reply, read_fetch_reply_into, read_fetch_reply_into_in,
+    FetchReading, read_fetch_reply, read_fetch_reply_in, read_fetch_reply_into,
+    read_fetch_reply_into_in,
 };
 pub use crate::sink::PackSink;
-pub use crate::value::{Commons, FetchHead, FetchReply, MAX_ACKS, PackBytes};
+pub use crate::value::{Acks, FetchHead, FetchReply, MAX_ACKS, PackBytes};
 pub use crate::write::write_fetch_reply;

@@ -2,7 +2,7 @@
 ghost use Rattle.std.specs.Prelude.{◌≡◌};
 
 use crate::tests::samples::{Outcome, PACK, READY, after_acks, direct, read_into};
-use crate::{FetchReading, FetchReply, PackSink, read_fetch_reply, read_fetch_reply_into};
+use crate::{FetchReading, FetchReply, PackSink, read_fetch_reply_in, read_fetch_reply_into};
 use ggrammar::Ends;
 use gpkt::LineReader;
 use gpkt::memory::SliceSource;
@@ -43,6 +43,8 @@ struct Picky {
 impl PackSink for Picky {
     ghost taken = { λ sink bytes. sink.taken.items ≡ bytes };
 
+    ghost same = { λ _ _. Unit {0} };
+
     fn piece(&mut self, bytes: &[u8]) -> bool {
         if bytes.is_empty() {
             self.empty = self.empty.saturating_add(1);
@@ -53,6 +55,8 @@ impl PackSink for Picky {
         self.left -= 1;
         self.taken.extend_from_slice(bytes).is_ok()
     }
+
+    fn laws() {}
 }
 
 #[test]
@@ -105,10 +109,10 @@ fn vectors_take_more(rt: HostRuntime) -> Result<(), Fail> {
 #[test]
 fn whole_replies_are_values(rt: HostRuntime) -> Result<(), Fail> {
     let mut reader = LineReader::new(rt.alloc(), SliceSource::new(READY))?;
-    let reply = read_fetch_reply(after_acks(), &mut reader, rt.alloc())?;
+    let reply = read_fetch_reply_in(after_acks(), &mut reader, rt.alloc())?;
     match &reply {
-        FetchReply::Ready(commons, pack) => {
-            assert_eq!(rt; commons.ids().len(), 1);
+        FetchReply::Ready(acks, pack) => {
+            assert_eq!(rt; acks.ids().len(), 1);
             assert_eq!(rt; pack.as_bytes(), b"disket".as_slice());
         }
         _ => assert!(rt; false),

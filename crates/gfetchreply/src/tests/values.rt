@@ -1,6 +1,6 @@
 // Values keep their forms, and what a peer says is kept.
 use crate::tests::samples::direct;
-use crate::{Commons, read_fetch_reply};
+use crate::{Acks, read_fetch_reply_in};
 use bumpalo::Bump;
 use ggrammar::Why;
 use gname::{Format, Oid};
@@ -18,26 +18,25 @@ fn ids_are_of_one_format(rt: HostRuntime) -> Result<(), Fail> {
         Oid::from_hex(SHA1)?,
         Oid::from_hex_in(Format::Sha256, SHA256)?,
     );
-    let mut commons = Commons::new(rt.alloc(), Format::Sha1);
+    let mut acks = Acks::new(rt.alloc(), Format::Sha1);
     assert_eq!(rt;
-        commons
-            .push(long)
+        acks.push(long)
             .err()
             .map(|fault| (fault.name(), fault.frame)),
         Some(("BadText", 0))
     );
     for _ in 0..4_096 {
-        commons.push(short)?;
+        acks.push(short)?;
     }
     assert_eq!(rt;
-        commons.push(short).err().map(|fault| fault.name()),
+        acks.push(short).err().map(|fault| fault.name()),
         Some("Limit")
     );
     assert_eq!(rt;
-        commons.push(long).err().map(|fault| fault.name()),
+        acks.push(long).err().map(|fault| fault.name()),
         Some("BadText")
     );
-    assert_eq!(rt; commons.ids().len(), 4_096);
+    assert_eq!(rt; acks.ids().len(), 4_096);
     Ok(())
 }
 
@@ -45,13 +44,13 @@ fn ids_are_of_one_format(rt: HostRuntime) -> Result<(), Fail> {
 fn ids_take_memory(rt: HostRuntime) -> Result<(), Fail> {
     let arena = Bump::new(rt.alloc());
     arena.set_allocation_limit(Some(0));
-    let mut commons = Commons::new(&arena, Format::Sha1);
-    let met = commons.push(Oid::from_hex(SHA1)?);
+    let mut acks = Acks::new(&arena, Format::Sha1);
+    let met = acks.push(Oid::from_hex(SHA1)?);
     assert_eq!(rt;
         met.err().map(|fault| (fault.name(), fault.frame)),
         Some(("Memory", 0))
     );
-    assert_eq!(rt; commons.ids().len(), 0);
+    assert_eq!(rt; acks.ids().len(), 0);
     Ok(())
 }
 
@@ -65,7 +64,7 @@ fn texts_of_peers_are_kept(rt: HostRuntime) -> Result<(), Fail> {
     ];
     for (bytes, said) in &cases {
         let mut reader = LineReader::new(rt.alloc(), SliceSource::new(bytes))?;
-        match read_fetch_reply(direct(), &mut reader, rt.alloc()) {
+        match read_fetch_reply_in(direct(), &mut reader, rt.alloc()) {
             Err(fault) => match fault.why {
                 Why::RemoteFatal(text) | Why::RemoteErr(text) => assert_eq!(rt;
                     text.as_bytes(),
