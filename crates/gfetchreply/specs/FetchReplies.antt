@@ -282,7 +282,8 @@ nak_if_none (first ∷ acks) = first ∷ acks
 abbrev pub pieces_within : ℕ → List ℕ → List (List ℕ)
 pieces_within zero pack = []
 pieces_within (suc most) [] = []
-pieces_within (suc most) (byte ∷ rest) = take max_band (byte ∷ rest) ∷ pieces_within most (drop max_band (byte ∷ rest))
+pieces_within (suc most) (byte ∷ rest) =
+    take max_band (byte ∷ rest) ∷ pieces_within most (drop max_band (byte ∷ rest))
 
 -- all of them, which are no more than the bytes; none of an empty pack
 unfoldable pub pieces : List ℕ → List (List ℕ)

@@ -49,28 +49,33 @@ IsRefusedOverLimit =
 
 module _ {S : Type 0} (taken : S → List ℕ → Type 0) where
   -- the reply is answered, nothing after it is taken, and the sink has its pack
-  pub record HasReadInto (rest new : List ℕ) (old sink : S) (result : Result FetchHead MessageFault) (reply : FetchReply)
-      : Type 0 where
+  pub record HasReadInto (rest new : List ℕ) (old sink : S) (result : Result FetchHead MessageFault)
+      (reply : FetchReply) : Type 0 where
     pub head : result ≡ Ok (head_of reply)
     pub left : new ≡ rest
     pub pack : (before : List ℕ) → taken old before → taken sink (before ++ pack_of reply)
 
-  -- A reply is read exactly where a front of the bytes spells packets that say it. Memory that is refused, a device that
-  -- fails and a reader that had failed are apart.
+  -- A reply is read where a front of the bytes spells packets that say it. Memory that is refused, a device that fails
+  -- and a reader that had failed are apart.
   abbrev pub ReadsIntoWhereSaid : Reading → Type 0
   ReadsIntoWhereSaid reading =
       (bytes new rest : List ℕ) (old sink : S) (result : Result FetchHead MessageFault) (reply : FetchReply)
-      → ReadsReply taken reading (known bytes new) (taken old) sink result → IfErr result (λ fault. IsOfBytes fault.why)
-      → SaysAtFront (Says reading) bytes rest reply → HasReadInto rest new old sink result reply
+      → ReadsReply taken reading (known bytes new) (taken old) sink result
+      → IfErr result (λ fault. IsOfBytes fault.why) → SaysAtFront (Says reading) bytes rest reply
+      → HasReadInto rest new old sink result reply
 
+  -- and only there
   abbrev pub ReadsIntoOnlySaid : Reading → Type 0
   ReadsIntoOnlySaid reading =
-      (bytes new : List ℕ) (old sink : S) (head : FetchHead) → TakesReply taken reading (known bytes new) (taken old) sink head
-      → (reply : FetchReply) × SaysAtFront (Says reading) bytes new reply × HasReadInto new new old sink (Ok head) reply
+      (bytes new : List ℕ) (old sink : S) (head : FetchHead)
+      → TakesReply taken reading (known bytes new) (taken old) sink head
+      → (reply : FetchReply) × SaysAtFront (Says reading) bytes new reply
+      × HasReadInto new new old sink (Ok head) reply
 
   -- what is written of a reply reads back, whatever follows
   abbrev pub ReadsBackInto : Reading → Type 0
   ReadsBackInto reading =
-      (rest new : List ℕ) (old sink : S) (result : Result FetchHead MessageFault) (reply : FetchReply) → IsReplyIn reading reply
-      → ReadsReply taken reading (known (canonical_all (canonical_reply reading.ends reply) ++ rest) new) (taken old) sink result
-      → IfErr result (λ fault. IsOfBytes fault.why) → HasReadInto rest new old sink result reply
+      (rest new : List ℕ) (old sink : S) (result : Result FetchHead MessageFault) (reply : FetchReply)
+      → IsReplyIn reading reply
+      → ReadsReply taken reading (known (canonical_all (canonical_reply reading.ends reply) ++ rest) new) (taken old)
+      sink result → IfErr result (λ fault. IsOfBytes fault.why) → HasReadInto rest new old sink result reply

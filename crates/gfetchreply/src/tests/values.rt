@@ -1,6 +1,6 @@
 // Values keep their forms, and what a peer says is kept.
-use crate::tests::samples::direct;
-use crate::{Acks, read_fetch_reply_in};
+use crate::tests::samples::{after_acks, direct};
+use crate::{Acks, FetchReading, FetchReply, PackBytes, read_fetch_reply_in};
 use bumpalo::Bump;
 use ggrammar::Why;
 use gname::{Format, Oid};
@@ -37,6 +37,72 @@ fn ids_are_of_one_format(rt: HostRuntime) -> Result<(), Fail> {
         Some("BadText")
     );
     assert_eq!(rt; acks.ids().len(), 4_096);
+    Ok(())
+}
+
+// So many ids as are there, and one of another format at their end.
+#[test]
+fn ids_that_are_there_are_taken(rt: HostRuntime) -> Result<(), Fail> {
+    let cases: [(usize, bool, Option<&str>); 7] = [
+        (0, false, None),
+        (1, false, None),
+        (4_096, false, None),
+        (4_097, false, Some("Limit")),
+        (0, true, Some("BadText")),
+        (2, true, Some("BadText")),
+        (4_096, true, Some("BadText")),
+    ];
+    for (count, other, met) in &cases {
+        let mut ids = Vec::new(rt.alloc());
+        for _ in 0..*count {
+            ids.push(Oid::from_hex(SHA1)?)?;
+        }
+        if *other {
+            ids.push(Oid::from_hex_in(Format::Sha256, SHA256)?)?;
+        }
+        match Acks::from_ids(Format::Sha1, ids) {
+            Ok(acks) => {
+                assert_eq!(rt; *met, None);
+                assert_eq!(rt; acks.ids().len(), *count);
+                assert_eq!(rt; acks.format(), Format::Sha1);
+            }
+            Err(fault) => {
+                assert_eq!(rt; *met, Some(fault.name()));
+                assert_eq!(rt; fault.frame, 0);
+            }
+        }
+    }
+    Ok(())
+}
+
+// A head without ids has the format that was asked for.
+#[test]
+fn no_ids_have_a_format(rt: HostRuntime) -> Result<(), Fail> {
+    for format in &[Format::Sha1, Format::Sha256] {
+        let reading = FetchReading {
+            format: *format,
+            ..after_acks()
+        };
+        let bytes = b"0014acknowledgments\n0008NAK\n0000";
+        let mut reader = LineReader::new(rt.alloc(), SliceSource::new(bytes))?;
+        match read_fetch_reply_in(reading, &mut reader, rt.alloc())? {
+            FetchReply::Acks(acks) => assert_eq!(rt; acks.format(), *format),
+            _ => assert!(rt; false),
+        }
+    }
+    Ok(())
+}
+
+// Values show what they have.
+#[test]
+fn values_are_shown(rt: HostRuntime) -> Result<(), Fail> {
+    let acks = Acks::new(rt.alloc(), Format::Sha1);
+    let pack = PackBytes::new(Vec::from_slice(rt.alloc(), b"d\n")?)?;
+    let text = format!(in rt.alloc(); "{:?}", FetchReply::Ready(acks, pack))?;
+    assert_eq!(rt;
+        text.as_str(),
+        "Ready(Acks { format: Sha1, ids: [] }, PackBytes { bytes: [100, 10] })"
+    );
     Ok(())
 }
 
