@@ -1,4 +1,13 @@
 pub mod Laws
+pub use Rattle.gpkt.specs.Packets
+pub use Rattle.gpkt.specs.Change
+pub use Rattle.gpkt.specs.LineReading
+pub use Rattle.gpkt.specs.LineWriting
+pub use Rattle.gpkt.specs.Laws as LineLaws
+pub use Rattle.gname.specs.Formats
+pub use Rattle.gname.specs.Ids as ObjectIds
+pub use Rattle.gname.specs.Names
+pub use Rattle.gname.specs.Limits
 pub use Rattle.ggrammar.specs.Grammar
 pub use Rattle.ggrammar.specs.Kinds
 pub use Rattle.ggrammar.specs.MessageReading
@@ -10,9 +19,8 @@ pub use Rattle.ggrammar.specs.Capabilities
 pub use Rattle.ggrammar.specs.CapabilityView
 pub use Rattle.ggrammar.specs.Endings
 pub use Rattle.ghello.specs.Hello
-pub use Rattle.ghello.specs.HelloReading
 pub use Rattle.ghello.specs.Adverts
-pub use Rattle.ghello.specs.AdvertReading
+pub use Rattle.ghello.specs.Offers
 pub use Rattle.ghello.specs.Laws as HelloLaws
 pub use Rattle.grequest.specs.Asked
 pub use Rattle.grequest.specs.Requests
@@ -21,13 +29,12 @@ pub use Rattle.grequest.specs.RequestWriting
 pub use Rattle.grequest.specs.RequestValues
 pub use Rattle.grequest.specs.Building as RequestBuilding
 pub use Rattle.grequest.specs.Manual as RequestManual
-pub use Rattle.grequest.specs.Views as RequestViews
 pub use Rattle.grequest.specs.WellFormed as RequestForms
 pub use Rattle.glsreply.specs.RefTexts
 pub use Rattle.glsreply.specs.LsReplies
 pub use Rattle.glsreply.specs.LsManual
-pub use Rattle.glsreply.specs.LineViews
-pub use Rattle.glsreply.specs.ReplyReading as LsReplyReading
+pub use Rattle.glsreply.specs.LentViews
+pub use Rattle.glsreply.specs.TextLengths
 pub use Rattle.glsreply.specs.WellFormed as LsReplyForms
 pub use Rattle.gfetchreply.specs.FetchReplies
 pub use Rattle.gfetchreply.specs.FetchHeads

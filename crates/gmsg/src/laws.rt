@@ -1,9 +1,8 @@
 //! The laws of all five messages: functions without effect, whose contracts they are. The kinds are a hello, an
 //! advertisement, a request, a reply to ls-refs and a reply to fetch, each for all that its grammar is given.
 
-ghost use Rattle.std.specs.Prelude.{◌≡◌};
 ghost use Rattle.gname.specs.declared.formats.Format.{Format};
-ghost use Rattle.ggrammar.specs.Kinds.{AsInManual, CanonicalSays, OneMeaning, SaysWhole};
+ghost use Rattle.ggrammar.specs.Kinds.{AsInManual, CanonicalSays, OneMeaning, ReadsBack, ReadsBackIfAny, ReadsExactly, ReadsExactlyIfAny, SaysWhole};
 ghost use Rattle.ggrammar.specs.declared.ends.Ends.{Ends};
 ghost use Rattle.ghello.specs.Hello as hello;
 ghost use Rattle.ghello.specs.Adverts as advert;
@@ -18,8 +17,6 @@ ghost use Rattle.gfetchreply.specs.FetchManual as fetch_reply_manual;
 ghost use Rattle.gfetchreply.specs.FetchReplies as fetch_reply;
 ghost use Rattle.gfetchreply.specs.WellFormed as fetch_reply_form;
 ghost use Rattle.gmsg.specs.Laws.{NoneBeginsAnother};
-
-use ggrammar::laws::{grammars_are_exact, messages_are_read};
 
 /// Packets say at most one message of each kind.
 pub fn one_meaning()
@@ -44,26 +41,10 @@ pub fn prefix_free()
     ensures ls_reply { (format : Format) (ends : Ends) → NoneBeginsAnother (ls_reply.judge format ends) }
     ensures fetch_reply { (reading : fetch_reply.Reading) → NoneBeginsAnother (fetch_reply.judge reading) }
 {
-    grammars_are_exact();
-    messages_are_read();
-}
-
-/// The packets that are written of a value say it, and each fits a packet line.
-pub fn canonical_says()
-    ensures hello { CanonicalSays hello.Says hello.IsHello (λ packets said. packets ≡ hello.canonical_hello said) }
-    ensures advert { CanonicalSays advert.Says advert.AreCapabilities
-        (λ packets capabilities. packets ≡ advert.canonical_advert capabilities) }
-    ensures request { (format : Format) → CanonicalSays (request.Says format) (request_form.IsAsked format)
-        (λ packets asked. packets ≡ request_writing.canonical_request format asked) }
-    ensures ls_reply { (format : Format) (ends : Ends) → CanonicalSays (ls_reply.Says format ends)
-        (ls_reply_form.IsLsReplyIn format) (λ packets reply. packets ≡ ls_reply.canonical_reply ends reply) }
-    ensures fetch_reply { (reading : fetch_reply.Reading) → CanonicalSays (fetch_reply.Says reading)
-        (fetch_reply_form.IsReplyIn reading) (λ packets reply. fetch_reply.IsCanonicalReply reading.ends reply packets) }
-{
-    ghello::laws::canonical_says();
-    grequest::laws::canonical_says();
-    glsreply::laws::canonical_says();
-    gfetchreply::laws::canonical_says();
+    ghello::laws::prefix_free();
+    grequest::laws::prefix_free();
+    glsreply::laws::prefix_free();
+    gfetchreply::laws::prefix_free();
 }
 
 /// What a kind's table reads as a message is what the manual has, and says the same (gitprotocol-v2(5), "Capability
@@ -78,9 +59,60 @@ pub fn manual()
     ensures fetch_reply { (reading : fetch_reply.Reading) → AsInManual (fetch_reply.Says reading)
         (fetch_reply_manual.IsFetchReply reading) }
 {
-    ghello::laws::hellos_are_their_lines();
-    ghello::laws::adverts_are_the_manuals();
+    ghello::laws::manual();
     grequest::laws::manual();
     glsreply::laws::manual();
     gfetchreply::laws::manual();
+}
+
+/// The packets that are written of a value say it, and each fits a packet line.
+pub fn canonical_says()
+    ensures hello { CanonicalSays hello.Says hello.IsHello hello.IsCanonical }
+    ensures advert { CanonicalSays advert.Says advert.AreCapabilities advert.IsCanonical }
+    ensures request { (format : Format) → CanonicalSays (request.Says format) (request_form.IsAsked format)
+        (request_writing.IsCanonicalRequest format) }
+    ensures ls_reply { (format : Format) (ends : Ends) → CanonicalSays (ls_reply.Says format ends)
+        (ls_reply_form.IsLsReplyIn format) (ls_reply.IsCanonicalReply ends) }
+    ensures fetch_reply { (reading : fetch_reply.Reading) → CanonicalSays (fetch_reply.Says reading)
+        (fetch_reply_form.IsReplyIn reading) (fetch_reply.IsCanonical reading.ends) }
+{
+    ghello::laws::canonical_says();
+    grequest::laws::canonical_says();
+    glsreply::laws::canonical_says();
+    gfetchreply::laws::canonical_says();
+}
+
+/// A message is read exactly where the bytes begin with it: that front is taken, and nothing after it. A request may
+/// be missing.
+pub fn reads_exactly()
+    ensures hello { ReadsExactly hello.judge hello.brings hello.Says }
+    ensures advert { ReadsExactly advert.judge advert.brings advert.Says }
+    ensures request { (format : Format) → ReadsExactlyIfAny (request.judge format) request.brings (request.Says format) }
+    ensures ls_reply { (format : Format) (ends : Ends)
+        → ReadsExactly (ls_reply.judge format ends) ls_reply.brings (ls_reply.Says format ends) }
+    ensures fetch_reply { (reading : fetch_reply.Reading)
+        → ReadsExactly (fetch_reply.judge reading) (fetch_reply.brings reading) (fetch_reply.Says reading) }
+{
+    ghello::laws::reads_exactly();
+    grequest::laws::reads_exactly();
+    glsreply::laws::reads_exactly();
+    gfetchreply::laws::reads_exactly();
+}
+
+/// What is written of a value is read back as it, whatever follows.
+pub fn reads_back()
+    ensures hello { ReadsBack hello.judge hello.brings hello.Says hello.IsHello hello.IsCanonical }
+    ensures advert { ReadsBack advert.judge advert.brings advert.Says advert.AreCapabilities advert.IsCanonical }
+    ensures request { (format : Format) → ReadsBackIfAny (request.judge format) request.brings (request.Says format)
+        (request_form.IsAsked format) (request_writing.IsCanonicalRequest format) }
+    ensures ls_reply { (format : Format) (ends : Ends) → ReadsBack (ls_reply.judge format ends) ls_reply.brings
+        (ls_reply.Says format ends) (ls_reply_form.IsLsReplyIn format) (ls_reply.IsCanonicalReply ends) }
+    ensures fetch_reply { (reading : fetch_reply.Reading) → ReadsBack (fetch_reply.judge reading)
+        (fetch_reply.brings reading) (fetch_reply.Says reading) (fetch_reply_form.IsReplyIn reading)
+        (fetch_reply.IsCanonical reading.ends) }
+{
+    ghello::laws::reads_back();
+    grequest::laws::reads_back();
+    glsreply::laws::reads_back();
+    gfetchreply::laws::reads_back();
 }

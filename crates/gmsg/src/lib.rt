@@ -4,8 +4,9 @@
 //! # Proved
 //!
 //! - [`laws`], of every kind of message: packets say at most one message; no message begins another, neither its
-//!   packets nor the bytes that spell them; and the packets that are written of a value say it, and each fits a
-//!   packet line. So a message that was written is read back, whatever follows it.
+//!   packets nor the bytes that spell them; what is read is what the manual has; the packets that are written of
+//!   a value say it, and each fits a packet line; a message is read exactly where the bytes begin with it; and
+//!   what is written of a value is read back, whatever follows.
 //!
 //! All else is proved where it stands, and the page of each library says what:
 //!
@@ -19,8 +20,8 @@
 //!
 //! # Only tested
 //!
-//! That the messages of a short conversation stand one behind the other in one input, each read by its reader to
-//! its end.
+//! Nothing. The tests read messages of several kinds one behind the other, and put each kind before the readers
+//! of the others.
 //!
 //! # What a body can still get away with
 //!
@@ -37,18 +38,22 @@ pub mod laws;
 mod tests;
 
 pub use gfetchreply::{
-    Commons, FetchHead, FetchReading, FetchReply, MAX_ACKS, PackBytes, PackLimit, PackSink,
-    read_fetch_reply, read_fetch_reply_into, read_fetch_reply_into_in, write_fetch_reply,
+    Acks, FetchHead, FetchReading, FetchReply, MAX_ACKS, PackBytes, PackLimit, PackSink,
+    read_fetch_reply, read_fetch_reply_in, read_fetch_reply_into, read_fetch_reply_into_in,
+    write_fetch_reply,
 };
 pub use ggrammar::{
     Capability, Ends, MAX_CAPABILITY, MAX_PEER_TEXT, MessageFault, PeerText, Why, is_key, is_value,
     is_word_value,
 };
 pub use ghello::{
-    Advert, Hello, MAX_CAPABILITIES, MAX_HOST, MAX_PATH, is_host, is_path, read_advert, read_hello,
+    Advert, Hello, MAX_ADVERTISED, MAX_HOST, MAX_PATH, is_host, is_path, read_advert, read_hello,
     write_advert, write_hello,
 };
-pub use glsreply::{LsReply, MAX_LINES, RefLine, read_ls_reply, read_ls_reply_in, write_ls_reply};
+pub use glsreply::{
+    LentLine, LsReply, MAX_LINES, RefLine, RefText, read_ls_reply, read_ls_reply_in, write_end,
+    write_ls_reply, write_ref, write_unborn,
+};
 pub use grequest::{
     FetchRequest, LsRefsRequest, MAX_HAVES, MAX_PREFIXES, MAX_WANTS, Request, read_request,
     read_request_in, write_request,

@@ -1,4 +1,4 @@
-//! What no clause says: messages of several kinds behind one another, and each kind before the reader of another.
+//! Messages of several kinds one behind the other, and each kind before the readers of the others.
 mod conversation;
 mod kinds;
 mod samples;

@@ -61,7 +61,11 @@ const KINDS: &[(Kind, &[u8], u32)] = &[
 fn each_reader_refuses_the_other_kinds(rt: HostRuntime) -> Result<(), Fail> {
     for (kind, own, number) in KINDS {
         for (_, message, _) in KINDS {
-            let expected = if message == own { None } else { Some((0, *number)) };
+            let expected = if message == own {
+                None
+            } else {
+                Some((0, *number))
+            };
             assert_eq!(rt; fault_of(rt.alloc(), *kind, message)?, expected, "{kind:?}");
         }
     }
