@@ -200,7 +200,8 @@ impl<A: Allocator + Copy> Advert<A> {
     }
 
     /// Whether the first capability with a key has a value of which a word is a part between spaces: a
-    /// server lists unborn branches where its `ls-refs` has the word `unborn` (gitprotocol-v2(5), "ls-refs").
+    /// server tells of a `HEAD` that is not born where its `ls-refs` has the word `unborn`
+    /// (gitprotocol-v2(5), "ls-refs").
     pub fn has_feature(&self, key: &[u8], word: &[u8]) -> bool
         ensures { result ≡ has_feature key.now word.now self.now }
     {
