@@ -14,7 +14,7 @@
 //!   memory with `Memory`; each at packet 0, and nothing changes then.
 //! - [`FetchRequest::is_direct`] tells whether the reply has the pack at once: the client says that it is done,
 //!   or names no object that it has.
-//! - A copy of a request asks the same, with the format of the same ids, and `asks_as` holds exactly where two
+//! - A copy of a request asks the same, and its ids have the same format; `asks_as` holds exactly where two
 //!   requests ask the same.
 //! - [`write_request`] writes the one list of lines that a request has (`specs/RequestWriting.antt`), or a
 //!   beginning of it where the sink fails. The caller gives a request with ids the format of these ids.
@@ -30,9 +30,9 @@
 //!
 //! # What a body can still get away with
 //!
-//! A call that keeps or copies something may report out of memory, whatever there is. It may take as long as it likes,
-//! and more memory than it needs. Where the bytes of a source are not known, nothing is said of the lines that
-//! were read; what a device has done is said all the same.
+//! A call that keeps or copies something may report out of memory, whatever there is. It may take as long as
+//! it likes, and more memory than it needs. Where the bytes of a source are not known, nothing is said of the
+//! lines that were read; what a device has done is said all the same.
 //!
 //! # Stands on
 //!
