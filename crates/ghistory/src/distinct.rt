@@ -16,8 +16,10 @@ use std::hash::BuildHasherDefault;
 pub fn distinct_ids<A: Allocator + Copy>(alloc: A, ids: &[Oid]) -> Result<Vec<Oid, A>, AllocError>
     ensures { IfOk result (λ list. list.items ≡ distinct_of ids.now) }
 {
-    let mut seen: IndexSet<Oid, IdHasher, A> =
-        IndexSet::with_hasher(alloc, BuildHasherDefault::new());
+    let mut seen: IndexSet<Oid, IdHasher, A> = IndexSet::with_hasher(
+        alloc,
+        BuildHasherDefault::new(),
+    );
     for id in ids {
         seen.insert(*id)?;
     }
