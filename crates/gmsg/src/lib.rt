@@ -20,8 +20,7 @@
 //!
 //! # Only tested
 //!
-//! Nothing. The tests read messages of several kinds one behind the other, and put each kind before the readers
-//! of the others.
+//! Nothing. The tests read messages of several kinds one behind the other.
 //!
 //! # What a body can still get away with
 //!

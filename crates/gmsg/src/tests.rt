@@ -1,4 +1,3 @@
-//! Messages of several kinds one behind the other, and each kind before the readers of the others.
+//! Messages of several kinds one behind the other.
 mod conversation;
-mod kinds;
 mod samples;
