@@ -7,10 +7,10 @@ use Rattle.gpkt.specs.declared.fault.LineFault.{LineFault}
 use Rattle.gpkt.specs.declared.fault.LineFault.TheVariants as line_fault
 use Rattle.ggrammar.specs.Grammar.{Judge, Whole, Refused, IsOpen, IsUnfinished, IsWhole}
 use Rattle.ggrammar.specs.MessageReading.{IsReasonAfter}
-use Rattle.ggrammar.specs.MessageBytes.{known, IsFront, IsOfBytes, ReadsFront, ReadsNoOther, RefusedIsNoMessage, SpellingsPrefixFree, LawsOfBytes}
+use Rattle.ggrammar.specs.MessageBytes.{known, IsFront, IsOfBytes, ReadsFront, ReadsNoOther, RefusedIsNoMessage, EndedIsNoMessage, SpellingsPrefixFree, LawsOfBytes}
 use Rattle.ggrammar.specs.declared.fault.Why.{Why}
 use Rattle.ggrammar.specs.declared.fault.Why.TheVariants as why
-use Rattle.ggrammar.proofs.GrammarLemmas.{split_push, IsOpen-never_refuses, IsPrefixFree-always}
+use Rattle.ggrammar.proofs.GrammarLemmas.{nil_has_none, split_push, IsOpen-never_refuses, IsPrefixFree-always}
 
 module _ (judge : Judge) where
   pub reads_front : ReadsFront judge
@@ -119,10 +119,21 @@ module _ (judge : Judge) where
   refused_is_no_message begins one no_line four brings front lines bytes new rest fault h certain at =
       refused_at begins one no_line four brings front lines bytes new rest h.between fault.why h.unfinished h.before h.reason certain at
 
+  pub ended_is_no_message : HasFourBytes → EndedIsNoMessage judge
+  ended_is_no_message four [] bytes new rest read at whole = nil_has_none whole.front whole.last [] whole.parts
+  ended_is_no_message four (line ∷ more) bytes new rest read at whole =
+      let spelt = at.spelt in
+      let parts = ap length at.parts ∙ length-append at.front rest in
+      let front = ap length spelt.2 ∙ length-append spelt.0 spelt.1 in
+      let none : length bytes ≡ 0 = ap length read.0 in
+      let some = four line spelt.0 spelt.3 in
+      omega (arith, parts, front, none, some)
+
 pub LawsOfBytes-always : OneBegins → OneReading → RefusedIsNoLine → HasFourBytes → (judge : Judge) → LawsOfBytes judge
 LawsOfBytes-always begins one no_line four judge = record {
   front = reads_front judge;
   no_other = reads_no_other judge begins;
   refused = refused_is_no_message judge begins one no_line four;
+  ended = ended_is_no_message judge four;
   prefix_free = spellings_prefix_free judge begins;
 }

@@ -1,11 +1,11 @@
 -- Reading a kind of message, by what its lines say.
-use Rattle.std.proofs.Common.{◌≡◌, ℕ, Bool, List, ◌++◌, Result, Ok, Err, refl, subst, ap}
+use Rattle.std.proofs.Common.{◌≡◌, ℕ, Bool, List, ◌++◌, Option, Some, None, Result, Ok, Err, refl, subst, ap}
 use Rattle.std.specs.Prelude.{IfErr}
 use Rattle.gpkt.specs.Packets.{Packet, canonical_all}
 use Rattle.gpkt.specs.Laws.{CanonicalSpellsAll}
 use Rattle.ggrammar.specs.Grammar.{Judge}
 use Rattle.ggrammar.specs.MessageBytes.{known, IsOfBytes, LawsOfBytes}
-use Rattle.ggrammar.specs.Kinds.{Meaning, OneMeaning, SaysWhole, CanonicalSays, ReadsMessage, ReadsOrRefuses, SaysAtFront, ReadsExactly, ReadsBack}
+use Rattle.ggrammar.specs.Kinds.{Meaning, OneMeaning, SaysWhole, CanonicalSays, ReadsMessage, ReadsOrRefuses, ReadsIfAny, SaysAtFront, ReadsExactly, ReadsBack, ReadsExactlyIfAny, ReadsBackIfAny}
 use Rattle.ggrammar.specs.declared.fault.MessageFault.{MessageFault}
 
 module _ {M : Type 0} (judge : Judge) (brings : List Packet → Packet → Bool) (Says : Meaning M) (laws : LawsOfBytes judge)
@@ -44,4 +44,33 @@ module _ {M : Type 0} (judge : Judge) (brings : List Packet → Packet → Bool)
   reads_back spells IsValue IsCanonical canonical_says lines rest new result message value canonical read certain =
       let h = canonical_says lines message value canonical in
       answers (canonical_all lines ++ rest) new rest result message read certain
+      (lines, record { front = canonical_all lines; parts = refl; spelt = spells lines h.1 }, h.0)
+
+  -- ---- a message that may be missing
+
+  answers_if_any : (bytes new rest : List ℕ) (result : Result (Option M) MessageFault) (message : M)
+      → ReadsIfAny judge brings Says (known bytes new) result → IfErr result (λ fault. IsOfBytes fault.why)
+      → SaysAtFront Says bytes rest message → (result ≡ Ok (Some message)) × (new ≡ rest)
+  answers_if_any bytes new rest (Ok (Some other)) message read certain at =
+      let same = read_is_said bytes new rest other message read at in (ap (λ (m : M). Ok (Some m)) same.0, same.1)
+  answers_if_any bytes new rest (Ok None) message read certain (lines, at, says) =
+      absurd (laws.ended lines bytes new rest read at ((says_whole lines).1 (message, says)))
+  answers_if_any bytes new rest (Err fault) message refused certain (lines, at, says) =
+      absurd (laws.refused brings refused.0 lines bytes new rest fault refused.1 certain at ((says_whole lines).1 (message, says)))
+
+  said_if_any : (bytes new rest : List ℕ) (result : Result (Option M) MessageFault) (message : M)
+      → ReadsIfAny judge brings Says (known bytes new) result → (result ≡ Ok (Some message)) × (new ≡ rest) → SaysAtFront Says bytes rest message
+  said_if_any bytes new rest result message read same =
+      subst (λ (xs : List ℕ). SaysAtFront Says bytes xs message) same.1
+      (said_at_front bytes new message (subst (ReadsIfAny judge brings Says (known bytes new)) same.0 read))
+
+  pub reads_exactly_if_any : ReadsExactlyIfAny judge brings Says
+  reads_exactly_if_any bytes new rest result message read certain =
+      (said_if_any bytes new rest result message read, answers_if_any bytes new rest result message read certain)
+
+  pub reads_back_if_any : CanonicalSpellsAll → (IsValue : M → Type 0) (IsCanonical : Meaning M) → CanonicalSays Says IsValue IsCanonical
+      → ReadsBackIfAny judge brings Says IsValue IsCanonical
+  reads_back_if_any spells IsValue IsCanonical canonical_says lines rest new result message value canonical read certain =
+      let h = canonical_says lines message value canonical in
+      answers_if_any (canonical_all lines ++ rest) new rest result message read certain
       (lines, record { front = canonical_all lines; parts = refl; spelt = spells lines h.1 }, h.0)

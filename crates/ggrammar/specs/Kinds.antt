@@ -1,8 +1,9 @@
 -- The laws of a kind of message: of its judge, of what whole lists of lines say, of which values can be written, and as
 -- which lines.
-use Rattle.std.specs.Prelude.{◌≡◌, ℕ, ◌↔◌, All, Bool, List, ◌++◌, Result, Ok, Err, IfErr}
+use Rattle.std.specs.Prelude.{◌≡◌, ℕ, ◌↔◌, All, Bool, List, ◌++◌, Option, Some, None, Result, Ok, Err, IfErr}
 use Rattle.gpkt.specs.Packets.{Packet, canonical_all}
 use Rattle.gpkt.specs.Change.{Change}
+use Rattle.gpkt.specs.LineReading.{Reads}
 use Rattle.gpkt.specs.Laws.{Fits}
 use Rattle.ggrammar.specs.Grammar.{Judge, IsWhole}
 use Rattle.ggrammar.specs.MessageReading.{ReadsWhole, ReadsRefused}
@@ -65,3 +66,28 @@ module _ {M : Type 0} where
       → IsCanonical lines message
       → ReadsOrRefuses judge brings Says (known (canonical_all lines ++ rest) new) result
       → IfErr result (λ fault. IsOfBytes fault.why) → (result ≡ Ok message) × (new ≡ rest)
+
+  -- ---- a message that may be missing
+
+  -- the input has ended before it; or it is read or refused
+  abbrev pub ReadsIfAny : Judge → (List Packet → Packet → Bool) → Meaning M → Change
+      → Result (Option M) MessageFault → Type 0
+  ReadsIfAny judge brings Says bytes (Ok (Some message)) = ReadsMessage judge Says bytes message
+  ReadsIfAny judge brings Says bytes (Ok None) = Reads bytes (Ok None)
+  ReadsIfAny judge brings Says bytes (Err fault) =
+      (front : List Packet) × ReadsRefused judge brings front bytes fault
+
+  -- it is read exactly where a front of the bytes spells lines that say it
+  abbrev pub ReadsExactlyIfAny : Judge → (List Packet → Packet → Bool) → Meaning M → Type 0
+  ReadsExactlyIfAny judge brings Says =
+      (bytes new rest : List ℕ) (result : Result (Option M) MessageFault) (message : M)
+      → ReadsIfAny judge brings Says (known bytes new) result → IfErr result (λ fault. IsOfBytes fault.why)
+      → ((result ≡ Ok (Some message)) × (new ≡ rest)) ↔ SaysAtFront Says bytes rest message
+
+  -- what is written of a value reads back, whatever follows
+  abbrev pub ReadsBackIfAny : Judge → (List Packet → Packet → Bool) → Meaning M → (M → Type 0) → Meaning M → Type 0
+  ReadsBackIfAny judge brings Says IsValue IsCanonical =
+      (lines : List Packet) (rest new : List ℕ) (result : Result (Option M) MessageFault) (message : M)
+      → IsValue message → IsCanonical lines message
+      → ReadsIfAny judge brings Says (known (canonical_all lines ++ rest) new) result
+      → IfErr result (λ fault. IsOfBytes fault.why) → (result ≡ Ok (Some message)) × (new ≡ rest)

@@ -2,6 +2,7 @@ pub mod Grammar
 pub mod MessageReading
 pub mod MessageBytes
 pub mod Kinds
+pub mod Building
 pub mod Faults
 pub mod FaultViews
 pub mod PeerErrors

@@ -1,7 +1,8 @@
 -- Messages at the front of some bytes: what reading them comes to, whatever the kind of message.
-use Rattle.std.specs.Prelude.{◌≡◌, ℕ, Bool, List, [], ◌++◌, Some}
+use Rattle.std.specs.Prelude.{◌≡◌, ℕ, Bool, List, [], ◌++◌, Some, None, Ok}
 use Rattle.gpkt.specs.Packets.{Packet, SpellsAll}
 use Rattle.gpkt.specs.Change.{Change}
+use Rattle.gpkt.specs.LineReading.{Reads}
 use Rattle.gpkt.specs.declared.fault.LineFault.TheVariants.{Io, Failed}
 use Rattle.ggrammar.specs.Grammar.{Judge, IsWhole}
 use Rattle.ggrammar.specs.MessageReading.{ReadsWhole, ReadsRefused}
@@ -43,6 +44,11 @@ RefusedIsNoMessage judge =
     → ReadsRefused judge brings front (known bytes new) fault → IsOfBytes fault.why → IsFront lines bytes rest
     → ¬ IsWhole judge lines
 
+-- where the input has ended, no whole lines are at the front
+abbrev pub EndedIsNoMessage : Judge → Type 0
+EndedIsNoMessage judge = (lines : List Packet) (bytes new rest : List ℕ) → Reads (known bytes new) (Ok None)
+    → IsFront lines bytes rest → ¬ IsWhole judge lines
+
 -- no spelling of a message begins another
 abbrev pub SpellingsPrefixFree : Judge → Type 0
 SpellingsPrefixFree judge = (lines others : List Packet) (bytes rest : List ℕ) → IsWhole judge lines
@@ -54,4 +60,5 @@ pub record LawsOfBytes (judge : Judge) : Type 0 where
   pub front : ReadsFront judge
   pub no_other : ReadsNoOther judge
   pub refused : RefusedIsNoMessage judge
+  pub ended : EndedIsNoMessage judge
   pub prefix_free : SpellingsPrefixFree judge

@@ -3,7 +3,7 @@ use Rattle.std.specs.Prelude.{◌≡◌, ℕ, Bool, true, false, List, [], ◌�
 use Rattle.std.specs.Prelude.{IsTrue, Ok, Err}
 use Rattle.gpkt.specs.Packets.{Packet}
 use Rattle.gpkt.specs.Change.{Change}
-use Rattle.gpkt.specs.LineReading.{Reads, ReadsLines}
+use Rattle.gpkt.specs.LineReading.{Reader, Reads, ReadsLines}
 use Rattle.gpkt.specs.declared.fault.LineFault.TheVariants.{Io, Failed, Memory as LineMemory}
 use Rattle.ggrammar.specs.Grammar.{Judge, Verdict, Open, Whole, Refused, IsOpen, IsUnfinished, IsWhole}
 use Rattle.ggrammar.specs.declared.fault.Why.{Why}
@@ -86,3 +86,26 @@ IsReadFailure failed down why = (failed ≡ false) × (down ≡ false)
 abbrev pub IsFailedBy : Why → Bool → Type 0
 IsFailedBy (Line fault) failed = failed ≡ true
 IsFailedBy why failed = failed ≡ false
+
+-- How a call leaves the reader that it reads a message with. After a message the reader goes on, and its device is
+-- well. After a fault it has failed exactly where the line itself was refused; the device is down exactly where the
+-- fault is the device's; and a reader that had failed is refused at once, at packet 0.
+abbrev pub LeavesReader : {S M : Type 0} → (S → Bool) → Reader S → Reader S → Result M MessageFault → Type 0
+LeavesReader is_down old new (Ok message) =
+    (old.failed ≡ false) × (new.failed ≡ false) × (is_down new.source ≡ false)
+LeavesReader is_down old new (Err fault) =
+    IsReadFailure old.failed (is_down new.source) fault.why × IsFailedBy fault.why new.failed
+    × (old.failed ≡ true → fault.frame ≡ 0)
+
+-- ---- one packet, in the code of a kind
+
+-- a packet with this verdict is taken, and then this holds; or it is refused
+abbrev pub TakesAs : Verdict → Bool → Type 0 → Result Step Why → Type 0
+TakesAs verdict brings taken (Ok step.Open) = (verdict ≡ Open) × taken
+TakesAs verdict brings taken (Ok step.Whole) = (verdict ≡ Whole) × taken
+TakesAs verdict brings taken (Err why) = IsReason verdict brings why
+
+-- the same of a packet that ends no message
+abbrev pub AddsAs : Verdict → Bool → Type 0 → Result Unit Why → Type 0
+AddsAs verdict brings taken (Ok done) = (verdict ≡ Open) × taken
+AddsAs verdict brings taken (Err why) = IsReason verdict brings why

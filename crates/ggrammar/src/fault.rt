@@ -65,7 +65,7 @@ impl fmt::Debug for PeerText {
 /// Why a packet, or the end of the input in its place, is no part of the message.
 #[derive(Debug, Drop)]
 pub enum Why {
-    /// 20 to 28: the packet line itself was refused.
+    /// 20 to 25: the packet line itself was refused.
     Line(LineFault),
     /// 29, 30: the payload is of no side band.
     Band(BandFault),
@@ -189,6 +189,13 @@ pub struct MessageFault {
 }
 
 impl MessageFault {
+    /// The fault of a call that builds a value: no packet brought it, and its place is 0.
+    pub fn of_value(why: Why) -> MessageFault
+        ensures { result ≡ record { frame = 0; why = why } }
+    {
+        MessageFault { frame: 0, why }
+    }
+
     /// The number of the fault.
     pub fn code(&self) -> u32
         ensures { result ≡ (why_row self.now.why).code }

@@ -1,10 +1,12 @@
 //! The laws of every grammar: functions without effect, whose contracts they are.
 
 ghost use Rattle.ggrammar.specs.Grammar.{Judge, LawsOf};
+ghost use Rattle.ggrammar.specs.Kinds.{CanonicalSays, OneMeaning, ReadsBack, ReadsBackIfAny, ReadsExactly, ReadsExactlyIfAny, SaysWhole};
 ghost use Rattle.ggrammar.specs.MessageBytes.{LawsOfBytes};
 ghost use Rattle.ggrammar.specs.Texts.{TextIsRead, TextsOfMore};
 ghost use Rattle.ggrammar.specs.Writing.{EndsWriting, FailsWriting, GoesOnAfterPart, GoesOnWriting, LinesArePart, StartsWriting, WritesFitting, WritesLine};
 
+use crate::kind::Kind;
 use gpkt::Sink;
 use gpkt::laws::{
     canonical_spells, has_four_bytes, one_begins, one_reading, refused_front, text_reads_back,
@@ -51,4 +53,22 @@ pub fn writes_lines<W: Sink>()
 {
     canonical_spells();
     writes_join::<W>();
+}
+
+/// A kind of message whose whole lists each say one message is read exactly where the bytes begin with it, and
+/// what is written of a value of the kind reads back, whatever follows. The same where a message may be missing.
+pub fn kinds_are_read<K: Kind>()
+    ensures exactly { (given : K.Given) → SaysWhole (K.judge given) (K.says given) → OneMeaning (K.says given)
+        → ReadsExactly (K.judge given) (K.brings given) (K.says given) }
+    ensures back { (given : K.Given) → SaysWhole (K.judge given) (K.says given) → OneMeaning (K.says given)
+        → CanonicalSays (K.says given) (K.is_value given) (K.is_canonical given)
+        → ReadsBack (K.judge given) (K.brings given) (K.says given) (K.is_value given) (K.is_canonical given) }
+    ensures exactly_if_any { (given : K.Given) → SaysWhole (K.judge given) (K.says given) → OneMeaning (K.says given)
+        → ReadsExactlyIfAny (K.judge given) (K.brings given) (K.says given) }
+    ensures back_if_any { (given : K.Given) → SaysWhole (K.judge given) (K.says given) → OneMeaning (K.says given)
+        → CanonicalSays (K.says given) (K.is_value given) (K.is_canonical given)
+        → ReadsBackIfAny (K.judge given) (K.brings given) (K.says given) (K.is_value given) (K.is_canonical given) }
+{
+    canonical_spells();
+    messages_are_read();
 }

@@ -7,10 +7,12 @@
 //!   it at the first packet that does not fit, with the grammar's reason: what the line reader refuses comes
 //!   first, then the end of the input, then what the grammar refuses. What came before begins a message and
 //!   holds no whole one. Out of memory comes only at a packet that brings something to keep.
-//! - [`laws`]: no message begins another, and a refused packet is the first that does not fit, in every
-//!   grammar whose beginnings have endings. Whole lines at the front of some bytes are read and no others;
-//!   where reading is refused for a reason in the bytes, none are there. Lines written one after the other
-//!   are one write of all of them, also where one fails.
+//! - [`laws`]: no message begins another, in every grammar; and a refused packet is the first that does not
+//!   fit, in every grammar whose beginnings have endings. Whole lines at the front of some bytes are read and
+//!   no others; where reading is refused for a reason in the bytes, none are there. A kind of message whose
+//!   whole lists each say one message is read exactly where the bytes begin with it, and what is written of a
+//!   value of the kind reads back, whatever follows. Lines written one after the other are one write of all
+//!   of them, also where one fails.
 //! - [`capability_of`] splits a capability into its key and its value exactly where it is one.
 //! - The number, the name and the phrase of each fault stand in one row, `why_row`; of a peer's error the
 //!   first 256 bytes are kept.
@@ -37,6 +39,7 @@ mod capability;
 mod ends;
 mod fault;
 mod id;
+mod kind;
 pub mod laws;
 mod message;
 mod peer;
@@ -47,6 +50,7 @@ pub use crate::capability::{
 pub use crate::ends::Ends;
 pub use crate::fault::{MAX_PEER_TEXT, MessageFault, PeerText, Why};
 pub use crate::id::id_of_text;
+pub use crate::kind::Kind;
 pub use crate::message::{Message, Step, read_message};
 pub use crate::peer::{after_word, peer_error};
 

@@ -4,7 +4,7 @@ ghost use Rattle.std.specs.Prelude.{◌≡◌, ◌<◌, ◌^◌, Bool, List, [],
 ghost use Rattle.gpkt.specs.Packets.{Packet, packet_of};
 ghost use Rattle.gpkt.specs.Change.{change_of};
 ghost use Rattle.ggrammar.specs.Grammar.{Judge, HasEndings, IsOpen};
-ghost use Rattle.ggrammar.specs.MessageReading.{TakesPacket, HasTaken, HasRefused, IsReadFailure, IsFailedBy};
+ghost use Rattle.ggrammar.specs.MessageReading.{TakesPacket, HasTaken, HasRefused, LeavesReader};
 
 use crate::fault::{MessageFault, Why};
 use gpkt::{Line, LineReader, Source};
@@ -66,11 +66,7 @@ pub fn read_message<S: Source, A: Allocator + Copy, M: Message>(
     ensures judge { M.judge message.new ≡ M.judge message.old }
     ensures brings { M.brings message.new ≡ M.brings message.old }
     ensures loans { S.loans reader.new.source ≡ S.loans reader.old.source }
-    ensures device { IfErr result (λ fault. IsReadFailure reader.old.failed (S.is_down reader.new.source) fault.why) }
-    ensures failed { IfErr result (λ fault. IsFailedBy fault.why reader.new.failed) }
-    ensures goes_on { OnOk result (reader.new.failed ≡ false) }
-    ensures well { OnOk result ((reader.old.failed ≡ false) × (S.is_down reader.new.source ≡ false)) }
-    ensures at_once { reader.old.failed ≡ true → IfErr result (λ fault. fault.frame ≡ 0) }
+    ensures reader { LeavesReader S.is_down reader.old reader.new result }
 {
     M::laws();
     for frame in 0..u64::MAX {

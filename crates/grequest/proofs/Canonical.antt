@@ -10,15 +10,17 @@ use Rattle.gname.specs.Ids.{IsIdOf, id_text}
 use Rattle.gname.specs.declared.formats.Format.{Format}
 use Rattle.gname.specs.declared.formats.Format.TheVariants.{Sha1, Sha256}
 use Rattle.gname.specs.Laws.{PrefixesAreClean}
+use Rattle.gname.specs.Names.{IsPrefix}
 use Rattle.ggrammar.specs.Grammar.{Judge, LawsOf}
+use Rattle.ggrammar.specs.Kinds.{CanonicalSays}
 use Rattle.ggrammar.specs.Texts.{text_packet}
 use Rattle.grequest.specs.declared.command.Command.{Command}
 use Rattle.grequest.specs.declared.command.Command.TheVariants.{LsRefs, Fetch}
 use Rattle.grequest.specs.Arguments.{command_name, capability_form}
 use Rattle.grequest.specs.Asked.{LsRefsAsked, FetchAsked, Asked, Empty, Ls, Fetches, max_prefixes, max_wants, max_haves, max_arguments}
-use Rattle.grequest.specs.RequestLines.{agents, prefixes, wants, haves, is_thin_pack, is_no_progress, is_include_tag, is_ofs_delta, first_of, asked_by}
-use Rattle.grequest.specs.RequestWriting.{agent_packets, format_packets, ls_argument_packets, fetch_argument_packets, command_packets, canonical_request}
-use Rattle.grequest.specs.WellFormed.{IsAgent, IsPrefix, IsLsRefsAsked, IsFetchAsked, IsAsked}
+use Rattle.grequest.specs.RequestLines.{agents, prefixes, wants, haves, is_thin_pack, is_no_progress, is_include_tag, is_ofs_delta, first_of, asked_by_command}
+use Rattle.grequest.specs.RequestWriting.{agent_packets, format_packets, ls_argument_packets, fetch_argument_packets, command_packets, canonical_request, IsCanonicalRequest}
+use Rattle.grequest.specs.WellFormed.{IsAgent, IsLsRefsAsked, IsFetchAsked, IsAsked}
 use Rattle.grequest.specs.Manual.{IsCapability, IsArgument, NamesFormat, AreFew, IsCommandRequest, IsRequest}
 use Rattle.grequest.specs.Requests.{Says}
 use Rattle.grequest.proofs.StateLemmas.{list_of}
@@ -51,7 +53,7 @@ command_parts format command agent packets texts e =
 
 command_request : (format : Format) (command : Command) (agent : Option (List ℕ)) (packets : List Packet) (texts : List (List ℕ)) (asked : Asked) → packets ≡ map text_packet texts
     → Capable format agent → All (IsArgument format command) texts → AreFew format command texts → length texts ≤ max_arguments
-    → asked ≡ asked_by format command (capability_words format agent) texts → IsCommandRequest format (command_packets format command agent packets) asked
+    → asked ≡ asked_by_command format command (capability_words format agent) texts → IsCommandRequest format (command_packets format command agent packets) asked
 command_request format command agent packets texts asked e able are few room asks =
     let words = capability_words format agent in
     let read : map text (map line_of words) ≡ words = texts_of_lines words in
@@ -71,7 +73,7 @@ command_request format command agent packets texts asked e able are few room ask
       one_format = subst (NamesFormat format) (sym read) able.one_format;
       few = subst (AreFew format command) (sym back) few;
       few_arguments = omega (arith, room, length-map texts line_of);
-      asks = asks ∙ sym (λ i. asked_by format command (read i) (back i));
+      asks = asks ∙ sym (λ i. asked_by_command format command (read i) (back i));
     }
 
 same_ls : {a b : LsRefsAsked} → a.agent ≡ b.agent → a.symrefs ≡ b.symrefs → a.peel ≡ b.peel → a.unborn ≡ b.unborn → a.prefixes ≡ b.prefixes → a ≡ b
@@ -227,9 +229,7 @@ canonical_fits spelt clean format Empty h = All-cons Fits Flush [] (omega arith)
 canonical_fits spelt clean format (Ls asked) h = request_fits format LsRefs asked.agent (ls_argument_packets asked) (ls_texts asked) (ls_lines asked) h.agent (short_ls clean asked h)
 canonical_fits spelt clean format (Fetches asked) h = request_fits format Fetch asked.agent (fetch_argument_packets asked) (fetch_texts asked) (fetch_lines asked) h.agent (short_fetch spelt format asked h)
 
-pub canonical_says_all : ((j : Judge) → LawsOf j) → AreSpelt → PrefixesAreClean → (format : Format) (asked : Asked) → IsAsked format asked
-    → Says format (canonical_request format asked) asked × All Fits (canonical_request format asked)
-canonical_says_all laws spelt clean format asked h = (
-  judge_from_manual laws format (canonical_request format asked) asked (canonical_is_request spelt format asked h),
-  canonical_fits spelt clean format asked h,
-)
+pub canonical_says_all : ((j : Judge) → LawsOf j) → AreSpelt → PrefixesAreClean → (format : Format) → CanonicalSays (Says format) (IsAsked format) (IsCanonicalRequest format)
+canonical_says_all laws spelt clean format lines asked h is =
+    subst (λ (packets : List Packet). Says format packets asked × All Fits packets) (sym is)
+    (judge_from_manual laws format (canonical_request format asked) asked (canonical_is_request spelt format asked h), canonical_fits spelt clean format asked h)

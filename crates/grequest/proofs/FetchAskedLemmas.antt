@@ -1,5 +1,6 @@
 -- What one argument more adds to what a request for fetch asks.
 use Rattle.std.proofs.Common.{◌≡◌, ℕ, Bool, true, false, ◌||◌, List, [], ◌∷◌, ◌++◌, Option, Some, None, refl, ap, ◌∙◌, append-nil}
+use Rattle.std.specs.Option.{option_to_list}
 use Rattle.std.proofs.Math.Bool.{or-false, or-true}
 use Rattle.std.proofs.lemmas.List.Elements.{filter_map-append}
 use Rattle.std.proofs.lemmas.List.Folds.{list_any-append}
@@ -7,7 +8,7 @@ use Rattle.gname.specs.declared.formats.Format.{Format}
 use Rattle.grequest.specs.Arguments.{FetchArgument, ThinPack, NoProgress, IncludeTag, OfsDelta, Done, Want, Have, UnknownFetchArgument, fetch_argument}
 use Rattle.grequest.specs.Asked.{FetchAsked}
 use Rattle.grequest.specs.RequestLines.{fetch_asked, has_fetch_argument, is_thin_pack, is_no_progress, is_include_tag, is_ofs_delta, is_done, want_value, have_value, wants, haves}
-use Rattle.grequest.specs.RequestState.{with_fetch_argument, id_list}
+use Rattle.grequest.specs.RequestState.{with_fetch_argument}
 
 same_asked : {a b : FetchAsked} → a.agent ≡ b.agent → a.wants ≡ b.wants → a.haves ≡ b.haves → a.done ≡ b.done → a.thin_pack ≡ b.thin_pack
     → a.no_progress ≡ b.no_progress → a.include_tag ≡ b.include_tag → a.ofs_delta ≡ b.ofs_delta → a ≡ b
@@ -31,22 +32,22 @@ flag_set : (is_it : FetchArgument → Bool) (texts : List (List ℕ)) (line : Li
 flag_set is_it texts line form is set =
     flag_more is_it texts line form is ∙ ap (λ (b : Bool). has_fetch_argument is_it texts || b) set ∙ or-true (has_fetch_argument is_it texts)
 
-one_want : (format : Format) (line : List ℕ) (value : Option (List ℕ)) → want_value format (fetch_argument line) ≡ value → wants format (line ∷ []) ≡ id_list value
+one_want : (format : Format) (line : List ℕ) (value : Option (List ℕ)) → want_value format (fetch_argument line) ≡ value → wants format (line ∷ []) ≡ option_to_list value
 one_want format line None is = cc
 one_want format line (Some id) is = cc
 
 wants_more : (format : Format) (texts : List (List ℕ)) (line : List ℕ) (form : FetchArgument) → fetch_argument line ≡ form
-    → wants format (texts ++ line ∷ []) ≡ wants format texts ++ id_list (want_value format form)
+    → wants format (texts ++ line ∷ []) ≡ wants format texts ++ option_to_list (want_value format form)
 wants_more format texts line form is =
     filter_map-append (λ text. want_value format (fetch_argument text)) texts (line ∷ [])
     ∙ ap (λ xs. wants format texts ++ xs) (one_want format line (want_value format form) (ap (want_value format) is))
 
-one_have : (format : Format) (line : List ℕ) (value : Option (List ℕ)) → have_value format (fetch_argument line) ≡ value → haves format (line ∷ []) ≡ id_list value
+one_have : (format : Format) (line : List ℕ) (value : Option (List ℕ)) → have_value format (fetch_argument line) ≡ value → haves format (line ∷ []) ≡ option_to_list value
 one_have format line None is = cc
 one_have format line (Some id) is = cc
 
 haves_more : (format : Format) (texts : List (List ℕ)) (line : List ℕ) (form : FetchArgument) → fetch_argument line ≡ form
-    → haves format (texts ++ line ∷ []) ≡ haves format texts ++ id_list (have_value format form)
+    → haves format (texts ++ line ∷ []) ≡ haves format texts ++ option_to_list (have_value format form)
 haves_more format texts line form is =
     filter_map-append (λ text. have_value format (fetch_argument text)) texts (line ∷ [])
     ∙ ap (λ xs. haves format texts ++ xs) (one_have format line (have_value format form) (ap (have_value format) is))

@@ -1,4 +1,5 @@
 pub mod LineLemmas
+pub mod SameAsked
 pub mod AskedLemmas
 pub mod FetchAskedLemmas
 pub mod StateLemmas
@@ -14,7 +15,7 @@ pub mod WrittenTexts
 pub mod WrittenCapabilities
 pub mod WrittenArguments
 pub mod Canonical
-pub mod Meaning
 pub mod ReaderLemmas
+pub mod MissingLemmas
 pub mod FormatOfJudge
 pub mod WriteLemmas

@@ -6,7 +6,7 @@ use Rattle.gname.specs.declared.formats.Format.{Format}
 use Rattle.gname.specs.declared.formats.Format.TheVariants.{Sha1, Sha256}
 use Rattle.ggrammar.specs.Grammar.{Judge, Whole, IsOpen, LawsOf}
 use Rattle.grequest.specs.Asked.{Asked}
-use Rattle.grequest.specs.RequestLines.{InCapabilities, InArguments, formats, asked_by, asked_of}
+use Rattle.grequest.specs.RequestLines.{InCapabilities, InArguments, formats, asked_by_command, asked_by_lines}
 use Rattle.grequest.specs.Requests.{State, state_of, judge, Says}
 use Rattle.grequest.specs.RequestState.{with_packet}
 use Rattle.grequest.specs.Manual.{NamesFormat, IsCommandRequest, IsRequest}
@@ -24,8 +24,8 @@ unfolding with_packet
 with_flush format state = refl
 
 -- it adds nothing to what is asked
-asked_of-flush : (format : Format) (front : List Packet) → judge format front Flush ≡ Whole → asked_of format (front ++ Flush ∷ []) ≡ asked_of format front
-asked_of-flush format front ends = ap (λ (s : State). s.asked) (state_of-whole format front Flush ends ∙ with_flush format (state_of format front))
+asked_by_lines-flush : (format : Format) (front : List Packet) → judge format front Flush ≡ Whole → asked_by_lines format (front ++ Flush ∷ []) ≡ asked_by_lines format front
+asked_by_lines-flush format front ends = ap (λ (s : State). s.asked) (state_of-whole format front Flush ends ∙ with_flush format (state_of format front))
 
 -- ---- from the judge to the manual
 
@@ -35,7 +35,7 @@ record IsEnded (format : Format) (lines : List Packet) (asked : Asked) : Type 0 
   parts : lines ≡ front ++ Flush ∷ []
   ends : judge format front Flush ≡ Whole
   shape : Shape format front
-  asks : asked ≡ asked_of format front
+  asks : asked ≡ asked_by_lines format front
 
 ended : ((j : Judge) → LawsOf j) → (format : Format) (lines : List Packet) (asked : Asked) → Says format lines asked → IsEnded format lines asked
 ended laws format lines asked h =
@@ -43,9 +43,9 @@ ended laws format lines asked h =
     let last : whole.last ≡ Flush = ends-flush format (state_of format whole.front) whole.last whole.ends in
     let parts : lines ≡ whole.front ++ Flush ∷ [] = whole.parts ∙ ap (λ (packet : Packet). whole.front ++ packet ∷ []) last in
     let ends : judge format whole.front Flush ≡ Whole = subst (λ (packet : Packet). judge format whole.front packet ≡ Whole) last whole.ends in
-    record { front = whole.front; parts = parts; ends = ends; shape = shape_of_open laws format whole.front whole.goes; asks = h.asks ∙ ap (asked_of format) parts ∙ asked_of-flush format whole.front ends }
+    record { front = whole.front; parts = parts; ends = ends; shape = shape_of_open laws format whole.front whole.goes; asks = h.asks ∙ ap (asked_by_lines format) parts ∙ asked_by_lines-flush format whole.front ends }
 
-listed_is_manual : (format : Format) (lines front : List Packet) (asked : Asked) → lines ≡ front ++ Flush ∷ [] → judge format front Flush ≡ Whole → asked ≡ asked_of format front → IsListed format front
+listed_is_manual : (format : Format) (lines front : List Packet) (asked : Asked) → lines ≡ front ++ Flush ∷ [] → judge format front Flush ≡ Whole → asked ≡ asked_by_lines format front → IsListed format front
     → IsCommandRequest format lines asked
 listed_is_manual format lines front asked parts ends asks h =
     let state = state_at format (InCapabilities h.command) (map text h.capabilities) [] in
@@ -69,7 +69,7 @@ listed_is_manual format lines front asked parts ends asks h =
       asks = asks ∙ ap (λ (s : State). s.asked) is;
     }
 
-argued_is_manual : (format : Format) (lines front : List Packet) (asked : Asked) → lines ≡ front ++ Flush ∷ [] → asked ≡ asked_of format front → IsArgued format front → IsCommandRequest format lines asked
+argued_is_manual : (format : Format) (lines front : List Packet) (asked : Asked) → lines ≡ front ++ Flush ∷ [] → asked ≡ asked_by_lines format front → IsArgued format front → IsCommandRequest format lines asked
 argued_is_manual format lines front asked parts asks h = record {
   command = h.command;
   first = h.first;
@@ -88,9 +88,9 @@ argued_is_manual format lines front asked parts asks h = record {
   asks = asks ∙ ap (λ (s : State). s.asked) (argued_state format front h);
 }
 
-manual_by_shape : (format : Format) (lines front : List Packet) (asked : Asked) → lines ≡ front ++ Flush ∷ [] → judge format front Flush ≡ Whole → asked ≡ asked_of format front → Shape format front
+manual_by_shape : (format : Format) (lines front : List Packet) (asked : Asked) → lines ≡ front ++ Flush ∷ [] → judge format front Flush ≡ Whole → asked ≡ asked_by_lines format front → Shape format front
     → IsRequest format lines asked
-manual_by_shape format lines front asked parts ends asks (inl e) = inl (parts ∙ ap (λ (xs : List Packet). xs ++ Flush ∷ []) e, asks ∙ ap (asked_of format) e)
+manual_by_shape format lines front asked parts ends asks (inl e) = inl (parts ∙ ap (λ (xs : List Packet). xs ++ Flush ∷ []) e, asks ∙ ap (asked_by_lines format) e)
 manual_by_shape format lines front asked parts ends asks (inr (inl h)) = inr (listed_is_manual format lines front asked parts ends asks h)
 manual_by_shape format lines front asked parts ends asks (inr (inr h)) = inr (argued_is_manual format lines front asked parts asks h)
 
@@ -100,10 +100,10 @@ manual_from_judge laws format lines asked h = let e = ended laws format lines as
 -- ---- from the manual to the judge
 
 -- an open list and a flush say what they ask
-says : (format : Format) (lines front : List Packet) (asked : Asked) → lines ≡ front ++ Flush ∷ [] → IsOpen (judge format) front → judge format front Flush ≡ Whole → asked ≡ asked_of format front → Says format lines asked
+says : (format : Format) (lines front : List Packet) (asked : Asked) → lines ≡ front ++ Flush ∷ [] → IsOpen (judge format) front → judge format front Flush ≡ Whole → asked ≡ asked_by_lines format front → Says format lines asked
 says format lines front asked parts goes ends asks = record {
   whole = record { front = front; last = Flush; parts = parts; goes = goes; ends = ends };
-  asks = asks ∙ sym (asked_of-flush format front ends) ∙ ap (asked_of format) (sym parts);
+  asks = asks ∙ sym (asked_by_lines-flush format front ends) ∙ ap (asked_by_lines format) (sym parts);
 }
 
 one_at_most : (format : Format) (lines : List (List ℕ)) → NamesFormat format lines → length (formats lines) ≤ 1
@@ -133,7 +133,7 @@ says_by_section laws format lines asked h (inr e) =
     (h.parts ∙ ap (λ (xs : List Packet). Data h.first ∷ (map Data h.capabilities ++ xs ++ Flush ∷ [])) e.1 ∙ ap (λ (xs : List Packet). Data h.first ∷ (xs ++ Flush ∷ [])) (append-nil (map Data h.capabilities)))
     (listing-is_open laws format h.command h.first h.capabilities h.is_command are)
     (flush_of format (listing h.first h.capabilities) state is ∙ judge-flush format state ∙ named-taken format h.command (map text h.capabilities) [] Whole h.one_format)
-    (h.asks ∙ ap (λ (xs : List (List ℕ)). asked_by format h.command (map text h.capabilities) (map text xs)) e.0 ∙ ap (λ (s : State). s.asked) (sym is))
+    (h.asks ∙ ap (λ (xs : List (List ℕ)). asked_by_command format h.command (map text h.capabilities) (map text xs)) e.0 ∙ ap (λ (s : State). s.asked) (sym is))
 
 pub judge_from_manual : ((j : Judge) → LawsOf j) → (format : Format) (lines : List Packet) (asked : Asked) → IsRequest format lines asked → Says format lines asked
 judge_from_manual laws format lines asked (inl h) = says format lines [] asked h.0 (laws (judge format)).nothing (judge-flush format (state_of format [])) h.1

@@ -3,14 +3,14 @@ use Rattle.std.proofs.Common.{◌≡◌, Bool, List, [], ◌∷◌, ◌++◌, Re
 use Rattle.gpkt.specs.Packets.{Packet, Data, Flush, Delim, ResponseEnd}
 use Rattle.gname.specs.declared.formats.Format.{Format}
 use Rattle.ggrammar.specs.Grammar.{Verdict, Open, Whole}
-use Rattle.ggrammar.specs.MessageReading.{IsAccepted, IsReason, TakesPacket}
+use Rattle.ggrammar.specs.MessageReading.{IsAccepted, IsReason, TakesAs, TakesPacket}
 use Rattle.ggrammar.specs.declared.fault.Why.{Why}
 use Rattle.ggrammar.specs.declared.message.Step.{Step}
 use Rattle.ggrammar.specs.declared.message.Step.TheVariants as step
-use Rattle.grequest.specs.RequestLines.{place_of, asked_of}
+use Rattle.grequest.specs.RequestLines.{place_of, asked_by_lines}
 use Rattle.grequest.specs.Requests.{State, state_of, judge, judge_at, brings}
 use Rattle.grequest.specs.RequestState.{with_packet}
-use Rattle.grequest.specs.RequestReading.{Reading, TakesAs, packet_brings, HoldsPackets, LeavesNothing}
+use Rattle.grequest.specs.RequestReading.{RequestSoFar, packet_brings, HoldsPackets, LeavesNothing}
 use Rattle.grequest.proofs.StateLemmas.{state_of-push}
 use Rattle.grequest.proofs.FormatOfJudge.{format_of_judge}
 
@@ -27,13 +27,13 @@ whole_is_accepted : (verdict : Verdict) → verdict ≡ Whole → IsAccepted ver
 whole_is_accepted verdict is = subst IsAccepted (sym is) tt
 
 -- what is kept after a packet that the judge accepts
-holds_more : (old new : Reading) (front : List Packet) (packet : Packet) → HoldsPackets old front → new.format ≡ old.format
+holds_more : (old new : RequestSoFar) (front : List Packet) (packet : Packet) → HoldsPackets old front → new.format ≡ old.format
     → IsAccepted (judge old.format front packet) → new.state ≡ with_packet old.format old.state packet → HoldsPackets new (front ++ packet ∷ [])
 holds_more old new front packet held same taken adds =
     adds ∙ (ap (λ (state : State). with_packet old.format state packet) held ∙ (sym (state_of-push old.format front packet taken)
     ∙ ap (λ (format : Format). state_of format (front ++ packet ∷ [])) (sym same)))
 
-pub takes_after : (old new : Reading) (front : List Packet) (packet : Packet) (result : Result Step Why) → HoldsPackets old front → new.format ≡ old.format
+pub takes_after : (old new : RequestSoFar) (front : List Packet) (packet : Packet) (result : Result Step Why) → HoldsPackets old front → new.format ≡ old.format
     → TakesAs (judge_at old.format old.state packet) (packet_brings old.state.place packet) (new.state ≡ with_packet old.format old.state packet) result
     → TakesPacket (judge old.format) brings HoldsPackets LeavesNothing front packet new result
 takes_after old new front packet (Ok step.Open) held same taken =
@@ -50,15 +50,15 @@ takes_after old new front packet (Err why) held same taken = (
 
 -- ---- the format, and what was asked
 
-abbrev IsStart : Format → Reading → Type 0
+abbrev IsStart : Format → RequestSoFar → Type 0
 IsStart format reading = reading ≡ record { format = format; state = state_of format [] }
 
-pub format_of_start : (format : Format) (reading : Reading) → IsStart format reading → reading.format ≡ format
-format_of_start format reading start = ap (λ (r : Reading). r.format) start
+pub format_of_start : (format : Format) (reading : RequestSoFar) → IsStart format reading → reading.format ≡ format
+format_of_start format reading start = ap (λ (r : RequestSoFar). r.format) start
 
 -- it stays with the judge
-pub format_of_later : (format : Format) (first reading : Reading) → IsStart format first → judge reading.format ≡ judge first.format → reading.format ≡ format
+pub format_of_later : (format : Format) (first reading : RequestSoFar) → IsStart format first → judge reading.format ≡ judge first.format → reading.format ≡ format
 format_of_later format first reading start same = format_of_judge reading.format first.format same ∙ format_of_start format first start
 
-pub asked_by_lines : (format : Format) (reading : Reading) (lines : List Packet) → HoldsPackets reading lines → reading.format ≡ format → reading.state.asked ≡ asked_of format lines
-asked_by_lines format reading lines held same = ap (λ (state : State). state.asked) held ∙ ap (λ (f : Format). asked_of f lines) same
+pub lines_ask : (format : Format) (reading : RequestSoFar) (lines : List Packet) → HoldsPackets reading lines → reading.format ≡ format → reading.state.asked ≡ asked_by_lines format lines
+lines_ask format reading lines held same = ap (λ (state : State). state.asked) held ∙ ap (λ (f : Format). asked_by_lines f lines) same

@@ -14,9 +14,9 @@ use Rattle.ggrammar.specs.declared.fault.Why.{Why}
 use Rattle.ggrammar.specs.declared.fault.Why.TheVariants.{Format as WrongFormat, BadName, BadId}
 use Rattle.grequest.specs.declared.command.Command.{Command}
 use Rattle.grequest.specs.declared.command.Command.TheVariants.{LsRefs, Fetch}
-use Rattle.grequest.specs.Arguments.{is_word, CapabilityForm, Agent, ObjectFormat, OtherCapability, BadCapability, capability_form, LsArgument, Symrefs, Peel, Unborn, RefPrefix, UnknownLsArgument, ls_argument, FetchArgument, ThinPack, NoProgress, IncludeTag, OfsDelta, Done, Want, Have, UnknownFetchArgument, fetch_argument}
+use Rattle.grequest.specs.Arguments.{is_word, CapabilityForm, Agent, ObjectFormat, UnknownCapability, BadCapability, capability_form, LsArgument, Symrefs, Peel, Unborn, RefPrefix, UnknownLsArgument, ls_argument, FetchArgument, ThinPack, NoProgress, IncludeTag, OfsDelta, Done, Want, Have, UnknownFetchArgument, fetch_argument}
 use Rattle.grequest.specs.Asked.{max_prefixes, max_wants, max_haves, max_arguments}
-use Rattle.grequest.specs.RequestLines.{InCapabilities, InArguments, agents, formats, prefix_value, prefixes, want_value, wants, have_value, haves, first_of, asked_by}
+use Rattle.grequest.specs.RequestLines.{InCapabilities, InArguments, agents, formats, prefix_value, prefixes, want_value, wants, have_value, haves, first_of, asked_by_command}
 use Rattle.grequest.specs.Requests.{agent_of, judge_capability, judge_ls_argument, judge_fetch_argument, judge_argument}
 use Rattle.grequest.specs.Manual.{IsCapability, IsLsArgument, IsFetchArgument, IsArgument, AreFew}
 use Rattle.grequest.proofs.StateLemmas.{state_at, list_of, agents-push, formats-push, agent_of-by, first_of-none}
@@ -73,7 +73,7 @@ length-formats_agent lines line value is = ap length (formats-push lines line (A
 capability_joins : (format : Format) (command : Command) (lines arguments : List (List ℕ)) (line : List ℕ) (form : CapabilityForm) → capability_form line ≡ form
     → AreCapabilities format lines → TakesCapability format command lines arguments form → AreCapabilities format (lines ++ line ∷ [])
 capability_joins format command lines arguments line (Agent value) is h takes =
-    let first = if_opens (is_none (agent_of (asked_by format command lines arguments))) Open _ takes in
+    let first = if_opens (is_none (agent_of (asked_by_command format command lines arguments))) Open _ takes in
     let none : agents lines ≡ [] = first_of-none (agents lines) (ap is_none (sym (agent_of-by format command lines arguments)) ∙ first.0) in
     let none_yet : length (agents lines) ≡ 0 = ap length none in
     record {
@@ -90,7 +90,7 @@ capability_joins format command lines arguments line (ObjectFormat value) is h t
       one_agent = omega (arith, length-agents_format lines line value is, h.one_agent);
       one_format = omega (arith, length-formats lines line value is);
     }
-capability_joins format command lines arguments line OtherCapability is h takes = absurd cc
+capability_joins format command lines arguments line UnknownCapability is h takes = absurd cc
 capability_joins format command lines arguments line BadCapability is h takes = absurd cc
 
 pub AreCapabilities-push : (format : Format) (command : Command) (lines arguments : List (List ℕ)) (line : List ℕ)
@@ -102,12 +102,12 @@ capability_taken : (format : Format) (command : Command) (lines arguments : List
     → TakesCapability format command lines arguments form
 capability_taken format command lines arguments line (Agent value) is h one_agent one_format =
     let none : agents lines ≡ [] = nil_from_length (agents lines) (omega (arith, length-agents lines line value is)) in
-    opens_if (is_none (agent_of (asked_by format command lines arguments))) Open _ (ap is_none (agent_of-by format command lines arguments ∙ ap first_of none)) refl
+    opens_if (is_none (agent_of (asked_by_command format command lines arguments))) Open _ (ap is_none (agent_of-by format command lines arguments ∙ ap first_of none)) refl
 capability_taken format command lines arguments line (ObjectFormat value) is h one_agent one_format =
     let none_yet : length (formats lines) ≡ 0 = omega (arith, length-formats lines line value is) in
     opens_if (length (formats lines) == 0) (cond (is_word (format_name format) value) Open (Refused WrongFormat)) _ (eq-eqb (length (formats lines)) 0 none_yet)
     (opens_if (is_word (format_name format) value) Open WrongFormat (is_word-same (format_name format) value h) refl)
-capability_taken format command lines arguments line OtherCapability is h one_agent one_format = absurd h
+capability_taken format command lines arguments line UnknownCapability is h one_agent one_format = absurd h
 capability_taken format command lines arguments line BadCapability is h one_agent one_format = absurd h
 
 agents_front : (lines : List (List ℕ)) (line : List ℕ) → length (agents lines) ≤ length (agents (lines ++ line ∷ []))
@@ -149,7 +149,7 @@ counted format (line ∷ lines) h =
         let a : agents (line ∷ lines) ≡ agents lines = cc in
         let f : formats (line ∷ lines) ≡ value ∷ formats lines = cc in
         omega (arith, ap length a, ap length f)
-    one_counted format line lines OtherCapability is h rest = absurd h
+    one_counted format line lines UnknownCapability is h rest = absurd h
     one_counted format line lines BadCapability is h rest = absurd h
 
 pub few_capabilities : (format : Format) (lines : List (List ℕ)) → AreCapabilities format lines → length lines ≤ 2
@@ -236,28 +236,28 @@ record Found (kind : Type 0) (is : Type 0) (lines : List (List ℕ)) : Type 0 wh
   room : length lines < max_arguments
   few : kind
 
-ls_found : (format : Format) (capabilities lines : List (List ℕ)) (form : LsArgument) → length (prefixes lines) ≤ max_prefixes
-    → judge_ls_argument (state_at format (InArguments LsRefs) capabilities lines) form ≡ Open
+ls_found : (lines : List (List ℕ)) (form : LsArgument) → length (prefixes lines) ≤ max_prefixes
+    → judge_ls_argument (length lines) (prefixes lines) form ≡ Open
     → Found (length (prefixes lines) + length (list_of (prefix_value form)) ≤ max_prefixes) (IsLsArgument form) lines
-ls_found format capabilities lines Symrefs few e = record { form = tt; room = ltb-true (length lines) max_arguments (room_left _ e); few = omega (arith, few) }
-ls_found format capabilities lines Peel few e = record { form = tt; room = ltb-true (length lines) max_arguments (room_left _ e); few = omega (arith, few) }
-ls_found format capabilities lines Unborn few e = record { form = tt; room = ltb-true (length lines) max_arguments (room_left _ e); few = omega (arith, few) }
-ls_found format capabilities lines (RefPrefix prefix) few e =
+ls_found lines Symrefs few e = record { form = tt; room = ltb-true (length lines) max_arguments (room_left _ e); few = omega (arith, few) }
+ls_found lines Peel few e = record { form = tt; room = ltb-true (length lines) max_arguments (room_left _ e); few = omega (arith, few) }
+ls_found lines Unborn few e = record { form = tt; room = ltb-true (length lines) max_arguments (room_left _ e); few = omega (arith, few) }
+ls_found lines (RefPrefix prefix) few e =
     let h = if_opens (is_none (prefix_fault prefix)) (if_room (nat_lt (length lines) max_arguments && nat_lt (length (prefixes lines)) max_prefixes)) BadName e in
     let rooms = and_parts (nat_lt (length lines) max_arguments) (nat_lt (length (prefixes lines)) max_prefixes) (room_left _ h.1) in
     record { form = is_none-None (prefix_fault prefix) h.0; room = ltb-true (length lines) max_arguments rooms.0; few = omega (arith, ltb-true (length (prefixes lines)) max_prefixes rooms.1) }
-ls_found format capabilities lines UnknownLsArgument few e = absurd cc
+ls_found lines UnknownLsArgument few e = absurd cc
 
-ls_taken : (format : Format) (capabilities lines : List (List ℕ)) (form : LsArgument) → IsLsArgument form → length lines < max_arguments
+ls_taken : (lines : List (List ℕ)) (form : LsArgument) → IsLsArgument form → length lines < max_arguments
     → length (prefixes lines) + length (list_of (prefix_value form)) ≤ max_prefixes
-    → judge_ls_argument (state_at format (InArguments LsRefs) capabilities lines) form ≡ Open
-ls_taken format capabilities lines Symrefs h room few = room_for (nat_lt (length lines) max_arguments) (lt-ltb (length lines) max_arguments room)
-ls_taken format capabilities lines Peel h room few = room_for (nat_lt (length lines) max_arguments) (lt-ltb (length lines) max_arguments room)
-ls_taken format capabilities lines Unborn h room few = room_for (nat_lt (length lines) max_arguments) (lt-ltb (length lines) max_arguments room)
-ls_taken format capabilities lines (RefPrefix prefix) h room few =
+    → judge_ls_argument (length lines) (prefixes lines) form ≡ Open
+ls_taken lines Symrefs h room few = room_for (nat_lt (length lines) max_arguments) (lt-ltb (length lines) max_arguments room)
+ls_taken lines Peel h room few = room_for (nat_lt (length lines) max_arguments) (lt-ltb (length lines) max_arguments room)
+ls_taken lines Unborn h room few = room_for (nat_lt (length lines) max_arguments) (lt-ltb (length lines) max_arguments room)
+ls_taken lines (RefPrefix prefix) h room few =
     opens_if (is_none (prefix_fault prefix)) (if_room (nat_lt (length lines) max_arguments && nat_lt (length (prefixes lines)) max_prefixes)) BadName (ap is_none h)
     (room_for _ (and_from (nat_lt (length lines) max_arguments) (nat_lt (length (prefixes lines)) max_prefixes) (lt-ltb (length lines) max_arguments room) (lt-ltb (length (prefixes lines)) max_prefixes (omega (arith, few)))))
-ls_taken format capabilities lines UnknownLsArgument h room few = absurd h
+ls_taken lines UnknownLsArgument h room few = absurd h
 
 -- so many wants and haves are there
 abbrev FewIds : Format → List (List ℕ) → FetchArgument → Type 0
@@ -265,15 +265,15 @@ FewIds format lines form =
     (length (wants format lines) + length (list_of (want_value format form)) ≤ max_wants)
     × (length (haves format lines) + length (list_of (have_value format form)) ≤ max_haves)
 
-fetch_found : (format : Format) (capabilities lines : List (List ℕ)) (form : FetchArgument) → length (wants format lines) ≤ max_wants → length (haves format lines) ≤ max_haves
-    → judge_fetch_argument format (state_at format (InArguments Fetch) capabilities lines) form ≡ Open
+fetch_found : (format : Format) (lines : List (List ℕ)) (form : FetchArgument) → length (wants format lines) ≤ max_wants → length (haves format lines) ≤ max_haves
+    → judge_fetch_argument format (length lines) (wants format lines) (haves format lines) form ≡ Open
     → Found (FewIds format lines form) (IsFetchArgument format form) lines
-fetch_found format capabilities lines ThinPack few many e = record { form = tt; room = ltb-true (length lines) max_arguments (room_left _ e); few = (omega (arith, few), omega (arith, many)) }
-fetch_found format capabilities lines NoProgress few many e = record { form = tt; room = ltb-true (length lines) max_arguments (room_left _ e); few = (omega (arith, few), omega (arith, many)) }
-fetch_found format capabilities lines IncludeTag few many e = record { form = tt; room = ltb-true (length lines) max_arguments (room_left _ e); few = (omega (arith, few), omega (arith, many)) }
-fetch_found format capabilities lines OfsDelta few many e = record { form = tt; room = ltb-true (length lines) max_arguments (room_left _ e); few = (omega (arith, few), omega (arith, many)) }
-fetch_found format capabilities lines Done few many e = record { form = tt; room = ltb-true (length lines) max_arguments (room_left _ e); few = (omega (arith, few), omega (arith, many)) }
-fetch_found format capabilities lines (Want id) few many e =
+fetch_found format lines ThinPack few many e = record { form = tt; room = ltb-true (length lines) max_arguments (room_left _ e); few = (omega (arith, few), omega (arith, many)) }
+fetch_found format lines NoProgress few many e = record { form = tt; room = ltb-true (length lines) max_arguments (room_left _ e); few = (omega (arith, few), omega (arith, many)) }
+fetch_found format lines IncludeTag few many e = record { form = tt; room = ltb-true (length lines) max_arguments (room_left _ e); few = (omega (arith, few), omega (arith, many)) }
+fetch_found format lines OfsDelta few many e = record { form = tt; room = ltb-true (length lines) max_arguments (room_left _ e); few = (omega (arith, few), omega (arith, many)) }
+fetch_found format lines Done few many e = record { form = tt; room = ltb-true (length lines) max_arguments (room_left _ e); few = (omega (arith, few), omega (arith, many)) }
+fetch_found format lines (Want id) few many e =
     let h = if_opens (is_some (id_of_text format id)) (if_room (nat_lt (length lines) max_arguments && nat_lt (length (wants format lines)) max_wants)) BadId e in
     let rooms = and_parts (nat_lt (length lines) max_arguments) (nat_lt (length (wants format lines)) max_wants) (room_left _ h.1) in
     record {
@@ -281,7 +281,7 @@ fetch_found format capabilities lines (Want id) few many e =
       room = ltb-true (length lines) max_arguments rooms.0;
       few = (omega (arith, at_most_one (id_of_text format id), ltb-true (length (wants format lines)) max_wants rooms.1), omega (arith, many));
     }
-fetch_found format capabilities lines (Have id) few many e =
+fetch_found format lines (Have id) few many e =
     let h = if_opens (is_some (id_of_text format id)) (if_room (nat_lt (length lines) max_arguments && nat_lt (length (haves format lines)) max_haves)) BadId e in
     let rooms = and_parts (nat_lt (length lines) max_arguments) (nat_lt (length (haves format lines)) max_haves) (room_left _ h.1) in
     record {
@@ -289,34 +289,34 @@ fetch_found format capabilities lines (Have id) few many e =
       room = ltb-true (length lines) max_arguments rooms.0;
       few = (omega (arith, few), omega (arith, at_most_one (id_of_text format id), ltb-true (length (haves format lines)) max_haves rooms.1));
     }
-fetch_found format capabilities lines UnknownFetchArgument few many e = absurd cc
+fetch_found format lines UnknownFetchArgument few many e = absurd cc
 
-fetch_taken : (format : Format) (capabilities lines : List (List ℕ)) (form : FetchArgument) → IsFetchArgument format form → length lines < max_arguments → FewIds format lines form
-    → judge_fetch_argument format (state_at format (InArguments Fetch) capabilities lines) form ≡ Open
-fetch_taken format capabilities lines ThinPack h room few = room_for (nat_lt (length lines) max_arguments) (lt-ltb (length lines) max_arguments room)
-fetch_taken format capabilities lines NoProgress h room few = room_for (nat_lt (length lines) max_arguments) (lt-ltb (length lines) max_arguments room)
-fetch_taken format capabilities lines IncludeTag h room few = room_for (nat_lt (length lines) max_arguments) (lt-ltb (length lines) max_arguments room)
-fetch_taken format capabilities lines OfsDelta h room few = room_for (nat_lt (length lines) max_arguments) (lt-ltb (length lines) max_arguments room)
-fetch_taken format capabilities lines Done h room few = room_for (nat_lt (length lines) max_arguments) (lt-ltb (length lines) max_arguments room)
-fetch_taken format capabilities lines (Want id) h room few =
+fetch_taken : (format : Format) (lines : List (List ℕ)) (form : FetchArgument) → IsFetchArgument format form → length lines < max_arguments → FewIds format lines form
+    → judge_fetch_argument format (length lines) (wants format lines) (haves format lines) form ≡ Open
+fetch_taken format lines ThinPack h room few = room_for (nat_lt (length lines) max_arguments) (lt-ltb (length lines) max_arguments room)
+fetch_taken format lines NoProgress h room few = room_for (nat_lt (length lines) max_arguments) (lt-ltb (length lines) max_arguments room)
+fetch_taken format lines IncludeTag h room few = room_for (nat_lt (length lines) max_arguments) (lt-ltb (length lines) max_arguments room)
+fetch_taken format lines OfsDelta h room few = room_for (nat_lt (length lines) max_arguments) (lt-ltb (length lines) max_arguments room)
+fetch_taken format lines Done h room few = room_for (nat_lt (length lines) max_arguments) (lt-ltb (length lines) max_arguments room)
+fetch_taken format lines (Want id) h room few =
     opens_if (is_some (id_of_text format id)) (if_room (nat_lt (length lines) max_arguments && nat_lt (length (wants format lines)) max_wants)) BadId h
     (room_for _ (and_from (nat_lt (length lines) max_arguments) (nat_lt (length (wants format lines)) max_wants) (lt-ltb (length lines) max_arguments room) (lt-ltb (length (wants format lines)) max_wants (omega (arith, few.0, one_of (id_of_text format id) h)))))
-fetch_taken format capabilities lines (Have id) h room few =
+fetch_taken format lines (Have id) h room few =
     opens_if (is_some (id_of_text format id)) (if_room (nat_lt (length lines) max_arguments && nat_lt (length (haves format lines)) max_haves)) BadId h
     (room_for _ (and_from (nat_lt (length lines) max_arguments) (nat_lt (length (haves format lines)) max_haves) (lt-ltb (length lines) max_arguments room) (lt-ltb (length (haves format lines)) max_haves (omega (arith, few.1, one_of (id_of_text format id) h)))))
-fetch_taken format capabilities lines UnknownFetchArgument h room few = absurd h
+fetch_taken format lines UnknownFetchArgument h room few = absurd h
 
 pub AreArguments-push : (format : Format) (command : Command) (capabilities lines : List (List ℕ)) (line : List ℕ)
     → AreArguments format command lines → TakesArgument format command capabilities lines line → AreArguments format command (lines ++ line ∷ [])
 AreArguments-push format LsRefs capabilities lines line h takes =
-    let found = ls_found format capabilities lines (ls_argument line) h.few takes in
+    let found = ls_found lines (ls_argument line) h.few takes in
     record {
       are = All-push (IsArgument format LsRefs) lines line h.are found.form;
       few = omega (arith, prefix_count lines line (ls_argument line) refl, found.few);
       room = omega (arith, length_push lines line, found.room);
     }
 AreArguments-push format Fetch capabilities lines line h takes =
-    let found = fetch_found format capabilities lines (fetch_argument line) h.few.0 h.few.1 takes in
+    let found = fetch_found format lines (fetch_argument line) h.few.0 h.few.1 takes in
     record {
       are = All-push (IsArgument format Fetch) lines line h.are found.form;
       few = (omega (arith, want_count format lines line (fetch_argument line) refl, found.few.0), omega (arith, have_count format lines line (fetch_argument line) refl, found.few.1));
@@ -331,7 +331,7 @@ AreArguments-parts format LsRefs capabilities lines line h =
     let few = h.few in
     let room : length lines < max_arguments = omega (arith, length_push lines line, h.room) in (
       record { are = parts.0; few = omega (arith, count, few); room = omega (arith, room) },
-      ls_taken format capabilities lines (ls_argument line) parts.1 room (omega (arith, count, few)),
+      ls_taken lines (ls_argument line) parts.1 room (omega (arith, count, few)),
     )
 AreArguments-parts format Fetch capabilities lines line h =
     let parts = All-parts (IsArgument format Fetch) lines line h.are in
@@ -340,5 +340,5 @@ AreArguments-parts format Fetch capabilities lines line h =
     let few = h.few in
     let room : length lines < max_arguments = omega (arith, length_push lines line, h.room) in (
       record { are = parts.0; few = (omega (arith, want, few.0), omega (arith, have, few.1)); room = omega (arith, room) },
-      fetch_taken format capabilities lines (fetch_argument line) parts.1 room (omega (arith, want, few.0), omega (arith, have, few.1)),
+      fetch_taken format lines (fetch_argument line) parts.1 room (omega (arith, want, few.0), omega (arith, have, few.1)),
     )

@@ -12,10 +12,10 @@ use Rattle.ggrammar.specs.Places.{place_after, collected}
 use Rattle.grequest.specs.declared.command.Command.{Command}
 use Rattle.grequest.specs.declared.command.Command.TheVariants.{LsRefs, Fetch}
 use Rattle.grequest.specs.declared.command.CommandForm.{CommandForm}
-use Rattle.grequest.specs.declared.command.CommandForm.TheVariants.{Known, Other as OtherCommand, Bad as BadCommand}
-use Rattle.grequest.specs.Arguments.{command_form, CapabilityForm, Agent, ObjectFormat, OtherCapability, BadCapability, capability_form, ls_argument, fetch_argument}
+use Rattle.grequest.specs.declared.command.CommandForm.TheVariants.{Known, Unknown as UnknownCommand, Bad as BadCommand}
+use Rattle.grequest.specs.Arguments.{command_form, CapabilityForm, Agent, ObjectFormat, UnknownCapability, BadCapability, capability_form, ls_argument, fetch_argument}
 use Rattle.grequest.specs.Asked.{Asked, Ls, Fetches}
-use Rattle.grequest.specs.RequestLines.{Place, First, InCapabilities, InArguments, place_of_command, next_place, place_of, capability_there, argument_there, capability_texts, argument_texts, agent_value, format_value, agents, formats, first_of, ls_refs_asked, fetch_asked, asked_by, asked_at}
+use Rattle.grequest.specs.RequestLines.{Place, First, InCapabilities, InArguments, place_of_command, next_place, place_of, capability_there, argument_there, capability_texts, argument_texts, agent_value, format_value, agents, formats, first_of, ls_refs_asked, fetch_asked, asked_by_command, asked_by_texts}
 use Rattle.grequest.specs.Requests.{State, state_of, agent_of, once, judge_capability, judge_text, judge_at, judge}
 use Rattle.grequest.specs.RequestState.{with_command, with_agent, with_capability, with_argument, with_text, with_packet}
 use Rattle.grequest.proofs.LineLemmas.{place_of-push, capability_texts-push, argument_texts-push}
@@ -27,13 +27,13 @@ use Rattle.grequest.proofs.FetchAskedLemmas.{fetch_asked-push}
 abbrev pub state_at : Format → Place → List (List ℕ) → List (List ℕ) → State
 state_at format place capabilities arguments = record {
   place = place;
-  formats = length (formats capabilities);
-  arguments = length arguments;
-  asked = asked_at format place capabilities arguments;
+  format_lines = length (formats capabilities);
+  argument_lines = length arguments;
+  asked = asked_by_texts format place capabilities arguments;
 }
 
-same_state : {a b : State} → a.place ≡ b.place → a.formats ≡ b.formats → a.arguments ≡ b.arguments → a.asked ≡ b.asked → a ≡ b
-same_state place formats arguments asked = λ i. record { place = place i; formats = formats i; arguments = arguments i; asked = asked i }
+same_state : {a b : State} → a.place ≡ b.place → a.format_lines ≡ b.format_lines → a.argument_lines ≡ b.argument_lines → a.asked ≡ b.asked → a ≡ b
+same_state place formats arguments asked = λ i. record { place = place i; format_lines = formats i; argument_lines = arguments i; asked = asked i }
 
 -- no packet leads back to the first place
 never_first : (place : Place) (lines : List Packet) → place_after next_place place lines ≡ First → place ≡ First
@@ -77,7 +77,7 @@ argument_texts-first lines e = none_first argument_there no_argument_first First
 
 command_adds : (format : Format) (form : CommandForm) → state_at format (place_of_command form) [] [] ≡ with_command format (state_at format First [] []) form
 command_adds format (Known command) = refl
-command_adds format OtherCommand = refl
+command_adds format UnknownCommand = refl
 command_adds format BadCommand = refl
 
 -- ---- a capability
@@ -112,20 +112,20 @@ asked_with_agents format LsRefs named capabilities arguments = Ls (record (ls_re
 asked_with_agents format Fetch named capabilities arguments = Fetches (record (fetch_asked format capabilities arguments) { agent = first_of named })
 
 by_agents : (format : Format) (command : Command) (capabilities more arguments : List (List ℕ))
-    → asked_by format command more arguments ≡ asked_with_agents format command (agents more) capabilities arguments
+    → asked_by_command format command more arguments ≡ asked_with_agents format command (agents more) capabilities arguments
 unfolding asked_with_agents
 by_agents format LsRefs capabilities more arguments = refl
 by_agents format Fetch capabilities more arguments = refl
 
 first_agent : (format : Format) (command : Command) (capabilities arguments : List (List ℕ)) (value : List ℕ)
-    → asked_with_agents format command (value ∷ []) capabilities arguments ≡ with_agent value (asked_by format command capabilities arguments)
+    → asked_with_agents format command (value ∷ []) capabilities arguments ≡ with_agent value (asked_by_command format command capabilities arguments)
 unfolding asked_with_agents
 first_agent format LsRefs capabilities arguments value = refl
 first_agent format Fetch capabilities arguments value = refl
 
-pub asked_by-agents : (format : Format) (command : Command) (capabilities more arguments : List (List ℕ)) → agents more ≡ agents capabilities
-    → asked_by format command more arguments ≡ asked_by format command capabilities arguments
-asked_by-agents format command capabilities more arguments e =
+pub asked_by_command-agents : (format : Format) (command : Command) (capabilities more arguments : List (List ℕ)) → agents more ≡ agents capabilities
+    → asked_by_command format command more arguments ≡ asked_by_command format command capabilities arguments
+asked_by_command-agents format command capabilities more arguments e =
     by_agents format command capabilities more arguments
     ∙ ap (λ (xs : List (List ℕ)). asked_with_agents format command xs capabilities arguments) e
     ∙ sym (by_agents format command capabilities capabilities arguments)
@@ -134,7 +134,7 @@ pub first_of-none : (named : List (List ℕ)) → is_none (first_of named) ≡ t
 first_of-none [] e = refl
 first_of-none (name ∷ named) e = cc
 
-pub agent_of-by : (format : Format) (command : Command) (capabilities arguments : List (List ℕ)) → agent_of (asked_by format command capabilities arguments) ≡ first_of (agents capabilities)
+pub agent_of-by : (format : Format) (command : Command) (capabilities arguments : List (List ℕ)) → agent_of (asked_by_command format command capabilities arguments) ≡ first_of (agents capabilities)
 agent_of-by format LsRefs capabilities arguments = refl
 agent_of-by format Fetch capabilities arguments = refl
 
@@ -144,7 +144,7 @@ once-first true verdict h = refl
 once-first false verdict h = absurd h
 
 no_agent : (format : Format) (command : Command) (capabilities arguments : List (List ℕ))
-    → IsAccepted (once (is_none (agent_of (asked_by format command capabilities arguments))) Open) → agents capabilities ≡ []
+    → IsAccepted (once (is_none (agent_of (asked_by_command format command capabilities arguments))) Open) → agents capabilities ≡ []
 no_agent format command capabilities arguments h =
     first_of-none (agents capabilities) (ap is_none (sym (agent_of-by format command capabilities arguments)) ∙ once-first _ Open h)
 
@@ -160,8 +160,8 @@ capability_adds format command capabilities arguments line (Agent value) is h =
     ∙ first_agent format command capabilities arguments value)
 capability_adds format command capabilities arguments line (ObjectFormat value) is h =
     same_state refl (ap length (formats-push capabilities line (ObjectFormat value) is) ∙ length_push (formats capabilities) value) refl
-    (asked_by-agents format command capabilities (capabilities ++ line ∷ []) arguments (agents-push capabilities line (ObjectFormat value) is ∙ append-nil (agents capabilities)))
-capability_adds format command capabilities arguments line OtherCapability is h = absurd h
+    (asked_by_command-agents format command capabilities (capabilities ++ line ∷ []) arguments (agents-push capabilities line (ObjectFormat value) is ∙ append-nil (agents capabilities)))
+capability_adds format command capabilities arguments line UnknownCapability is h = absurd h
 capability_adds format command capabilities arguments line BadCapability is h = absurd h
 
 -- ---- an argument

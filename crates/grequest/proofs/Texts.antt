@@ -10,8 +10,8 @@ use Rattle.ggrammar.specs.Capabilities.{Capability, capability_of, capability_sp
 use Rattle.ggrammar.specs.PeerErrors.{after_word, peer_error}
 use Rattle.grequest.specs.declared.command.Command.{Command}
 use Rattle.grequest.specs.declared.command.Command.TheVariants.{LsRefs, Fetch}
-use Rattle.grequest.specs.declared.command.CommandForm.TheVariants.{Known, Other as OtherCommand, Bad as BadCommand}
-use Rattle.grequest.specs.Arguments.{is_word, command_name, command_of_key, command_after, command_form, CapabilityForm, OtherCapability, agent_with, format_with, known_capability, capability_with, capability_form, ls_argument, fetch_argument}
+use Rattle.grequest.specs.declared.command.CommandForm.TheVariants.{Known, Unknown as UnknownCommand, Bad as BadCommand}
+use Rattle.grequest.specs.Arguments.{is_word, command_name, command_of_key, command_after, command_form, CapabilityForm, UnknownCapability, agent_with, format_with, known_capability, capability_with, capability_form, ls_argument, fetch_argument}
 use Rattle.grequest.specs.Manual.{IsCapability, IsArgument}
 
 -- ---- words
@@ -74,7 +74,7 @@ after_command : (key : Option (List ℕ)) (line : List ℕ) (command : Command) 
 after_command None line command e h = cc
 after_command (Some word) line command e h = (word, after_word-Some (codes "command=") line word e, h)
 
-known_by : (ls fetch key : Bool) (command : Command) → cond ls (Known LsRefs) (cond fetch (Known Fetch) (cond key OtherCommand BadCommand)) ≡ Known command
+known_by : (ls fetch key : Bool) (command : Command) → cond ls (Known LsRefs) (cond fetch (Known Fetch) (cond key UnknownCommand BadCommand)) ≡ Known command
     → ((ls ≡ true) × (command ≡ LsRefs)) ⊎ ((fetch ≡ true) × (command ≡ Fetch))
 known_by true fetch key command e = inl (refl, cc)
 known_by false true key command e = inr (refl, cc)
@@ -109,7 +109,7 @@ command_no_error line Fetch e rest at = let same : 99 ≡ first_of_error = (let 
 
 -- ---- capabilities
 
-one_key : (format : Format) (agent object : Bool) (a o : CapabilityForm) → IsCapability format (cond agent a (cond object o OtherCapability)) → (agent ≡ true) ⊎ (object ≡ true)
+one_key : (format : Format) (agent object : Bool) (a o : CapabilityForm) → IsCapability format (cond agent a (cond object o UnknownCapability)) → (agent ≡ true) ⊎ (object ≡ true)
 one_key format true object a o h = inl refl
 one_key format false true a o h = inr refl
 one_key format false false a o h = absurd h

@@ -15,8 +15,8 @@ use Rattle.ggrammar.specs.declared.fault.Why.TheVariants.{BadText, BadName, BadI
 use Rattle.grequest.specs.declared.command.Command.{Command}
 use Rattle.grequest.specs.declared.command.Command.TheVariants.{LsRefs, Fetch}
 use Rattle.grequest.specs.declared.command.CommandForm.{CommandForm}
-use Rattle.grequest.specs.declared.command.CommandForm.TheVariants.{Known, Other as OtherCommand, Bad as BadCommand}
-use Rattle.grequest.specs.Arguments.{is_word, command_form, CapabilityForm, Agent, ObjectFormat, OtherCapability, BadCapability, capability_form, LsArgument, Symrefs, Peel, Unborn, RefPrefix, UnknownLsArgument, ls_argument, FetchArgument, ThinPack, NoProgress, IncludeTag, OfsDelta, Done, Want, Have, UnknownFetchArgument, fetch_argument}
+use Rattle.grequest.specs.declared.command.CommandForm.TheVariants.{Known, Unknown as UnknownCommand, Bad as BadCommand}
+use Rattle.grequest.specs.Arguments.{is_word, command_form, CapabilityForm, Agent, ObjectFormat, UnknownCapability, BadCapability, capability_form, LsArgument, Symrefs, Peel, Unborn, RefPrefix, UnknownLsArgument, ls_argument, FetchArgument, ThinPack, NoProgress, IncludeTag, OfsDelta, Done, Want, Have, UnknownFetchArgument, fetch_argument}
 use Rattle.grequest.specs.Asked.{max_prefixes, max_wants, max_haves}
 use Rattle.grequest.specs.RequestLines.{Place, First, InCapabilities, InArguments, formats}
 use Rattle.grequest.specs.Requests.{State, has_room, prefixes_of, wants_of, haves_of, judge_command, judge_capability, judge_ls_argument, judge_fetch_argument, judge_text, judge_delim, judge_flush, judge_at, unless_unnamed}
@@ -45,7 +45,7 @@ open-text format state payload none e = ap (λ (said : Option (List ℕ)). unles
 
 pub known_command : (form : CommandForm) → judge_command form ≡ Open → (command : Command) × (form ≡ Known command)
 known_command (Known command) e = (command, refl)
-known_command OtherCommand e = cc
+known_command UnknownCommand e = cc
 known_command BadCommand e = cc
 
 -- ---- delimiter, flush and response-end
@@ -69,7 +69,7 @@ unnamed_never false why e = cc
 flush_at : (format : Format) (place : Place) (state : State) → judge_flush format place state ≡ Open → ⊥
 flush_at format First state e = cc
 flush_at Sha1 (InCapabilities command) state e = cc
-flush_at Sha256 (InCapabilities command) state e = unnamed_never (state.formats == 0) WrongFormat e
+flush_at Sha256 (InCapabilities command) state e = unnamed_never (state.format_lines == 0) WrongFormat e
 flush_at format (InArguments command) state e = cc
 
 pub flush-never_open : (format : Format) (state : State) → judge_at format state Flush ≡ Open → ⊥
@@ -120,42 +120,42 @@ Refused-Whole why e = cc
 
 command_never : (form : CommandForm) → judge_command form ≡ Whole → ⊥
 command_never (Known command) e = cc
-command_never OtherCommand e = cc
+command_never UnknownCommand e = cc
 command_never BadCommand e = cc
 
 capability_never : (format : Format) (state : State) (form : CapabilityForm) → judge_capability format state form ≡ Whole → ⊥
 capability_never format state (Agent value) e = both_never _ Open _ Open-Whole (Refused-Whole _) e
-capability_never format state (ObjectFormat value) e = two_never (state.formats == 0) (is_word (format_name format) value) WrongFormat BadText e
-capability_never format state OtherCapability e = cc
+capability_never format state (ObjectFormat value) e = two_never (state.format_lines == 0) (is_word (format_name format) value) WrongFormat BadText e
+capability_never format state UnknownCapability e = cc
 capability_never format state BadCapability e = cc
 
-ls_never : (state : State) (form : LsArgument) → judge_ls_argument state form ≡ Whole → ⊥
-ls_never state Symrefs e = both_never _ Open _ Open-Whole (Refused-Whole _) e
-ls_never state Peel e = both_never _ Open _ Open-Whole (Refused-Whole _) e
-ls_never state Unborn e = both_never _ Open _ Open-Whole (Refused-Whole _) e
-ls_never state (RefPrefix prefix) e = two_never (is_none (prefix_fault prefix)) (has_room state && nat_lt (length (prefixes_of state.asked)) max_prefixes) Limit BadName e
-ls_never state UnknownLsArgument e = cc
+ls_never : (arguments : ℕ) (prefixes : List (List ℕ)) (form : LsArgument) → judge_ls_argument arguments prefixes form ≡ Whole → ⊥
+ls_never arguments prefixes Symrefs e = both_never _ Open _ Open-Whole (Refused-Whole _) e
+ls_never arguments prefixes Peel e = both_never _ Open _ Open-Whole (Refused-Whole _) e
+ls_never arguments prefixes Unborn e = both_never _ Open _ Open-Whole (Refused-Whole _) e
+ls_never arguments prefixes (RefPrefix prefix) e = two_never (is_none (prefix_fault prefix)) (has_room arguments && nat_lt (length prefixes) max_prefixes) Limit BadName e
+ls_never arguments prefixes UnknownLsArgument e = cc
 
-fetch_never : (format : Format) (state : State) (form : FetchArgument) → judge_fetch_argument format state form ≡ Whole → ⊥
-fetch_never format state ThinPack e = both_never _ Open _ Open-Whole (Refused-Whole _) e
-fetch_never format state NoProgress e = both_never _ Open _ Open-Whole (Refused-Whole _) e
-fetch_never format state IncludeTag e = both_never _ Open _ Open-Whole (Refused-Whole _) e
-fetch_never format state OfsDelta e = both_never _ Open _ Open-Whole (Refused-Whole _) e
-fetch_never format state Done e = both_never _ Open _ Open-Whole (Refused-Whole _) e
-fetch_never format state (Want id) e = two_never (is_some (id_of_text format id)) (has_room state && nat_lt (length (wants_of state.asked)) max_wants) Limit BadId e
-fetch_never format state (Have id) e = two_never (is_some (id_of_text format id)) (has_room state && nat_lt (length (haves_of state.asked)) max_haves) Limit BadId e
-fetch_never format state UnknownFetchArgument e = cc
+fetch_never : (format : Format) (arguments : ℕ) (wants haves : List (List ℕ)) (form : FetchArgument) → judge_fetch_argument format arguments wants haves form ≡ Whole → ⊥
+fetch_never format arguments wants haves ThinPack e = both_never _ Open _ Open-Whole (Refused-Whole _) e
+fetch_never format arguments wants haves NoProgress e = both_never _ Open _ Open-Whole (Refused-Whole _) e
+fetch_never format arguments wants haves IncludeTag e = both_never _ Open _ Open-Whole (Refused-Whole _) e
+fetch_never format arguments wants haves OfsDelta e = both_never _ Open _ Open-Whole (Refused-Whole _) e
+fetch_never format arguments wants haves Done e = both_never _ Open _ Open-Whole (Refused-Whole _) e
+fetch_never format arguments wants haves (Want id) e = two_never (is_some (id_of_text format id)) (has_room arguments && nat_lt (length wants) max_wants) Limit BadId e
+fetch_never format arguments wants haves (Have id) e = two_never (is_some (id_of_text format id)) (has_room arguments && nat_lt (length haves) max_haves) Limit BadId e
+fetch_never format arguments wants haves UnknownFetchArgument e = cc
 
 text_never : (format : Format) (place : Place) (state : State) (line : List ℕ) → judge_text format place state line ≡ Whole → ⊥
 text_never format First state line e = command_never (command_form line) e
 text_never format (InCapabilities command) state line e = capability_never format state (capability_form line) e
-text_never format (InArguments LsRefs) state line e = ls_never state (ls_argument line) e
-text_never format (InArguments Fetch) state line e = fetch_never format state (fetch_argument line) e
+text_never format (InArguments LsRefs) state line e = ls_never state.argument_lines (prefixes_of state.asked) (ls_argument line) e
+text_never format (InArguments Fetch) state line e = fetch_never format state.argument_lines (wants_of state.asked) (haves_of state.asked) (fetch_argument line) e
 
 delim_never : (format : Format) (place : Place) (state : State) → judge_delim format place state ≡ Whole → ⊥
 delim_never format First state e = cc
 delim_never Sha1 (InCapabilities command) state e = cc
-delim_never Sha256 (InCapabilities command) state e = both_never (state.formats == 0) _ Open (Refused-Whole _) Open-Whole e
+delim_never Sha256 (InCapabilities command) state e = both_never (state.format_lines == 0) _ Open (Refused-Whole _) Open-Whole e
 delim_never format (InArguments command) state e = cc
 
 pub ends-flush : (format : Format) (state : State) (packet : Packet) → judge_at format state packet ≡ Whole → packet ≡ Flush

@@ -4,13 +4,14 @@ use Rattle.std.specs.Prelude.{All, is_some}
 use Rattle.std.specs.List.{filter_map}
 use Rattle.std.proofs.lemmas.List.Elements.{All-append, All-map}
 use Rattle.gname.specs.Ids.{IsIdOf, id_text}
+use Rattle.gname.specs.Names.{IsPrefix}
 use Rattle.gname.specs.declared.formats.Format.{Format}
 use Rattle.ggrammar.specs.PeerErrors.{after_word}
 use Rattle.grequest.specs.declared.command.Command.TheVariants.{LsRefs, Fetch}
 use Rattle.grequest.specs.Arguments.{Symrefs, Peel, Unborn, RefPrefix, ls_argument, FetchArgument, ThinPack, NoProgress, IncludeTag, OfsDelta, Done, Want, Have, fetch_argument}
 use Rattle.grequest.specs.Asked.{LsRefsAsked, FetchAsked}
 use Rattle.grequest.specs.RequestLines.{prefix_value, prefixes, want_value, wants, have_value, haves, is_symrefs, is_peel, is_unborn, is_thin_pack, is_no_progress, is_include_tag, is_ofs_delta, is_done, has_ls_argument, has_fetch_argument}
-use Rattle.grequest.specs.WellFormed.{IsPrefix, IsLsRefsAsked, IsFetchAsked}
+use Rattle.grequest.specs.WellFormed.{IsLsRefsAsked, IsFetchAsked}
 use Rattle.grequest.specs.Manual.{IsLsArgument, IsFetchArgument, IsArgument}
 use Rattle.grequest.proofs.WrittenLists.{flag_texts, none_then, then_none, own_flag, other_flag, no_value, nothing_then, then_nothing, flag_gives_none, values_give_none, values_come_back, All-flag, All-imply}
 use Rattle.grequest.proofs.WrittenTexts.{prefix_text, want_text, have_text, ls_texts, fetch_texts}

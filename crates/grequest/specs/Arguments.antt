@@ -7,7 +7,7 @@ use Rattle.ggrammar.specs.Capabilities.{Capability, capability_of, is_key, is_wo
 use Rattle.grequest.specs.declared.command.Command.{Command}
 use Rattle.grequest.specs.declared.command.Command.TheVariants.{LsRefs, Fetch}
 use Rattle.grequest.specs.declared.command.CommandForm.{CommandForm}
-use Rattle.grequest.specs.declared.command.CommandForm.TheVariants.{Known, Other as OtherCommand, Bad as BadCommand}
+use Rattle.grequest.specs.declared.command.CommandForm.TheVariants.{Known, Unknown as UnknownCommand, Bad as BadCommand}
 
 -- the text is this word
 abbrev pub is_word : List ℕ → List ℕ → Bool
@@ -25,7 +25,7 @@ abbrev pub command_of_key : List ℕ → CommandForm
 command_of_key key =
     if is_word (command_name LsRefs) key then Known LsRefs
     else if is_word (command_name Fetch) key then Known Fetch
-    else if is_key key then OtherCommand
+    else if is_key key then UnknownCommand
     else BadCommand
 
 abbrev pub command_after : Option (List ℕ) → CommandForm
@@ -41,7 +41,7 @@ command_form text = command_after (after_word (codes "command=") text)
 pub data CapabilityForm : Type 0 where
   Agent : (value : List ℕ) → CapabilityForm
   ObjectFormat : (value : List ℕ) → CapabilityForm
-  OtherCapability BadCapability : CapabilityForm
+  UnknownCapability BadCapability : CapabilityForm
 
 -- `agent=` has a value without a space
 abbrev pub agent_with : Option (List ℕ) → CapabilityForm
@@ -56,7 +56,7 @@ abbrev pub known_capability : Capability → CapabilityForm
 known_capability capability =
     if is_word (codes "agent") capability.key then agent_with capability.value
     else if is_word (codes "object-format") capability.key then format_with capability.value
-    else OtherCapability
+    else UnknownCapability
 
 abbrev pub capability_with : Option Capability → CapabilityForm
 capability_with None = BadCapability

@@ -1,5 +1,5 @@
 -- What a request asks for.
-use Rattle.std.specs.Prelude.{ℕ, Bool, List, Option}
+use Rattle.std.specs.Prelude.{ℕ, Bool, ◌==◌, ◌||◌, List, length, Option}
 
 -- a request for ls-refs
 pub record LsRefsAsked : Type 0 where
@@ -24,6 +24,10 @@ pub data Asked : Type 0 where
   Empty : Asked
   Ls : (asked : LsRefsAsked) → Asked
   Fetches : (asked : FetchAsked) → Asked
+
+-- The reply is to have the pack at once: the client says that it is done, or names no object that it has.
+abbrev pub is_direct : FetchAsked → Bool
+is_direct asked = asked.done || length asked.haves == 0
 
 -- the most prefixes, wants, haves and argument lines of a request
 abbrev pub max_prefixes : ℕ

@@ -1,10 +1,7 @@
--- What the calls that build a request answer.
+-- What a request is built from, and what is kept of something that is added to one.
 use Rattle.std.specs.Prelude.{◌≡◌, ℕ, ◌==◌, Bool, true, false, List, [], length, None, Result, Ok, Err}
 use Rattle.gname.specs.Formats.{id_length}
 use Rattle.gname.specs.declared.formats.Format.{Format}
-use Rattle.ggrammar.specs.declared.fault.Why.{Why}
-use Rattle.ggrammar.specs.declared.fault.Why.TheVariants as why
-use Rattle.ggrammar.specs.declared.fault.MessageFault.{MessageFault}
 use Rattle.grequest.specs.declared.kept.NotKept.{NotKept}
 use Rattle.grequest.specs.declared.kept.NotKept.TheVariants as not_kept
 use Rattle.grequest.specs.Asked.{LsRefsAsked, FetchAsked}
@@ -33,24 +30,21 @@ no_fetch = record {
 abbrev pub has_format : Format → List ℕ → Bool
 has_format format id = length id == id_length format
 
--- why something is not added: it has a wrong form; else there is no room for one more; else there is no memory
-abbrev pub IsBuildReason : Bool → Bool → Why → Type 0
-IsBuildReason well_formed has_room why.BadText = well_formed ≡ false
-IsBuildReason well_formed has_room why.Limit = (well_formed ≡ true) × (has_room ≡ false)
-IsBuildReason well_formed has_room why.Memory = (well_formed ≡ true) × (has_room ≡ true)
-IsBuildReason well_formed has_room _ = ⊥
+-- the wants and the haves of two requests are the same
+abbrev pub HaveSameIds : FetchAsked → FetchAsked → Type 0
+HaveSameIds one other = (one.wants ≡ other.wants) × (one.haves ≡ other.haves)
 
--- the value that is built; or a fault at packet 0, and the value is as before
-abbrev pub Builds : {V : Type 0} → Bool → Bool → V → V → V → Result Unit MessageFault → Type 0
-Builds well_formed has_room old new built (Ok done) = (well_formed ≡ true) × (has_room ≡ true) × (new ≡ built)
-Builds well_formed has_room old new built (Err fault) =
-    (fault.frame ≡ 0) × (new ≡ old) × IsBuildReason well_formed has_room fault.why
+-- the flags of two requests are the same
+abbrev pub HaveSameFlags : FetchAsked → FetchAsked → Type 0
+HaveSameFlags one other =
+    (one.done ≡ other.done) × (one.thin_pack ≡ other.thin_pack) × (one.no_progress ≡ other.no_progress)
+    × (one.include_tag ≡ other.include_tag) × (one.ofs_delta ≡ other.ofs_delta)
 
 -- what is kept of something: it is added; or nothing changes, for the first of these reasons
-abbrev pub Keeps : {V : Type 0} → Bool → Bool → V → V → V → Result Unit NotKept → Type 0
-Keeps well_formed has_room old new built (Ok done) = (well_formed ≡ true) × (has_room ≡ true) × (new ≡ built)
-Keeps well_formed has_room old new built (Err not_kept.WrongForm) = (well_formed ≡ false) × (new ≡ old)
-Keeps well_formed has_room old new built (Err not_kept.NoRoom) =
+abbrev pub KeepsAs : {V : Type 0} → Bool → Bool → V → V → V → Result Unit NotKept → Type 0
+KeepsAs well_formed has_room old new built (Ok done) = (well_formed ≡ true) × (has_room ≡ true) × (new ≡ built)
+KeepsAs well_formed has_room old new built (Err not_kept.WrongForm) = (well_formed ≡ false) × (new ≡ old)
+KeepsAs well_formed has_room old new built (Err not_kept.NoRoom) =
     (well_formed ≡ true) × (has_room ≡ false) × (new ≡ old)
-Keeps well_formed has_room old new built (Err not_kept.NoMemory) =
+KeepsAs well_formed has_room old new built (Err not_kept.NoMemory) =
     (well_formed ≡ true) × (has_room ≡ true) × (new ≡ old)

@@ -11,6 +11,5 @@ pub mod Building
 pub mod RequestReading
 pub mod RequestValues
 pub mod Sections
-pub mod Laws
 pub use Rattle.ggrammar.specs.Grammar
 pub use Rattle.ggrammar.specs.MessageReading

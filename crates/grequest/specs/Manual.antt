@@ -6,9 +6,9 @@
 --
 -- The delimiter may be left out where there are no arguments. Each part is a list of payloads, and a payload's
 -- text is the payload without one line feed at its end. The format is that of the repository's objects.
-use Rattle.std.specs.Prelude.{◌≡◌, ℕ, ◌≤◌, ◌⊎◌, List, [], ◌∷◌, ◌++◌, length, map, codes, All, None}
+use Rattle.std.specs.Prelude.{◌≡◌, ℕ, ◌≤◌, ◌⊎◌, List, [], ◌∷◌, ◌++◌, length, map, codes, All}
 use Rattle.gpkt.specs.Packets.{Packet, Data, Flush, Delim, text}
-use Rattle.gname.specs.Names.{prefix_fault}
+use Rattle.gname.specs.Names.{IsPrefix}
 use Rattle.gname.specs.Formats.{format_name}
 use Rattle.gname.specs.declared.formats.Format.{Format}
 use Rattle.gname.specs.declared.formats.Format.TheVariants.{Sha1, Sha256}
@@ -16,18 +16,18 @@ use Rattle.ggrammar.specs.Ids.{id_of_text}
 use Rattle.grequest.specs.declared.command.Command.{Command}
 use Rattle.grequest.specs.declared.command.Command.TheVariants.{LsRefs, Fetch}
 use Rattle.grequest.specs.Arguments.{command_name, CapabilityForm, Agent, ObjectFormat}
-use Rattle.grequest.specs.Arguments.{OtherCapability, BadCapability, capability_form, LsArgument}
+use Rattle.grequest.specs.Arguments.{UnknownCapability, BadCapability, capability_form, LsArgument}
 use Rattle.grequest.specs.Arguments.{RefPrefix, UnknownLsArgument, ls_argument, FetchArgument, Want, Have}
 use Rattle.grequest.specs.Arguments.{UnknownFetchArgument, fetch_argument}
 use Rattle.grequest.specs.Asked.{Asked, Empty, max_prefixes, max_wants, max_haves, max_arguments}
-use Rattle.grequest.specs.RequestLines.{agents, formats, prefixes, wants, haves, asked_by}
+use Rattle.grequest.specs.RequestLines.{agents, formats, prefixes, wants, haves, asked_by_command}
 use Rattle.std.specs.Option.{IsSome}
 
 -- a client may say who it is, and has to name the object format unless it is sha1
 abbrev pub IsCapability : Format → CapabilityForm → Type 0
 IsCapability format (Agent value) = Unit {0}
 IsCapability format (ObjectFormat value) = value ≡ format_name format
-IsCapability format OtherCapability = ⊥
+IsCapability format UnknownCapability = ⊥
 IsCapability format BadCapability = ⊥
 
 abbrev pub NamesFormat : Format → List (List ℕ) → Type 0
@@ -36,7 +36,7 @@ NamesFormat Sha256 capabilities = length (formats capabilities) ≡ 1
 
 -- an argument of ls-refs
 abbrev pub IsLsArgument : LsArgument → Type 0
-IsLsArgument (RefPrefix prefix) = prefix_fault prefix ≡ None
+IsLsArgument (RefPrefix prefix) = IsPrefix prefix
 IsLsArgument UnknownLsArgument = ⊥
 IsLsArgument _ = Unit {0}
 
@@ -77,7 +77,7 @@ pub record IsCommandRequest (format : Format) (lines : List Packet) (asked : Ask
   pub one_format : NamesFormat format (map text capabilities)
   pub few : AreFew format command (map text arguments)
   pub few_arguments : length arguments ≤ max_arguments
-  pub asks : asked ≡ asked_by format command (map text capabilities) (map text arguments)
+  pub asks : asked ≡ asked_by_command format command (map text capabilities) (map text arguments)
 
 -- the lines are a request, and ask this
 abbrev pub IsRequest : Format → List Packet → Asked → Type 0

@@ -9,7 +9,7 @@ use Rattle.ggrammar.specs.Places.{place_after, collected}
 use Rattle.grequest.specs.declared.command.Command.{Command}
 use Rattle.grequest.specs.declared.command.Command.TheVariants.{LsRefs, Fetch}
 use Rattle.grequest.specs.declared.command.CommandForm.{CommandForm}
-use Rattle.grequest.specs.declared.command.CommandForm.TheVariants.{Known, Other as OtherCommand, Bad as BadCommand}
+use Rattle.grequest.specs.declared.command.CommandForm.TheVariants.{Known, Unknown as UnknownCommand, Bad as BadCommand}
 use Rattle.grequest.specs.Arguments.{command_form, CapabilityForm, Agent, ObjectFormat, capability_form}
 use Rattle.grequest.specs.Arguments.{LsArgument, Symrefs, Peel, Unborn, RefPrefix, ls_argument}
 use Rattle.grequest.specs.Arguments.{FetchArgument, ThinPack, NoProgress, IncludeTag, OfsDelta, Done, Want, Have}
@@ -26,7 +26,7 @@ pub data Place : Type 0 where
 -- the place after the first text
 abbrev pub place_of_command : CommandForm → Place
 place_of_command (Known command) = InCapabilities command
-place_of_command OtherCommand = First
+place_of_command UnknownCommand = First
 place_of_command BadCommand = First
 
 -- the first text is the command, and a delimiter separates the capabilities from the arguments
@@ -143,7 +143,7 @@ abbrev pub first_of : List (List ℕ) → Option (List ℕ)
 first_of [] = None
 first_of (x ∷ xs) = Some x
 
--- ---- what a request asks, by the texts of its capabilities and of its arguments
+-- ---- what a request asks: by its command and texts, by the place it has come to, and by its lines
 
 abbrev pub ls_refs_asked : List (List ℕ) → List (List ℕ) → LsRefsAsked
 ls_refs_asked capabilities arguments = record {
@@ -166,15 +166,17 @@ fetch_asked format capabilities arguments = record {
   ofs_delta = has_fetch_argument is_ofs_delta arguments;
 }
 
-abbrev pub asked_by : Format → Command → List (List ℕ) → List (List ℕ) → Asked
-asked_by format LsRefs capabilities arguments = Ls (ls_refs_asked capabilities arguments)
-asked_by format Fetch capabilities arguments = Fetches (fetch_asked format capabilities arguments)
+abbrev pub asked_by_command : Format → Command → List (List ℕ) → List (List ℕ) → Asked
+asked_by_command format LsRefs capabilities arguments = Ls (ls_refs_asked capabilities arguments)
+asked_by_command format Fetch capabilities arguments = Fetches (fetch_asked format capabilities arguments)
 
 -- a request without a command is empty
-abbrev pub asked_at : Format → Place → List (List ℕ) → List (List ℕ) → Asked
-asked_at format First capabilities arguments = Empty
-asked_at format (InCapabilities command) capabilities arguments = asked_by format command capabilities arguments
-asked_at format (InArguments command) capabilities arguments = asked_by format command capabilities arguments
+abbrev pub asked_by_texts : Format → Place → List (List ℕ) → List (List ℕ) → Asked
+asked_by_texts format First capabilities arguments = Empty
+asked_by_texts format (InCapabilities command) capabilities arguments =
+    asked_by_command format command capabilities arguments
+asked_by_texts format (InArguments command) capabilities arguments =
+    asked_by_command format command capabilities arguments
 
-abbrev pub asked_of : Format → List Packet → Asked
-asked_of format lines = asked_at format (place_of lines) (capability_texts lines) (argument_texts lines)
+abbrev pub asked_by_lines : Format → List Packet → Asked
+asked_by_lines format lines = asked_by_texts format (place_of lines) (capability_texts lines) (argument_texts lines)

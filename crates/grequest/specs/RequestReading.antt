@@ -1,40 +1,33 @@
 -- What reading a request keeps of the packets so far, and what it answers.
-use Rattle.std.specs.Prelude.{◌≡◌, ℕ, Bool, true, false, List, Option, Some, None, Result, Ok, Err}
+use Rattle.std.specs.Prelude.{◌≡◌, ◌↔◌, ℕ, ◌<◌, Bool, true, false, List, [], Option, Some, None, Result, Ok, Err}
+use Rattle.std.specs.Prelude.{IfErr}
 use Rattle.gpkt.specs.Packets.{Packet, Data, text}
 use Rattle.gpkt.specs.Change.{Change}
-use Rattle.gpkt.specs.LineReading.{Reads, ReadsLines}
+use Rattle.gpkt.specs.LineReading.{Reads}
 use Rattle.gname.specs.declared.formats.Format.{Format}
-use Rattle.ggrammar.specs.Grammar.{Verdict, Open, Whole}
-use Rattle.ggrammar.specs.MessageReading.{IsReason, ReadsRefused}
-use Rattle.ggrammar.specs.declared.fault.Why.{Why}
+use Rattle.ggrammar.specs.Kinds.{ReadsMessage, ReadsIfAny}
+use Rattle.ggrammar.specs.MessageBytes.{known, IsOfBytes}
+use Rattle.ggrammar.specs.MessageReading.{ReadsRefused}
+use Rattle.ggrammar.specs.declared.fault.Why.TheVariants.{Ended}
 use Rattle.ggrammar.specs.declared.fault.MessageFault.{MessageFault}
-use Rattle.ggrammar.specs.declared.message.Step.{Step}
-use Rattle.ggrammar.specs.declared.message.Step.TheVariants as step
 use Rattle.grequest.specs.Arguments.{CapabilityForm, Agent}
 use Rattle.ggrammar.specs.Capabilities.{is_word_value}
-use Rattle.grequest.specs.Asked.{LsRefsAsked, FetchAsked, Asked, Ls, Fetches}
-use Rattle.grequest.specs.RequestLines.{Place, First}
+use Rattle.grequest.specs.Asked.{Asked}
+use Rattle.grequest.specs.RequestLines.{Place}
 use Rattle.grequest.specs.Requests.{State, state_of, judge, brings, text_brings, Says}
 
 -- a request of a repository with this format, as far as it was read
-pub record Reading : Type 0 where
+pub record RequestSoFar : Type 0 where
   pub format : Format
   pub state : State
 
 -- these are the packets that were read
-abbrev pub HoldsPackets : Reading → List Packet → Type 0
+abbrev pub HoldsPackets : RequestSoFar → List Packet → Type 0
 HoldsPackets reading lines = reading.state ≡ state_of reading.format lines
 
 -- nothing is left of a request that is refused
-abbrev pub LeavesNothing : Reading → List Packet → Type 0
+abbrev pub LeavesNothing : RequestSoFar → List Packet → Type 0
 LeavesNothing reading front = Unit {0}
-
--- a request for ls-refs after so many arguments, and one for fetch
-abbrev pub ls_refs_state : ℕ → LsRefsAsked → State
-ls_refs_state arguments asked = record { place = First; formats = 0; arguments = arguments; asked = Ls asked }
-
-abbrev pub fetch_state : ℕ → FetchAsked → State
-fetch_state arguments asked = record { place = First; formats = 0; arguments = arguments; asked = Fetches asked }
 
 abbrev pub one : Bool → ℕ
 one true = 1
@@ -50,21 +43,20 @@ abbrev pub packet_brings : Place → Packet → Bool
 packet_brings place (Data payload) = text_brings place (text payload)
 packet_brings place _ = false
 
--- a packet was taken with this verdict, and P holds where the message goes on or ends with it
-abbrev pub TakesAs : Verdict → Bool → Type 0 → Result Step Why → Type 0
-TakesAs verdict brings P (Ok step.Open) = (verdict ≡ Open) × P
-TakesAs verdict brings P (Ok step.Whole) = (verdict ≡ Whole) × P
-TakesAs verdict brings P (Err why) = IsReason verdict brings why
-
--- the same of a packet that ends no message
-abbrev pub AddsAs : Verdict → Bool → Type 0 → Result Unit Why → Type 0
-AddsAs verdict brings P (Ok done) = (verdict ≡ Open) × P
-AddsAs verdict brings P (Err why) = IsReason verdict brings why
-
 -- reading a request that may be missing: one is read whole; the input is empty; or it is refused, and why
 abbrev pub ReadsRequest : {T : Type 0} → Format → (T → Asked) → Change → Result (Option T) MessageFault → Type 0
-ReadsRequest format asked_by bytes (Ok (Some request)) =
-    (lines : List Packet) × ReadsLines bytes lines × Says format lines (asked_by request)
-ReadsRequest format asked_by bytes (Ok None) = Reads bytes (Ok None)
-ReadsRequest format asked_by bytes (Err fault) =
+ReadsRequest format asks bytes (Ok (Some request)) = ReadsMessage (judge format) (Says format) bytes (asks request)
+ReadsRequest format asks bytes (Ok None) = Reads bytes (Ok None)
+ReadsRequest format asks bytes (Err fault) =
     (front : List Packet) × ReadsRefused (judge format) brings front bytes fault
+
+-- the fault comes of the bytes, and the end of the input is one only after the first packet
+abbrev pub IsNotMissing : MessageFault → Type 0
+IsNotMissing fault = IsOfBytes fault.why × (fault.why ≡ Ended → 0 < fault.frame)
+
+-- a request is missing exactly where the input is empty
+abbrev pub IsMissingWhereEmpty : Format → Type 0
+IsMissingWhereEmpty format =
+    (bytes new : List ℕ) (result : Result (Option Asked) MessageFault)
+    → ReadsIfAny (judge format) brings (Says format) (known bytes new) result → IfErr result IsNotMissing
+    → (result ≡ Ok None) ↔ (bytes ≡ [])

@@ -1,24 +1,25 @@
 -- What a packet that is taken adds to what the lines before it come to.
-use Rattle.std.specs.Prelude.{ℕ, ◌+◌, true, List, [], ◌∷◌, ◌++◌, Option, Some, None}
+use Rattle.std.specs.Prelude.{ℕ, ◌+◌, true, List, [], ◌∷◌, ◌++◌, Some}
+use Rattle.std.specs.Option.{option_to_list}
 use Rattle.gpkt.specs.Packets.{Packet, Data, Flush, Delim, ResponseEnd, text}
 use Rattle.gname.specs.declared.formats.Format.{Format}
 use Rattle.ggrammar.specs.Ids.{id_of_text}
 use Rattle.grequest.specs.declared.command.CommandForm.{CommandForm}
-use Rattle.grequest.specs.declared.command.CommandForm.TheVariants.{Known, Other as OtherCommand, Bad as BadCommand}
-use Rattle.grequest.specs.Arguments.{command_form, CapabilityForm, Agent, ObjectFormat, OtherCapability, BadCapability}
+use Rattle.grequest.specs.declared.command.CommandForm.TheVariants.{Known, Unknown as UnknownCommand, Bad as BadCommand}
+use Rattle.grequest.specs.Arguments.{command_form, CapabilityForm, Agent, ObjectFormat, UnknownCapability, BadCapability}
 use Rattle.grequest.specs.Arguments.{capability_form, LsArgument, Symrefs, Peel, Unborn, RefPrefix, UnknownLsArgument}
 use Rattle.grequest.specs.Arguments.{ls_argument, FetchArgument, ThinPack, NoProgress, IncludeTag, OfsDelta, Done, Want}
 use Rattle.grequest.specs.Arguments.{Have, UnknownFetchArgument, fetch_argument}
 use Rattle.grequest.specs.Asked.{LsRefsAsked, FetchAsked, Asked, Empty, Ls, Fetches}
-use Rattle.grequest.specs.RequestLines.{Place, First, InCapabilities, InArguments, asked_by}
+use Rattle.grequest.specs.RequestLines.{Place, First, InCapabilities, InArguments, asked_by_command}
 use Rattle.grequest.specs.Requests.{State}
 
 -- ---- the first text
 
 abbrev pub with_command : Format → State → CommandForm → State
 with_command format state (Known command) =
-    record state { place = InCapabilities command; asked = asked_by format command [] [] }
-with_command format state OtherCommand = state
+    record state { place = InCapabilities command; asked = asked_by_command format command [] [] }
+with_command format state UnknownCommand = state
 with_command format state BadCommand = state
 
 -- ---- capabilities
@@ -30,8 +31,8 @@ with_agent value (Fetches asked) = Fetches (record asked { agent = Some value })
 
 abbrev pub with_capability : State → CapabilityForm → State
 with_capability state (Agent value) = record state { asked = with_agent value state.asked }
-with_capability state (ObjectFormat value) = record state { formats = state.formats + 1 }
-with_capability state OtherCapability = state
+with_capability state (ObjectFormat value) = record state { format_lines = state.format_lines + 1 }
+with_capability state UnknownCapability = state
 with_capability state BadCapability = state
 
 -- ---- arguments
@@ -43,10 +44,6 @@ with_ls_argument asked Unborn = record asked { unborn = true }
 with_ls_argument asked (RefPrefix prefix) = record asked { prefixes = asked.prefixes ++ prefix ∷ [] }
 with_ls_argument asked UnknownLsArgument = asked
 
-abbrev pub id_list : Option (List ℕ) → List (List ℕ)
-id_list None = []
-id_list (Some id) = id ∷ []
-
 abbrev pub with_fetch_argument : Format → FetchAsked → FetchArgument → FetchAsked
 with_fetch_argument format asked ThinPack = record asked { thin_pack = true }
 with_fetch_argument format asked NoProgress = record asked { no_progress = true }
@@ -54,19 +51,19 @@ with_fetch_argument format asked IncludeTag = record asked { include_tag = true 
 with_fetch_argument format asked OfsDelta = record asked { ofs_delta = true }
 with_fetch_argument format asked Done = record asked { done = true }
 with_fetch_argument format asked (Want id) =
-    record asked { wants = asked.wants ++ id_list (id_of_text format id) }
+    record asked { wants = asked.wants ++ option_to_list (id_of_text format id) }
 with_fetch_argument format asked (Have id) =
-    record asked { haves = asked.haves ++ id_list (id_of_text format id) }
+    record asked { haves = asked.haves ++ option_to_list (id_of_text format id) }
 with_fetch_argument format asked UnknownFetchArgument = asked
 
-abbrev pub asked_with : Format → List ℕ → Asked → Asked
-asked_with format line Empty = Empty
-asked_with format line (Ls asked) = Ls (with_ls_argument asked (ls_argument line))
-asked_with format line (Fetches asked) = Fetches (with_fetch_argument format asked (fetch_argument line))
+abbrev pub with_argument_text : Format → List ℕ → Asked → Asked
+with_argument_text format line Empty = Empty
+with_argument_text format line (Ls asked) = Ls (with_ls_argument asked (ls_argument line))
+with_argument_text format line (Fetches asked) = Fetches (with_fetch_argument format asked (fetch_argument line))
 
 abbrev pub with_argument : Format → State → List ℕ → State
 with_argument format state line =
-    record state { arguments = state.arguments + 1; asked = asked_with format line state.asked }
+    record state { argument_lines = state.argument_lines + 1; asked = with_argument_text format line state.asked }
 
 -- ---- a packet
 

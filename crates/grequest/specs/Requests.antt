@@ -14,29 +14,29 @@ use Rattle.ggrammar.specs.declared.fault.Why.TheVariants as why
 use Rattle.grequest.specs.declared.command.Command.{Command}
 use Rattle.grequest.specs.declared.command.Command.TheVariants.{LsRefs, Fetch}
 use Rattle.grequest.specs.declared.command.CommandForm.{CommandForm}
-use Rattle.grequest.specs.declared.command.CommandForm.TheVariants.{Known, Other as OtherCommand, Bad as BadCommand}
+use Rattle.grequest.specs.declared.command.CommandForm.TheVariants.{Known, Unknown as UnknownCommand, Bad as BadCommand}
 use Rattle.grequest.specs.Arguments.{command_form}
-use Rattle.grequest.specs.Arguments.{CapabilityForm, Agent, ObjectFormat, OtherCapability, BadCapability}
+use Rattle.grequest.specs.Arguments.{CapabilityForm, Agent, ObjectFormat, UnknownCapability, BadCapability}
 use Rattle.grequest.specs.Arguments.{capability_form, LsArgument, RefPrefix, UnknownLsArgument}
 use Rattle.grequest.specs.Arguments.{ls_argument, FetchArgument, Want}
 use Rattle.grequest.specs.Arguments.{Have, UnknownFetchArgument, fetch_argument, is_word}
 use Rattle.grequest.specs.Asked.{Asked, Empty, Ls, Fetches, max_prefixes, max_wants, max_haves, max_arguments}
 use Rattle.grequest.specs.RequestLines.{Place, First, InCapabilities, InArguments, place_of, capability_texts}
-use Rattle.grequest.specs.RequestLines.{argument_texts, formats, asked_of}
+use Rattle.grequest.specs.RequestLines.{argument_texts, formats, asked_by_lines}
 
 -- what the lines so far come to
 pub record State : Type 0 where
   pub place : Place
-  pub formats : ℕ
-  pub arguments : ℕ
+  pub format_lines : ℕ
+  pub argument_lines : ℕ
   pub asked : Asked
 
 abbrev pub state_of : Format → List Packet → State
 state_of format lines = record {
   place = place_of lines;
-  formats = length (formats (capability_texts lines));
-  arguments = length (argument_texts lines);
-  asked = asked_of format lines;
+  format_lines = length (formats (capability_texts lines));
+  argument_lines = length (argument_texts lines);
+  asked = asked_by_lines format lines;
 }
 
 abbrev pub agent_of : Asked → Option (List ℕ)
@@ -60,7 +60,7 @@ haves_of _ = []
 
 abbrev pub judge_command : CommandForm → Verdict
 judge_command (Known command) = Open
-judge_command OtherCommand = Refused why.UnknownCommand
+judge_command UnknownCommand = Refused why.UnknownCommand
 judge_command BadCommand = Refused why.BadText
 
 -- a capability comes once
@@ -70,34 +70,39 @@ once is_first verdict = if is_first then verdict else Refused why.BadText
 abbrev pub judge_capability : Format → State → CapabilityForm → Verdict
 judge_capability format state (Agent value) = once (is_none (agent_of state.asked)) Open
 judge_capability format state (ObjectFormat value) =
-    once (state.formats == 0) (if is_word (format_name format) value then Open else Refused why.Format)
-judge_capability format state OtherCapability = Refused why.UnknownCapability
+    once (state.format_lines == 0) (if is_word (format_name format) value then Open else Refused why.Format)
+judge_capability format state UnknownCapability = Refused why.UnknownCapability
 judge_capability format state BadCapability = Refused why.BadText
 
-abbrev pub has_room : State → Bool
-has_room state = nat_lt state.arguments max_arguments
+-- one argument more may come after so many
+abbrev pub has_room : ℕ → Bool
+has_room arguments = nat_lt arguments max_arguments
 
 -- a well-formed argument of which only so many are taken, after these
-abbrev pub of_few : State → List (List ℕ) → ℕ → Verdict
-of_few state before limit = if_room (has_room state && nat_lt (length before) limit)
+abbrev pub of_few : ℕ → List (List ℕ) → ℕ → Verdict
+of_few arguments before limit = if_room (has_room arguments && nat_lt (length before) limit)
 
-abbrev pub judge_ls_argument : State → LsArgument → Verdict
-judge_ls_argument state (RefPrefix prefix) =
-    if is_none (prefix_fault prefix) then of_few state (prefixes_of state.asked) max_prefixes else Refused why.BadName
-judge_ls_argument state UnknownLsArgument = Refused why.UnknownArgument
-judge_ls_argument state _ = if_room (has_room state)
+-- an argument of ls-refs after so many, and after these prefixes
+abbrev pub judge_ls_argument : ℕ → List (List ℕ) → LsArgument → Verdict
+judge_ls_argument arguments prefixes (RefPrefix prefix) =
+    if is_none (prefix_fault prefix) then of_few arguments prefixes max_prefixes else Refused why.BadName
+judge_ls_argument arguments prefixes UnknownLsArgument = Refused why.UnknownArgument
+judge_ls_argument arguments prefixes _ = if_room (has_room arguments)
 
-abbrev pub judge_fetch_argument : Format → State → FetchArgument → Verdict
-judge_fetch_argument format state (Want id) =
-    if is_some (id_of_text format id) then of_few state (wants_of state.asked) max_wants else Refused why.BadId
-judge_fetch_argument format state (Have id) =
-    if is_some (id_of_text format id) then of_few state (haves_of state.asked) max_haves else Refused why.BadId
-judge_fetch_argument format state UnknownFetchArgument = Refused why.UnknownArgument
-judge_fetch_argument format state _ = if_room (has_room state)
+-- an argument of fetch after so many, and after these wants and haves
+abbrev pub judge_fetch_argument : Format → ℕ → List (List ℕ) → List (List ℕ) → FetchArgument → Verdict
+judge_fetch_argument format arguments wants haves (Want id) =
+    if is_some (id_of_text format id) then of_few arguments wants max_wants else Refused why.BadId
+judge_fetch_argument format arguments wants haves (Have id) =
+    if is_some (id_of_text format id) then of_few arguments haves max_haves else Refused why.BadId
+judge_fetch_argument format arguments wants haves UnknownFetchArgument = Refused why.UnknownArgument
+judge_fetch_argument format arguments wants haves _ = if_room (has_room arguments)
 
 abbrev pub judge_argument : Format → Command → State → List ℕ → Verdict
-judge_argument format LsRefs state line = judge_ls_argument state (ls_argument line)
-judge_argument format Fetch state line = judge_fetch_argument format state (fetch_argument line)
+judge_argument format LsRefs state line =
+    judge_ls_argument state.argument_lines (prefixes_of state.asked) (ls_argument line)
+judge_argument format Fetch state line =
+    judge_fetch_argument format state.argument_lines (wants_of state.asked) (haves_of state.asked) (fetch_argument line)
 
 abbrev pub judge_text : Format → Place → State → List ℕ → Verdict
 judge_text format First state line = judge_command (command_form line)
@@ -107,7 +112,7 @@ judge_text format (InArguments command) state line = judge_argument format comma
 -- the packet that ends the capabilities comes after the object format, which only sha1 may leave out
 abbrev pub unless_unnamed : Format → State → Verdict → Verdict
 unless_unnamed Sha1 state verdict = verdict
-unless_unnamed Sha256 state verdict = if state.formats == 0 then Refused why.Format else verdict
+unless_unnamed Sha256 state verdict = if state.format_lines == 0 then Refused why.Format else verdict
 
 -- a flush ends the request; a lone one is the empty request
 abbrev pub judge_flush : Format → Place → State → Verdict
@@ -161,4 +166,4 @@ brings lines _ = false
 -- the lines are a request, and ask this
 pub record Says (format : Format) (lines : List Packet) (asked : Asked) : Type 0 where
   pub whole : IsWhole (judge format) lines
-  pub asks : asked ≡ asked_of format lines
+  pub asks : asked ≡ asked_by_lines format lines

@@ -1,5 +1,5 @@
 -- What a request's texts say, without where their bytes lie in memory.
-use Rattle.grequest.specs.Arguments.{CapabilityForm, Agent, ObjectFormat, OtherCapability, BadCapability}
+use Rattle.grequest.specs.Arguments.{CapabilityForm, Agent, ObjectFormat, UnknownCapability, BadCapability}
 use Rattle.grequest.specs.Arguments.{LsArgument, Symrefs, Peel, Unborn, RefPrefix, UnknownLsArgument}
 use Rattle.grequest.specs.Arguments.{FetchArgument, ThinPack, NoProgress, IncludeTag, OfsDelta, Done, Want, Have}
 use Rattle.grequest.specs.Arguments.{UnknownFetchArgument}
@@ -13,7 +13,7 @@ use Rattle.grequest.specs.declared.line.FetchArgument.TheVariants as fetch
 abbrev pub capability_in : LentCapabilityForm → CapabilityForm
 capability_in (capability.Agent value) = Agent value.now
 capability_in (capability.ObjectFormat value) = ObjectFormat value.now
-capability_in capability.Other = OtherCapability
+capability_in capability.Unknown = UnknownCapability
 capability_in capability.Bad = BadCapability
 
 abbrev pub ls_argument_in : LentLsArgument → LsArgument

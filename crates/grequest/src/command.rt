@@ -30,7 +30,7 @@ impl Command {
 pub(crate) enum CommandForm {
     Known(Command),
     /// `command=` and another key.
-    Other,
+    Unknown,
     Bad,
 }
 
@@ -53,7 +53,7 @@ fn command_of_key(key: &[u8]) -> CommandForm
     } else if key == b"fetch".as_slice() {
         CommandForm::Known(Command::Fetch)
     } else if is_key(key) {
-        CommandForm::Other
+        CommandForm::Unknown
     } else {
         CommandForm::Bad
     }

@@ -1,20 +1,22 @@
 //! What a request for fetch asks (gitprotocol-v2(5), "fetch").
 
-ghost use Rattle.std.specs.Prelude.{◌≡◌, ◌≤◌, ◌<◌, ◌++◌, ◌∷◌, [], true, length, nat_lt, IfSome, IsTrue, OnOk, OnErr, Some};
+ghost use Rattle.std.specs.Prelude.{◌≡◌, ◌↔◌, ◌≤◌, ◌<◌, ◌++◌, ◌∷◌, [], true, length, nat_lt, IfOk, IfSome, IsTrue, OnOk, OnErr, Some};
 ghost use Rattle.std.specs.Option.{option_copied};
 ghost use Rattle.gname.specs.Ids.{IsIdOf};
+ghost use Rattle.ggrammar.specs.Building.{Builds};
 ghost use Rattle.ggrammar.specs.Capabilities.{is_word_value};
 ghost use Rattle.ggrammar.specs.Ids.{id_of_text};
+ghost use Rattle.ggrammar.specs.MessageReading.{AddsAs};
 ghost use Rattle.grequest.specs.Arguments.{Have, Want, fetch_argument};
-ghost use Rattle.grequest.specs.Asked.{max_wants, max_haves, max_arguments};
-ghost use Rattle.grequest.specs.Building.{Builds, Keeps, has_format, no_fetch};
+ghost use Rattle.grequest.specs.Asked.{is_direct, max_wants, max_haves, max_arguments};
+ghost use Rattle.grequest.specs.Building.{HaveSameFlags, HaveSameIds, KeepsAs, has_format, no_fetch};
 ghost use Rattle.grequest.specs.Requests.{judge_fetch_argument, fetch_argument_brings};
-ghost use Rattle.grequest.specs.RequestReading.{AddsAs, fetch_state};
 ghost use Rattle.grequest.specs.RequestState.{with_fetch_argument};
 ghost use Rattle.grequest.specs.WellFormed.{IsFetchAsked};
 
-use crate::kept::{NotKept, refused};
+use crate::kept::NotKept;
 use crate::line::{FetchArgument, fetch_argument};
+use crate::parts::{copy_agent, is_same_agent};
 use crate::reading::MAX_ARGUMENTS;
 use ggrammar::{MessageFault, Why, id_of_text, is_word_value};
 use gname::laws::texts_have_one_reading;
@@ -159,6 +161,63 @@ impl<A: Allocator + Copy> FetchRequest<A> {
         self.ofs_delta
     }
 
+    /// Whether the reply has the pack at once, without acknowledgments: the client says that it is done, or
+    /// names no object that it has (gitprotocol-v2(5), "fetch": `done`).
+    pub fn is_direct(&self) -> bool
+        ensures { result ≡ is_direct self.now.asked }
+    {
+        self.done || self.haves.is_empty()
+    }
+
+    /// The same request, kept by another allocator. It fails only when out of memory.
+    pub fn copy_in<B: Allocator + Copy>(&self, alloc: B) -> Result<FetchRequest<B>, AllocError>
+        ensures { IfOk result (λ copy. copy ≡ self.now) }
+    {
+        let agent = copy_agent(alloc, self.agent())?;
+        let wants = Vec::from_slice(alloc, self.wants())?;
+        let haves = Vec::from_slice(alloc, self.haves())?;
+        Ok(FetchRequest {
+            format: self.format,
+            agent,
+            wants,
+            haves,
+            done: self.done,
+            thin_pack: self.thin_pack,
+            no_progress: self.no_progress,
+            include_tag: self.include_tag,
+            ofs_delta: self.ofs_delta,
+        })
+    }
+
+    /// Whether the other request asks the same: the same client name, the same wants and haves in the same
+    /// order, and the same flags. A request without ids may ask the same as one of another format.
+    #[tactic(auto, using(crate::proofs::SameAsked::same_asked, crate::proofs::SameAsked::same_parts))]
+    pub fn asks_as<B: Allocator + Copy>(&self, other: &FetchRequest<B>) -> bool
+        ensures { IsTrue result ↔ (self.now.asked ≡ other.now.asked) }
+    {
+        is_same_agent(self.agent(), other.agent())
+            && self.has_ids_of(other)
+            && self.has_flags_of(other)
+    }
+
+    // Whether the wants and the haves are the same, in the same order.
+    fn has_ids_of<B: Allocator + Copy>(&self, other: &FetchRequest<B>) -> bool
+        ensures { IsTrue result ↔ HaveSameIds self.now.asked other.now.asked }
+    {
+        self.wants() == other.wants() && self.haves() == other.haves()
+    }
+
+    // Whether the flags are the same.
+    fn has_flags_of<B: Allocator + Copy>(&self, other: &FetchRequest<B>) -> bool
+        ensures { IsTrue result ↔ HaveSameFlags self.now.asked other.now.asked }
+    {
+        self.done == other.done
+            && self.thin_pack == other.thin_pack
+            && self.no_progress == other.no_progress
+            && self.include_tag == other.include_tag
+            && self.ofs_delta == other.ofs_delta
+    }
+
     /// Asks for a pack at once, or not.
     pub fn set_done(&mut self, done: bool)
         ensures { self.new ≡ record self.old { asked = record self.old.asked { done = done } } }
@@ -203,11 +262,11 @@ impl<A: Allocator + Copy> FetchRequest<A> {
             (record self.old { asked = record self.old.asked { agent = Some agent.now } }) result }
     {
         if !is_word_value(agent) {
-            return Err(refused(Why::BadText));
+            return Err(MessageFault::of_value(Why::BadText));
         }
         match self.keep_agent(agent) {
             Ok(()) => Ok(()),
-            Err(_) => Err(refused(Why::Memory)),
+            Err(_) => Err(MessageFault::of_value(Why::Memory)),
         }
     }
 
@@ -222,9 +281,9 @@ impl<A: Allocator + Copy> FetchRequest<A> {
         let has_room = self.wants.len() < MAX_WANTS;
         match self.keep_want(has_room, id) {
             Ok(()) => Ok(()),
-            Err(NotKept::WrongForm) => Err(refused(Why::BadText)),
-            Err(NotKept::NoRoom) => Err(refused(Why::Limit)),
-            Err(NotKept::NoMemory) => Err(refused(Why::Memory)),
+            Err(NotKept::WrongForm) => Err(MessageFault::of_value(Why::BadText)),
+            Err(NotKept::NoRoom) => Err(MessageFault::of_value(Why::Limit)),
+            Err(NotKept::NoMemory) => Err(MessageFault::of_value(Why::Memory)),
         }
     }
 
@@ -239,9 +298,9 @@ impl<A: Allocator + Copy> FetchRequest<A> {
         let has_room = self.haves.len() < MAX_HAVES;
         match self.keep_have(has_room, id) {
             Ok(()) => Ok(()),
-            Err(NotKept::WrongForm) => Err(refused(Why::BadText)),
-            Err(NotKept::NoRoom) => Err(refused(Why::Limit)),
-            Err(NotKept::NoMemory) => Err(refused(Why::Memory)),
+            Err(NotKept::WrongForm) => Err(MessageFault::of_value(Why::BadText)),
+            Err(NotKept::NoRoom) => Err(MessageFault::of_value(Why::Limit)),
+            Err(NotKept::NoMemory) => Err(MessageFault::of_value(Why::Memory)),
         }
     }
 
@@ -259,7 +318,7 @@ impl<A: Allocator + Copy> FetchRequest<A> {
     // Keeps an object that is wanted where there is room for it.
     fn keep_want(&mut self, has_room: bool, id: Oid) -> Result<(), NotKept>
         requires { has_room ≡ true → length self.old.asked.wants < max_wants }
-        ensures { Keeps (has_format self.old.format id) has_room
+        ensures { KeepsAs (has_format self.old.format id) has_room
             self.old self.new (record self.old { asked = record self.old.asked { wants = self.old.asked.wants ++ id ∷ [] } }) result }
     {
         if !is_of(self.format, &id) {
@@ -277,7 +336,7 @@ impl<A: Allocator + Copy> FetchRequest<A> {
     // Keeps an object that the client has where there is room for it.
     fn keep_have(&mut self, has_room: bool, id: Oid) -> Result<(), NotKept>
         requires { has_room ≡ true → length self.old.asked.haves < max_haves }
-        ensures { Keeps (has_format self.old.format id) has_room
+        ensures { KeepsAs (has_format self.old.format id) has_room
             self.old self.new (record self.old { asked = record self.old.asked { haves = self.old.asked.haves ++ id ∷ [] } }) result }
     {
         if !is_of(self.format, &id) {
@@ -294,7 +353,7 @@ impl<A: Allocator + Copy> FetchRequest<A> {
 
     // Takes an argument that comes after so many others.
     pub(crate) fn take_argument(&mut self, arguments: u32, text: &[u8]) -> Result<(), Why>
-        ensures adds { AddsAs (judge_fetch_argument self.old.format (fetch_state arguments self.old.asked) (fetch_argument text.now))
+        ensures adds { AddsAs (judge_fetch_argument self.old.format arguments self.old.asked.wants self.old.asked.haves (fetch_argument text.now))
             (fetch_argument_brings (fetch_argument text.now))
             (self.new ≡ record self.old { asked = with_fetch_argument self.old.format self.old.asked (fetch_argument text.now) }) result }
         ensures room { OnOk result (arguments < max_arguments) }
@@ -329,7 +388,7 @@ impl<A: Allocator + Copy> FetchRequest<A> {
     }
 
     fn take_want(&mut self, arguments: u32, text: &[u8]) -> Result<(), Why>
-        ensures adds { AddsAs (judge_fetch_argument self.old.format (fetch_state arguments self.old.asked) (Want text.now)) true
+        ensures adds { AddsAs (judge_fetch_argument self.old.format arguments self.old.asked.wants self.old.asked.haves (Want text.now)) true
             (self.new ≡ record self.old { asked = with_fetch_argument self.old.format self.old.asked (Want text.now) }) result }
         ensures room { OnOk result (arguments < max_arguments) }
         ensures format { self.new.format ≡ self.old.format }
@@ -347,7 +406,7 @@ impl<A: Allocator + Copy> FetchRequest<A> {
     }
 
     fn take_have(&mut self, arguments: u32, text: &[u8]) -> Result<(), Why>
-        ensures adds { AddsAs (judge_fetch_argument self.old.format (fetch_state arguments self.old.asked) (Have text.now)) true
+        ensures adds { AddsAs (judge_fetch_argument self.old.format arguments self.old.asked.wants self.old.asked.haves (Have text.now)) true
             (self.new ≡ record self.old { asked = with_fetch_argument self.old.format self.old.asked (Have text.now) }) result }
         ensures room { OnOk result (arguments < max_arguments) }
         ensures format { self.new.format ≡ self.old.format }

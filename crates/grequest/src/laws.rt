@@ -1,44 +1,103 @@
 //! The laws of the grammar of requests: functions without effect, whose contracts they are.
 
-ghost use Rattle.grequest.specs.Laws.{CanonicalSays, EachHasEndings, NoneBeginsAnother, OneMeaning, OpenIsShort, TableIsManual};
+ghost use Rattle.gname.specs.declared.formats.Format.{Format};
+ghost use Rattle.ggrammar.specs.Grammar.{HasEndings, IsPrefixFree, RefusesFirstMisfits};
+ghost use Rattle.ggrammar.specs.Kinds.{AsInManual, CanonicalSays, OneMeaning, ReadsBackIfAny, ReadsExactlyIfAny, SaysWhole};
+ghost use Rattle.ggrammar.specs.MessageBytes.{SpellingsPrefixFree};
+ghost use Rattle.grequest.specs.Manual.{IsRequest};
+ghost use Rattle.grequest.specs.Requests.{Says, brings, judge};
+ghost use Rattle.grequest.specs.RequestReading.{IsMissingWhereEmpty};
+ghost use Rattle.grequest.specs.RequestWriting.{IsCanonicalRequest};
+ghost use Rattle.grequest.specs.WellFormed.{IsAsked};
 
-use ggrammar::laws::grammars_are_exact;
+use ggrammar::Kind;
+use ggrammar::laws::{grammars_are_exact, kinds_are_read, messages_are_read};
 use gname::laws::{ids_have_one_format, ids_have_texts, prefixes_are_clean};
-
-/// Each beginning of a request can be ended, and has fewer packets than 2^60.
-pub fn endings()
-    ensures each { EachHasEndings }
-    ensures bounded { OpenIsShort }
-{
-    grammars_are_exact();
-}
+use gpkt::laws::has_four_bytes;
 
 /// The lists of packets that are read as a request are those that the manual has, and they ask the same
 /// (gitprotocol-v2(5), "Command Request", "ls-refs" and "fetch").
 pub fn manual()
-    ensures { TableIsManual }
+    ensures { (format : Format) → AsInManual (Says format) (IsRequest format) }
 {
     grammars_are_exact();
 }
 
-/// A request asks one thing.
+/// A request asks one thing, and each whole list of packets asks something.
 pub fn one_meaning()
-    ensures { OneMeaning }
+    ensures one { (format : Format) → OneMeaning (Says format) }
+    ensures whole { (format : Format) → SaysWhole (judge format) (Says format) }
 {}
 
-/// No request begins another, so its end is known without what follows it.
+/// No request begins another, neither its packets nor its bytes, so its end is known without what follows it.
 pub fn prefix_free()
-    ensures { NoneBeginsAnother }
+    ensures packets { (format : Format) → IsPrefixFree (judge format) }
+    ensures spellings { (format : Format) → SpellingsPrefixFree (judge format) }
+{
+    grammars_are_exact();
+    messages_are_read();
+}
+
+/// Each beginning of a request can be ended, and a packet that is refused is the first that does not fit.
+pub fn endings()
+    ensures each { (format : Format) → HasEndings (judge format) }
+    ensures first { (format : Format) → RefusesFirstMisfits (judge format) }
 {
     grammars_are_exact();
 }
 
 /// The lines that are written of a request ask it, and each fits a packet.
 pub fn canonical_says()
-    ensures { CanonicalSays }
+    ensures { (format : Format) → CanonicalSays (Says format) (IsAsked format) (IsCanonicalRequest format) }
 {
     grammars_are_exact();
     ids_have_one_format();
     ids_have_texts();
     prefixes_are_clean();
+}
+
+/// A request is read exactly where the bytes begin with packets that ask it: these are taken, and nothing after
+/// them. It is missing exactly where there are no bytes.
+pub fn reads_exactly()
+    ensures request { (format : Format) → ReadsExactlyIfAny (judge format) brings (Says format) }
+    ensures missing { (format : Format) → IsMissingWhereEmpty format }
+{
+    one_meaning();
+    messages_are_read();
+    has_four_bytes();
+    kinds_are_read::<Requests>();
+}
+
+/// What is written of a request reads back, whatever follows.
+pub fn reads_back()
+    ensures { (format : Format) → ReadsBackIfAny (judge format) brings (Says format) (IsAsked format) (IsCanonicalRequest format) }
+{
+    one_meaning();
+    canonical_says();
+    kinds_are_read::<Requests>();
+}
+
+// Requests, as a kind of message.
+struct Requests;
+
+impl Kind for Requests {
+    ghost use Rattle.gname.specs.declared.formats.Format.{Format};
+    ghost use Rattle.grequest.specs.Asked.{Asked};
+    ghost use Rattle.grequest.specs.Requests.{Says, brings, judge};
+    ghost use Rattle.grequest.specs.RequestWriting.{IsCanonicalRequest};
+    ghost use Rattle.grequest.specs.WellFormed.{IsAsked};
+
+    ghost Given = { Format };
+
+    ghost Said = { Asked };
+
+    ghost judge = { judge };
+
+    ghost brings = { λ format. brings };
+
+    ghost says = { Says };
+
+    ghost is_value = { IsAsked };
+
+    ghost is_canonical = { IsCanonicalRequest };
 }

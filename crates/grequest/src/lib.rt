@@ -12,19 +12,25 @@
 //! - [`LsRefsRequest`] and [`FetchRequest`] keep their forms and limits. A call that would break a form is
 //!   refused with `BadText`, else one that would pass a limit with `Limit`, else one for which there is no
 //!   memory with `Memory`; each at packet 0, and nothing changes then.
+//! - [`FetchRequest::is_direct`] tells whether the reply has the pack at once: the client says that it is done,
+//!   or names no object that it has.
+//! - A copy of a request asks the same, with the format of the same ids, and `asks_as` holds exactly where two
+//!   requests ask the same.
 //! - [`write_request`] writes the one list of lines that a request has (`specs/RequestWriting.antt`), or a
-//!   beginning of it where the sink fails, and takes no memory.
+//!   beginning of it where the sink fails. The caller gives a request with ids the format of these ids.
 //! - [`laws`]: the requests that are read are those of the manual (`specs/Manual.antt`); a request asks one
-//!   thing; none begins another, and each beginning of one can be ended; the lines that are written ask what
-//!   was asked, and fit packets.
+//!   thing; neither its packets nor its bytes begin another; each beginning of one can be ended, and a packet
+//!   that is refused is the first that does not fit; the lines that are written ask what was asked, and fit
+//!   packets. A request is read exactly where the bytes begin with one, and is missing exactly where there are
+//!   none; what is written of it reads back, whatever follows.
 //!
 //! # Only tested
 //!
-//! That memory which is there is used. The texts of faults, which `ggrammar` has.
+//! That memory which is there is used.
 //!
 //! # What a body can still get away with
 //!
-//! A call that keeps something may report out of memory, whatever there is. It may take as long as it likes,
+//! A call that keeps or copies something may report out of memory, whatever there is. It may take as long as it likes,
 //! and more memory than it needs. Where the bytes of a source are not known, nothing is said of the lines that
 //! were read; what a device has done is said all the same.
 //!
@@ -40,6 +46,7 @@ mod kept;
 pub mod laws;
 mod line;
 mod ls_refs;
+mod parts;
 mod read;
 mod reading;
 mod request;

@@ -16,7 +16,7 @@ pub(crate) enum CapabilityForm<'a> {
     Agent(&'a [u8]),
     ObjectFormat(&'a [u8]),
     /// A capability with another key.
-    Other,
+    Unknown,
     Bad,
 }
 
@@ -64,7 +64,7 @@ fn known_capability<'a>(capability: &Capability<'a>) -> CapabilityForm<'a>
     } else if capability.key == b"object-format".as_slice() {
         format_with(capability.value)
     } else {
-        CapabilityForm::Other
+        CapabilityForm::Unknown
     }
 }
 

@@ -1,19 +1,21 @@
 //! What a request for ls-refs asks (gitprotocol-v2(5), "ls-refs").
 
-ghost use Rattle.std.specs.Prelude.{◌≡◌, ◌≤◌, ◌<◌, ◌++◌, ◌∷◌, [], true, length, nat_lt, is_none, IfOk, IfErr, OnOk, OnErr, Some};
+ghost use Rattle.std.specs.Prelude.{◌≡◌, ◌↔◌, ◌≤◌, ◌<◌, ◌++◌, ◌∷◌, [], true, length, nat_lt, is_none, IfOk, IfErr, IsTrue, OnOk, OnErr, Some};
 ghost use Rattle.std.specs.Option.{option_copied};
 ghost use Rattle.gname.specs.Names.{prefix_fault};
+ghost use Rattle.ggrammar.specs.Building.{Builds};
 ghost use Rattle.ggrammar.specs.Capabilities.{is_word_value};
+ghost use Rattle.ggrammar.specs.MessageReading.{AddsAs};
 ghost use Rattle.grequest.specs.Arguments.{RefPrefix, ls_argument};
 ghost use Rattle.grequest.specs.Asked.{max_prefixes, max_arguments};
-ghost use Rattle.grequest.specs.Building.{Builds, Keeps, no_ls_refs};
+ghost use Rattle.grequest.specs.Building.{KeepsAs, no_ls_refs};
 ghost use Rattle.grequest.specs.Requests.{judge_ls_argument, ls_argument_brings};
-ghost use Rattle.grequest.specs.RequestReading.{AddsAs, ls_refs_state};
 ghost use Rattle.grequest.specs.RequestState.{with_ls_argument};
 ghost use Rattle.grequest.specs.WellFormed.{IsLsRefsAsked};
 
-use crate::kept::{NotKept, refused};
+use crate::kept::NotKept;
 use crate::line::{LsArgument, ls_argument};
+use crate::parts::{are_same_prefixes, copy_agent, copy_prefixes, is_same_agent};
 use crate::reading::MAX_ARGUMENTS;
 use ggrammar::{MessageFault, Why, is_word_value};
 use gname::laws::rules_never_report_memory;
@@ -110,6 +112,33 @@ impl<A: Allocator + Copy> LsRefsRequest<A> {
         self.prefixes.as_slice()
     }
 
+    /// The same request, kept by another allocator. It fails only when out of memory.
+    pub fn copy_in<B: Allocator + Copy>(&self, alloc: B) -> Result<LsRefsRequest<B>, AllocError>
+        ensures { IfOk result (λ copy. copy ≡ self.now) }
+    {
+        let agent = copy_agent(alloc, self.agent())?;
+        let prefixes = copy_prefixes(alloc, self.prefixes())?;
+        Ok(LsRefsRequest {
+            agent,
+            symrefs: self.symrefs,
+            peel: self.peel,
+            unborn: self.unborn,
+            prefixes,
+        })
+    }
+
+    /// Whether the other request asks the same: the same client name, the same flags, and the same prefixes
+    /// in the same order.
+    pub fn asks_as<B: Allocator + Copy>(&self, other: &LsRefsRequest<B>) -> bool
+        ensures { IsTrue result ↔ (self.now ≡ other.now) }
+    {
+        is_same_agent(self.agent(), other.agent())
+            && self.symrefs == other.symrefs
+            && self.peel == other.peel
+            && self.unborn == other.unborn
+            && are_same_prefixes(self.prefixes(), other.prefixes())
+    }
+
     /// Asks for the targets of symbolic refs, or not.
     pub fn set_symrefs(&mut self, symrefs: bool)
         ensures { self.new ≡ record self.old { symrefs = symrefs } }
@@ -139,11 +168,11 @@ impl<A: Allocator + Copy> LsRefsRequest<A> {
         ensures { Builds (is_word_value agent.now) true self.old self.new (record self.old { agent = Some agent.now }) result }
     {
         if !is_word_value(agent) {
-            return Err(refused(Why::BadText));
+            return Err(MessageFault::of_value(Why::BadText));
         }
         match self.keep_agent(agent) {
             Ok(()) => Ok(()),
-            Err(_) => Err(refused(Why::Memory)),
+            Err(_) => Err(MessageFault::of_value(Why::Memory)),
         }
     }
 
@@ -158,9 +187,9 @@ impl<A: Allocator + Copy> LsRefsRequest<A> {
         let has_room = self.prefixes.len() < MAX_PREFIXES;
         match self.keep_prefix(has_room, prefix) {
             Ok(()) => Ok(()),
-            Err(NotKept::WrongForm) => Err(refused(Why::BadText)),
-            Err(NotKept::NoRoom) => Err(refused(Why::Limit)),
-            Err(NotKept::NoMemory) => Err(refused(Why::Memory)),
+            Err(NotKept::WrongForm) => Err(MessageFault::of_value(Why::BadText)),
+            Err(NotKept::NoRoom) => Err(MessageFault::of_value(Why::Limit)),
+            Err(NotKept::NoMemory) => Err(MessageFault::of_value(Why::Memory)),
         }
     }
 
@@ -178,7 +207,7 @@ impl<A: Allocator + Copy> LsRefsRequest<A> {
     // Keeps a prefix where there is room for it.
     fn keep_prefix(&mut self, has_room: bool, prefix: &[u8]) -> Result<(), NotKept>
         requires { has_room ≡ true → length self.old.prefixes < max_prefixes }
-        ensures { Keeps (is_none (prefix_fault prefix.now)) has_room
+        ensures { KeepsAs (is_none (prefix_fault prefix.now)) has_room
             self.old self.new (record self.old { prefixes = self.old.prefixes ++ prefix.now ∷ [] }) result }
     {
         rules_never_report_memory();
@@ -195,7 +224,7 @@ impl<A: Allocator + Copy> LsRefsRequest<A> {
 
     // Takes an argument that comes after so many others.
     pub(crate) fn take_argument(&mut self, arguments: u32, text: &[u8]) -> Result<(), Why>
-        ensures adds { AddsAs (judge_ls_argument (ls_refs_state arguments self.old) (ls_argument text.now))
+        ensures adds { AddsAs (judge_ls_argument arguments self.old.prefixes (ls_argument text.now))
             (ls_argument_brings (ls_argument text.now))
             (self.new ≡ with_ls_argument self.old (ls_argument text.now)) result }
         ensures room { OnOk result (arguments < max_arguments) }
@@ -220,7 +249,7 @@ impl<A: Allocator + Copy> LsRefsRequest<A> {
     }
 
     fn take_prefix(&mut self, arguments: u32, prefix: &[u8]) -> Result<(), Why>
-        ensures adds { AddsAs (judge_ls_argument (ls_refs_state arguments self.old) (RefPrefix prefix.now)) true
+        ensures adds { AddsAs (judge_ls_argument arguments self.old.prefixes (RefPrefix prefix.now)) true
             (self.new ≡ with_ls_argument self.old (RefPrefix prefix.now)) result }
         ensures room { OnOk result (arguments < max_arguments) }
     {

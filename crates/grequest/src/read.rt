@@ -1,10 +1,9 @@
 //! Reading a request.
 
-ghost use Rattle.std.specs.Prelude.{◌≡◌, ◌<◌, ◌↔◌, [], IsTrue, IfOk, IfErr, IfSome, OnOk, true, false};
+ghost use Rattle.std.specs.Prelude.{◌≡◌, ◌<◌, ◌↔◌, [], IsTrue, IfOk, IfErr, IfSome};
 ghost use Rattle.gname.specs.declared.formats.Format.TheVariants.{Sha1};
 ghost use Rattle.gpkt.specs.Change.{change_of};
-ghost use Rattle.ggrammar.specs.MessageReading.{IsReadFailure, IsFailedBy};
-ghost use Rattle.ggrammar.specs.declared.fault.Why.{Why as WhyCases};
+ghost use Rattle.ggrammar.specs.MessageReading.{LeavesReader};
 ghost use Rattle.grequest.specs.RequestReading.{ReadsRequest};
 ghost use Rattle.grequest.specs.RequestValues.{asked_by_request, IsOfFormat};
 
@@ -23,11 +22,7 @@ pub fn read_request<S: Source, A: Allocator + Copy, B: Allocator + Copy>(
     ensures read { ReadsRequest Sha1 asked_by_request (change_of S.remaining reader.old.source reader.new.source) result }
     ensures format { IfOk result (λ read. IfSome read (IsOfFormat Sha1)) }
     ensures loans { S.loans reader.new.source ≡ S.loans reader.old.source }
-    ensures device { IfErr result (λ fault. IsReadFailure reader.old.failed (S.is_down reader.new.source) fault.why) }
-    ensures failed { IfErr result (λ fault. IsFailedBy fault.why reader.new.failed) }
-    ensures goes_on { OnOk result (reader.new.failed ≡ false) }
-    ensures well { OnOk result ((reader.old.failed ≡ false) × (S.is_down reader.new.source ≡ false)) }
-    ensures at_once { reader.old.failed ≡ true → IfErr result (λ fault. fault.frame ≡ 0) }
+    ensures reader { LeavesReader S.is_down reader.old reader.new result }
     ensures not_ended { IfErr result (λ fault. fault.why ≡ Why.Ended → 0 < fault.frame) }
 {
     read_request_in(Format::Sha1, reader, alloc)
@@ -50,11 +45,7 @@ pub fn read_request_in<S: Source, A: Allocator + Copy, B: Allocator + Copy>(
     ensures read { ReadsRequest format asked_by_request (change_of S.remaining reader.old.source reader.new.source) result }
     ensures format { IfOk result (λ read. IfSome read (IsOfFormat format)) }
     ensures loans { S.loans reader.new.source ≡ S.loans reader.old.source }
-    ensures device { IfErr result (λ fault. IsReadFailure reader.old.failed (S.is_down reader.new.source) fault.why) }
-    ensures failed { IfErr result (λ fault. IsFailedBy fault.why reader.new.failed) }
-    ensures goes_on { OnOk result (reader.new.failed ≡ false) }
-    ensures well { OnOk result ((reader.old.failed ≡ false) × (S.is_down reader.new.source ≡ false)) }
-    ensures at_once { reader.old.failed ≡ true → IfErr result (λ fault. fault.frame ≡ 0) }
+    ensures reader { LeavesReader S.is_down reader.old reader.new result }
     ensures not_ended { IfErr result (λ fault. fault.why ≡ Why.Ended → 0 < fault.frame) }
 {
     let mut request = RequestReader::new(alloc, format);

@@ -3,12 +3,13 @@
 ghost use Rattle.std.specs.Prelude.{◌≡◌, [], true, false, if◌then◌else◌};
 ghost use Rattle.gpkt.specs.Packets.{packet_of, text};
 ghost use Rattle.ggrammar.specs.Capabilities.{is_word_value};
+ghost use Rattle.ggrammar.specs.MessageReading.{TakesAs};
 ghost use Rattle.ggrammar.specs.PeerErrors.{judge_unless_error};
 ghost use Rattle.ggrammar.specs.Grammar.{Verdict, Refused};
 ghost use Rattle.ggrammar.specs.declared.fault.Why.TheVariants as why;
 ghost use Rattle.grequest.specs.Arguments.{Agent, ObjectFormat, capability_form, command_form};
 ghost use Rattle.grequest.specs.Requests.{brings, capability_brings, judge, judge_at, judge_capability, judge_command, judge_delim, judge_flush, judge_text, state_of, text_brings, unless_unnamed};
-ghost use Rattle.grequest.specs.RequestReading.{HoldsPackets, LeavesNothing, TakesAs, packet_brings};
+ghost use Rattle.grequest.specs.RequestReading.{HoldsPackets, LeavesNothing, packet_brings};
 ghost use Rattle.grequest.specs.RequestState.{with_capability, with_command, with_delim, with_packet, with_text};
 
 use crate::command::{Command, CommandForm, command_form};
@@ -39,18 +40,18 @@ pub(crate) struct RequestReader<A: Allocator + Copy> {
 }
 
 impl<A: Allocator + Copy> Model for RequestReader<A> {
-    ghost use Rattle.grequest.specs.RequestReading.{Reading, one};
+    ghost use Rattle.grequest.specs.RequestReading.{RequestSoFar, one};
     ghost use Rattle.grequest.specs.RequestValues.{asked_by_request, IsOfFormat};
     ghost use Rattle.grequest.specs.Sections.{place_in};
 
-    ghost Value = { Reading };
+    ghost Value = { RequestSoFar };
 
     ghost view = { λ r. record {
       format = r.format;
       state = record {
         place = place_in r.section (asked_by_request r.request);
-        formats = one r.names_format;
-        arguments = r.arguments;
+        format_lines = one r.names_format;
+        argument_lines = r.arguments;
         asked = asked_by_request r.request;
       };
     } };
@@ -196,7 +197,7 @@ impl<A: Allocator + Copy> RequestReader<A> {
                 self.alloc,
                 self.format,
             )),
-            CommandForm::Other => return Err(Why::UnknownCommand),
+            CommandForm::Unknown => return Err(Why::UnknownCommand),
             CommandForm::Bad => return Err(Why::BadText),
         };
         self.section = Section::Capabilities;
@@ -211,7 +212,7 @@ impl<A: Allocator + Copy> RequestReader<A> {
         match capability_form(text) {
             CapabilityForm::Agent(agent) => self.take_agent(agent),
             CapabilityForm::ObjectFormat(name) => self.take_format(name),
-            CapabilityForm::Other => Err(Why::UnknownCapability),
+            CapabilityForm::Unknown => Err(Why::UnknownCapability),
             CapabilityForm::Bad => Err(Why::BadText),
         }
     }

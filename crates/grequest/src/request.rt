@@ -1,6 +1,6 @@
 //! Requests (gitprotocol-v2(5), "Command Request").
 
-ghost use Rattle.std.specs.Prelude.{◌≡◌, OnOk, OnErr, true};
+ghost use Rattle.std.specs.Prelude.{◌≡◌, ◌↔◌, IfOk, IsTrue, OnOk, OnErr, true};
 ghost use Rattle.std.specs.Option.{option_copied};
 ghost use Rattle.ggrammar.specs.Capabilities.{is_word_value};
 
@@ -33,6 +33,37 @@ impl<A: Allocator + Copy> Request<A> {
             Request::Empty => None,
             Request::Ls(asked) => asked.agent(),
             Request::Fetch(asked) => asked.agent(),
+        }
+    }
+
+    /// The same request, kept by another allocator. It fails only when out of memory.
+    pub fn copy_in<B: Allocator + Copy>(&self, alloc: B) -> Result<Request<B>, AllocError>
+        ensures asked { IfOk result (λ copy. asked_by_request copy ≡ asked_by_request self.now) }
+        ensures format { IfOk result (λ copy. ids_format copy ≡ ids_format self.now) }
+    {
+        match self {
+            Request::Empty => Ok(Request::Empty),
+            Request::Ls(asked) => {
+                let copy = asked.copy_in(alloc)?;
+                Ok(Request::Ls(copy))
+            }
+            Request::Fetch(asked) => {
+                let copy = asked.copy_in(alloc)?;
+                Ok(Request::Fetch(copy))
+            }
+        }
+    }
+
+    /// Whether the other request asks the same. The formats of ids that a request for fetch might have do
+    /// not matter.
+    pub fn asks_as<B: Allocator + Copy>(&self, other: &Request<B>) -> bool
+        ensures { IsTrue result ↔ (asked_by_request self.now ≡ asked_by_request other.now) }
+    {
+        match (self, other) {
+            (Request::Empty, Request::Empty) => true,
+            (Request::Ls(one), Request::Ls(other)) => one.asks_as(other),
+            (Request::Fetch(one), Request::Fetch(other)) => one.asks_as(other),
+            _ => false,
         }
     }
 

@@ -1,15 +1,14 @@
 //! Writing a request.
 
-ghost use Rattle.std.specs.Prelude.{◌≡◌, ◌≢◌, ◌≤◌, ◌++◌, [], ◌∷◌, IfErr, codes, length, map};
+ghost use Rattle.std.specs.Prelude.{◌≡◌, ◌≤◌, ◌++◌, [], ◌∷◌, codes, length, map};
 ghost use Rattle.std.specs.Option.{option_copied};
-ghost use Rattle.gpkt.specs.LineWriting.{HasWritten};
-ghost use Rattle.gpkt.specs.Packets.{Delim, canonical_all};
+ghost use Rattle.gpkt.specs.Packets.{Delim};
 ghost use Rattle.ggrammar.specs.Capabilities.{max_capability};
 ghost use Rattle.ggrammar.specs.Texts.{text_packet};
 ghost use Rattle.ggrammar.specs.Writing.{WritesLines, WritesPart};
 ghost use Rattle.grequest.specs.Asked.{Ls, Fetches};
 ghost use Rattle.grequest.specs.RequestWriting.{agent_packets, canonical_request, command_packet, flag_packets, format_packets, id_packet, max_word, prefix_packet};
-ghost use Rattle.grequest.specs.RequestValues.{asked_by_request};
+ghost use Rattle.grequest.specs.RequestValues.{IsOfFormat, asked_by_request};
 ghost use Rattle.grequest.specs.WellFormed.{IsAgent};
 
 use crate::command::Command;
@@ -22,8 +21,8 @@ use gpkt::{LineWriter, Sink, WriteFault};
 use std::alloc::Allocator;
 
 /// Writes a request in its one order of lines (gitprotocol-v2(5), "Command Request"): what is asked for, and
-/// nothing else. The format is that of the repository's objects; ids of another format are written as they
-/// are, and no reader takes them. It takes no memory.
+/// nothing else. The format is that of the repository's objects, and the caller gives a request with ids the
+/// format of these ids.
 ///
 /// It fails with `Io` where the sink fails, and then a beginning of the request stands written; with `Failed`
 /// where the writer had failed before.
@@ -32,9 +31,9 @@ pub fn write_request<A: Allocator + Copy, W: Sink>(
     format: Format,
     writer: &mut LineWriter<W>,
 ) -> Result<(), WriteFault>
-    ensures written { HasWritten W.contents W.passed_on W.is_down W.loans writer.old writer.new result
-        (canonical_all (canonical_request format (asked_by_request request.now))) }
-    ensures fits { IfErr result (λ fault. fault ≢ WriteFault.Payload) }
+    requires { IsOfFormat format request.now }
+    ensures { WritesLines W.contents W.passed_on W.is_down W.loans writer.old writer.new result
+        (canonical_request format (asked_by_request request.now)) }
 {
     writes_lines::<W>();
     match request {

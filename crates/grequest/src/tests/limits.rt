@@ -70,6 +70,20 @@ fn limits_may_be_met_and_not_passed(rt: HostRuntime) -> Result<(), Fail> {
     Ok(())
 }
 
+// One want too many after another argument, which has a place of its own.
+#[test]
+fn every_argument_has_its_place(rt: HostRuntime) -> Result<(), Fail> {
+    let mut input = Vec::from_slice(rt.alloc(), b"0012command=fetch\n00010010no-progress\n")?;
+    for _ in 0..=MAX_WANTS {
+        input.extend_from_slice(b"0032want cccccccccccccccccccccccccccccccccccccccc\n")?;
+    }
+    assert_eq!(rt;
+        refusal(rt.alloc(), Format::Sha1, input.as_slice(), rt.alloc())?,
+        Some((1_027, LIMIT))
+    );
+    Ok(())
+}
+
 fn count(request: Request) -> usize {
     match request {
         Request::Empty => 0,

@@ -153,6 +153,12 @@ const REFUSED: &[Case] = &[
         45,
     ),
     (Format::Sha1, b"0014command=ls-refs\n00010008done", 2, 45),
+    (
+        Format::Sha1,
+        b"0014command=ls-refs\n00010009sort\n0000",
+        2,
+        45,
+    ),
     (Format::Sha1, b"0014command=ls-refs\n0001000bagent=a", 2, 45),
     (
         Format::Sha1,
@@ -236,6 +242,24 @@ const REFUSED: &[Case] = &[
         b"0012command=fetch\n0019object-format=sha256\n00010031have aaaaaaaaaaaaaaaaaaaaaaaaaaaaaaaaaaaaaaaa",
         3,
         46,
+    ),
+    (
+        Format::Sha256,
+        b"0012command=fetch\n0019object-format=sha256\n00010010no-progress\n0032want cccccccccccccccccccccccccccccccccccccccc\n",
+        4,
+        46,
+    ),
+    (
+        Format::Sha256,
+        b"0012command=fetch\n00010010no-progress\n004awant cccccccccccccccccccccccccccccccccccccccccccccccccccccccccccccccc\n0009done\n0000",
+        1,
+        52,
+    ),
+    (
+        Format::Sha1,
+        b"0012command=fetch\n0019object-format=sha256\n00010010no-progress\n004awant cccccccccccccccccccccccccccccccccccccccccccccccccccccccccccccccc\n0009done\n0000",
+        1,
+        52,
     ),
     (Format::Sha1, b"0012command=fetch\n0001000cERR ERR ", 2, 49),
 ];

@@ -1,4 +1,7 @@
 // Requests by hand, packet by packet.
+ghost use Rattle.std.specs.Prelude.{IfOk, IfSome};
+ghost use Rattle.grequest.specs.RequestValues.{IsOfFormat};
+
 use crate::{Request, read_request_in};
 use ggrammar::MessageFault;
 use gname::Format;
@@ -12,7 +15,9 @@ pub(super) fn read(
     alloc: Global,
     format: Format,
     input: &[u8],
-) -> Result<Result<Option<Request>, MessageFault>, Fail> {
+) -> Result<Result<Option<Request>, MessageFault>, Fail>
+    ensures { IfOk result (λ read. IfOk read (λ found. IfSome found (IsOfFormat format))) }
+{
     let mut reader = LineReader::new(alloc, SliceSource::new(input))?;
     Ok(read_request_in(format, &mut reader, alloc))
 }

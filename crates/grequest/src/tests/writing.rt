@@ -1,4 +1,8 @@
 // Samples are read, and what is written for them.
+ghost use Rattle.std.specs.Prelude.{◌≡◌};
+ghost use Rattle.gname.specs.declared.formats.Format.TheVariants.{Sha1};
+ghost use Rattle.grequest.specs.RequestValues.{IsOfFormat};
+
 use crate::tests::samples::{SAMPLES, join, read};
 use crate::{FetchRequest, LsRefsRequest, Request, write_request};
 use gname::Format;
@@ -8,7 +12,9 @@ use std::alloc::Global;
 use std::test::Fail;
 
 // What is written for a request.
-fn written(alloc: Global, format: Format, request: &Request) -> Result<Vec<u8>, Fail> {
+fn written(alloc: Global, format: Format, request: &Request) -> Result<Vec<u8>, Fail>
+    requires { IsOfFormat format request.now }
+{
     let mut writer = LineWriter::new(VecSink::new(alloc));
     write_request(request, format, &mut writer)?;
     Ok(writer.into_inner().into_written())
@@ -79,7 +85,9 @@ fn each_combination_of_ls_refs_reads_back(rt: HostRuntime) -> Result<(), Fail> {
     Ok(())
 }
 
-fn fetch_request(alloc: Global, flags: [bool; 5]) -> FetchRequest {
+fn fetch_request(alloc: Global, flags: [bool; 5]) -> FetchRequest
+    ensures { result.format ≡ Sha1 }
+{
     let [done, thin_pack, no_progress, include_tag, ofs_delta] = flags;
     let mut request = FetchRequest::new(alloc, Format::Sha1);
     request.set_done(done);

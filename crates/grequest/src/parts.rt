@@ -1,0 +1,88 @@
+//! The parts of requests that lie in memory: copied, and compared.
+
+ghost use Rattle.std.specs.Prelude.{◌≡◌, ◌↔◌, IfOk, IsTrue};
+ghost use Rattle.std.specs.Option.{option_copied, option_map};
+
+use gname::Prefix;
+use std::alloc::{AllocError, Allocator};
+
+/// The same name of a client, kept by another allocator. It fails only when out of memory.
+pub(crate) fn copy_agent<A: Allocator + Copy>(
+    alloc: A,
+    agent: Option<&[u8]>,
+) -> Result<Option<Vec<u8, A>>, AllocError>
+    ensures { IfOk result (λ copy. option_map (λ value. value.items) copy ≡ option_copied agent.entry) }
+{
+    match agent {
+        Some(agent) => {
+            let copy = Vec::from_slice(alloc, agent)?;
+            Ok(Some(copy))
+        }
+        None => Ok(None),
+    }
+}
+
+/// The same prefixes, kept by another allocator. It fails only when out of memory.
+pub(crate) fn copy_prefixes<A: Allocator + Copy, B: Allocator + Copy>(
+    alloc: B,
+    prefixes: &[Prefix<A>],
+) -> Result<Vec<Prefix<B>, B>, AllocError>
+    ensures { IfOk result (λ copies. copies.items ≡ prefixes.now) }
+{
+    let mut copies = Vec::new(alloc);
+    for prefix in prefixes {
+        copies.push(copy_prefix(alloc, prefix)?)?;
+    }
+    Ok(copies)
+}
+
+// A prefix has no fault, so that memory alone can be missed.
+fn copy_prefix<A: Allocator + Copy, B: Allocator + Copy>(
+    alloc: B,
+    prefix: &Prefix<A>,
+) -> Result<Prefix<B>, AllocError>
+    ensures { IfOk result (λ copy. copy ≡ prefix.now) }
+{
+    match Prefix::new(alloc, prefix.as_bytes()) {
+        Ok(copy) => Ok(copy),
+        Err(_) => Err(AllocError),
+    }
+}
+
+/// Whether two clients have the same name, or none has one.
+pub(crate) fn is_same_agent(one: Option<&[u8]>, other: Option<&[u8]>) -> bool
+    ensures { IsTrue result ↔ (option_copied one.entry ≡ option_copied other.entry) }
+{
+    match (one, other) {
+        (Some(one), Some(other)) => one == other,
+        (None, None) => true,
+        _ => false,
+    }
+}
+
+/// Whether these are the same prefixes in the same order.
+pub(crate) fn are_same_prefixes<A: Allocator + Copy, B: Allocator + Copy>(
+    ones: &[Prefix<A>],
+    others: &[Prefix<B>],
+) -> bool
+    ensures { IsTrue result ↔ (ones.now ≡ others.now) }
+{
+    if ones.len() != others.len() {
+        return false;
+    }
+    for place in 0..ones.len() {
+        if !is_same_prefix(&ones[place], &others[place]) {
+            return false;
+        }
+    }
+    true
+}
+
+fn is_same_prefix<A: Allocator + Copy, B: Allocator + Copy>(
+    one: &Prefix<A>,
+    other: &Prefix<B>,
+) -> bool
+    ensures { IsTrue result ↔ (one.now ≡ other.now) }
+{
+    one.as_bytes() == other.as_bytes()
+}
