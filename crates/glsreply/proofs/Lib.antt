@@ -5,6 +5,9 @@ pub mod StateLemmas
 pub mod LawLemmas
 pub mod ReaderLemmas
 pub mod ValueLemmas
+pub mod ReadManual
+pub mod RefTextLemmas
+pub mod WordLemmas
 pub mod ManualLemmas
 pub mod TableLemmas
 pub mod CanonicalLemmas

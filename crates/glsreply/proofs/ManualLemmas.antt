@@ -1,4 +1,4 @@
--- The replies of the manual are whole lists of the table, and say the same.
+-- Replies of texts that are read are whole lists of the table, and say the same.
 use Rattle.std.proofs.Common.{◌≡◌, ℕ, suc, ◌+◌, ◌-◌, ◌<◌, ◌≤◌, Bool, true, false, nat_eq, List, [], ◌∷◌, ◌++◌, length, take, drop, map, ◌==◌, codes, Option, Some, None, Result, Ok, Err, refl, sym, ap, subst, ◌∙◌, append_assoc, append-nil, arith, length-append}
 use Rattle.std.specs.Prelude.{All}
 use Rattle.std.specs.List.{starts_with}
@@ -21,7 +21,7 @@ use Rattle.ggrammar.specs.declared.fault.Why.{Why}
 use Rattle.ggrammar.specs.declared.fault.Why.TheVariants.{BadId}
 use Rattle.glsreply.specs.RefTexts.{RefLine, parts_of, line_of, line_of_parts, FirstForm, UnbornForm, RefForm, first_form, first_of_parts}
 use Rattle.glsreply.specs.LsReplies.{LsReply, Says, max_lines, is_over, unborn_in, unborn_of, ref_lines, judge_line, judge_first, within_limit, judge_text, judge_at, judge}
-use Rattle.glsreply.specs.LsManual.{IsRefText, IsUnbornFirst, IsLsReply}
+use Rattle.glsreply.proofs.ReadManual.{SaysRef, SaysUnborn, IsReadReply}
 use Rattle.glsreply.proofs.GrammarLemmas.{GrammarsAreExact, cond_holds}
 use Rattle.glsreply.proofs.TextLemmas.{some_if}
 use Rattle.glsreply.proofs.StateLemmas.{texts_push, over_push, or_false, unborn_is_no_line, unborn_gives_none, ref_lines-cons}
@@ -95,7 +95,7 @@ unfolding judge_at
 data_is format ends true count payload at none = absurd cc
 data_is format ends false count payload at none = ap (λ (said : Option (List ℕ)). unless_error said (judge_text format count (text payload))) none
 
-ref_goes : (format : Format) (ends : Ends) (front : List Packet) (payload : List ℕ) → is_over front ≡ false → IsRefText format (text payload)
+ref_goes : (format : Format) (ends : Ends) (front : List Packet) (payload : List ℕ) → is_over front ≡ false → SaysRef format (text payload)
     → length (texts_of front) < max_lines → judge format ends front (Data payload) ≡ Open
 ref_goes format ends front payload at ref room =
     data_is format ends (is_over front) (length (texts_of front)) payload at (line_is_no_error format payload ref.0 ref.1)
@@ -122,17 +122,17 @@ body_push laws format ends front payload count body goes = record {
 }
 
 refs_body : GrammarsAreExact → (format : Format) (ends : Ends) (front : List Packet) (count : ℕ) (refs : List (List ℕ)) → IsBody format ends front count
-    → All (IsRefText format) (map text refs) → count + length refs ≤ max_lines → IsBody format ends (front ++ map Data refs) (count + length refs)
+    → All (SaysRef format) (map text refs) → count + length refs ≤ max_lines → IsBody format ends (front ++ map Data refs) (count + length refs)
 refs_body laws format ends front count [] body are few =
     subst (λ (packets : List Packet). IsBody format ends packets (count + 0)) (sym (append-nil front)) (subst (IsBody format ends front) (omega arith) body)
 refs_body laws format ends front count (payload ∷ refs) body are few =
     let room : length (texts_of front) < max_lines = omega (arith, body.texts, few) in
-    let next = body_push laws format ends front payload count body (ref_goes format ends front payload body.at (All-head (IsRefText format) (text payload) (map text refs) are) room) in
-    let all = refs_body laws format ends (front ++ Data payload ∷ []) (count + 1) refs next (All-tail (IsRefText format) (text payload) (map text refs) are) (omega (arith, few)) in
+    let next = body_push laws format ends front payload count body (ref_goes format ends front payload body.at (All-head (SaysRef format) (text payload) (map text refs) are) room) in
+    let all = refs_body laws format ends (front ++ Data payload ∷ []) (count + 1) refs next (All-tail (SaysRef format) (text payload) (map text refs) are) (omega (arith, few)) in
     subst (λ (packets : List Packet). IsBody format ends packets (count + suc (length refs))) (append_assoc front (Data payload ∷ []) (map Data refs))
     (subst (IsBody format ends ((front ++ Data payload ∷ []) ++ map Data refs)) (omega arith) all)
 
-first_body : GrammarsAreExact → (format : Format) (ends : Ends) (unborn : Option (List ℕ)) (first : List (List ℕ)) → IsUnbornFirst unborn first → IsBody format ends (map Data first) (length first)
+first_body : GrammarsAreExact → (format : Format) (ends : Ends) (unborn : Option (List ℕ)) (first : List (List ℕ)) → SaysUnborn unborn first → IsBody format ends (map Data first) (length first)
 first_body laws format ends None first h =
     subst (λ (payloads : List (List ℕ)). IsBody format ends (map Data payloads) (length payloads)) (sym h)
     (record { goes = (laws (judge format ends)).nothing; at = refl; texts = refl })
@@ -167,16 +167,16 @@ texts_sent Response [] = refl
 texts_sent ends (payload ∷ payloads) = ap (λ (texts : List (List ℕ)). text payload ∷ texts) (texts_sent ends payloads)
 
 -- what the texts of the manual say
-says_unborn : (format : Format) (unborn : Option (List ℕ)) (first refs : List (List ℕ)) → IsUnbornFirst unborn first → All (IsRefText format) (map text refs)
+says_unborn : (format : Format) (unborn : Option (List ℕ)) (first refs : List (List ℕ)) → SaysUnborn unborn first → All (SaysRef format) (map text refs)
     → unborn_of (map text (first ++ refs)) ≡ unborn
 says_unborn format None first [] h are = ap (λ (payloads : List (List ℕ)). unborn_of (map text (payloads ++ []))) h
 says_unborn format None first (payload ∷ refs) h are =
-    let ref = All-head (IsRefText format) (text payload) (map text refs) are in
+    let ref = All-head (SaysRef format) (text payload) (map text refs) are in
     ap (λ (payloads : List (List ℕ)). unborn_of (map text (payloads ++ payload ∷ refs))) h ∙ ap unborn_in (form_of_ref format (text payload) ref.0 ref.1)
 says_unborn format (Some target) first refs h are =
     ap (λ (payloads : List (List ℕ)). unborn_of (map text (payloads ++ refs))) h.1 ∙ ap unborn_in h.2
 
-says_refs : (format : Format) (unborn : Option (List ℕ)) (first refs : List (List ℕ)) → IsUnbornFirst unborn first
+says_refs : (format : Format) (unborn : Option (List ℕ)) (first refs : List (List ℕ)) → SaysUnborn unborn first
     → ref_lines format (map text (first ++ refs)) ≡ ref_lines format (map text refs)
 says_refs format None first refs h = ap (λ (payloads : List (List ℕ)). ref_lines format (map text (payloads ++ refs))) h
 says_refs format (Some target) first refs h =
@@ -184,7 +184,7 @@ says_refs format (Some target) first refs h =
     ∙ (ref_lines-cons format (text h.0) (map text refs)
     ∙ ap (λ (lines : List RefLine). lines ++ ref_lines format (map text refs)) (unborn_gives_none format (text h.0) (Ok target) h.2))
 
-pub manual_says : GrammarsAreExact → (format : Format) (ends : Ends) (packets : List Packet) (reply : LsReply) → IsLsReply format ends packets reply → Says format ends packets reply
+pub manual_says : GrammarsAreExact → (format : Format) (ends : Ends) (packets : List Packet) (reply : LsReply) → IsReadReply format ends packets reply → Says format ends packets reply
 manual_says laws format ends packets reply h =
     let few : length h.first + length h.refs ≤ max_lines = omega (arith, h.few, length-append h.first h.refs) in
     let body = refs_body laws format ends (map Data h.first) (length h.first) h.refs (first_body laws format ends reply.unborn h.first h.is_first) h.are_refs few in

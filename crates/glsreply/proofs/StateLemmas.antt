@@ -14,7 +14,7 @@ use Rattle.gname.specs.declared.formats.Format.{Format}
 use Rattle.gname.specs.declared.formats.Format.TheVariants.{Sha1, Sha256}
 use Rattle.ggrammar.specs.Grammar.{Verdict, Open, Whole, Refused, IsWhole}
 use Rattle.ggrammar.specs.Ids.{id_of_text}
-use Rattle.ggrammar.specs.MessageReading.{IsAccepted, IsReason, TakesPacket}
+use Rattle.ggrammar.specs.MessageReading.{IsAccepted, IsReason, TakesAs, TakesPacket}
 use Rattle.ggrammar.specs.PeerErrors.{peer_error, unless_error}
 use Rattle.ggrammar.specs.Texts.{text_in, texts_of}
 use Rattle.ggrammar.specs.declared.ends.Ends.{Ends}
@@ -24,7 +24,7 @@ use Rattle.ggrammar.specs.declared.message.Step.{Step}
 use Rattle.ggrammar.specs.declared.message.Step.TheVariants as step
 use Rattle.glsreply.specs.RefTexts.{RefLine, parts_of, line_of, line_of_parts, line_with_id, FirstForm, UnbornForm, RefForm, first_form, first_of_parts, unborn_of_parts}
 use Rattle.glsreply.specs.LsReplies.{is_flush, is_over, unborn_in, unborn_of, line_in, ref_lines, reply_of, judge_line, judge_first, within_limit, judge_text, judge_at, judge, brings}
-use Rattle.glsreply.specs.ReplyState.{State, Holds, IsLineText, AreLineTexts, KeepsKind, state_of, state_in, with_line, with_first, with_text, with_packet, TakesAs}
+use Rattle.glsreply.specs.ReplyState.{State, Holds, IsLineText, AreLineTexts, KeepsKind, state_of, state_in, with_line, with_first, with_text, with_packet}
 use Rattle.glsreply.specs.declared.reader.LsReplyReader.{LsReplyReader}
 use Rattle.glsreply.proofs.GrammarLemmas.{cond_holds, open_induction}
 use Rattle.glsreply.proofs.TextLemmas.{some_if}

@@ -1,4 +1,4 @@
--- The whole lists of the table are in the manual's words.
+-- The texts of the table's whole lists are read.
 use Rattle.std.proofs.Common.{◌≡◌, ℕ, ◌<◌, ◌≤◌, Bool, true, false, cond, List, [], ◌∷◌, ◌++◌, length, map, ◌==◌, Option, Some, None, Result, Ok, Err, ◌⊎◌, inl, inr, refl, sym, ap, subst, ◌∙◌, append_assoc, arith}
 use Rattle.std.specs.Prelude.{All}
 use Rattle.std.proofs.lemmas.Bool.{ne_eqb, false≢true}
@@ -14,7 +14,7 @@ use Rattle.ggrammar.specs.declared.ends.Ends.TheVariants.{Plain, Response}
 use Rattle.ggrammar.specs.declared.fault.Why.{Why}
 use Rattle.glsreply.specs.RefTexts.{RefLine, line_of, FirstForm, UnbornForm, RefForm, first_form}
 use Rattle.glsreply.specs.LsReplies.{LsReply, Says, max_lines, is_over, ref_lines, judge_line, judge_first, judge_text, judge_at, judge}
-use Rattle.glsreply.specs.LsManual.{IsRefText, IsUnbornFirst, IsLsReply}
+use Rattle.glsreply.proofs.ReadManual.{SaysRef, SaysUnborn, IsReadReply}
 use Rattle.glsreply.proofs.GrammarLemmas.{GrammarsAreExact, open_induction}
 use Rattle.glsreply.proofs.LawLemmas.{data_goes, flush_goes, delim_stops, response_stops, data_part, goes_within, over_after_flush}
 use Rattle.glsreply.proofs.ManualLemmas.{map_append, manual_says}
@@ -27,16 +27,16 @@ record IsSent (format : Format) (payloads : List (List ℕ)) : Type 0 where
   pub first : List (List ℕ)
   pub refs : List (List ℕ)
   pub parts : payloads ≡ first ++ refs
-  pub is_first : IsUnbornFirst unborn first
-  pub are_refs : All (IsRefText format) (map text refs)
+  pub is_first : SaysUnborn unborn first
+  pub are_refs : All (SaysRef format) (map text refs)
   pub few : length payloads ≤ max_lines
 
 sent_none : (format : Format) → IsSent format []
 sent_none format =
-    record { unborn = None; first = []; refs = []; parts = refl; is_first = refl; are_refs = All-nil (IsRefText format); few = omega arith }
+    record { unborn = None; first = []; refs = []; parts = refl; is_first = refl; are_refs = All-nil (SaysRef format); few = omega arith }
 
 -- a line of a ref more
-sent_ref : (format : Format) (payloads : List (List ℕ)) (payload : List ℕ) → IsSent format payloads → IsRefText format (text payload)
+sent_ref : (format : Format) (payloads : List (List ℕ)) (payload : List ℕ) → IsSent format payloads → SaysRef format (text payload)
     → length payloads < max_lines → IsSent format (payloads ++ payload ∷ [])
 sent_ref format payloads payload sent ref room = record {
   unborn = sent.unborn;
@@ -44,12 +44,12 @@ sent_ref format payloads payload sent ref room = record {
   refs = sent.refs ++ payload ∷ [];
   parts = ap (λ (all : List (List ℕ)). all ++ payload ∷ []) sent.parts ∙ append_assoc sent.first sent.refs (payload ∷ []);
   is_first = sent.is_first;
-  are_refs = subst (All (IsRefText format)) (sym (map_append text sent.refs (payload ∷ [])))
-      (All-append (IsRefText format) (map text sent.refs) (text payload ∷ []) sent.are_refs (All-cons (IsRefText format) (text payload) [] ref (All-nil (IsRefText format))));
+  are_refs = subst (All (SaysRef format)) (sym (map_append text sent.refs (payload ∷ [])))
+      (All-append (SaysRef format) (map text sent.refs) (text payload ∷ []) sent.are_refs (All-cons (SaysRef format) (text payload) [] ref (All-nil (SaysRef format))));
   few = omega (arith, length_push payloads payload, room);
 }
 
-line_goes : (format : Format) (line : List ℕ) (read : Result RefLine Why) → line_of format line ≡ read → judge_line read ≡ Open → IsRefText format line
+line_goes : (format : Format) (line : List ℕ) (read : Result RefLine Why) → line_of format line ≡ read → judge_line read ≡ Open → SaysRef format line
 line_goes format line (Ok ref) e h = (ref, e)
 line_goes format line (Err why) e h = cc
 
@@ -61,7 +61,7 @@ first_goes format payload (UnbornForm (Ok target)) e h = record {
   refs = [];
   parts = refl;
   is_first = (payload, refl, e);
-  are_refs = All-nil (IsRefText format);
+  are_refs = All-nil (SaysRef format);
   few = omega arith;
 }
 first_goes format payload (UnbornForm (Err why)) e h = cc
@@ -188,12 +188,12 @@ whole_is_sent format ends packets whole =
     subst (IsSentWhole format ends) (sym whole.parts) (last_is format ends whole.front whole.last (open_is_front format ends whole.front whole.goes) whole.ends)
 
 -- what such a list says in the manual's words it says in the table's, and lines say one reply
-pub says_manual : GrammarsAreExact → (format : Format) (ends : Ends) (packets : List Packet) (reply : LsReply) → Says format ends packets reply → IsLsReply format ends packets reply
+pub says_manual : GrammarsAreExact → (format : Format) (ends : Ends) (packets : List Packet) (reply : LsReply) → Says format ends packets reply → IsReadReply format ends packets reply
 says_manual laws format ends packets reply says =
     let whole = whole_is_sent format ends packets says.whole in
     let sent = whole.2 in
     let said : LsReply = record { unborn = sent.unborn; lines = ref_lines format (map text sent.refs) } in
-    let manual : IsLsReply format ends packets said = record {
+    let manual : IsReadReply format ends packets said = record {
       first = sent.first;
       refs = sent.refs;
       parts = whole.1 ∙ ap (λ (payloads : List (List ℕ)). map Data payloads ++ Flush ∷ ends_with ends) sent.parts;
@@ -202,4 +202,4 @@ says_manual laws format ends packets reply says =
       few = subst (λ (payloads : List (List ℕ)). length payloads ≤ max_lines) sent.parts sent.few;
       lines = refl;
     } in
-    subst (IsLsReply format ends packets) ((manual_says laws format ends packets said manual).says ∙ sym says.says) manual
+    subst (IsReadReply format ends packets) ((manual_says laws format ends packets said manual).says ∙ sym says.says) manual

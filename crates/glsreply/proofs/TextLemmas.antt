@@ -51,7 +51,7 @@ pub some_if : {X : Type 0} (b : Bool) (found : Option X) (x : X) → cond b foun
 some_if true found x e = (refl, e)
 some_if false found x e = cc
 
-ok_some : (decoded : Result (List ℕ) FromHexError) (id : List ℕ) → ok_of decoded ≡ Some id → decoded ≡ Ok id
+pub ok_some : (decoded : Result (List ℕ) FromHexError) (id : List ℕ) → ok_of decoded ≡ Some id → decoded ≡ Ok id
 ok_some (Ok other) id e = let same : Some other ≡ Some id = e in cc
 ok_some (Err fault) id e = cc
 

@@ -2,7 +2,7 @@
 use Rattle.std.proofs.Common.{◌≡◌, ℕ, ◌<◌, ◌≤◌, true, false, List, [], ◌∷◌, ◌++◌, Option, Some, None, Result, Ok, Err, refl, sym, ap, subst, ◌∙◌, arith}
 use Rattle.std.specs.Prelude.{All, IfSome}
 use Rattle.std.specs.Option.{option_map_or}
-use Rattle.std.proofs.lemmas.Bool.{and_parts, and_from, false≢true}
+use Rattle.std.proofs.lemmas.Bool.{and_parts, ltb-true}
 use Rattle.std.proofs.lemmas.List.{length_push}
 use Rattle.std.proofs.lemmas.List.Elements.{All-cons, All-nil, All-head, All-tail, All-append}
 use Rattle.gname.specs.Ids.{IsId, IsIdOf, format_of}
@@ -10,10 +10,10 @@ use Rattle.gname.specs.Laws.{IdsHaveOneFormat}
 use Rattle.gname.specs.declared.formats.Format.{Format}
 use Rattle.gname.specs.declared.formats.Format.TheVariants.{Sha1, Sha256}
 use Rattle.ggrammar.specs.declared.fault.MessageFault.{MessageFault}
-use Rattle.ggrammar.specs.declared.fault.Why.TheVariants.{BadText, Limit}
+use Rattle.ggrammar.specs.Building.{IsBuildReason}
 use Rattle.glsreply.specs.RefTexts.{RefLine}
 use Rattle.glsreply.specs.LsReplies.{LsReply, max_lines}
-use Rattle.glsreply.specs.WellFormed.{IsLine, IsRefLine, IsReplyValue, is_format, has_format_of, first_has_format_of, has_one_format, line_count, Adds, Pushes, IsValueFault}
+use Rattle.glsreply.specs.WellFormed.{IsLine, IsRefLine, IsReplyValue, is_format, has_format_of, first_has_format_of, has_one_format, line_count, has_room, Adds, Pushes}
 
 same_format : (a b : Format) → is_format a b ≡ true → a ≡ b
 same_format Sha1 Sha1 e = refl
@@ -55,31 +55,6 @@ module _ (law : IdsHaveOneFormat) where
       let same : format_of line.id ≡ format = sym (same_format (format_of first.id) (format_of line.id) parts.0) ∙ (law format first.id head.id).1 in
       (format, All-append (IsRefLine format) (first ∷ lines) (line ∷ []) all (All-cons (IsRefLine format) line [] (line_in_format format line h same parts.1) (All-nil (IsRefLine format))))
 
-  -- ---- ids that do not
-
-  goes_with_id : (format : Format) (line : RefLine) (id : List ℕ) → IsIdOf format line.id → IsIdOf format id → has_format_of line id ≡ true
-  goes_with_id format line id h other =
-      ap (λ (f : Format). is_format f (format_of line.id)) ((law format id other).1 ∙ sym (law format line.id h).1) ∙ is_format-same (format_of line.id)
-
-  goes_with_peeled : (format : Format) (line : RefLine) (peeled : Option (List ℕ)) → IsIdOf format line.id → IfSome peeled (IsIdOf format)
-      → option_map_or (has_format_of line) peeled true ≡ true
-  goes_with_peeled format line None h other = refl
-  goes_with_peeled format line (Some id) h other = goes_with_id format line id h other
-
-  last_of : (format : Format) (lines : List RefLine) (line : RefLine) → All (IsRefLine format) (lines ++ line ∷ []) → IsRefLine format line
-  last_of format [] line all = All-head (IsRefLine format) line [] all
-  last_of format (first ∷ lines) line all = last_of format lines line (All-tail (IsRefLine format) first (lines ++ line ∷ []) all)
-
-  first_goes : (format : Format) (lines : List RefLine) (line : RefLine) → All (IsRefLine format) (lines ++ line ∷ []) → first_has_format_of line lines ≡ true
-  first_goes format [] line all = refl
-  first_goes format (first ∷ lines) line all =
-      goes_with_id format line first.id (last_of format (first ∷ lines) line all).id (All-head (IsRefLine format) first (lines ++ line ∷ []) all).id
-
-  pub have_one_format : (format : Format) (lines : List RefLine) (line : RefLine) → All (IsRefLine format) (lines ++ line ∷ []) → has_one_format lines line ≡ true
-  have_one_format format lines line all =
-      let last = last_of format lines line all in
-      and_from _ _ (first_goes format lines line all) (goes_with_peeled format line line.peeled last.id last.peeled)
-
   -- ---- the reply with the line
 
   pub lines_pushed : (reply : LsReply) (line : RefLine) → IsReplyValue reply → IsLine line → has_one_format reply.lines line ≡ true
@@ -94,50 +69,31 @@ module _ (law : IdsHaveOneFormat) where
 
   -- ---- a push
 
-  pub bad_text : (reply : LsReply) (line : RefLine) (fault : MessageFault) → fault ≡ record { frame = 0; why = BadText } → has_one_format reply.lines line ≡ false
-      → Pushes reply line reply (Err fault)
-  bad_text reply line fault e goes = (
-    refl,
-    ap (λ (f : MessageFault). f.frame) e,
-    subst (IsValueFault (record { unborn = reply.unborn; lines = reply.lines ++ line ∷ [] })) (sym (ap (λ (f : MessageFault). f.why) e))
-        (λ format all. false≢true (sym goes ∙ have_one_format format reply.lines line all)),
-  )
-
   module _ (reply : LsReply) (line : RefLine) (h : IsReplyValue reply) (is : IsLine line) where
-    pub limit : (fault : MessageFault) → fault ≡ record { frame = 0; why = Limit } → has_one_format reply.lines line ≡ true → max_lines ≤ line_count reply
-        → Pushes reply line reply (Err fault)
-    limit fault e goes full =
-        let all = lines_pushed reply line h is goes in (
-          refl,
-          ap (λ (f : MessageFault). f.frame) e,
-          subst (IsValueFault (record { unborn = reply.unborn; lines = reply.lines ++ line ∷ [] })) (sym (ap (λ (f : MessageFault). f.why) e))
-              (all.0, all.1, (let long = length_push reply.lines line in omega (arith, long, full))),
-        )
-
-    pub pushed_value : (lines : List RefLine) (result : Result (Unit {0}) MessageFault) → Adds reply.lines line lines result → has_one_format reply.lines line ≡ true
-        → line_count reply < max_lines → IsReplyValue (record { unborn = reply.unborn; lines = lines })
+    pub pushed_value : (lines : List RefLine) (result : Result Unit MessageFault) → Adds reply.lines line lines result → has_one_format reply.lines line ≡ true
+        → has_room reply ≡ true → IsReplyValue (record { unborn = reply.unborn; lines = lines })
     pushed_value lines (Ok done) e goes room =
-        subst (λ (l : List RefLine). IsReplyValue (record { unborn = reply.unborn; lines = l })) (sym e) (value_pushed reply line h is goes room)
+        subst (λ (l : List RefLine). IsReplyValue (record { unborn = reply.unborn; lines = l })) (sym e) (value_pushed reply line h is goes (ltb-true _ _ room))
     pushed_value lines (Err fault) e goes room =
         subst (λ (l : List RefLine). IsReplyValue (record { unborn = reply.unborn; lines = l })) (sym e.0) h
 
-    pub pushes : (lines : List RefLine) (result : Result (Unit {0}) MessageFault) → Adds reply.lines line lines result → has_one_format reply.lines line ≡ true
-        → line_count reply < max_lines → Pushes reply line (record { unborn = reply.unborn; lines = lines }) result
-    pushes lines (Ok done) e goes room = ap (λ (l : List RefLine). record { unborn = reply.unborn; lines = l }) e
+    pub pushes : (lines : List RefLine) (result : Result Unit MessageFault) → Adds reply.lines line lines result → has_one_format reply.lines line ≡ true
+        → has_room reply ≡ true → Pushes reply line (record { unborn = reply.unborn; lines = lines }) result
+    pushes lines (Ok done) e goes room = (goes, room, ap (λ (l : List RefLine). record { unborn = reply.unborn; lines = l }) e)
     pushes lines (Err fault) e goes room = (
-      ap (λ (l : List RefLine). record { unborn = reply.unborn; lines = l }) e.0,
       e.1,
-      subst (IsValueFault (record { unborn = reply.unborn; lines = reply.lines ++ line ∷ [] })) (sym e.2) (value_pushed reply line h is goes room),
+      ap (λ (l : List RefLine). record { unborn = reply.unborn; lines = l }) e.0,
+      subst (IsBuildReason (has_one_format reply.lines line) (has_room reply)) (sym e.2) (goes, room),
     )
 
   module _ (old reply : LsReply) (line : RefLine) (same : reply ≡ old) (h : IsReplyValue reply) (is : IsLine line) (goes : has_one_format old.lines line ≡ true)
-      (room : line_count old < max_lines) (lines : List RefLine) (result : Result (Unit {0}) MessageFault) (adds : Adds reply.lines line lines result)
+      (room : has_room old ≡ true) (lines : List RefLine) (result : Result Unit MessageFault) (adds : Adds reply.lines line lines result)
     where
       here : has_one_format reply.lines line ≡ true
       here = subst (λ (r : LsReply). has_one_format r.lines line ≡ true) (sym same) goes
 
-      room_here : line_count reply < max_lines
-      room_here = subst (λ (r : LsReply). line_count r < max_lines) (sym same) room
+      room_here : has_room reply ≡ true
+      room_here = subst (λ (r : LsReply). has_room r ≡ true) (sym same) room
 
       pub pushed_value_at : IsReplyValue (record { unborn = reply.unborn; lines = lines })
       pushed_value_at = pushed_value reply line h is lines result adds here room_here

@@ -3,9 +3,8 @@ pub mod LsReplies
 pub mod LsManual
 pub mod WellFormed
 pub mod LineViews
+pub mod LentViews
 pub mod ReplyState
-pub mod ReplyReading
 pub mod TextLengths
-pub mod Laws
 pub use Rattle.ggrammar.specs.Grammar
 pub use Rattle.ggrammar.specs.MessageReading

@@ -5,7 +5,7 @@ use Rattle.std.specs.Option.{option_copied}
 use Rattle.ggrammar.specs.declared.fault.Why.{Why}
 use Rattle.glsreply.specs.RefTexts.{RefLine, Attribute, Symref, Peeled, UnknownAttribute, parts_of}
 use Rattle.glsreply.specs.RefTexts.{FirstForm, UnbornForm, RefForm}
-use Rattle.glsreply.specs.declared.line.LentLine.{LentLine}
+use Rattle.glsreply.specs.declared.line.LineParts.{LineParts}
 use Rattle.glsreply.specs.declared.line.Attribute as lent
 use Rattle.glsreply.specs.declared.line.Attribute.TheVariants as attribute
 use Rattle.glsreply.specs.declared.line.FirstText.{FirstText}
@@ -15,11 +15,11 @@ abbrev pub line_parts : List ℕ → List ℕ → Option (Bor (List ℕ)) → Op
 line_parts id name symref peeled =
     record { id = id; name = name; symref = option_copied symref; peeled = peeled }
 
-abbrev pub line_view : LentLine → RefLine
-line_view line = line_parts line.id line.name.now line.symref line.peeled
+abbrev pub parts_view : LineParts → RefLine
+parts_view line = line_parts line.id line.name.now line.symref line.peeled
 
-abbrev pub line_read : Result LentLine Why → Result RefLine Why
-line_read (Ok line) = Ok (line_view line)
+abbrev pub line_read : Result LineParts Why → Result RefLine Why
+line_read (Ok line) = Ok (parts_view line)
 line_read (Err why) = Err why
 
 abbrev pub attribute_view : lent.Attribute → Attribute

@@ -114,3 +114,7 @@ ref_packet line = text_packet (ref_text line)
 unfoldable pub canonical_reply : Ends → LsReply → List Packet
 canonical_reply ends reply =
     unborn_packets reply.unborn ++ map ref_packet reply.lines ++ Flush ∷ ends_with ends
+
+-- the packets are those that are written of the reply
+abbrev pub IsCanonicalReply : Ends → List Packet → LsReply → Type 0
+IsCanonicalReply ends packets reply = packets ≡ canonical_reply ends reply

@@ -1,14 +1,5 @@
--- The texts of the reply to ls-refs (gitprotocol-v2(5), "ls-refs"):
---
---   output = *ref flush-pkt
---   obj-id-or-unborn = (obj-id | "unborn")
---   ref = PKT-LINE(obj-id-or-unborn SP refname *(SP ref-attribute) LF)
---   ref-attribute = (symref | peeled)
---   symref = "symref-target:" symref-target
---   peeled = "peeled:" obj-id
---
--- The parts of a text are separated by one space each, and are read from left to right. Here `unborn` comes only
--- first, of HEAD, with its target alone; and an attribute comes once.
+-- The texts of the reply to ls-refs as they are read (gitprotocol-v2(5), "ls-refs"; its grammar is in `LsManual`): the
+-- parts of a text are separated by one space each, and are judged from left to right.
 use Rattle.std.specs.Prelude.{ℕ, Bool, List, [], ◌∷◌, ◌++◌, codes, nat_eq, if◌then◌else◌, Option, Some, None, is_none}
 use Rattle.std.specs.Prelude.{Result, Ok, Err}
 use Rattle.std.specs.List.{slice_split}

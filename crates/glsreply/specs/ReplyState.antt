@@ -3,12 +3,8 @@ use Rattle.std.specs.Prelude.{◌≡◌, ℕ, ◌+◌, Bool, true, List, [], ◌
 use Rattle.std.specs.Prelude.{◌⊎◌, All, Some, Result, Ok, Err}
 use Rattle.gpkt.specs.Packets.{Packet, Data, Flush, Delim, ResponseEnd, text}
 use Rattle.gname.specs.declared.formats.Format.{Format}
-use Rattle.ggrammar.specs.Grammar.{Verdict, Open, Whole}
-use Rattle.ggrammar.specs.MessageReading.{IsReason}
 use Rattle.ggrammar.specs.Texts.{texts_of}
 use Rattle.ggrammar.specs.declared.fault.Why.{Why}
-use Rattle.ggrammar.specs.declared.message.Step.{Step}
-use Rattle.ggrammar.specs.declared.message.Step.TheVariants as step
 use Rattle.glsreply.specs.RefTexts.{RefLine, line_of, FirstForm, UnbornForm, RefForm, first_form}
 use Rattle.glsreply.specs.LsReplies.{LsReply, is_over, reply_of}
 use Rattle.glsreply.specs.declared.reader.LsReplyReader.{LsReplyReader}
@@ -70,12 +66,6 @@ with_packet format state (Data payload) = with_text format state (text payload)
 with_packet format state Flush = with_flush state
 with_packet format state Delim = state
 with_packet format state ResponseEnd = state
-
--- a packet was taken with this verdict, and P holds where the reply goes on or ends with it
-abbrev pub TakesAs : Verdict → Bool → Type 0 → Result Step Why → Type 0
-TakesAs verdict brings P (Ok step.Open) = (verdict ≡ Open) × P
-TakesAs verdict brings P (Ok step.Whole) = (verdict ≡ Whole) × P
-TakesAs verdict brings P (Err why) = IsReason verdict brings why
 
 -- ---- what the reader holds
 

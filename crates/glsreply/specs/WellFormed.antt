@@ -1,12 +1,14 @@
 -- The replies to ls-refs that can be written.
-use Rattle.std.specs.Prelude.{◌≡◌, ℕ, ◌+◌, ◌≤◌, ◌<◌, Bool, true, false, ◌&&◌, List, [], ◌∷◌, ◌++◌, length, All}
-use Rattle.std.specs.Prelude.{IfSome, IsTrue, Some, Result, Ok, Err}
+use Rattle.std.specs.Prelude.{◌≡◌, ℕ, ◌+◌, ◌≤◌, Bool, true, false, ◌&&◌, ◌||◌, nat_lt, List, [], ◌∷◌, ◌++◌, length}
+use Rattle.std.specs.Prelude.{All, IfSome, IsTrue, is_some, Some, Result, Ok, Err}
 use Rattle.std.specs.Option.{option_map_or}
 use Rattle.gname.specs.Ids.{IsId, IsIdOf, format_of}
 use Rattle.gname.specs.declared.formats.Format.{Format}
 use Rattle.gname.specs.declared.formats.Format.TheVariants.{Sha1, Sha256}
-use Rattle.ggrammar.specs.declared.fault.Why.{Why}
-use Rattle.ggrammar.specs.declared.fault.Why.TheVariants.{BadText, Limit, Memory}
+use Rattle.ggrammar.specs.Building.{Builds}
+use Rattle.ggrammar.specs.Endings.{ends_with}
+use Rattle.ggrammar.specs.declared.ends.Ends.{Ends}
+use Rattle.ggrammar.specs.declared.fault.Why.TheVariants.{Memory}
 use Rattle.ggrammar.specs.declared.fault.MessageFault.{MessageFault}
 use Rattle.glsreply.specs.RefTexts.{RefLine, is_name}
 use Rattle.glsreply.specs.LsReplies.{LsReply, max_lines, unborn_packets}
@@ -28,6 +30,10 @@ pub record IsRefLine (format : Format) (line : RefLine) : Type 0 where
 -- an unborn HEAD counts as a line
 abbrev pub line_count : LsReply → ℕ
 line_count reply = length (unborn_packets reply.unborn) + length reply.lines
+
+-- the number of the last packet, from 0: of the flush after the lines, or of the response-end after that
+abbrev pub last_frame : Ends → LsReply → ℕ
+last_frame ends reply = line_count reply + length (ends_with ends)
 
 pub record IsLsReplyIn (format : Format) (reply : LsReply) : Type 0 where
   pub unborn : IfSome reply.unborn (λ target. IsTrue (is_name target))
@@ -57,26 +63,25 @@ abbrev pub has_one_format : List RefLine → RefLine → Bool
 has_one_format lines line =
     first_has_format_of line lines && option_map_or (has_format_of line) line.peeled true
 
--- why a reply that would be so is refused: its ids have no one format; else it has one line too many; else there is
--- no memory for it
-abbrev pub IsValueFault : LsReply → Why → Type 0
-IsValueFault reply BadText = (format : Format) → All (IsRefLine format) reply.lines → ⊥
-IsValueFault reply Limit = (format : Format) × All (IsRefLine format) reply.lines × (max_lines < line_count reply)
-IsValueFault reply Memory = IsReplyValue reply
-IsValueFault reply why = ⊥
+-- there is room for a line more
+abbrev pub has_room : LsReply → Bool
+has_room reply = nat_lt (line_count reply) max_lines
 
--- the reply becomes so, or is refused and stays as it was
-abbrev pub Becomes : LsReply → LsReply → LsReply → Result (Unit {0}) MessageFault → Type 0
-Becomes old wanted new (Ok done) = new ≡ wanted
-Becomes old wanted new (Err fault) = (new ≡ old) × (fault.frame ≡ 0) × IsValueFault wanted fault.why
+-- there is room for the line of an unborn HEAD, or there is one already
+abbrev pub has_room_for_unborn : LsReply → Bool
+has_room_for_unborn reply = is_some reply.unborn || has_room reply
 
 -- the lines have one more, or there is no memory for it
-abbrev pub Adds : List RefLine → RefLine → List RefLine → Result (Unit {0}) MessageFault → Type 0
+abbrev pub Adds : List RefLine → RefLine → List RefLine → Result Unit MessageFault → Type 0
 Adds old line new (Ok done) = new ≡ old ++ line ∷ []
 Adds old line new (Err fault) = (new ≡ old) × (fault.frame ≡ 0) × (fault.why ≡ Memory)
 
-abbrev pub Pushes : LsReply → RefLine → LsReply → Result (Unit {0}) MessageFault → Type 0
-Pushes old line new result = Becomes old (record old { lines = old.lines ++ line ∷ [] }) new result
+-- the reply has a line more, or is refused and stays as it was
+abbrev pub Pushes : LsReply → RefLine → LsReply → Result Unit MessageFault → Type 0
+Pushes old line new result =
+    Builds (has_one_format old.lines line) (has_room old) old new (record old { lines = old.lines ++ line ∷ [] }) result
 
-abbrev pub SetsUnborn : LsReply → List ℕ → LsReply → Result (Unit {0}) MessageFault → Type 0
-SetsUnborn old target new result = Becomes old (record old { unborn = Some target }) new result
+-- the reply has an unborn HEAD, or is refused and stays as it was
+abbrev pub SetsUnborn : LsReply → List ℕ → LsReply → Result Unit MessageFault → Type 0
+SetsUnborn old target new result =
+    Builds true (has_room_for_unborn old) old new (record old { unborn = Some target }) result

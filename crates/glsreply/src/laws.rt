@@ -1,40 +1,68 @@
 //! Laws of the reply to ls-refs. Each function does nothing, and its contract is the law: a caller that calls
 //! it may rely on the law from there on.
 
-ghost use Rattle.glsreply.specs.Laws.{BeginningsEnd, CanonicalSays, ManualIsTable, OneMeaning, RepliesArePrefixFree};
+ghost use Rattle.std.specs.Prelude.{◌≡◌, ◌+◌, List, length};
+ghost use Rattle.gname.specs.declared.formats.Format.{Format};
+ghost use Rattle.gpkt.specs.Packets.{Packet};
+ghost use Rattle.ggrammar.specs.Grammar.{HasEndings, IsPrefixFree, RefusesFirstMisfits};
+ghost use Rattle.ggrammar.specs.Kinds.{AsInManual, CanonicalSays, OneMeaning, ReadsBack, ReadsExactly, SaysWhole};
+ghost use Rattle.ggrammar.specs.MessageBytes.{SpellingsPrefixFree};
+ghost use Rattle.ggrammar.specs.declared.ends.Ends.{Ends};
+ghost use Rattle.glsreply.specs.LsManual.{IsLsReply};
+ghost use Rattle.glsreply.specs.LsReplies.{IsCanonicalReply, LsReply, Says, brings, judge};
+ghost use Rattle.glsreply.specs.WellFormed.{IsLsReplyIn, last_frame};
 
-use ggrammar::laws::{grammars_are_exact, texts_are_read};
-use gname::laws::{id_texts_are_digits, ids_have_one_format, ids_have_texts, names_are_clean};
+use ggrammar::Kind;
+use ggrammar::laws::{grammars_are_exact, kinds_are_read, messages_are_read, texts_are_read};
+use gname::laws::{
+    id_texts_are_digits, ids_have_one_format, ids_have_texts, names_are_clean,
+    texts_have_one_reading,
+};
 
-/// Lines say at most one reply.
+/// Packets say at most one reply.
 pub fn one_meaning()
-    ensures { OneMeaning }
+    ensures { (format : Format) (ends : Ends) → OneMeaning (Says format ends) }
 {}
 
-/// No reply begins another, in the same format and with the same ending.
+/// What says a reply is whole, and what is whole says one.
+pub fn says_whole()
+    ensures { (format : Format) (ends : Ends) → SaysWhole (judge format ends) (Says format ends) }
+{}
+
+/// No reply begins another, in the same format and with the same ending, and no bytes of one begin those of
+/// another.
 pub fn prefix_free()
-    ensures { RepliesArePrefixFree }
+    ensures packets { (format : Format) (ends : Ends) → IsPrefixFree (judge format ends) }
+    ensures spellings { (format : Format) (ends : Ends) → SpellingsPrefixFree (judge format ends) }
 {
     grammars_are_exact();
+    messages_are_read();
 }
 
-/// Each list of lines that the table leaves open begins a reply.
-pub fn beginnings_end()
-    ensures { BeginningsEnd }
+/// Each list of packets that the table leaves open begins a reply, and the packet that it refuses is the first
+/// that does not fit.
+pub fn endings()
+    ensures endings { (format : Format) (ends : Ends) → HasEndings (judge format ends) }
+    ensures first { (format : Format) (ends : Ends) → RefusesFirstMisfits (judge format ends) }
 {
     grammars_are_exact();
 }
 
 /// The lists of packets that are read as a reply are those that the manual has, and they say the same.
 pub fn manual()
-    ensures { ManualIsTable }
+    ensures { (format : Format) (ends : Ends) → AsInManual (Says format ends) (IsLsReply format ends) }
 {
     grammars_are_exact();
+    names_are_clean();
+    id_texts_are_digits();
+    ids_have_one_format();
+    texts_have_one_reading();
 }
 
-/// The lines that are written of a reply say it, and each fits a packet.
+/// The packets that are written of a reply say it, and each fits a packet line.
 pub fn canonical_says()
-    ensures { CanonicalSays }
+    ensures { (format : Format) (ends : Ends)
+        → CanonicalSays (Says format ends) (IsLsReplyIn format) (IsCanonicalReply ends) }
 {
     grammars_are_exact();
     texts_are_read();
@@ -42,4 +70,57 @@ pub fn canonical_says()
     ids_have_texts();
     id_texts_are_digits();
     ids_have_one_format();
+    texts_have_one_reading();
+}
+
+/// The packets of a reply are as many as [`LsReply::last_frame`](crate::LsReply::last_frame) says, and one.
+pub fn last_frame()
+    ensures { (format : Format) (ends : Ends) (packets : List Packet) (reply : LsReply)
+        → Says format ends packets reply → length packets ≡ last_frame ends reply + 1 }
+{
+    manual();
+}
+
+// Replies of repositories with ids of a format, with an ending, as a kind of message.
+struct Replies;
+
+impl Kind for Replies {
+    ghost use Rattle.gname.specs.declared.formats.Format.{Format};
+    ghost use Rattle.ggrammar.specs.declared.ends.Ends.{Ends};
+    ghost use Rattle.glsreply.specs.LsReplies.{IsCanonicalReply, LsReply, Says, brings, judge};
+    ghost use Rattle.glsreply.specs.WellFormed.{IsLsReplyIn};
+
+    ghost Given = { Format × Ends };
+
+    ghost Said = { LsReply };
+
+    ghost judge = { λ given. judge given.0 given.1 };
+
+    ghost brings = { λ _. brings };
+
+    ghost says = { λ given. Says given.0 given.1 };
+
+    ghost is_value = { λ given. IsLsReplyIn given.0 };
+
+    ghost is_canonical = { λ given. IsCanonicalReply given.1 };
+}
+
+/// A reply is read exactly where the bytes begin with one.
+pub fn reads_exactly()
+    ensures { (format : Format) (ends : Ends) → ReadsExactly (judge format ends) brings (Says format ends) }
+{
+    one_meaning();
+    says_whole();
+    kinds_are_read::<Replies>();
+}
+
+/// What is written of a reply reads back as that reply, whatever follows.
+pub fn reads_back()
+    ensures { (format : Format) (ends : Ends)
+        → ReadsBack (judge format ends) brings (Says format ends) (IsLsReplyIn format) (IsCanonicalReply ends) }
+{
+    one_meaning();
+    says_whole();
+    canonical_says();
+    kinds_are_read::<Replies>();
 }

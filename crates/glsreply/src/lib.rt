@@ -5,26 +5,32 @@
 //! # Proved
 //!
 //! - [`read_ls_reply`] and [`read_ls_reply_in`] read one reply exactly to its end, in whatever pieces its bytes
-//!   come, and answer what its lines say; else they refuse it at the first packet that does not fit, for the
+//!   come, and answer what its packets say; else they refuse it at the first packet that does not fit, for the
 //!   table's reason (`judge` in `specs/LsReplies.antt`), a text being judged from left to right. Out of memory
 //!   comes only at a line that is accepted.
 //! - A reply that is read can be written: its ids have the format, its names keep their rules, and it has at most
 //!   65,537 lines.
 //! - [`LsReply`] keeps ids of one format and the most lines; what would break that is refused, and nothing
-//!   changes.
-//! - [`write_ls_reply`] writes exactly the bytes of the canonical lines, and where the sink fails a beginning of
-//!   them. A line is never too long.
-//! - [`laws`]: lines say one reply, no reply begins another, and each beginning has an ending. The whole lists of
-//!   the table are exactly the replies that may be sent by the manual (`specs/LsManual.antt`), and say the same.
-//!   The lines that are written of a reply say that reply, and each fits a packet.
+//!   changes. [`LsReply::last_frame`] is the number of its last packet.
+//! - [`write_ls_reply`] writes exactly the bytes of the canonical packets, and where the sink fails a beginning of
+//!   them. A line is never too long. Who has no [`LsReply`] writes the same line by line, of names that are lent,
+//!   with [`write_unborn`], [`write_ref`] and [`write_end`].
+//! - [`RefText`] is the text of the line of a ref.
+//! - [`laws`]: packets say one reply. No reply begins another, nor do its bytes. Each beginning has an ending, and
+//!   the packet that is refused is the first that does not fit. The whole lists of the table are exactly the
+//!   replies that may be sent by the manual, texts included (`specs/LsManual.antt`), and say the same. The packets
+//!   that are written of a reply say that reply, and each fits a packet line. A reply is read exactly where the
+//!   bytes begin with one, and what is written reads back, whatever follows.
 //!
 //! # Only tested
 //!
-//! That memory is found where there is some.
+//! That memory is found where there is some, and what the bytes are of lines that are written one by one.
 //!
 //! # What a body can still get away with
 //!
-//! It may take memory that it gives back, and as long as it likes.
+//! It may report out of memory at any line that is accepted, and at any `push`; the rest takes memory only to give
+//! it back. It may take as long as it likes. Who writes line by line may write lines in any order and of ids of two
+//! formats; that is for the caller to prove.
 //!
 //! # Stands on
 //!
@@ -33,14 +39,16 @@
 #![tactic(auto)]
 
 pub mod laws;
+mod lent;
 mod line;
 mod reader;
 mod reply;
 mod writer;
 
+pub use crate::lent::{LentLine, RefText};
 pub use crate::reader::{read_ls_reply, read_ls_reply_in};
 pub use crate::reply::{LsReply, MAX_LINES, RefLine};
-pub use crate::writer::write_ls_reply;
+pub use crate::writer::{write_end, write_ls_reply, write_ref, write_unborn};
 
 #[cfg(test)]
 mod tests;

@@ -11,9 +11,9 @@ use gname::laws::rules_never_report_memory;
 use gname::{Format, NameFault, Oid, RefName};
 use std::alloc::Allocator;
 
-/// The line of a ref, lent from its text.
+/// The parts of the line of a ref, lent from its text.
 #[derive(Clone, Copy)]
-pub(crate) struct LentLine<'a> {
+pub(crate) struct LineParts<'a> {
     pub(crate) id: Oid,
     pub(crate) name: &'a [u8],
     pub(crate) symref: Option<&'a [u8]>,
@@ -75,7 +75,7 @@ pub(crate) fn line_of<A: Allocator + Copy>(
     alloc: A,
     format: Format,
     text: &[u8],
-) -> Result<LentLine<'_>, Why>
+) -> Result<LineParts<'_>, Why>
     ensures { line_read result ≡ line_of format text.now }
 {
     let (first, rest) = cut(text);
@@ -93,7 +93,7 @@ fn line_with_name<A: Allocator + Copy>(
     format: Format,
     id: Oid,
     rest: &[u8],
-) -> Result<LentLine<'_>, Why>
+) -> Result<LineParts<'_>, Why>
     ensures { line_read result ≡ line_with_name format id (parts_of rest.now) }
 {
     let (name, attributes) = cut(rest);
@@ -112,11 +112,11 @@ fn with_attributes<'a, A: Allocator + Copy>(
     symref: Option<&'a [u8]>,
     peeled: Option<Oid>,
     rest: Option<&'a [u8]>,
-) -> Result<LentLine<'a>, Why>
+) -> Result<LineParts<'a>, Why>
     ensures { line_read result ≡ with_attributes format (Ok (line_parts id name.now symref.entry peeled)) (parts_left rest.entry) }
 {
     let Some(text) = rest else {
-        return Ok(LentLine {
+        return Ok(LineParts {
             id,
             name,
             symref,

@@ -1,19 +1,19 @@
 //! Reading a reply.
 
-ghost use Rattle.std.specs.Prelude.{◌≡◌, ◌<◌, true, false, [], IfOk, IfErr, OnOk, Ok};
+ghost use Rattle.std.specs.Prelude.{◌≡◌, ◌<◌, true, false, [], IfOk, Ok};
 ghost use Rattle.gpkt.specs.Packets.{Data, Flush, ResponseEnd, packet_of, text};
 ghost use Rattle.gpkt.specs.Change.{change_of};
-ghost use Rattle.ggrammar.specs.MessageReading.{IsReadFailure, IsFailedBy};
-ghost use Rattle.glsreply.specs.LsReplies.{judge, judge_at, judge_text, judge_line, max_lines, within_limit, brings};
+ghost use Rattle.ggrammar.specs.Kinds.{ReadsOrRefuses};
+ghost use Rattle.ggrammar.specs.MessageReading.{LeavesReader, TakesAs};
+ghost use Rattle.glsreply.specs.LsReplies.{Says, judge, judge_at, judge_text, judge_line, max_lines, within_limit, brings};
 ghost use Rattle.glsreply.specs.RefTexts.{line_of};
-ghost use Rattle.glsreply.specs.LineViews.{line_view};
+ghost use Rattle.glsreply.specs.LineViews.{parts_view};
 ghost use Rattle.ggrammar.specs.Grammar.{Open};
-ghost use Rattle.glsreply.specs.ReplyReading.{HasReadReply};
-ghost use Rattle.glsreply.specs.ReplyState.{Holds, KeepsKind, TakesAs, state_in, state_of, with_packet, with_text, with_line, with_unborn, with_flush};
+ghost use Rattle.glsreply.specs.ReplyState.{Holds, KeepsKind, state_in, state_of, with_packet, with_text, with_line, with_unborn, with_flush};
 ghost use Rattle.glsreply.specs.WellFormed.{IsLsReplyIn, IsReplyValue};
 ghost use Rattle.gname.specs.declared.formats.Format.TheVariants as format;
 
-use crate::line::{FirstText, LentLine, first_form, line_of};
+use crate::line::{FirstText, LineParts, first_form, line_of};
 use crate::reply::{LsReply, MAX_LINES, RefLine};
 use ggrammar::laws::grammars_are_exact;
 use ggrammar::{Ends, Message, MessageFault, PeerText, Step, Why, peer_error, read_message};
@@ -23,19 +23,15 @@ use gpkt::{Line, LineReader, Source, text_of};
 use std::alloc::{AllocError, Allocator};
 
 /// Reads the reply to ls-refs of a repository whose ids are SHA-1, as [`read_ls_reply_in`] does.
-pub fn read_ls_reply<S: Source, A: Allocator + Copy>(
+pub fn read_ls_reply<S: Source, A: Allocator + Copy, B: Allocator + Copy>(
     ends: Ends,
     reader: &mut LineReader<S, A>,
-    alloc: A,
-) -> Result<LsReply<A>, MessageFault>
-    ensures read { HasReadReply format.Sha1 ends (change_of S.remaining reader.old.source reader.new.source) result }
+    alloc: B,
+) -> Result<LsReply<B>, MessageFault>
+    ensures read { ReadsOrRefuses (judge format.Sha1 ends) brings (Says format.Sha1 ends) (change_of S.remaining reader.old.source reader.new.source) result }
     ensures formed { IfOk result (λ reply. IsLsReplyIn format.Sha1 reply) }
     ensures loans { S.loans reader.new.source ≡ S.loans reader.old.source }
-    ensures device { IfErr result (λ fault. IsReadFailure reader.old.failed (S.is_down reader.new.source) fault.why) }
-    ensures failed { IfErr result (λ fault. IsFailedBy fault.why reader.new.failed) }
-    ensures goes_on { OnOk result (reader.new.failed ≡ false) }
-    ensures well { OnOk result ((reader.old.failed ≡ false) × (S.is_down reader.new.source ≡ false)) }
-    ensures at_once { reader.old.failed ≡ true → IfErr result (λ fault. fault.frame ≡ 0) }
+    ensures reader { LeavesReader S.is_down reader.old reader.new result }
 {
     read_ls_reply_in(Format::Sha1, ends, reader, alloc)
 }
@@ -48,20 +44,16 @@ pub fn read_ls_reply<S: Source, A: Allocator + Copy>(
 /// ([`Why::RemoteErr`]), then what the grammar refuses, its text read from left to right. One line more than
 /// 65,537 is refused with [`Why::Limit`] where its form is right. [`Why::Memory`] comes only at a line that is
 /// accepted. After a refusal the line reader has failed exactly where the line itself was refused.
-pub fn read_ls_reply_in<S: Source, A: Allocator + Copy>(
+pub fn read_ls_reply_in<S: Source, A: Allocator + Copy, B: Allocator + Copy>(
     format: Format,
     ends: Ends,
     reader: &mut LineReader<S, A>,
-    alloc: A,
-) -> Result<LsReply<A>, MessageFault>
-    ensures read { HasReadReply format ends (change_of S.remaining reader.old.source reader.new.source) result }
+    alloc: B,
+) -> Result<LsReply<B>, MessageFault>
+    ensures read { ReadsOrRefuses (judge format ends) brings (Says format ends) (change_of S.remaining reader.old.source reader.new.source) result }
     ensures formed { IfOk result (λ reply. IsLsReplyIn format reply) }
     ensures loans { S.loans reader.new.source ≡ S.loans reader.old.source }
-    ensures device { IfErr result (λ fault. IsReadFailure reader.old.failed (S.is_down reader.new.source) fault.why) }
-    ensures failed { IfErr result (λ fault. IsFailedBy fault.why reader.new.failed) }
-    ensures goes_on { OnOk result (reader.new.failed ≡ false) }
-    ensures well { OnOk result ((reader.old.failed ≡ false) × (S.is_down reader.new.source ≡ false)) }
-    ensures at_once { reader.old.failed ≡ true → IfErr result (λ fault. fault.frame ≡ 0) }
+    ensures reader { LeavesReader S.is_down reader.old reader.new result }
 {
     let mut reply = LsReplyReader::new(alloc, format, ends);
     match read_message(reader, &mut reply) {
@@ -214,10 +206,10 @@ impl<A: Allocator + Copy> LsReplyReader<A> {
         }
     }
 
-    fn take_line(&mut self, line: &LentLine<'_>) -> Result<Step, Why>
+    fn take_line(&mut self, line: &LineParts<'_>) -> Result<Step, Why>
         ensures kept { KeepsKind self.old self.new }
         ensures takes { TakesAs (within_limit self.old.count Open) true
-            (state_in self.new ≡ with_line (state_in self.old) (Ok (line_view line.now))) result }
+            (state_in self.new ≡ with_line (state_in self.old) (Ok (parts_view line.now))) result }
     {
         if self.count >= MAX_LINES {
             return Err(Why::Limit);
@@ -245,8 +237,8 @@ impl<A: Allocator + Copy> LsReplyReader<A> {
 }
 
 // The line as a value.
-fn keep_line<A: Allocator + Copy>(alloc: A, line: &LentLine<'_>) -> Result<RefLine<A>, AllocError>
-    ensures { IfOk result (λ kept. kept ≡ line_view line.now) }
+fn keep_line<A: Allocator + Copy>(alloc: A, line: &LineParts<'_>) -> Result<RefLine<A>, AllocError>
+    ensures { IfOk result (λ kept. kept ≡ parts_view line.now) }
 {
     let name = keep_name(alloc, line.name)?;
     let symref = match line.symref {

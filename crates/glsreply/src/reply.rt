@@ -1,13 +1,15 @@
 //! The reply as a value.
 
-ghost use Rattle.std.specs.Prelude.{◌≡◌, ◌≤◌, ◌↔◌, true, [], length, IsTrue, None};
+ghost use Rattle.std.specs.Prelude.{◌≡◌, true, [], length, IfErr, None};
 ghost use Rattle.std.specs.List.{slice_get};
 ghost use Rattle.std.specs.Option.{option_copied};
-ghost use Rattle.glsreply.specs.LsReplies.{max_lines};
+ghost use Rattle.ggrammar.specs.declared.fault.Why.TheVariants.{Limit};
+ghost use Rattle.glsreply.specs.LentViews.{lent_view};
 ghost use Rattle.glsreply.specs.RefTexts.{is_name};
-ghost use Rattle.glsreply.specs.WellFormed.{Adds, IsLine, IsReplyValue, Pushes, SetsUnborn, has_one_format, line_count};
+ghost use Rattle.glsreply.specs.WellFormed.{Adds, IsLine, IsReplyValue, Pushes, SetsUnborn, has_one_format, has_room, last_frame, line_count};
 
-use ggrammar::{MessageFault, Why};
+use crate::lent::LentLine;
+use ggrammar::{Ends, MessageFault, Why};
 use gname::laws::ids_have_one_format;
 use gname::{Oid, RefName};
 use std::alloc::Allocator;
@@ -35,9 +37,23 @@ impl<A: Allocator + Copy> Model for RefLine<A> {
     ghost view = { λ line. record { id = line.id; name = line.name; symref = line.symref; peeled = line.peeled } };
 }
 
+impl<A: Allocator + Copy> RefLine<A> {
+    /// The line, with its names lent.
+    pub fn lend(&self) -> LentLine<'_, A>
+        ensures { lent_view result ≡ self.now }
+    {
+        LentLine {
+            id: self.id,
+            name: &self.name,
+            symref: self.symref.as_ref(),
+            peeled: self.peeled,
+        }
+    }
+}
+
 /// The reply to ls-refs: the ref that an unborn `HEAD` points at, and the refs, in order. All ids have one
 /// format.
-#[derive(Drop)]
+#[derive(Debug, Drop)]
 pub struct LsReply<A: Allocator + Copy> {
     unborn: Option<RefName<A>>,
     lines: Vec<RefLine<A>, A>,
@@ -74,13 +90,14 @@ impl<A: Allocator + Copy> LsReply<A> {
     }
 
     /// Says that `HEAD` points at a ref that is not there. It fails with `Limit` where the reply has no room
-    /// for a line more, and nothing changes then.
+    /// for a line more, and nothing changes then. It takes no memory.
     pub fn set_unborn(&mut self, target: RefName<A>) -> Result<(), MessageFault>
-        ensures { SetsUnborn self.old target self.new result }
+        ensures sets { SetsUnborn self.old target self.new result }
+        ensures full { IfErr result (λ fault. fault.why ≡ Limit) }
     {
         keeps_rules(&target);
-        if self.unborn.is_none() && self.lines.len() >= MAX_LINES {
-            return Err(refused(Why::Limit));
+        if self.unborn.is_none() && !self.has_room() {
+            return Err(MessageFault::of_value(Why::Limit));
         }
         self.unborn = Some(target);
         Ok(())
@@ -95,22 +112,30 @@ impl<A: Allocator + Copy> LsReply<A> {
         ids_have_one_format();
         keeps_forms(&line);
         if !goes_with(self.lines(), &line) {
-            return Err(refused(Why::BadText));
+            return Err(MessageFault::of_value(Why::BadText));
         }
-        if self.is_full() {
-            return Err(refused(Why::Limit));
+        if !self.has_room() {
+            return Err(MessageFault::of_value(Why::Limit));
         }
         add_line(&mut self.lines, line)
     }
 
-    // Whether there is no room for a line more.
-    fn is_full(&self) -> bool
-        ensures full { IsTrue result ↔ (max_lines ≤ line_count self.now) }
+    // Whether there is room for a line more.
+    fn has_room(&self) -> bool
+        ensures room { result ≡ has_room self.now }
+        ensures formed { IsReplyValue self.now }
+    {
+        self.line_count() < MAX_LINES
+    }
+
+    // The number of lines, that of an unborn HEAD too.
+    fn line_count(&self) -> usize
+        ensures count { result ≡ line_count self.now }
         ensures formed { IsReplyValue self.now }
     {
         match &self.unborn {
-            Some(_target) => self.lines.len() >= MAX_LINES - 1,
-            None => self.lines.len() >= MAX_LINES,
+            Some(_target) => self.lines.len() + 1,
+            None => self.lines.len(),
         }
     }
 
@@ -120,6 +145,18 @@ impl<A: Allocator + Copy> LsReply<A> {
         ensures formed { IsReplyValue self.now }
     {
         self.lines.len()
+    }
+
+    /// The number of the reply's last packet, from 0, where replies end so: of the flush, or of the response-end
+    /// after it.
+    pub fn last_frame(&self, ends: Ends) -> u64
+        ensures { result ≡ last_frame ends self.now }
+    {
+        let flush = self.line_count() as u64;
+        match ends {
+            Ends::Plain => flush,
+            Ends::Response => flush + 1,
+        }
     }
 
     /// The ref at this place.
@@ -169,7 +206,7 @@ fn add_line<A: Allocator + Copy>(
 {
     match lines.push(line) {
         Ok(()) => Ok(()),
-        Err(_) => Err(refused(Why::Memory)),
+        Err(_) => Err(MessageFault::of_value(Why::Memory)),
     }
 }
 
@@ -192,11 +229,4 @@ fn keeps_rules<A: Allocator + Copy>(name: &RefName<A>)
     ensures { is_name name.now ≡ true }
 {
     let _bytes = name.as_bytes();
-}
-
-// A value that is refused, before any packet.
-fn refused(why: Why) -> MessageFault
-    ensures { result ≡ record { frame = 0; why = why } }
-{
-    MessageFault { frame: 0, why }
 }

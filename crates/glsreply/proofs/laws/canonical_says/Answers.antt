@@ -6,8 +6,11 @@ returns c =
     canonical_says_reply (record {
       grammars = c.grammars_are_exact.ensures;
       reads = c.texts_are_read.ensures.line;
-      names = c.names_are_clean.ensures;
       texts = c.ids_have_texts.ensures;
-      digits = c.id_texts_are_digits.ensures;
-      formats = c.ids_have_one_format.ensures;
+      words = record {
+        names = c.names_are_clean.ensures;
+        digits = c.id_texts_are_digits.ensures;
+        formats = c.ids_have_one_format.ensures;
+        readings = c.texts_have_one_reading.ensures;
+      };
     })

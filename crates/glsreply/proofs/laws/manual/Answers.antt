@@ -1,8 +1,14 @@
-use Rattle.glsreply.proofs.ManualLemmas.{manual_says}
-use Rattle.glsreply.proofs.TableLemmas.{says_manual}
+use Rattle.glsreply.proofs.RefTextLemmas.{TextLaws}
+use Rattle.glsreply.proofs.WordLemmas.{say_words, words_say}
 use Rattle.glsreply.proofs.laws.manual.Goals as goal
 
 pub returns : goal.returns
 returns c =
-    let laws = c.grammars_are_exact.ensures in
-    λ format ends packets reply. (says_manual laws format ends packets reply, manual_says laws format ends packets reply)
+    let grammars = c.grammars_are_exact.ensures in
+    let laws : TextLaws = record {
+      names = c.names_are_clean.ensures;
+      digits = c.id_texts_are_digits.ensures;
+      formats = c.ids_have_one_format.ensures;
+      readings = c.texts_have_one_reading.ensures;
+    } in
+    λ format ends packets reply. (say_words laws format grammars ends packets reply, words_say laws format grammars ends packets reply)

@@ -1,6 +1,7 @@
 use Rattle.std.proofs.Common.{sym, subst}
 use Rattle.gpkt.specs.Change.{change_of}
-use Rattle.glsreply.specs.ReplyReading.{ReadsReply}
+use Rattle.ggrammar.specs.Kinds.{ReadsMessage}
+use Rattle.glsreply.specs.LsReplies.{Says, judge}
 use Rattle.glsreply.specs.WellFormed.{IsLsReplyIn}
 use Rattle.glsreply.proofs.ReaderLemmas.{read_is, formed_is}
 use Rattle.glsreply.proofs.reader.read_ls_reply_in.Goals as goal
@@ -14,7 +15,7 @@ finish-requires g c = (
 
 pub returns-in-Ok-clause-read : goal.returns-in-Ok-clause-read
 returns-in-Ok-clause-read g c =
-    subst (ReadsReply c.args.format c.args.ends (change_of g.S.Source.remaining c.args.reader.now.source c.read_message.new.reader.source)) (sym c.finish.ensures)
+    subst (ReadsMessage (judge c.args.format c.args.ends) (Says c.args.format c.args.ends) (change_of g.S.Source.remaining c.args.reader.now.source c.read_message.new.reader.source)) (sym c.finish.ensures)
     (read_is c.args.format c.args.ends c.new-reply.result c.read_message.new.message (change_of g.S.Source.remaining c.args.reader.now.source c.read_message.new.reader.source)
     c.new-reply.ensures.format c.new-reply.ensures.ends c.in-Ok.ensures.read)
 

@@ -5,19 +5,19 @@ use Rattle.glsreply.specs.LsReplies.{canonical_reply, unborn_packets}
 use Rattle.glsreply.proofs.WritingLemmas.{coming, reply_parts}
 use Rattle.glsreply.proofs.writer.write_ls_reply.Goals as goal
 
-pub returns-in_err-write_unborn-clause-written : goal.returns-in_err-write_unborn-clause-written
-returns-in_err-write_unborn-clause-written g c =
+pub returns-in_err-write_unborn : goal.returns-in_err-write_unborn
+returns-in_err-write_unborn g c =
     let law = c.writes_lines.ensures in
     let all = canonical_reply c.args.ends c.args.reply.now in
     let parts = reply_parts c.args.ends c.args.reply.now (option_copied c.unborn.result) c.unborn.ensures in
     (law.fails _ _ _ all all (unborn_packets (option_copied c.unborn.result)) (coming c.args.ends c.args.reply.now.lines) _ _ (law.starts _ all) parts
-    c.in_err-write_unborn.ensures c.from_residual.ensures.1).written
+    c.in_err-write_unborn.ensures c.from_residual.ensures.1)
 
-pub returns-clause-written : goal.returns-clause-written
-returns-clause-written g c =
+pub returns : goal.returns
+returns g c =
     let law = c.writes_lines.ensures in
     let all = canonical_reply c.args.ends c.args.reply.now in
     let parts = reply_parts c.args.ends c.args.reply.now (option_copied c.unborn.result) c.unborn.ensures in
     let rest = subst (λ lines. WritesLines g.W.Sink.contents g.W.Sink.passed_on g.W.Sink.is_down g.W.Sink.loans c.write_unborn.new.writer c.write_refs.new.writer c.write_refs.result (coming c.args.ends lines)) c.lines.ensures c.write_refs.ensures in
     (law.ends _ _ _ all (coming c.args.ends c.args.reply.now.lines) _
-    (law.after_part _ _ _ all all (unborn_packets (option_copied c.unborn.result)) (coming c.args.ends c.args.reply.now.lines) (law.starts _ all) parts c.in_ok-write_unborn.ensures) rest).written
+    (law.after_part _ _ _ all all (unborn_packets (option_copied c.unborn.result)) (coming c.args.ends c.args.reply.now.lines) (law.starts _ all) parts c.in_ok-write_unborn.ensures) rest)

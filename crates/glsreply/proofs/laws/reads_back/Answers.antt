@@ -1,0 +1,5 @@
+use Rattle.glsreply.proofs.laws.reads_back.Goals as goal
+
+pub returns : goal.returns
+returns c = λ format ends.
+    c.kinds_are_read.ensures.back (format, ends) (c.says_whole.ensures format ends) (c.one_meaning.ensures format ends) (c.canonical_says.ensures format ends)

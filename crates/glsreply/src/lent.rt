@@ -1,0 +1,135 @@
+//! The line of a ref whose names are lent, and its text.
+
+ghost use Rattle.std.specs.Prelude.{◌≡◌, ◌+◌, ◌≤◌, ◌++◌, [], length};
+ghost use Rattle.std.specs.Option.{option_copied};
+ghost use Rattle.gname.specs.Ids.{id_text};
+ghost use Rattle.gname.specs.Names.{max_name};
+ghost use Rattle.glsreply.specs.LentViews.{lent_view};
+ghost use Rattle.glsreply.specs.RefTexts.{peeled_text, ref_text, symref_text};
+ghost use Rattle.glsreply.specs.TextLengths.{max_id_text, max_peeled_text, max_ref_text, max_symref_text};
+
+use arrayvec::ArrayVec;
+use gname::{MAX_ID_TEXT, Oid, RefName};
+use std::alloc::Allocator;
+use std::marker::Model;
+
+// The most bytes of a line's text: two ids, two names, and the words between them.
+const MAX_REF_TEXT: usize = 2_152;
+
+/// The line of a ref (gitprotocol-v2(5), "ls-refs"), with names that another value keeps.
+#[derive(Clone, Copy, Debug)]
+pub struct LentLine<'a, A: Allocator + Copy> {
+    pub id: Oid,
+    pub name: &'a RefName<A>,
+    /// The name that a symbolic ref points at.
+    pub symref: Option<&'a RefName<A>>,
+    /// The object to which a tag leads.
+    pub peeled: Option<Oid>,
+}
+
+/// The text of the line of a ref. There is room in it for each such text, so it takes no memory; and it can be
+/// set again and again.
+#[derive(Drop)]
+pub struct RefText {
+    text: ArrayVec<u8, MAX_REF_TEXT>,
+}
+
+impl Model for RefText {
+    ghost use Rattle.std.specs.Prelude.{List, ℕ};
+
+    ghost Value = { List ℕ };
+
+    ghost view = { λ t. t.text.items };
+}
+
+impl RefText {
+    /// No text yet.
+    pub fn new() -> RefText
+        ensures { result ≡ [] }
+    {
+        RefText {
+            text: ArrayVec::new(),
+        }
+    }
+
+    /// Puts the text of a line in the place of what was there: the id, a space, the name, and each attribute
+    /// after a space, first ` symref-target:` and then ` peeled:`. There is no line feed in it. Ids are in
+    /// lower case.
+    pub fn set<A: Allocator + Copy>(&mut self, line: &LentLine<'_, A>)
+        ensures text { self.new ≡ ref_text (lent_view line.now) }
+        ensures long { length self.new ≤ max_ref_text }
+    {
+        compose(line, &mut self.text);
+    }
+
+    /// The bytes of the text.
+    pub fn as_bytes(&self) -> &[u8]
+        ensures { result.now ≡ self.now }
+    {
+        self.text.as_slice()
+    }
+}
+
+#[tactic(auto, unfolding(crate::specs::RefTexts::ref_text))]
+fn compose<A: Allocator + Copy>(line: &LentLine<'_, A>, text: &mut ArrayVec<u8, MAX_REF_TEXT>)
+    ensures text { text.new.items ≡ ref_text (lent_view line.now) }
+    ensures long { length text.new.items ≤ max_ref_text }
+{
+    text.clear();
+    add_id(&line.id, text);
+    add(b" ", text);
+    add_name(line.name, text);
+    add_symref(line.symref, text);
+    add_peeled(line.peeled.as_ref(), text);
+}
+
+fn add_symref<A: Allocator + Copy>(
+    target: Option<&RefName<A>>,
+    text: &mut ArrayVec<u8, MAX_REF_TEXT>,
+)
+    requires { length text.old.items + max_symref_text ≤ max_ref_text }
+    ensures text { text.new.items ≡ text.old.items ++ symref_text (option_copied target.entry) }
+    ensures long { length text.new.items ≤ length text.old.items + max_symref_text }
+{
+    if let Some(target) = target {
+        add(b" symref-target:", text);
+        add_name(target, text);
+    }
+}
+
+fn add_peeled(id: Option<&Oid>, text: &mut ArrayVec<u8, MAX_REF_TEXT>)
+    requires { length text.old.items + max_peeled_text ≤ max_ref_text }
+    ensures text { text.new.items ≡ text.old.items ++ peeled_text (option_copied id.entry) }
+    ensures long { length text.new.items ≤ length text.old.items + max_peeled_text }
+{
+    if let Some(id) = id {
+        add(b" peeled:", text);
+        add_id(id, text);
+    }
+}
+
+fn add_name<A: Allocator + Copy>(name: &RefName<A>, text: &mut ArrayVec<u8, MAX_REF_TEXT>)
+    requires { length text.old.items + max_name ≤ max_ref_text }
+    ensures text { text.new.items ≡ text.old.items ++ name.now }
+    ensures long { length text.new.items ≤ length text.old.items + max_name }
+{
+    add(name.as_bytes(), text);
+}
+
+fn add_id(id: &Oid, text: &mut ArrayVec<u8, MAX_REF_TEXT>)
+    requires { length text.old.items + max_id_text ≤ max_ref_text }
+    ensures text { text.new.items ≡ text.old.items ++ id_text id.now }
+    ensures long { length text.new.items ≤ length text.old.items + max_id_text }
+{
+    let mut digits = [0; MAX_ID_TEXT];
+    let count = id.to_hex(&mut digits);
+    add(&digits[..count], text);
+}
+
+fn add(piece: &[u8], text: &mut ArrayVec<u8, MAX_REF_TEXT>)
+    requires { length text.old.items + length piece.now ≤ max_ref_text }
+    ensures text { text.new.items ≡ text.old.items ++ piece.now }
+    ensures long { length text.new.items ≡ length text.old.items + length piece.now }
+{
+    text.try_extend_from_slice(piece).unwrap()
+}
