@@ -10,7 +10,7 @@ use Rattle.ggrammar.specs.Endings.{ends_with}
 use Rattle.ggrammar.specs.Ids.{id_of_text}
 use Rattle.ggrammar.specs.declared.fault.Why.TheVariants.{WrongSection, UnexpectedFrame}
 use Rattle.gfetchreply.specs.FetchManual.{IsAck}
-use Rattle.gfetchreply.specs.FetchReplies.{Reading, State, Place, Start, Acking, Naked, AfterReady, BeforePack}
+use Rattle.gfetchreply.specs.FetchReplies.{Reading, State, Place, Start, Acking, AfterNak, AfterReady, BeforePack}
 use Rattle.gfetchreply.specs.FetchReplies.{ReplyForm, Acknowledgments, Nak, Readiness, Packfile, Ack, OtherForm, reply_form, ack_id}
 use Rattle.gfetchreply.specs.FetchReplies.{max_acks, judge_at, judge_acking, judge_start, next_place}
 use Rattle.gfetchreply.proofs.ReplyForms.{heading_line, nak_line, readiness_line, heading_form, nak_form, readiness_form, form_reports_none}
@@ -30,27 +30,27 @@ pub record IsAckRest (reading : Reading) (state : State) (packets : List Packet)
   pub tail : List Packet
   pub parts : packets ≡ map Data acks ++ tail
   pub are : All (IsAck reading.format) (map text acks)
-  pub few : state.acks + length acks ≤ max_acks
-  pub last : AckTail reading (state.acks + length acks) tail
+  pub few : state.ack_count + length acks ≤ max_acks
+  pub last : AckTail reading (state.ack_count + length acks) tail
 
 -- among the acknowledgments
 pub record IsAcking (state : State) : Type 0 where
   pub place : state.place ≡ Acking
-  pub packets : state.packets ≡ 0
-  pub bytes : state.bytes ≡ 0
+  pub band_count : state.band_count ≡ 0
+  pub byte_count : state.byte_count ≡ 0
 
 -- ---- from the judge
 
-naked_rest : (reading : Reading) (state : State) (packets : List Packet) → state.place ≡ Naked → IsWholeAt reading state packets → packets ≡ Flush ∷ ends_with reading.ends
+naked_rest : (reading : Reading) (state : State) (packets : List Packet) → state.place ≡ AfterNak → IsWholeAt reading state packets → packets ≡ Flush ∷ ends_with reading.ends
 naked_rest reading state [] here h = absurd h
 naked_rest reading state (Data payload ∷ rest) here h =
-    let goes = goes_on _ (data_not_whole reading state Naked payload here tt) h in
-    absurd (late_not_open _ (data_open reading state Naked payload here tt goes.0))
+    let goes = goes_on _ (data_not_whole reading state AfterNak payload here tt) h in
+    absurd (late_not_open _ (data_open reading state AfterNak payload here tt goes.0))
 naked_rest reading state (Flush ∷ rest) here h =
     ap (λ (xs : List Packet). Flush ∷ xs)
-    (flush_rest reading state rest (at_place reading state Naked Flush here) (ap (λ (p : Place). next_place p Flush) here) h)
-naked_rest reading state (Delim ∷ rest) here h = refused _ WrongSection (at_place reading state Naked Delim here) h
-naked_rest reading state (ResponseEnd ∷ rest) here h = refused _ UnexpectedFrame (at_place reading state Naked ResponseEnd here) h
+    (flush_rest reading state rest (at_place reading state AfterNak Flush here) (ap (λ (p : Place). next_place p Flush) here) h)
+naked_rest reading state (Delim ∷ rest) here h = refused _ WrongSection (at_place reading state AfterNak Delim here) h
+naked_rest reading state (ResponseEnd ∷ rest) here h = refused _ UnexpectedFrame (at_place reading state AfterNak ResponseEnd here) h
 
 -- after `ready`: the delimiter, and the pack's section
 record IsReadyRest (reading : Reading) (packets : List Packet) : Type 0 where
@@ -58,7 +58,7 @@ record IsReadyRest (reading : Reading) (packets : List Packet) : Type 0 where
   parts : packets ≡ Delim ∷ rest
   packs : IsPackPart reading rest
 
-ready_rest : (reading : Reading) (state : State) (packets : List Packet) → state.place ≡ AfterReady → state.packets ≡ 0 → state.bytes ≡ 0
+ready_rest : (reading : Reading) (state : State) (packets : List Packet) → state.place ≡ AfterReady → state.band_count ≡ 0 → state.byte_count ≡ 0
     → IsWholeAt reading state packets → IsReadyRest reading packets
 ready_rest reading state [] here none empty h = absurd h
 ready_rest reading state (Data payload ∷ rest) here none empty h =
@@ -69,14 +69,14 @@ ready_rest reading state (Delim ∷ rest) here none empty (inl h) = absurd (let 
 ready_rest reading state (Delim ∷ rest) here none empty (inr h) = record {
   rest = rest;
   parts = refl;
-  packs = pack_part reading (moved state BeforePack) rest (record { place = refl; packets = none; bytes = empty })
+  packs = pack_part reading (moved state BeforePack) rest (record { place = refl; band_count = none; byte_count = empty })
       (at_state reading (next_state reading.format state Delim) (moved state BeforePack) rest (next-delim reading.format state here) h.1);
 }
 ready_rest reading state (ResponseEnd ∷ rest) here none empty h = refused _ UnexpectedFrame (at_place reading state AfterReady ResponseEnd here) h
 
 -- one id more is acknowledged
 abbrev acked : State → State
-acked state = record { place = Acking; acks = state.acks + 1; packets = state.packets; bytes = state.bytes }
+acked state = record { place = Acking; ack_count = state.ack_count + 1; band_count = state.band_count; byte_count = state.byte_count }
 
 tail_at : (reading : Reading) (a b : ℕ) (tail : List Packet) → a ≡ b → AckTail reading a tail → AckTail reading b tail
 tail_at reading a b tail e h = subst (λ (n : ℕ). AckTail reading n tail) e h
@@ -95,16 +95,16 @@ more_acks reading state ack rest is more =
     }
 
 ack_by : (reading : Reading) (state : State) (payload : List ℕ) (rest : List Packet) (form : ReplyForm) → reply_form (text payload) ≡ form → IsAcking state
-    → state.acks ≤ max_acks → AckingOn reading.format state form
-    → ((new : State) → IsAcking new → new.acks ≤ max_acks → IsWholeAt reading new rest → IsAckRest reading new rest)
+    → state.ack_count ≤ max_acks → AckingOn reading.format state form
+    → ((new : State) → IsAcking new → new.ack_count ≤ max_acks → IsWholeAt reading new rest → IsAckRest reading new rest)
     → IsWholeAt reading (next_state reading.format state (Data payload)) rest → IsAckRest reading state (Data payload ∷ rest)
 ack_by reading state payload rest (Ack digits) is here few (an_ack d id spells less) next h =
     more_acks reading state payload rest (ap is_some (ap (ack_id reading.format) is ∙ spells))
-    (next (acked state) (record { place = refl; packets = here.packets; bytes = here.bytes }) (omega arith)
+    (next (acked state) (record { place = refl; band_count = here.band_count; byte_count = here.byte_count }) (omega arith)
     (at_state reading (next_state reading.format state (Data payload)) (acked state) rest (state-ack reading.format state payload digits id here.place is spells) h))
 ack_by reading state payload rest Nak is here few (a_nak none) next h =
-    let ends = naked_rest reading (moved state Naked) rest refl
-    (at_state reading (next_state reading.format state (Data payload)) (moved state Naked) rest (state-acking reading.format state payload Nak here.place is refl) h) in
+    let ends = naked_rest reading (moved state AfterNak) rest refl
+    (at_state reading (next_state reading.format state (Data payload)) (moved state AfterNak) rest (state-acking reading.format state payload Nak here.place is refl) h) in
     record {
       acks = [];
       tail = Data payload ∷ rest;
@@ -114,7 +114,7 @@ ack_by reading state payload rest Nak is here few (a_nak none) next h =
       last = naked payload (omega arith) (nak_line (text payload) is) (ap (λ (xs : List Packet). Data payload ∷ xs) ends);
     }
 ack_by reading state payload rest Readiness is here few a_readiness next h =
-    let ready = ready_rest reading (moved state AfterReady) rest refl here.packets here.bytes
+    let ready = ready_rest reading (moved state AfterReady) rest refl here.band_count here.byte_count
     (at_state reading (next_state reading.format state (Data payload)) (moved state AfterReady) rest (state-acking reading.format state payload Readiness here.place is refl) h) in
     record {
       acks = [];
@@ -128,7 +128,7 @@ ack_by reading state payload rest Acknowledgments is here few on next h = elim o
 ack_by reading state payload rest Packfile is here few on next h = elim on [ ]
 ack_by reading state payload rest OtherForm is here few on next h = elim on [ ]
 
-pub ack_rest : (reading : Reading) (packets : List Packet) (state : State) → IsAcking state → state.acks ≤ max_acks → IsWholeAt reading state packets → IsAckRest reading state packets
+pub ack_rest : (reading : Reading) (packets : List Packet) (state : State) → IsAcking state → state.ack_count ≤ max_acks → IsWholeAt reading state packets → IsAckRest reading state packets
 ack_rest reading [] state here few h = absurd h
 ack_rest reading (Data payload ∷ rest) state here few h =
     let goes = goes_on _ (data_not_whole reading state Acking payload here.place tt) h in
@@ -185,14 +185,14 @@ open_ack reading state payload OtherForm here is on = elim on [ ]
 -- after so many acknowledged ids more
 pub record IsAfterAcks (old : State) (count : ℕ) (new : State) : Type 0 where
   pub place : new.place ≡ Acking
-  pub acks : new.acks ≡ old.acks + count
-  pub packets : new.packets ≡ old.packets
-  pub bytes : new.bytes ≡ old.bytes
+  pub ack_count : new.ack_count ≡ old.ack_count + count
+  pub band_count : new.band_count ≡ old.band_count
+  pub byte_count : new.byte_count ≡ old.byte_count
 
 pub rest_acks : (reading : Reading) (state : State) (acks : List (List ℕ)) (tail : List Packet) → state.place ≡ Acking → All (IsAck reading.format) (map text acks)
-    → state.acks + length acks ≤ max_acks → ((new : State) → IsAfterAcks state (length acks) new → IsWholeAt reading new tail)
+    → state.ack_count + length acks ≤ max_acks → ((new : State) → IsAfterAcks state (length acks) new → IsWholeAt reading new tail)
     → IsWholeAt reading state (map Data acks ++ tail)
-rest_acks reading state [] tail here are few last = last state (record { place = here; acks = omega arith; packets = refl; bytes = refl })
+rest_acks reading state [] tail here are few last = last state (record { place = here; ack_count = omega arith; band_count = refl; byte_count = refl })
 rest_acks reading state (ack ∷ acks) tail here are few last =
     let form = ack_is reading.format _ (All-head (IsAck reading.format) (text ack) (map text acks) are) in
     inr (
@@ -200,22 +200,22 @@ rest_acks reading state (ack ∷ acks) tail here are few last =
       at_state reading (acked state) (next_state reading.format state (Data ack)) (map Data acks ++ tail)
           (sym (state-ack reading.format state ack form.digits form.id here form.is form.spells))
           (rest_acks reading (acked state) acks tail refl (All-tail (IsAck reading.format) (text ack) (map text acks) are) (omega arith)
-          (λ new after. last new (record { place = after.place; acks = (let count = after.acks in omega arith); packets = after.packets; bytes = after.bytes }))),
+          (λ new after. last new (record { place = after.place; ack_count = (let count = after.ack_count in omega arith); band_count = after.band_count; byte_count = after.byte_count }))),
     )
 
-pub rest_nak : (reading : Reading) (state : State) (nak : List ℕ) → state.place ≡ Acking → state.acks ≡ 0 → text nak ≡ codes "NAK"
+pub rest_nak : (reading : Reading) (state : State) (nak : List ℕ) → state.place ≡ Acking → state.ack_count ≡ 0 → text nak ≡ codes "NAK"
     → IsWholeAt reading state (Data nak ∷ Flush ∷ ends_with reading.ends)
 rest_nak reading state nak here none is =
     let form = nak_form (text nak) is in
     inr (
       open_ack reading state nak Nak here form (a_nak none),
-      at_state reading (moved state Naked) (next_state reading.format state (Data nak)) (Flush ∷ ends_with reading.ends)
+      at_state reading (moved state AfterNak) (next_state reading.format state (Data nak)) (Flush ∷ ends_with reading.ends)
           (sym (state-acking reading.format state nak Nak here form refl))
-          (rest_flush reading (moved state Naked) (at_place reading (moved state Naked) Naked Flush refl) refl),
+          (rest_flush reading (moved state AfterNak) (at_place reading (moved state AfterNak) AfterNak Flush refl) refl),
     )
 
 pub rest_ready : (reading : Reading) (state : State) (readiness : List ℕ) (rest : List Packet) → state.place ≡ Acking → text readiness ≡ codes "ready"
-    → ((new : State) → new.place ≡ BeforePack → new.packets ≡ state.packets → new.bytes ≡ state.bytes → IsWholeAt reading new rest)
+    → ((new : State) → new.place ≡ BeforePack → new.band_count ≡ state.band_count → new.byte_count ≡ state.byte_count → IsWholeAt reading new rest)
     → IsWholeAt reading state (Data readiness ∷ Delim ∷ rest)
 rest_ready reading state readiness rest here is last =
     let form = readiness_form (text readiness) is in
@@ -239,7 +239,7 @@ pub record IsAckPart (reading : Reading) (state : State) (packets : List Packet)
   pub is_heading : text heading ≡ codes "acknowledgments"
   pub are : IsAckRest reading (moved state Acking) rest
 
-pub ack_part : (reading : Reading) (state : State) (packets : List Packet) → state.place ≡ Start → state.acks ≤ max_acks → state.packets ≡ 0 → state.bytes ≡ 0
+pub ack_part : (reading : Reading) (state : State) (packets : List Packet) → state.place ≡ Start → state.ack_count ≤ max_acks → state.band_count ≡ 0 → state.byte_count ≡ 0
     → IsWholeAt reading state packets → IsAckPart reading state packets
 ack_part reading state [] here few none empty h = absurd h
 ack_part reading state (Data heading ∷ rest) here few none empty h =
@@ -250,7 +250,7 @@ ack_part reading state (Data heading ∷ rest) here few none empty h =
       rest = rest;
       parts = refl;
       is_heading = heading_line (text heading) form;
-      are = ack_rest reading rest (moved state Acking) (record { place = refl; packets = none; bytes = empty }) few
+      are = ack_rest reading rest (moved state Acking) (record { place = refl; band_count = none; byte_count = empty }) few
           (at_state reading (next_state reading.format state (Data heading)) (moved state Acking) rest (next-heading reading.format state heading here form) goes.1);
     }
 ack_part reading state (Flush ∷ rest) here few none empty h = refused _ WrongSection (at_place reading state Start Flush here) h

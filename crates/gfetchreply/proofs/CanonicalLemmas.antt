@@ -17,12 +17,13 @@ use Rattle.gname.specs.declared.formats.Format.{Format}
 use Rattle.gname.specs.declared.formats.Format.TheVariants.{Sha1, Sha256}
 use Rattle.ggrammar.specs.Endings.{ends_with}
 use Rattle.ggrammar.specs.Ids.{id_of_text, ok_of}
+use Rattle.ggrammar.specs.Kinds.{CanonicalSays}
 use Rattle.ggrammar.specs.Texts.{text_packet}
 use Rattle.ggrammar.specs.declared.ends.Ends.{Ends}
 use Rattle.ggrammar.specs.declared.ends.Ends.TheVariants.{Plain, Response}
 use Rattle.gfetchreply.specs.FetchManual.{IsAck, IsAckSection, IsPackSection, IsBody, IsDataOrProgress}
 use Rattle.gfetchreply.specs.FetchReplies.{Reading, FetchReply, Acks, Ready, Pack, reply_form, ack_id, acks_of, data_of, Says}
-use Rattle.gfetchreply.specs.FetchReplies.{ack_packet, nak_if_none, heading, IsPieces, none, last, full, IsCanonicalPack, IsCanonicalBody, IsCanonicalReply}
+use Rattle.gfetchreply.specs.FetchReplies.{ack_packet, nak_if_none, heading_packet, ready_packet, pieces, pieces_within, pack_section, body_packets, canonical_reply, IsCanonical}
 use Rattle.gfetchreply.specs.WellFormed.{AreAcks, IsPackWithin, IsReplyIn}
 use Rattle.gfetchreply.proofs.ReplyForms.{ack_form-written}
 use Rattle.gfetchreply.proofs.ReplyManual.{says_from_manual}
@@ -30,29 +31,47 @@ use Rattle.gfetchreply.proofs.StateLemmas.{acks_of-append, acks_of-one}
 
 -- ---- pieces of a pack
 
--- a full piece, and the pieces of what follows it
-cut : (pack : List ℕ) → max_band < length pack
-    → (pieces : List (List ℕ)) × IsPieces (drop max_band pack) pieces → (pieces : List (List ℕ)) × IsPieces pack pieces
-cut pack long more =
-    let size : length (take max_band pack) ≡ max_band = simp length-take (omega arith) in
-    let some : 0 < length (drop max_band pack) = simp length-drop (omega arith) in (
-      take max_band pack ∷ more.0,
-      subst (λ (xs : List ℕ). IsPieces xs (take max_band pack ∷ more.0)) (take-append-drop max_band pack)
-          (full (take max_band pack) (drop max_band pack) more.0 size some more.1),
-    )
+-- the pieces of a pack: all of the largest size, and the last one shorter or equal
+data IsPieces : List ℕ → List (List ℕ) → Type 0 where
+  none : IsPieces [] []
+  last : (piece : List ℕ) → 0 < length piece → length piece ≤ max_band → IsPieces piece (piece ∷ [])
+  full : (piece rest : List ℕ) (more : List (List ℕ)) → length piece ≡ max_band → 0 < length rest → IsPieces rest more
+      → IsPieces (piece ++ rest) (piece ∷ more)
 
-pieces_by : (fuel : ℕ) (pack : List ℕ) → length pack ≤ fuel → (pieces : List (List ℕ)) × IsPieces pack pieces
-pieces_by fuel [] few = ([], none)
-pieces_by zero (byte ∷ pack) few = absurd (omega arith)
-pieces_by (suc fuel) (byte ∷ pack) few =
-    elim (leb_tells (length (byte ∷ pack)) max_band) [
-      | inl h ↦ ((byte ∷ pack) ∷ [], last (byte ∷ pack) (omega arith) h.1)
-      | inr h ↦ cut (byte ∷ pack) h.1 (pieces_by fuel (drop max_band (byte ∷ pack)) (let long = h.1 in simp length-drop (omega arith)))
+within_nil : (most : ℕ) → pieces_within most [] ≡ []
+within_nil zero = refl
+within_nil (suc most) = refl
+
+-- a full piece, and the pieces of what follows it
+cut : (pack : List ℕ) (more : List (List ℕ)) → max_band < length pack → IsPieces (drop max_band pack) more → IsPieces pack (take max_band pack ∷ more)
+cut pack more long are =
+    let size : length (take max_band pack) ≡ max_band = simp length-take (omega arith) in
+    let some : 0 < length (drop max_band pack) = simp length-drop (omega arith) in
+    subst (λ (xs : List ℕ). IsPieces xs (take max_band pack ∷ more)) (take-append-drop max_band pack)
+    (full (take max_band pack) (drop max_band pack) more size some are)
+
+-- the only piece
+only : (most : ℕ) (pack : List ℕ) → 0 < length pack → length pack ≤ max_band → IsPieces pack (take max_band pack ∷ pieces_within most (drop max_band pack))
+only most pack some few =
+    let empty : drop max_band pack ≡ [] = nil_from_length (drop max_band pack) (simp length-drop (omega arith)) in
+    let whole : take max_band pack ≡ pack =
+    sym (append-nil (take max_band pack)) ∙ (ap (λ (xs : List ℕ). take max_band pack ++ xs) (sym empty) ∙ take-append-drop max_band pack) in
+    subst (λ (xs : List ℕ). IsPieces pack (xs ∷ pieces_within most (drop max_band pack))) (sym whole)
+    (subst (λ (xs : List (List ℕ)). IsPieces pack (pack ∷ xs)) (sym (ap (pieces_within most) empty ∙ within_nil most)) (last pack some few))
+
+within_are : (most : ℕ) (pack : List ℕ) → length pack ≤ most → IsPieces pack (pieces_within most pack)
+within_are zero [] few = none
+within_are zero (byte ∷ rest) few = absurd (omega arith)
+within_are (suc most) [] few = none
+within_are (suc most) (byte ∷ rest) few =
+    elim (leb_tells (length (byte ∷ rest)) max_band) [
+      | inl h ↦ only most (byte ∷ rest) (omega arith) h.1
+      | inr h ↦ cut (byte ∷ rest) _ h.1 (within_are most (drop max_band (byte ∷ rest)) (let long = h.1 in simp length-drop (omega arith)))
     ]
 
--- the pieces of a pack
-pieces_exist : (pack : List ℕ) → (pieces : List (List ℕ)) × IsPieces pack pieces
-pieces_exist pack = pieces_by (length pack) pack (omega arith)
+pieces_are : (pack : List ℕ) → IsPieces pack (pieces pack)
+unfolding pieces
+pieces_are pack = within_are (length pack) pack (omega arith)
 
 -- how a pack and its pieces come about
 data PiecesOf (pack : List ℕ) (pieces : List (List ℕ)) : Type 0 where
@@ -138,73 +157,31 @@ data_lines (piece ∷ pieces) = ap (λ (xs : List Packet). Data (on_band piece) 
 
 -- ---- the pieces of a pack, one after the other
 
-pub made : List ℕ → List (List ℕ)
-made pack = (pieces_exist pack).0
+pieces_is : (pack : List ℕ) (other : List (List ℕ)) → IsPieces pack other → pieces pack ≡ other
+pieces_is pack other are = one_list pack (pieces pack) other (pieces_are pack) are
 
-pub made_are : (pack : List ℕ) → IsPieces pack (made pack)
-unfolding made
-made_are pack = (pieces_exist pack).1
-
-pub made_is : (pack : List ℕ) (pieces : List (List ℕ)) → IsPieces pack pieces → made pack ≡ pieces
-made_is pack pieces are = one_list pack (made pack) pieces (made_are pack) are
-
-pub made_none : (pack : List ℕ) → length pack ≡ 0 → made pack ≡ []
-made_none pack empty = made_is pack [] (subst (λ (xs : List ℕ). IsPieces xs []) (sym (nil_from_length pack empty)) none)
+pub pieces_none : (pack : List ℕ) → length pack ≡ 0 → pieces pack ≡ []
+pieces_none pack empty = pieces_is pack [] (subst (λ (xs : List ℕ). IsPieces xs []) (sym (nil_from_length pack empty)) none)
 
 next_pieces : (piece after : List ℕ) → length piece ≡ min max_band (length (piece ++ after)) → 0 < length (piece ++ after)
-    → IsPieces (piece ++ after) (piece ∷ made after)
+    → IsPieces (piece ++ after) (piece ∷ pieces after)
 next_pieces piece [] size some =
     let whole : piece ++ [] ≡ piece = append-nil piece in
     let long = ap length whole in
     let one : IsPieces piece (piece ∷ []) = last piece (omega arith) (omega arith) in
-    subst (λ (xs : List ℕ). IsPieces xs (piece ∷ made [])) (sym whole)
-    (subst (λ (xs : List (List ℕ)). IsPieces piece (piece ∷ xs)) (sym (made_none [] refl)) one)
+    subst (λ (xs : List ℕ). IsPieces xs (piece ∷ pieces [])) (sym whole)
+    (subst (λ (xs : List (List ℕ)). IsPieces piece (piece ∷ xs)) (sym (pieces_none [] refl)) one)
 next_pieces piece (byte ∷ after) size some =
-    full piece (byte ∷ after) (made (byte ∷ after)) (omega (arith, length-append piece (byte ∷ after))) (omega arith) (made_are (byte ∷ after))
+    full piece (byte ∷ after) (pieces (byte ∷ after)) (omega (arith, length-append piece (byte ∷ after))) (omega arith) (pieces_are (byte ∷ after))
 
 -- the first piece, and those of what follows it
-pub made_next : (pack piece after : List ℕ) → pack ≡ piece ++ after → length piece ≡ min max_band (length pack) → 0 < length pack
-    → made pack ≡ piece ∷ made after
-made_next pack piece after e size some =
+pub pieces_next : (pack piece after : List ℕ) → pack ≡ piece ++ after → length piece ≡ min max_band (length pack) → 0 < length pack
+    → pieces pack ≡ piece ∷ pieces after
+pieces_next pack piece after e size some =
     let long = ap length e in
-    ap made e
-    ∙ made_is (piece ++ after) (piece ∷ made after)
+    ap pieces e
+    ∙ pieces_is (piece ++ after) (piece ∷ pieces after)
     (next_pieces piece after (size ∙ ap (λ (n : ℕ). min max_band n) long) (omega arith))
-
--- ---- there is one list
-
-pack_packets : List (List ℕ) → List Packet
-pack_packets pieces = text_packet (codes "packfile") ∷ (map (λ bytes. Data (band_payload (BandData bytes))) pieces ++ Flush ∷ [])
-
-pub pack_exists : (pack : List ℕ) → (packets : List Packet) × IsCanonicalPack pack packets
-unfolding pack_packets
-pack_exists pack =
-    let made = pieces_exist pack in (pack_packets made.0, record { pieces = made.0; are_pieces = made.1; parts = refl })
-
-body_exists : (reply : FetchReply) → (body : List Packet) × IsCanonicalBody reply body
-body_exists (Acks commons) = (heading ∷ (nak_if_none (map ack_packet commons) ++ Flush ∷ []), refl)
-body_exists (Ready commons pack) =
-    let made = pack_exists pack in
-    (heading ∷ (map ack_packet commons ++ text_packet (codes "ready") ∷ Delim ∷ made.0), (made.0, made.1, refl))
-body_exists (Pack pack) = pack_exists pack
-
-pub reply_exists : (ends : Ends) (reply : FetchReply) → (packets : List Packet) × IsCanonicalReply ends reply packets
-reply_exists ends reply =
-    let made = body_exists reply in (made.0 ++ ends_with ends, record { body = made.0; is_body = made.1; parts = refl })
-
-one_pack : (pack : List ℕ) (a b : List Packet) → IsCanonicalPack pack a → IsCanonicalPack pack b → a ≡ b
-unfolding pack_packets
-one_pack pack a b p q = p.parts ∙ (ap pack_packets (one_list pack p.pieces q.pieces p.are_pieces q.are_pieces) ∙ sym q.parts)
-
-one_body : (reply : FetchReply) (a b : List Packet) → IsCanonicalBody reply a → IsCanonicalBody reply b → a ≡ b
-one_body (Acks commons) a b p q = p ∙ sym q
-one_body (Ready commons pack) a b p q =
-    p.2 ∙ (ap (λ (xs : List Packet). heading ∷ (map ack_packet commons ++ text_packet (codes "ready") ∷ Delim ∷ xs)) (one_pack pack p.0 q.0 p.1 q.1) ∙ sym q.2)
-one_body (Pack pack) a b p q = one_pack pack a b p q
-
-pub one_reply : (ends : Ends) (reply : FetchReply) (a b : List Packet) → IsCanonicalReply ends reply a → IsCanonicalReply ends reply b → a ≡ b
-one_reply ends reply a b p q =
-    p.parts ∙ (ap (λ (xs : List Packet). xs ++ ends_with ends) (one_body reply p.body q.body p.is_body q.is_body) ∙ sym q.parts)
 
 -- ---- what the packets say
 
@@ -229,87 +206,87 @@ module _ (line_is : TextOfLine) (ids_have : IdsHaveTexts) (one_format : IdsHaveO
       ap (λ (line : List ℕ). ack_id format (reply_form line)) (line_is (codes "ACK " ++ id_text id))
       ∙ (ap (ack_id format) (ack_form-written (id_text id)) ∙ id_spelt format id is)
 
-  acks_are : (format : Format) (commons : List (List ℕ)) → All (IsIdOf format) commons → All (IsAck format) (map text (map ack_payload commons))
+  acks_are : (format : Format) (ids : List (List ℕ)) → All (IsIdOf format) ids → All (IsAck format) (map text (map ack_payload ids))
   acks_are format [] are = All-nil (IsAck format)
-  acks_are format (id ∷ commons) are =
-      All-cons (IsAck format) (text (ack_payload id)) (map text (map ack_payload commons))
-      (ap is_some (ack_given format id (All-head (IsIdOf format) id commons are)))
-      (acks_are format commons (All-tail (IsIdOf format) id commons are))
+  acks_are format (id ∷ ids) are =
+      All-cons (IsAck format) (text (ack_payload id)) (map text (map ack_payload ids))
+      (ap is_some (ack_given format id (All-head (IsIdOf format) id ids are)))
+      (acks_are format ids (All-tail (IsIdOf format) id ids are))
 
-  acks_say : (format : Format) (commons : List (List ℕ)) → All (IsIdOf format) commons → commons ≡ acks_of format (map text (map ack_payload commons))
+  acks_say : (format : Format) (ids : List (List ℕ)) → All (IsIdOf format) ids → ids ≡ acks_of format (map text (map ack_payload ids))
   acks_say format [] are = refl
-  acks_say format (id ∷ commons) are =
+  acks_say format (id ∷ ids) are =
       let one : acks_of format (text (ack_payload id) ∷ []) ≡ id ∷ [] =
-      acks_of-one format (text (ack_payload id)) (Some id) (ack_given format id (All-head (IsIdOf format) id commons are)) in
-      sym (acks_of-append format (text (ack_payload id) ∷ []) (map text (map ack_payload commons))
-      ∙ (ap (λ (xs : List (List ℕ)). xs ++ acks_of format (map text (map ack_payload commons))) one
-      ∙ ap (λ (xs : List (List ℕ)). id ∷ xs) (sym (acks_say format commons (All-tail (IsIdOf format) id commons are)))))
+      acks_of-one format (text (ack_payload id)) (Some id) (ack_given format id (All-head (IsIdOf format) id ids are)) in
+      sym (acks_of-append format (text (ack_payload id) ∷ []) (map text (map ack_payload ids))
+      ∙ (ap (λ (xs : List (List ℕ)). xs ++ acks_of format (map text (map ack_payload ids))) one
+      ∙ ap (λ (xs : List (List ℕ)). id ∷ xs) (sym (acks_say format ids (All-tail (IsIdOf format) id ids are)))))
 
-  ack_lines : (commons : List (List ℕ)) → map ack_packet commons ≡ map Data (map ack_payload commons)
+  ack_lines : (ids : List (List ℕ)) → map ack_packet ids ≡ map Data (map ack_payload ids)
   ack_lines [] = refl
-  ack_lines (id ∷ commons) = ap (λ (xs : List Packet). Data (ack_payload id) ∷ xs) (ack_lines commons)
+  ack_lines (id ∷ ids) = ap (λ (xs : List Packet). Data (ack_payload id) ∷ xs) (ack_lines ids)
 
-  ack_section : (format : Format) (commons : List (List ℕ)) → AreAcks format commons → IsAckSection format (heading ∷ map ack_packet commons) commons
-  ack_section format commons are = record {
+  ack_section : (format : Format) (ids : List (List ℕ)) → AreAcks format ids → IsAckSection format (heading_packet ∷ map ack_packet ids) ids
+  ack_section format ids are = record {
     heading = codes "acknowledgments" ++ line_feed ∷ [];
-    acks = map ack_payload commons;
-    parts = ap (λ (xs : List Packet). heading ∷ xs) (ack_lines commons);
+    acks = map ack_payload ids;
+    parts = ap (λ (xs : List Packet). heading_packet ∷ xs) (ack_lines ids);
     is_heading = line_is (codes "acknowledgments");
-    are_acks = acks_are format commons are.ids;
-    few = (let few = are.few in omega (arith, length-map commons ack_payload));
-    are = acks_say format commons are.ids;
+    are_acks = acks_are format ids are.ids;
+    few = (let few = are.few in omega (arith, length-map ids ack_payload));
+    are = acks_say format ids are.ids;
   }
 
-  pack_section : (limit : ℕ) (pack : List ℕ) (packets : List Packet) → IsPackWithin limit pack → IsCanonicalPack pack packets → IsPackSection limit packets pack
-  pack_section limit pack packets within is = record {
+  section_is : (limit : ℕ) (pack : List ℕ) → IsPackWithin limit pack → IsPackSection limit (pack_section pack) pack
+  section_is limit pack within = record {
     heading = codes "packfile" ++ line_feed ∷ [];
-    payloads = map on_band is.pieces;
-    parts = is.parts ∙ ap (λ (xs : List Packet). text_packet (codes "packfile") ∷ (xs ++ Flush ∷ [])) (data_lines is.pieces);
+    payloads = map on_band (pieces pack);
+    parts = ap (λ (xs : List Packet). text_packet (codes "packfile") ∷ (xs ++ Flush ∷ [])) (data_lines (pieces pack));
     is_heading = line_is (codes "packfile");
-    are_bands = bands_are is.pieces;
-    few = (let few = within.few in omega (arith, length-map is.pieces on_band, pieces_few pack is.pieces is.are_pieces));
+    are_bands = bands_are (pieces pack);
+    few = (let few = within.few in omega (arith, length-map (pieces pack) on_band, pieces_few pack (pieces pack) (pieces_are pack)));
     short = within.short;
-    is_data = pieces_join pack is.pieces is.are_pieces;
+    is_data = pieces_join pack (pieces pack) (pieces_are pack);
   }
 
-  acks_body : (reading : Reading) (commons : List (List ℕ)) (body : List Packet) → reading.direct ≡ false → AreAcks reading.format commons
-      → IsCanonicalBody (Acks commons) body → IsBody reading body (Acks commons)
-  acks_body reading [] body direct are is = (
+  acks_body : (reading : Reading) (ids : List (List ℕ)) → reading.direct ≡ false → AreAcks reading.format ids → IsBody reading (body_packets (Acks ids)) (Acks ids)
+  acks_body reading [] direct are = (
     direct,
     inl (
       refl,
       record {
-        section = heading ∷ [];
+        section = heading_packet ∷ [];
         nak = codes "NAK" ++ line_feed ∷ [];
         acks = ack_section reading.format [] are;
         is_nak = line_is (codes "NAK");
-        parts = is;
+        parts = refl;
       },
     ),
   )
-  acks_body reading (id ∷ commons) body direct are is =
-      (direct, inr (record { section = heading ∷ map ack_packet (id ∷ commons); acks = ack_section reading.format (id ∷ commons) are; parts = is }))
+  acks_body reading (id ∷ ids) direct are =
+      (direct, inr (record { section = heading_packet ∷ map ack_packet (id ∷ ids); acks = ack_section reading.format (id ∷ ids) are; parts = refl }))
 
-  body_is : (reading : Reading) (reply : FetchReply) (body : List Packet) → IsReplyIn reading reply → IsCanonicalBody reply body → IsBody reading body reply
-  body_is reading (Acks commons) body fit is = acks_body reading commons body fit.0 fit.1 is
-  body_is reading (Ready commons pack) body fit is = (
+  body_is : (reading : Reading) (reply : FetchReply) → IsReplyIn reading reply → IsBody reading (body_packets reply) reply
+  body_is reading (Acks ids) fit = acks_body reading ids fit.0 fit.1
+  body_is reading (Ready ids pack) fit = (
     fit.0,
     record {
-      section = heading ∷ map ack_packet commons;
+      section = heading_packet ∷ map ack_packet ids;
       readiness = codes "ready" ++ line_feed ∷ [];
-      rest = is.0;
-      acks = ack_section reading.format commons fit.1;
+      rest = pack_section pack;
+      acks = ack_section reading.format ids fit.1;
       is_readiness = line_is (codes "ready");
-      packs = pack_section reading.limit pack is.0 fit.2 is.1;
-      parts = is.2;
+      packs = section_is reading.limit pack fit.2;
+      parts = refl;
     },
   )
-  body_is reading (Pack pack) body fit is = (fit.0, pack_section reading.limit pack body fit.1 is)
+  body_is reading (Pack pack) fit = (fit.0, section_is reading.limit pack fit.1)
 
-  pub canonical_is_read : (reading : Reading) (reply : FetchReply) (packets : List Packet) → IsReplyIn reading reply → IsCanonicalReply reading.ends reply packets
-      → Says reading packets reply
-  canonical_is_read reading reply packets fit is =
-      says_from_manual reading packets reply (record { body = is.body; is_body = body_is reading reply is.body fit is.is_body; parts = is.parts })
+  canonical_is_read : (reading : Reading) (reply : FetchReply) → IsReplyIn reading reply → Says reading (canonical_reply reading.ends reply) reply
+  unfolding canonical_reply
+  canonical_is_read reading reply fit =
+      says_from_manual reading (canonical_reply reading.ends reply) reply
+      (record { body = body_packets reply; is_body = body_is reading reply fit; parts = refl })
 
   -- ---- each fits
 
@@ -323,11 +300,11 @@ module _ (line_is : TextOfLine) (ids_have : IdsHaveTexts) (one_format : IdsHaveO
       let short = id_text_short format in
       omega (arith, length-append (codes "ACK " ++ id_text id) (line_feed ∷ []), length-append (codes "ACK ") (id_text id))
 
-  acks_fit : (format : Format) (commons : List (List ℕ)) → All (IsIdOf format) commons → All Fits (map ack_packet commons)
+  acks_fit : (format : Format) (ids : List (List ℕ)) → All (IsIdOf format) ids → All Fits (map ack_packet ids)
   acks_fit format [] are = All-nil Fits
-  acks_fit format (id ∷ commons) are =
-      All-cons Fits (ack_packet id) (map ack_packet commons) (ack_fits format id (All-head (IsIdOf format) id commons are))
-      (acks_fit format commons (All-tail (IsIdOf format) id commons are))
+  acks_fit format (id ∷ ids) are =
+      All-cons Fits (ack_packet id) (map ack_packet ids) (ack_fits format id (All-head (IsIdOf format) id ids are))
+      (acks_fit format ids (All-tail (IsIdOf format) id ids are))
 
   ends_fit : (ends : Ends) → All Fits (ends_with ends)
   ends_fit Plain = All-nil Fits
@@ -336,33 +313,33 @@ module _ (line_is : TextOfLine) (ids_have : IdsHaveTexts) (one_format : IdsHaveO
   flush_fits : All Fits (Flush ∷ [])
   flush_fits = All-cons Fits Flush [] (omega arith) (All-nil Fits)
 
-  pack_fits : (pack : List ℕ) (packets : List Packet) → IsCanonicalPack pack packets → All Fits packets
-  pack_fits pack packets is =
-      let lines = map (λ (bytes : List ℕ). Data (band_payload (BandData bytes))) is.pieces in
-      subst (All Fits) (sym is.parts)
-      (All-cons Fits (text_packet (codes "packfile")) (lines ++ Flush ∷ []) (omega arith)
-      (All-append Fits lines (Flush ∷ []) (pieces_fit pack is.pieces is.are_pieces) flush_fits))
+  pack_fits : (pack : List ℕ) → All Fits (pack_section pack)
+  pack_fits pack =
+      let lines = map (λ (bytes : List ℕ). Data (band_payload (BandData bytes))) (pieces pack) in
+      All-cons Fits (text_packet (codes "packfile")) (lines ++ Flush ∷ []) (omega arith)
+      (All-append Fits lines (Flush ∷ []) (pieces_fit pack (pieces pack) (pieces_are pack)) flush_fits)
 
-  naks_fit : (format : Format) (commons : List (List ℕ)) → All (IsIdOf format) commons → All Fits (nak_if_none (map ack_packet commons))
+  naks_fit : (format : Format) (ids : List (List ℕ)) → All (IsIdOf format) ids → All Fits (nak_if_none (map ack_packet ids))
   naks_fit format [] are = All-cons Fits (text_packet (codes "NAK")) [] (omega arith) (All-nil Fits)
-  naks_fit format (id ∷ commons) are = acks_fit format (id ∷ commons) are
+  naks_fit format (id ∷ ids) are = acks_fit format (id ∷ ids) are
 
-  body_fits : (reading : Reading) (reply : FetchReply) (body : List Packet) → IsReplyIn reading reply → IsCanonicalBody reply body → All Fits body
-  body_fits reading (Acks commons) body fit is =
-      subst (All Fits) (sym is)
-      (All-cons Fits heading (nak_if_none (map ack_packet commons) ++ Flush ∷ []) (omega arith)
-      (All-append Fits (nak_if_none (map ack_packet commons)) (Flush ∷ []) (naks_fit reading.format commons fit.1.ids) flush_fits))
-  body_fits reading (Ready commons pack) body fit is =
-      let section = text_packet (codes "ready") ∷ Delim ∷ is.0 in
-      subst (All Fits) (sym is.2)
-      (All-cons Fits heading (map ack_packet commons ++ section) (omega arith)
-      (All-append Fits (map ack_packet commons) section (acks_fit reading.format commons fit.1.ids)
-      (All-cons Fits (text_packet (codes "ready")) (Delim ∷ is.0) (omega arith)
-      (All-cons Fits Delim is.0 (omega arith) (pack_fits pack is.0 is.1)))))
-  body_fits reading (Pack pack) body fit is = pack_fits pack body is
+  body_fits : (reading : Reading) (reply : FetchReply) → IsReplyIn reading reply → All Fits (body_packets reply)
+  body_fits reading (Acks ids) fit =
+      All-cons Fits heading_packet (nak_if_none (map ack_packet ids) ++ Flush ∷ []) (omega arith)
+      (All-append Fits (nak_if_none (map ack_packet ids)) (Flush ∷ []) (naks_fit reading.format ids fit.1.ids) flush_fits)
+  body_fits reading (Ready ids pack) fit =
+      let section = ready_packet ∷ Delim ∷ pack_section pack in
+      All-cons Fits heading_packet (map ack_packet ids ++ section) (omega arith)
+      (All-append Fits (map ack_packet ids) section (acks_fit reading.format ids fit.1.ids)
+      (All-cons Fits ready_packet (Delim ∷ pack_section pack) (omega arith)
+      (All-cons Fits Delim (pack_section pack) (omega arith) (pack_fits pack))))
+  body_fits reading (Pack pack) fit = pack_fits pack
 
-  pub canonical_fits : (reading : Reading) (reply : FetchReply) (packets : List Packet) → IsReplyIn reading reply → IsCanonicalReply reading.ends reply packets
-      → All Fits packets
-  canonical_fits reading reply packets fit is =
-      subst (All Fits) (sym is.parts)
-      (All-append Fits is.body (ends_with reading.ends) (body_fits reading reply is.body fit is.is_body) (ends_fit reading.ends))
+  canonical_fits : (reading : Reading) (reply : FetchReply) → IsReplyIn reading reply → All Fits (canonical_reply reading.ends reply)
+  unfolding canonical_reply
+  canonical_fits reading reply fit =
+      All-append Fits (body_packets reply) (ends_with reading.ends) (body_fits reading reply fit) (ends_fit reading.ends)
+
+  pub canonical_says : (reading : Reading) → CanonicalSays (Says reading) (IsReplyIn reading) (IsCanonical reading.ends)
+  canonical_says reading lines reply fit is =
+      subst (λ (ls : List Packet). Says reading ls reply × All Fits ls) (sym is) (canonical_is_read reading reply fit, canonical_fits reading reply fit)

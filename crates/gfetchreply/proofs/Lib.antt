@@ -11,3 +11,6 @@ pub mod WritingLemmas
 pub mod KeptLemmas
 pub mod IdOfLemmas
 pub mod ReplyLemmas
+pub mod ReadLaws
+pub mod ValueLemmas
+pub mod OtherReadings

@@ -8,7 +8,7 @@ use Rattle.ggrammar.specs.declared.ends.Ends.{Ends}
 use Rattle.ggrammar.specs.declared.ends.Ends.TheVariants.{Plain, Response}
 use Rattle.ggrammar.specs.declared.fault.Why.{Why}
 use Rattle.ggrammar.specs.declared.fault.Why.TheVariants.{WrongSection, UnexpectedFrame}
-use Rattle.gfetchreply.specs.FetchReplies.{Reading, State, Place, Start, Acking, Naked, AfterReady, BeforePack, InPack, Over}
+use Rattle.gfetchreply.specs.FetchReplies.{Reading, State, Place, Start, Acking, AfterNak, AfterReady, BeforePack, InPack, Over}
 use Rattle.gfetchreply.specs.FetchReplies.{ReplyForm, Acknowledgments, Nak, Readiness, Packfile, Ack, OtherForm, reply_form}
 use Rattle.gfetchreply.specs.FetchReplies.{max_acks, max_packets, state_of, judge, judge_at, judge_start, judge_before_pack, next_place, texts_there, bands_there}
 use Rattle.gfetchreply.proofs.FromLeft.{state_after, OpenFrom-from_open, IsWhole-from_left, WholeFrom-after_open}
@@ -80,12 +80,12 @@ ending reading state Acking here =
       few = omega arith;
       whole = rest_flush reading state (at_place reading state Acking Flush here) (ap (λ (p : Place). next_place p Flush) here);
     }
-ending reading state Naked here =
+ending reading state AfterNak here =
     let one = few_ends reading.ends in
     record {
       more = Flush ∷ ends_with reading.ends;
       few = omega arith;
-      whole = rest_flush reading state (at_place reading state Naked Flush here) (ap (λ (p : Place). next_place p Flush) here);
+      whole = rest_flush reading state (at_place reading state AfterNak Flush here) (ap (λ (p : Place). next_place p Flush) here);
     }
 ending reading state AfterReady here =
     let one = few_ends reading.ends in
@@ -127,20 +127,20 @@ HasEndings-judge reading front opened = let last = short_ending reading front op
 due : Place → ℕ
 due Start = 5
 due Acking = 4
-due Naked = 1
+due AfterNak = 1
 due AfterReady = 3
 due BeforePack = 2
 due InPack = 1
 due Over = 0
 
 record Within (reading : Reading) (state : State) : Type 0 where
-  acks : state.acks ≤ max_acks
-  packets : state.packets ≤ max_packets
-  bytes : state.bytes ≤ reading.limit
+  ack_count : state.ack_count ≤ max_acks
+  band_count : state.band_count ≤ max_packets
+  byte_count : state.byte_count ≤ reading.limit
 
 -- a packet more is counted
 record Step (reading : Reading) (old new : State) : Type 0 where
-  fewer : due new.place + 1 + (old.acks + old.packets) ≤ due old.place + (new.acks + new.packets)
+  fewer : due new.place + 1 + (old.ack_count + old.band_count) ≤ due old.place + (new.ack_count + new.band_count)
   within : Within reading new
 
 as_step : (reading : Reading) (old a b : State) → a ≡ b → Step reading old b → Step reading old a
@@ -148,16 +148,16 @@ as_step reading old a b e h = subst (λ (s : State). Step reading old s) (sym e)
 
 move_step : (reading : Reading) (state : State) (from to : Place) → state.place ≡ from → Within reading state → due to < due from → Step reading state (moved state to)
 move_step reading state from to here within less =
-    let same : due state.place ≡ due from = ap due here in record { fewer = omega arith; within = record { acks = within.acks; packets = within.packets; bytes = within.bytes } }
+    let same : due state.place ≡ due from = ap due here in record { fewer = omega arith; within = record { ack_count = within.ack_count; band_count = within.band_count; byte_count = within.byte_count } }
 
 acking_step : (reading : Reading) (state : State) (payload : List ℕ) (form : ReplyForm) → state.place ≡ Acking → Within reading state → reply_form (text payload) ≡ form
     → AckingOn reading.format state form → Step reading state (next_state reading.format state (Data payload))
 unfolding due
 acking_step reading state payload (Ack digits) here within is (an_ack d id spells few) =
     let same : due state.place ≡ due Acking = ap due here in
-    as_step reading state _ _ (state-ack reading.format state payload digits id here is spells) (record { fewer = omega arith; within = record { acks = omega arith; packets = within.packets; bytes = within.bytes } })
+    as_step reading state _ _ (state-ack reading.format state payload digits id here is spells) (record { fewer = omega arith; within = record { ack_count = omega arith; band_count = within.band_count; byte_count = within.byte_count } })
 acking_step reading state payload Nak here within is (a_nak none) =
-    as_step reading state _ _ (state-acking reading.format state payload Nak here is refl) (move_step reading state Acking Naked here within (omega arith))
+    as_step reading state _ _ (state-acking reading.format state payload Nak here is refl) (move_step reading state Acking AfterNak here within (omega arith))
 acking_step reading state payload Readiness here within is a_readiness =
     as_step reading state _ _ (state-acking reading.format state payload Readiness here is refl) (move_step reading state Acking AfterReady here within (omega arith))
 acking_step reading state payload Acknowledgments here within is on = elim on [ ]
@@ -169,7 +169,7 @@ band_step : (reading : Reading) (state : State) (payload : List ℕ) → state.p
 band_step reading state payload here within on =
     let same : due state.place ≡ due InPack = ap due here in
     let few = on.few in
-    as_step reading state _ _ (state-band reading.format state payload here) (record { fewer = omega arith; within = record { acks = within.acks; packets = omega arith; bytes = on.short } })
+    as_step reading state _ _ (state-band reading.format state payload here) (record { fewer = omega arith; within = record { ack_count = within.ack_count; band_count = omega arith; byte_count = on.short } })
 
 flush_step : (reading : Reading) (state : State) (place : Place) → state.place ≡ place → Within reading state → texts_there place Flush ≡ [] → bands_there place Flush ≡ []
     → next_place place Flush ≡ Over → 0 < due place → Step reading state (next_state reading.format state Flush)
@@ -190,16 +190,16 @@ step_at reading state Start (Data payload) here within goes =
     as_step reading state _ _ (next-heading reading.format state payload here form) (move_step reading state Start Acking here within (omega arith))
 step_at reading state Acking (Data payload) here within goes =
     acking_step reading state payload _ here within refl (acking_open reading.format state _ (data_open reading state Acking payload here tt goes))
-step_at reading state Naked (Data payload) here within goes = absurd (late_not_open _ (data_open reading state Naked payload here tt goes))
+step_at reading state AfterNak (Data payload) here within goes = absurd (late_not_open _ (data_open reading state AfterNak payload here tt goes))
 step_at reading state AfterReady (Data payload) here within goes = absurd (late_not_open _ (data_open reading state AfterReady payload here tt goes))
 step_at reading state BeforePack (Data payload) here within goes =
     let form : reply_form (text payload) ≡ Packfile = before_open _ (data_open reading state BeforePack payload here tt goes) in
     as_step reading state _ _ (next-packfile reading.format state payload here form) (move_step reading state BeforePack InPack here within (omega arith))
 step_at reading state InPack (Data payload) here within goes =
-    band_step reading state payload here within (band_open reading.limit state (band_form payload) within.bytes (data_open reading state InPack payload here tt goes))
+    band_step reading state payload here within (band_open reading.limit state (band_form payload) within.byte_count (data_open reading state InPack payload here tt goes))
 step_at reading state Over packet here within goes = absurd (over_not_open packet (sym (at_place reading state Over packet here) ∙ goes))
 step_at reading state Acking Flush here within goes = flush_step reading state Acking here within refl refl refl (omega arith)
-step_at reading state Naked Flush here within goes = flush_step reading state Naked here within refl refl refl (omega arith)
+step_at reading state AfterNak Flush here within goes = flush_step reading state AfterNak here within refl refl refl (omega arith)
 step_at reading state InPack Flush here within goes = flush_step reading state InPack here within refl refl refl (omega arith)
 step_at reading state Start Flush here within goes = no_step reading state _ _ WrongSection (at_place reading state Start Flush here) goes
 step_at reading state AfterReady Flush here within goes = no_step reading state _ _ WrongSection (at_place reading state AfterReady Flush here) goes
@@ -208,12 +208,12 @@ step_at reading state AfterReady Delim here within goes =
     as_step reading state _ _ (next-delim reading.format state here) (move_step reading state AfterReady BeforePack here within (omega arith))
 step_at reading state Start Delim here within goes = no_step reading state _ _ WrongSection (at_place reading state Start Delim here) goes
 step_at reading state Acking Delim here within goes = no_step reading state _ _ WrongSection (at_place reading state Acking Delim here) goes
-step_at reading state Naked Delim here within goes = no_step reading state _ _ WrongSection (at_place reading state Naked Delim here) goes
+step_at reading state AfterNak Delim here within goes = no_step reading state _ _ WrongSection (at_place reading state AfterNak Delim here) goes
 step_at reading state BeforePack Delim here within goes = no_step reading state _ _ WrongSection (at_place reading state BeforePack Delim here) goes
 step_at reading state InPack Delim here within goes = no_step reading state _ _ WrongSection (at_place reading state InPack Delim here) goes
 step_at reading state Start ResponseEnd here within goes = no_step reading state _ _ UnexpectedFrame (at_place reading state Start ResponseEnd here) goes
 step_at reading state Acking ResponseEnd here within goes = no_step reading state _ _ UnexpectedFrame (at_place reading state Acking ResponseEnd here) goes
-step_at reading state Naked ResponseEnd here within goes = no_step reading state _ _ UnexpectedFrame (at_place reading state Naked ResponseEnd here) goes
+step_at reading state AfterNak ResponseEnd here within goes = no_step reading state _ _ UnexpectedFrame (at_place reading state AfterNak ResponseEnd here) goes
 step_at reading state AfterReady ResponseEnd here within goes = no_step reading state _ _ UnexpectedFrame (at_place reading state AfterReady ResponseEnd here) goes
 step_at reading state BeforePack ResponseEnd here within goes = no_step reading state _ _ UnexpectedFrame (at_place reading state BeforePack ResponseEnd here) goes
 step_at reading state InPack ResponseEnd here within goes = no_step reading state _ _ UnexpectedFrame (at_place reading state InPack ResponseEnd here) goes
@@ -222,15 +222,15 @@ due_few : (place : Place) → due place ≤ 5
 unfolding due
 due_few Start = omega arith
 due_few Acking = omega arith
-due_few Naked = omega arith
+due_few AfterNak = omega arith
 due_few AfterReady = omega arith
 due_few BeforePack = omega arith
 due_few InPack = omega arith
 due_few Over = omega arith
 
 few_from : (reading : Reading) (state : State) (front : List Packet) → Within reading state → IsOpenAt reading state front
-    → length front + (state.acks + state.packets) ≤ due state.place + (max_acks + max_packets)
-few_from reading state [] within opened = let acks = within.acks in let packets = within.packets in omega arith
+    → length front + (state.ack_count + state.band_count) ≤ due state.place + (max_acks + max_packets)
+few_from reading state [] within opened = let acks = within.ack_count in let packets = within.band_count in omega arith
 few_from reading state (packet ∷ rest) within opened =
     let one = step_at reading state state.place packet refl within opened.0 in
     let fewer = one.fewer in
@@ -239,20 +239,20 @@ few_from reading state (packet ∷ rest) within opened =
 
 pub open_is_short : (reading : Reading) (front : List Packet) → IsOpen (judge reading) front → length front < 2 ^ 60
 open_is_short reading front opened =
-    let few = few_from reading (start reading) front (record { acks = omega arith; packets = omega arith; bytes = omega arith }) (open_at reading front opened) in
+    let few = few_from reading (start reading) front (record { ack_count = omega arith; band_count = omega arith; byte_count = omega arith }) (open_at reading front opened) in
     let five = due_few (start reading).place in
     omega arith
 
 -- ---- the pack's limit
 
 bytes_within : (reading : Reading) (state : State) (front : List Packet) → Within reading state → IsOpenAt reading state front
-    → (state_after (judge_at reading) (next_state reading.format) state front).bytes ≤ reading.limit
-bytes_within reading state [] within opened = within.bytes
+    → (state_after (judge_at reading) (next_state reading.format) state front).byte_count ≤ reading.limit
+bytes_within reading state [] within opened = within.byte_count
 bytes_within reading state (packet ∷ rest) within opened =
     bytes_within reading (next_state reading.format state packet) rest (step_at reading state state.place packet refl within opened.0).within opened.1
 
 -- an open list keeps it
-pub open_keeps_limit : (reading : Reading) (front : List Packet) → IsOpen (judge reading) front → (state_of reading front).bytes ≤ reading.limit
+pub open_keeps_limit : (reading : Reading) (front : List Packet) → IsOpen (judge reading) front → (state_of reading front).byte_count ≤ reading.limit
 open_keeps_limit reading front opened =
-    subst (λ (s : State). s.bytes ≤ reading.limit) (sym (state_from_start reading front))
-    (bytes_within reading (start reading) front (record { acks = omega arith; packets = omega arith; bytes = omega arith }) (open_at reading front opened))
+    subst (λ (s : State). s.byte_count ≤ reading.limit) (sym (state_from_start reading front))
+    (bytes_within reading (start reading) front (record { ack_count = omega arith; band_count = omega arith; byte_count = omega arith }) (open_at reading front opened))

@@ -1,6 +1,6 @@
 -- The replies that the judge accepts are those of the manual's grammar, and they say the same.
 use Rattle.std.proofs.Common.{◌≡◌, ℕ, ◌+◌, ◌||◌, Bool, true, false, List, [], ◌∷◌, ◌++◌, length, map, codes, inl, inr, Some, None, suc, refl, sym, ap, subst, ◌∙◌, append_assoc, append-nil, arith}
-use Rattle.std.specs.Prelude.{All}
+use Rattle.std.specs.Prelude.{All, if◌then◌else◌}
 use Rattle.std.proofs.lemmas.Bool.{cond-true, cond-false}
 use Rattle.std.proofs.lemmas.List.{length-map, nil_from_length}
 use Rattle.std.proofs.lemmas.List.Elements.{All-head, All-tail}
@@ -15,6 +15,7 @@ use Rattle.gfetchreply.specs.FetchManual.{IsAck, IsAckSection, IsPackSection, Is
 use Rattle.gfetchreply.specs.FetchReplies.{Reading, State, Place, Start, Acking, BeforePack, InPack, Over}
 use Rattle.gfetchreply.specs.FetchReplies.{FetchReply, Acks, Ready, Pack, ReplyForm, reply_form, ack_id, is_readiness, is_ready}
 use Rattle.gfetchreply.specs.FetchReplies.{judge, judge_at, next_place, after_text, first_place, texts_there, bands_there, ack_texts, band_payloads, acks_of, data_of, reply_of, Says}
+use Rattle.gfetchreply.specs.FetchHeads.{pack_of}
 use Rattle.gfetchreply.proofs.FromLeft.{WholeFrom-from_whole, IsWhole-from_left, WholeFrom-ends}
 use Rattle.gfetchreply.proofs.ReplyForms.{heading_form, nak_form, readiness_form, packfile_form}
 use Rattle.gfetchreply.proofs.ReplyVerdicts.{start, judge_is, IsWholeAt, at_place, moved}
@@ -91,7 +92,7 @@ heading_there : (heading : List ℕ) → text heading ≡ codes "acknowledgments
 heading_there heading e = ap (after_text Start) (heading_form (text heading) e)
 
 -- the packets from the heading of the acknowledgments on
-module _ (format : Format) (section : List Packet) (commons : List (List ℕ)) (is : IsAckSection format section commons) (tail : List Packet) where
+module _ (format : Format) (section : List Packet) (ids : List (List ℕ)) (is : IsAckSection format section ids) (tail : List Packet) where
   headed_parts : section ++ tail ≡ Data is.heading ∷ (map Data is.acks ++ tail)
   headed_parts = ap (λ (xs : List Packet). xs ++ tail) is.parts
 
@@ -183,21 +184,21 @@ value_nak reading packets body direct parts is =
     sym (reply_acks reading packets _ direct lines ready
     ∙ ap (λ (xs : List (List ℕ)). Acks xs) (acks_and reading.format (map text is.acks.acks) (text is.nak) (ap (ack_id reading.format) form) ∙ sym is.acks.are))
 
-value_acks : (reading : Reading) (packets body : List Packet) (commons : List (List ℕ)) → reading.direct ≡ false → packets ≡ body ++ ends_with reading.ends
-    → IsAckReply reading.format body commons → Acks commons ≡ reply_of reading packets
-value_acks reading packets body commons direct parts is =
+value_acks : (reading : Reading) (packets body : List Packet) (ids : List (List ℕ)) → reading.direct ≡ false → packets ≡ body ++ ends_with reading.ends
+    → IsAckReply reading.format body ids → Acks ids ≡ reply_of reading packets
+value_acks reading packets body ids direct parts is =
     let tail = Flush ∷ ends_with reading.ends in
     let all : packets ≡ is.section ++ tail =
     parts ∙ (ap (λ (xs : List Packet). xs ++ ends_with reading.ends) is.parts ∙ append_assoc is.section (Flush ∷ []) (ends_with reading.ends)) in
     let lines : texts Start packets ≡ map text is.acks.acks ++ [] =
-    ap (texts Start) all ∙ (headed_texts reading.format is.section commons is.acks tail ∙ ap (λ (xs : List (List ℕ)). map text is.acks.acks ++ xs) (over_texts reading.ends)) in
+    ap (texts Start) all ∙ (headed_texts reading.format is.section ids is.acks tail ∙ ap (λ (xs : List (List ℕ)). map text is.acks.acks ++ xs) (over_texts reading.ends)) in
     let ready : is_ready (map text is.acks.acks ++ []) ≡ false = acks_not_ready reading.format (map text is.acks.acks) [] is.acks.are_acks in
     sym (reply_acks reading packets _ direct lines ready
     ∙ ap (λ (xs : List (List ℕ)). Acks xs) (ap (acks_of reading.format) (append-nil (map text is.acks.acks)) ∙ sym is.acks.are))
 
-value_ready : (reading : Reading) (packets body : List Packet) (commons : List (List ℕ)) (pack : List ℕ) → reading.direct ≡ false → packets ≡ body ++ ends_with reading.ends
-    → IsReadyReply reading.format reading.limit body commons pack → Ready commons pack ≡ reply_of reading packets
-value_ready reading packets body commons pack direct parts is =
+value_ready : (reading : Reading) (packets body : List Packet) (ids : List (List ℕ)) (pack : List ℕ) → reading.direct ≡ false → packets ≡ body ++ ends_with reading.ends
+    → IsReadyReply reading.format reading.limit body ids pack → Ready ids pack ≡ reply_of reading packets
+value_ready reading packets body ids pack direct parts is =
     let form = readiness_form (text is.readiness) is.is_readiness in
     let after_all = is.rest ++ ends_with reading.ends in
     let tail = Data is.readiness ∷ Delim ∷ after_all in
@@ -209,21 +210,21 @@ value_ready reading packets body commons pack direct parts is =
     let after_bands : bands Acking tail ≡ is.packs.payloads =
     ap (λ (p : Place). bands p (Delim ∷ after_all)) (ap (after_text Acking) form) ∙ section_bands reading.ends reading.limit is.rest pack is.packs in
     let lines : texts Start packets ≡ map text is.acks.acks ++ text is.readiness ∷ [] =
-    ap (texts Start) all ∙ (headed_texts reading.format is.section commons is.acks tail ∙ ap (λ (xs : List (List ℕ)). map text is.acks.acks ++ xs) after) in
+    ap (texts Start) all ∙ (headed_texts reading.format is.section ids is.acks tail ∙ ap (λ (xs : List (List ℕ)). map text is.acks.acks ++ xs) after) in
     let payloads : bands Start packets ≡ is.packs.payloads =
-    ap (bands Start) all ∙ (headed_bands reading.format is.section commons is.acks tail ∙ after_bands) in
+    ap (bands Start) all ∙ (headed_bands reading.format is.section ids is.acks tail ∙ after_bands) in
     let ready : is_ready (map text is.acks.acks ++ text is.readiness ∷ []) ≡ true =
     acks_not_ready reading.format (map text is.acks.acks) (text is.readiness ∷ []) is.acks.are_acks ∙ ap (λ (f : ReplyForm). is_readiness f || false) form in
     sym (reply_ready reading packets _ _ direct lines ready payloads
     ∙ (ap (λ (xs : List (List ℕ)). Ready xs (data_of is.packs.payloads)) (acks_and reading.format (map text is.acks.acks) (text is.readiness) (ap (ack_id reading.format) form) ∙ sym is.acks.are)
-    ∙ ap (λ (xs : List ℕ). Ready commons xs) (sym is.packs.is_data)))
+    ∙ ap (λ (xs : List ℕ). Ready ids xs) (sym is.packs.is_data)))
 
 value_by : (reading : Reading) (packets body : List Packet) (reply : FetchReply) → packets ≡ body ++ ends_with reading.ends → IsBody reading body reply
     → reply ≡ reply_of reading packets
-value_by reading packets body (Acks commons) parts (direct, inl h) =
+value_by reading packets body (Acks ids) parts (direct, inl h) =
     ap (λ (xs : List (List ℕ)). Acks xs) h.0 ∙ value_nak reading packets body direct parts h.1
-value_by reading packets body (Acks commons) parts (direct, inr h) = value_acks reading packets body commons direct parts h
-value_by reading packets body (Ready commons pack) parts h = value_ready reading packets body commons pack h.0 parts h.1
+value_by reading packets body (Acks ids) parts (direct, inr h) = value_acks reading packets body ids direct parts h
+value_by reading packets body (Ready ids pack) parts h = value_ready reading packets body ids pack h.0 parts h.1
 value_by reading packets body (Pack pack) parts h = value_pack reading packets body pack h.0 parts h.1
 
 -- ---- a reply of the manual is whole
@@ -234,36 +235,36 @@ start_place reading direct e = ap first_place e
 whole_pack : (reading : Reading) (body : List Packet) (pack : List ℕ) → reading.direct ≡ true → IsPackSection reading.limit body pack
     → IsWholeAt reading (start reading) (body ++ ends_with reading.ends)
 whole_pack reading body pack direct is =
-    part_pack reading (start reading) body pack (record { place = start_place reading true direct; packets = refl; bytes = refl }) is
+    part_pack reading (start reading) body pack (record { place = start_place reading true direct; band_count = refl; byte_count = refl }) is
 
 -- acknowledgments, and what makes them whole
-whole_acks : (reading : Reading) (section tail : List Packet) (commons : List (List ℕ)) → reading.direct ≡ false → (is : IsAckSection reading.format section commons)
-    → ((new : State) → new.place ≡ Acking → new.acks ≡ length is.acks → new.packets ≡ 0 → new.bytes ≡ 0 → IsWholeAt reading new tail)
+whole_acks : (reading : Reading) (section tail : List Packet) (ids : List (List ℕ)) → reading.direct ≡ false → (is : IsAckSection reading.format section ids)
+    → ((new : State) → new.place ≡ Acking → new.ack_count ≡ length is.acks → new.band_count ≡ 0 → new.byte_count ≡ 0 → IsWholeAt reading new tail)
     → IsWholeAt reading (start reading) (section ++ tail)
-whole_acks reading section tail commons direct is last =
+whole_acks reading section tail ids direct is last =
     let few = is.few in
     let rest = rest_acks reading (moved (start reading) Acking) is.acks tail refl is.are_acks (omega arith)
-    (λ new after. last new after.place (let count = after.acks in omega arith) after.packets after.bytes) in
-    subst (IsWholeAt reading (start reading)) (sym (headed_parts reading.format section commons is tail))
+    (λ new after. last new after.place (let count = after.ack_count in omega arith) after.band_count after.byte_count) in
+    subst (IsWholeAt reading (start reading)) (sym (headed_parts reading.format section ids is tail))
     (part_ack reading (start reading) is.heading (map Data is.acks ++ tail) (start_place reading false direct) is.is_heading rest)
 
 whole_by : (reading : Reading) (body : List Packet) (reply : FetchReply) → IsBody reading body reply → IsWholeAt reading (start reading) (body ++ ends_with reading.ends)
-whole_by reading body (Acks commons) (direct, inl (none, is)) =
+whole_by reading body (Acks ids) (direct, inl (none, is)) =
     let count : length is.acks.acks ≡ 0 =
     sym (length-map is.acks.acks text) ∙ (sym (acks_count reading.format (map text is.acks.acks) is.acks.are_acks) ∙ ap length (sym is.acks.are)) in
     let whole = whole_acks reading is.section (Data is.nak ∷ Flush ∷ ends_with reading.ends) [] direct is.acks
     (λ new place acks packets bytes. rest_nak reading new is.nak place (acks ∙ count) is.is_nak) in
     subst (IsWholeAt reading (start reading))
     (sym (ap (λ (xs : List Packet). xs ++ ends_with reading.ends) is.parts ∙ append_assoc is.section (Data is.nak ∷ Flush ∷ []) (ends_with reading.ends))) whole
-whole_by reading body (Acks commons) (direct, inr is) =
-    let whole = whole_acks reading is.section (Flush ∷ ends_with reading.ends) commons direct is.acks
+whole_by reading body (Acks ids) (direct, inr is) =
+    let whole = whole_acks reading is.section (Flush ∷ ends_with reading.ends) ids direct is.acks
     (λ new place acks packets bytes. rest_flush reading new (at_place reading new Acking Flush place) (ap (λ (p : Place). next_place p Flush) place)) in
     subst (IsWholeAt reading (start reading))
     (sym (ap (λ (xs : List Packet). xs ++ ends_with reading.ends) is.parts ∙ append_assoc is.section (Flush ∷ []) (ends_with reading.ends))) whole
-whole_by reading body (Ready commons pack) (direct, is) =
-    let whole = whole_acks reading is.section (Data is.readiness ∷ Delim ∷ (is.rest ++ ends_with reading.ends)) commons direct is.acks
+whole_by reading body (Ready ids pack) (direct, is) =
+    let whole = whole_acks reading is.section (Data is.readiness ∷ Delim ∷ (is.rest ++ ends_with reading.ends)) ids direct is.acks
     (λ new place acks packets bytes. rest_ready reading new is.readiness (is.rest ++ ends_with reading.ends) place is.is_readiness
-    (λ next there count size. part_pack reading next is.rest pack (record { place = there; packets = count ∙ packets; bytes = size ∙ bytes }) is.packs)) in
+    (λ next there count size. part_pack reading next is.rest pack (record { place = there; band_count = count ∙ packets; byte_count = size ∙ bytes }) is.packs)) in
     subst (IsWholeAt reading (start reading))
     (sym (ap (λ (xs : List Packet). xs ++ ends_with reading.ends) is.parts ∙ append_assoc is.section (Data is.readiness ∷ Delim ∷ is.rest) (ends_with reading.ends))) whole
 whole_by reading body (Pack pack) (direct, is) = whole_pack reading body pack direct is
@@ -289,14 +290,14 @@ record IsOfManual (reading : Reading) (packets : List Packet) : Type 0 where
   reply : FetchReply
   is : IsFetchReply reading packets reply
 
-section_of : (reading : Reading) (heading : List ℕ) (state : State) (rest : List Packet) (is : IsAckRest reading state rest) → state.acks ≡ 0
+section_of : (reading : Reading) (heading : List ℕ) (state : State) (rest : List Packet) (is : IsAckRest reading state rest) → state.ack_count ≡ 0
     → text heading ≡ codes "acknowledgments" → IsAckSection reading.format (Data heading ∷ map Data is.acks) (acks_of reading.format (map text is.acks))
 section_of reading heading state rest is none is_heading =
     let few = is.few in
     record { heading = heading; acks = is.acks; parts = refl; is_heading = is_heading; are_acks = is.are; few = omega arith; are = refl }
 
-manual_by : (reading : Reading) (packets rest : List Packet) (heading : List ℕ) (state : State) (is : IsAckRest reading state rest) → reading.direct ≡ false → state.acks ≡ 0
-    → text heading ≡ codes "acknowledgments" → packets ≡ Data heading ∷ rest → AckTail reading (state.acks + length is.acks) is.tail → IsOfManual reading packets
+manual_by : (reading : Reading) (packets rest : List Packet) (heading : List ℕ) (state : State) (is : IsAckRest reading state rest) → reading.direct ≡ false → state.ack_count ≡ 0
+    → text heading ≡ codes "acknowledgments" → packets ≡ Data heading ∷ rest → AckTail reading (state.ack_count + length is.acks) is.tail → IsOfManual reading packets
 manual_by reading packets rest heading state is direct none is_heading parts (ended e) =
     let section = Data heading ∷ map Data is.acks in
     let acks = section_of reading heading state rest is none is_heading in
@@ -365,7 +366,7 @@ manual_by reading packets rest heading state is direct none is_heading parts (re
 
 of_manual : (reading : Reading) (packets : List Packet) (direct : Bool) → reading.direct ≡ direct → IsWholeAt reading (start reading) packets → IsOfManual reading packets
 of_manual reading packets true direct h =
-    let part = pack_part reading (start reading) packets (record { place = start_place reading true direct; packets = refl; bytes = refl }) h in
+    let part = pack_part reading (start reading) packets (record { place = start_place reading true direct; band_count = refl; byte_count = refl }) h in
     record { reply = Pack part.pack; is = record { body = part.section; is_body = (direct, part.is); parts = part.parts } }
 of_manual reading packets false direct h =
     let part = ack_part reading (start reading) packets (start_place reading false direct) (omega arith) refl refl h in
@@ -393,3 +394,48 @@ one_reply_begins reading packets back reply other short long =
     let ends = none_begins_another reading packets back short.whole long.whole in
     let same : packets ++ back ≡ packets = ap (λ (xs : List Packet). packets ++ xs) ends ∙ append-nil packets in
     (ends, long.says ∙ (ap (reply_of reading) same ∙ sym short.says))
+
+-- ---- the pack that a reply says
+
+nak_bands : (reading : Reading) (packets body : List Packet) → packets ≡ body ++ ends_with reading.ends → IsNakReply reading.format body → bands Start packets ≡ []
+nak_bands reading packets body parts is =
+    let form = nak_form (text is.nak) is.is_nak in
+    let tail = Data is.nak ∷ Flush ∷ ends_with reading.ends in
+    let all : packets ≡ is.section ++ tail =
+    parts ∙ (ap (λ (xs : List Packet). xs ++ ends_with reading.ends) is.parts ∙ append_assoc is.section (Data is.nak ∷ Flush ∷ []) (ends_with reading.ends)) in
+    ap (bands Start) all
+    ∙ (headed_bands reading.format is.section [] is.acks tail
+    ∙ (ap (λ (p : Place). bands p (Flush ∷ ends_with reading.ends)) (ap (after_text Acking) form) ∙ over_bands reading.ends))
+
+acks_only_bands : (reading : Reading) (packets body : List Packet) (ids : List (List ℕ)) → packets ≡ body ++ ends_with reading.ends → IsAckReply reading.format body ids
+    → bands Start packets ≡ []
+acks_only_bands reading packets body ids parts is =
+    let tail = Flush ∷ ends_with reading.ends in
+    let all : packets ≡ is.section ++ tail =
+    parts ∙ (ap (λ (xs : List Packet). xs ++ ends_with reading.ends) is.parts ∙ append_assoc is.section (Flush ∷ []) (ends_with reading.ends)) in
+    ap (bands Start) all ∙ (headed_bands reading.format is.section ids is.acks tail ∙ over_bands reading.ends)
+
+-- none where ids are acknowledged alone
+no_pack : (reading : Reading) (packets : List Packet) (ids : List (List ℕ)) → IsFetchReply reading packets (Acks ids) → data_of (band_payloads reading.direct packets) ≡ []
+unfolding band_payloads
+no_pack reading packets ids is =
+    let direct : reading.direct ≡ false = is.is_body.0 in
+    ap data_of
+    (ap (λ (d : Bool). bands (first_place d) packets) direct
+    ∙ elim is.is_body.1 [
+      | inl h ↦ nak_bands reading packets is.body is.parts h.1
+      | inr h ↦ acks_only_bands reading packets is.body ids is.parts h
+    ])
+
+pack_by : (direct ready : Bool) (ids : List (List ℕ)) (pack : List ℕ) (reply : FetchReply)
+    → reply ≡ (if direct then Pack pack else if ready then Ready ids pack else Acks ids) → (reply ≡ Acks ids → pack ≡ []) → pack_of reply ≡ pack
+pack_by true ready ids pack reply is alone = ap pack_of is
+pack_by false true ids pack reply is alone = ap pack_of is
+pack_by false false ids pack reply is alone = ap pack_of is ∙ sym (alone is)
+
+pub said_pack : (reading : Reading) (packets : List Packet) (reply : FetchReply) → Says reading packets reply
+    → pack_of reply ≡ data_of (band_payloads reading.direct packets)
+said_pack reading packets reply said =
+    pack_by reading.direct (is_ready (ack_texts reading.direct packets)) (acks_of reading.format (ack_texts reading.direct packets))
+    (data_of (band_payloads reading.direct packets)) reply said.says
+    (λ e. no_pack reading packets _ (subst (IsFetchReply reading packets) e (manual_from_says reading packets reply said)))

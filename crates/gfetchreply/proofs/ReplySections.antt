@@ -90,8 +90,8 @@ pub record IsPackRest (reading : Reading) (state : State) (packets : List Packet
   pub payloads : List (List ℕ)
   pub parts : packets ≡ map Data payloads ++ Flush ∷ ends_with reading.ends
   pub are : All (λ payload. IsDataOrProgress (band_form payload)) payloads
-  pub few : state.packets + length payloads ≤ max_packets
-  pub short : state.bytes + length (data_of payloads) ≤ reading.limit
+  pub few : state.band_count + length payloads ≤ max_packets
+  pub short : state.byte_count + length (data_of payloads) ≤ reading.limit
 
 in_flush : (place : Place) → place ≡ InPack → next_place place Flush ≡ Over
 in_flush place e = ap (λ (p : Place). next_place p Flush) e
@@ -99,7 +99,7 @@ in_flush place e = ap (λ (p : Place). next_place p Flush) e
 -- the state after a packet of the pack
 abbrev pub banded : State → List ℕ → State
 banded state payload =
-    record { place = InPack; acks = state.acks; packets = state.packets + 1; bytes = state.bytes + length (data_in (band_form payload)) }
+    record { place = InPack; ack_count = state.ack_count; band_count = state.band_count + 1; byte_count = state.byte_count + length (data_in (band_form payload)) }
 
 more_rest : (reading : Reading) (state : State) (payload : List ℕ) (rest : List Packet) → BandOn reading.limit state (band_form payload)
     → IsPackRest reading (banded state payload) rest → IsPackRest reading state (Data payload ∷ rest)
@@ -111,14 +111,14 @@ more_rest reading state payload rest on more = record {
   short = (let short = more.short in omega (arith, length-append (data_in (band_form payload)) (data_of more.payloads)));
 }
 
-pub pack_rest : (reading : Reading) (state : State) (packets : List Packet) → state.place ≡ InPack → state.packets ≤ max_packets → state.bytes ≤ reading.limit
+pub pack_rest : (reading : Reading) (state : State) (packets : List Packet) → state.place ≡ InPack → state.band_count ≤ max_packets → state.byte_count ≤ reading.limit
     → IsWholeAt reading state packets → IsPackRest reading state packets
 pack_rest reading state [] here few short h = absurd h
 pack_rest reading state (Data payload ∷ rest) here few short h =
     let goes = goes_on _ (data_not_whole reading state InPack payload here tt) h in
     let on = band_open reading.limit state (band_form payload) short (data_open reading state InPack payload here tt goes.0) in
     let more = at_state reading (next_state reading.format state (Data payload)) (banded state payload) rest (state-band reading.format state payload here) goes.1 in
-    let room : state.packets + 1 ≤ max_packets = (let on_few = on.few in omega arith) in
+    let room : state.band_count + 1 ≤ max_packets = (let on_few = on.few in omega arith) in
     more_rest reading state payload rest on (pack_rest reading (banded state payload) rest refl room on.short more)
 pack_rest reading state (Flush ∷ rest) here few short h = record {
   payloads = [];
@@ -131,7 +131,7 @@ pack_rest reading state (Delim ∷ rest) here few short h = refused _ WrongSecti
 pack_rest reading state (ResponseEnd ∷ rest) here few short h = refused _ UnexpectedFrame (at_place reading state InPack ResponseEnd here) h
 
 pub rest_pack : (reading : Reading) (state : State) (payloads : List (List ℕ)) → state.place ≡ InPack → All (λ payload. IsDataOrProgress (band_form payload)) payloads
-    → state.packets + length payloads ≤ max_packets → state.bytes + length (data_of payloads) ≤ reading.limit
+    → state.band_count + length payloads ≤ max_packets → state.byte_count + length (data_of payloads) ≤ reading.limit
     → IsWholeAt reading state (map Data payloads ++ Flush ∷ ends_with reading.ends)
 rest_pack reading state [] here are few short = rest_flush reading state (at_place reading state InPack Flush here) (in_flush state.place here)
 rest_pack reading state (payload ∷ payloads) here are few short =
@@ -156,8 +156,8 @@ pub record IsPackPart (reading : Reading) (packets : List Packet) : Type 0 where
 -- before the pack's heading, with nothing of the pack so far
 pub record IsBeforePack (state : State) : Type 0 where
   pub place : state.place ≡ BeforePack
-  pub packets : state.packets ≡ 0
-  pub bytes : state.bytes ≡ 0
+  pub band_count : state.band_count ≡ 0
+  pub byte_count : state.byte_count ≡ 0
 
 pub next-packfile : (format : Format) (state : State) (heading : List ℕ) → state.place ≡ BeforePack → reply_form (text heading) ≡ Packfile
     → next_state format state (Data heading) ≡ moved state InPack
@@ -173,8 +173,8 @@ pack_part reading state (Data heading ∷ rest) before h =
     let goes = goes_on _ (data_not_whole reading state BeforePack heading before.place tt) h in
     let form : reply_form (text heading) ≡ Packfile = before_open _ (data_open reading state BeforePack heading before.place tt goes.0) in
     let whole = at_state reading (next_state reading.format state (Data heading)) (moved state InPack) rest (next-packfile reading.format state heading before.place form) goes.1 in
-    let none = before.packets in
-    let empty = before.bytes in
+    let none = before.band_count in
+    let empty = before.byte_count in
     let more = pack_rest reading (moved state InPack) rest refl (omega arith) (omega arith) whole in
     record {
       section = Data heading ∷ (map Data more.payloads ++ Flush ∷ []);
@@ -199,8 +199,8 @@ pub part_pack : (reading : Reading) (state : State) (section : List Packet) (pac
     → IsWholeAt reading state (section ++ ends_with reading.ends)
 part_pack reading state section pack before is =
     let form = packfile_form (text is.heading) is.is_heading in
-    let none = before.packets in
-    let empty = before.bytes in
+    let none = before.band_count in
+    let empty = before.byte_count in
     let few = is.few in
     let long : length pack ≡ length (data_of is.payloads) = ap length is.is_data in
     let short = is.short in

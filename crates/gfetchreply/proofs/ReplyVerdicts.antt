@@ -12,7 +12,7 @@ use Rattle.ggrammar.specs.Ids.{id_of_text}
 use Rattle.ggrammar.specs.PeerErrors.{peer_error, unless_error}
 use Rattle.ggrammar.specs.declared.fault.Why.TheVariants as why
 use Rattle.gfetchreply.specs.FetchManual.{IsDataOrProgress}
-use Rattle.gfetchreply.specs.FetchReplies.{Reading, State, Place, Start, Acking, Naked, AfterReady, BeforePack, InPack, Over}
+use Rattle.gfetchreply.specs.FetchReplies.{Reading, State, Place, Start, Acking, AfterNak, AfterReady, BeforePack, InPack, Over}
 use Rattle.gfetchreply.specs.FetchReplies.{ReplyForm, Acknowledgments, Nak, Readiness, Packfile, Ack, OtherForm}
 use Rattle.gfetchreply.specs.FetchReplies.{max_acks, max_packets, data_in, judge, judge_at, judge_there, judge_acking, judge_start, judge_before_pack, judge_late, judge_band, judge_payload, state_of, first_place, next_place, texts_there, bands_there}
 use Rattle.gfetchreply.proofs.FromLeft.{state_after, judge_from, OpenFrom, WholeFrom}
@@ -22,7 +22,7 @@ use Rattle.gfetchreply.proofs.StateLemmas.{state_of-nil, state_of-push, next_sta
 
 -- before the first packet
 abbrev pub start : Reading → State
-start reading = record { place = first_place reading.direct; acks = 0; packets = 0; bytes = 0 }
+start reading = record { place = first_place reading.direct; ack_count = 0; band_count = 0; byte_count = 0 }
 
 -- whole from a state on, and open
 abbrev pub IsWholeAt : Reading → State → List Packet → Type 0
@@ -58,7 +58,7 @@ not_whole_room : (test : Bool) → if_room test ≡ Whole → ⊥
 not_whole_room true e = cc
 not_whole_room false e = cc
 
-has_room : (test : Bool) → test ≡ true → if_room test ≡ Open
+pub has_room : (test : Bool) → test ≡ true → if_room test ≡ Open
 has_room test e = ap if_room e
 
 past_error : (said : Option (List ℕ)) (verdict goal : Verdict) → unless_error said verdict ≡ Open → verdict ≡ Open
@@ -85,7 +85,7 @@ data_there : (reading : Reading) (place : Place) (state : State) (payload : List
     → judge_there reading place state (Data payload) ≡ unless_error (peer_error payload) (judge_payload reading place state payload)
 data_there reading Start state payload due = refl
 data_there reading Acking state payload due = refl
-data_there reading Naked state payload due = refl
+data_there reading AfterNak state payload due = refl
 data_there reading AfterReady state payload due = refl
 data_there reading BeforePack state payload due = refl
 data_there reading InPack state payload due = refl
@@ -162,7 +162,7 @@ late_not_open OtherForm e = cc
 not_whole_payload : (reading : Reading) (place : Place) (state : State) (payload : List ℕ) → judge_payload reading place state payload ≡ Whole → ⊥
 not_whole_payload reading Start state payload e = not_whole_start _ e
 not_whole_payload reading Acking state payload e = not_whole_acking reading.format state _ e
-not_whole_payload reading Naked state payload e = late_refused _ Whole e refl
+not_whole_payload reading AfterNak state payload e = late_refused _ Whole e refl
 not_whole_payload reading AfterReady state payload e = late_refused _ Whole e refl
 not_whole_payload reading BeforePack state payload e = not_whole_before _ e
 not_whole_payload reading InPack state payload e = not_whole_band reading.limit state _ e
@@ -194,18 +194,18 @@ before_open OtherForm e = cc
 
 -- the forms that the acknowledgments go on with
 pub data AckingOn (format : Format) (state : State) : ReplyForm → Type 0 where
-  an_ack : (digits id : List ℕ) → id_of_text format digits ≡ Some id → state.acks < max_acks → AckingOn format state (Ack digits)
-  a_nak : state.acks ≡ 0 → AckingOn format state Nak
+  an_ack : (digits id : List ℕ) → id_of_text format digits ≡ Some id → state.ack_count < max_acks → AckingOn format state (Ack digits)
+  a_nak : state.ack_count ≡ 0 → AckingOn format state Nak
   a_readiness : AckingOn format state Readiness
 
-nak_open : (state : State) (test : Bool) → nat_lt 0 state.acks ≡ test → cond test (Refused why.WrongSection) Open ≡ Open → state.acks ≡ 0
+nak_open : (state : State) (test : Bool) → nat_lt 0 state.ack_count ≡ test → cond test (Refused why.WrongSection) Open ≡ Open → state.ack_count ≡ 0
 nak_open state true is e = cc
-nak_open state false is e = omega (arith, ltb-false 0 state.acks is)
+nak_open state false is e = omega (arith, ltb-false 0 state.ack_count is)
 
 ack_open : (format : Format) (state : State) (digits : List ℕ) (id : Option (List ℕ)) → id_of_text format digits ≡ id
-    → cond (is_some id) (if_room (nat_lt state.acks max_acks)) (Refused why.BadId) ≡ Open → AckingOn format state (Ack digits)
+    → cond (is_some id) (if_room (nat_lt state.ack_count max_acks)) (Refused why.BadId) ≡ Open → AckingOn format state (Ack digits)
 ack_open format state digits None is e = cc
-ack_open format state digits (Some id) is e = an_ack digits id is (ltb-true state.acks max_acks (room _ e))
+ack_open format state digits (Some id) is e = an_ack digits id is (ltb-true state.ack_count max_acks (room _ e))
 
 pub acking_open : (format : Format) (state : State) (form : ReplyForm) → judge_acking format state form ≡ Open → AckingOn format state form
 acking_open format state Acknowledgments e = cc
@@ -217,8 +217,8 @@ acking_open format state OtherForm e = cc
 
 pub open_acking : (format : Format) (state : State) (form : ReplyForm) → AckingOn format state form → judge_acking format state form ≡ Open
 open_acking format state (Ack digits) (an_ack d id is few) =
-    ap (λ (o : Option (List ℕ)). cond (is_some o) (if_room (nat_lt state.acks max_acks)) (Refused why.BadId)) is
-    ∙ has_room _ (lt-ltb state.acks max_acks few)
+    ap (λ (o : Option (List ℕ)). cond (is_some o) (if_room (nat_lt state.ack_count max_acks)) (Refused why.BadId)) is
+    ∙ has_room _ (lt-ltb state.ack_count max_acks few)
 open_acking format state Nak (a_nak none) = ap (λ (n : ℕ). cond (nat_lt 0 n) (Refused why.WrongSection) Open) none
 open_acking format state Readiness a_readiness = refl
 open_acking format state Acknowledgments on = elim on [ ]
@@ -228,24 +228,24 @@ open_acking format state OtherForm on = elim on [ ]
 -- a packet of the pack's section that goes on
 pub record BandOn (limit : ℕ) (state : State) (form : Result BandPacket BandFault) : Type 0 where
   pub is : IsDataOrProgress form
-  pub few : state.packets < max_packets
-  pub short : state.bytes + length (data_in form) ≤ limit
+  pub few : state.band_count < max_packets
+  pub short : state.byte_count + length (data_in form) ≤ limit
 
-pub band_open : (limit : ℕ) (state : State) (form : Result BandPacket BandFault) → state.bytes ≤ limit → judge_band limit state form ≡ Open → BandOn limit state form
+pub band_open : (limit : ℕ) (state : State) (form : Result BandPacket BandFault) → state.byte_count ≤ limit → judge_band limit state form ≡ Open → BandOn limit state form
 band_open limit state (Err fault) within e = cc
 band_open limit state (Ok (Fatal bytes)) within e = cc
 band_open limit state (Ok (BandData bytes)) within e =
     let both = and_parts _ _ (room _ e) in
-    record { is = tt; few = ltb-true state.packets max_packets both.0; short = leb-true _ limit both.1 }
+    record { is = tt; few = ltb-true state.band_count max_packets both.0; short = leb-true _ limit both.1 }
 band_open limit state (Ok (Progress bytes)) within e =
-    record { is = tt; few = ltb-true state.packets max_packets (room _ e); short = omega arith }
+    record { is = tt; few = ltb-true state.band_count max_packets (room _ e); short = omega arith }
 
 pub open_band : (limit : ℕ) (state : State) (form : Result BandPacket BandFault) → BandOn limit state form → judge_band limit state form ≡ Open
 open_band limit state (Err fault) h = absurd h.is
 open_band limit state (Ok (Fatal bytes)) h = absurd h.is
 open_band limit state (Ok (BandData bytes)) h =
-    has_room _ (and_from _ _ (lt-ltb state.packets max_packets h.few) (le-leb _ limit h.short))
-open_band limit state (Ok (Progress bytes)) h = has_room _ (lt-ltb state.packets max_packets h.few)
+    has_room _ (and_from _ _ (lt-ltb state.band_count max_packets h.few) (le-leb _ limit h.short))
+open_band limit state (Ok (Progress bytes)) h = has_room _ (lt-ltb state.band_count max_packets h.few)
 
 -- ---- after the flush
 
@@ -264,7 +264,7 @@ over_not_open ResponseEnd e = cc
 -- ---- a packet that only changes the place
 
 abbrev pub moved : State → Place → State
-moved state place = record { place = place; acks = state.acks; packets = state.packets; bytes = state.bytes }
+moved state place = record { place = place; ack_count = state.ack_count; band_count = state.band_count; byte_count = state.byte_count }
 
 pub next-moved : (format : Format) (state : State) (packet : Packet) (place : Place) → texts_there state.place packet ≡ [] → bands_there state.place packet ≡ []
     → next_place state.place packet ≡ place → next_state format state packet ≡ moved state place

@@ -76,20 +76,20 @@ data-push direct front packet =
 
 -- ---- the state
 
-pub same_state : {a b : State} → a.place ≡ b.place → a.acks ≡ b.acks → a.packets ≡ b.packets → a.bytes ≡ b.bytes → a ≡ b
-same_state place acks packets bytes = λ i. record { place = place i; acks = acks i; packets = packets i; bytes = bytes i }
+pub same_state : {a b : State} → a.place ≡ b.place → a.ack_count ≡ b.ack_count → a.band_count ≡ b.band_count → a.byte_count ≡ b.byte_count → a ≡ b
+same_state place ack_count band_count byte_count = λ i. record { place = place i; ack_count = ack_count i; band_count = band_count i; byte_count = byte_count i }
 
 -- the state after a packet more
 abbrev pub next_state : Format → State → Packet → State
 next_state format state packet = record {
   place = next_place state.place packet;
-  acks = state.acks + length (acks_there format state.place packet);
-  packets = state.packets + length (bands_there state.place packet);
-  bytes = state.bytes + length (data_of (bands_there state.place packet));
+  ack_count = state.ack_count + length (acks_there format state.place packet);
+  band_count = state.band_count + length (bands_there state.place packet);
+  byte_count = state.byte_count + length (data_of (bands_there state.place packet));
 }
 
 pub state_of-nil : (reading : Reading)
-    → state_of reading [] ≡ record { place = first_place reading.direct; acks = 0; packets = 0; bytes = 0 }
+    → state_of reading [] ≡ record { place = first_place reading.direct; ack_count = 0; band_count = 0; byte_count = 0 }
 state_of-nil reading =
     same_state refl
     (ap (λ xs. length (acks_of reading.format xs)) (ack_texts-nil reading.direct))
@@ -131,45 +131,45 @@ data_of-one payload = append-nil (data_in (band_form payload))
 -- an acknowledged id
 pub state-ack : (format : Format) (state : State) (payload digits id : List ℕ) → state.place ≡ Acking → reply_form (text payload) ≡ Ack digits
     → id_of_text format digits ≡ Some id
-    → next_state format state (Data payload) ≡ record { place = Acking; acks = state.acks + 1; packets = state.packets; bytes = state.bytes }
+    → next_state format state (Data payload) ≡ record { place = Acking; ack_count = state.ack_count + 1; band_count = state.band_count; byte_count = state.byte_count }
 state-ack format state payload digits id here form spells =
     let one : acks_of format (text payload ∷ []) ≡ id ∷ [] =
     acks_of-one format (text payload) (Some id) (ap (ack_id format) form ∙ spells) in
     same_state
     (ap (λ (p : Place). next_place p (Data payload)) here ∙ ap (after_text Acking) form)
-    (ap (λ (p : Place). state.acks + length (acks_there format p (Data payload))) here ∙ ap (λ (xs : List (List ℕ)). state.acks + length xs) one)
-    (ap (λ (p : Place). state.packets + length (bands_there p (Data payload))) here ∙ add-zero state.packets)
-    (ap (λ (p : Place). state.bytes + length (data_of (bands_there p (Data payload)))) here ∙ add-zero state.bytes)
+    (ap (λ (p : Place). state.ack_count + length (acks_there format p (Data payload))) here ∙ ap (λ (xs : List (List ℕ)). state.ack_count + length xs) one)
+    (ap (λ (p : Place). state.band_count + length (bands_there p (Data payload))) here ∙ add-zero state.band_count)
+    (ap (λ (p : Place). state.byte_count + length (data_of (bands_there p (Data payload)))) here ∙ add-zero state.byte_count)
 
 -- another text of the acknowledgments
 pub state-acking : (format : Format) (state : State) (payload : List ℕ) (form : ReplyForm) → state.place ≡ Acking → reply_form (text payload) ≡ form
     → ack_id format form ≡ None
-    → next_state format state (Data payload) ≡ record { place = after_text Acking form; acks = state.acks; packets = state.packets; bytes = state.bytes }
+    → next_state format state (Data payload) ≡ record { place = after_text Acking form; ack_count = state.ack_count; band_count = state.band_count; byte_count = state.byte_count }
 state-acking format state payload form here is none =
     let no_acks : acks_of format (text payload ∷ []) ≡ [] =
     acks_of-one format (text payload) None (ap (ack_id format) is ∙ none) in
     same_state
     (ap (λ (p : Place). next_place p (Data payload)) here ∙ ap (after_text Acking) is)
-    (ap (λ (p : Place). state.acks + length (acks_there format p (Data payload))) here ∙ (ap (λ (xs : List (List ℕ)). state.acks + length xs) no_acks ∙ add-zero state.acks))
-    (ap (λ (p : Place). state.packets + length (bands_there p (Data payload))) here ∙ add-zero state.packets)
-    (ap (λ (p : Place). state.bytes + length (data_of (bands_there p (Data payload)))) here ∙ add-zero state.bytes)
+    (ap (λ (p : Place). state.ack_count + length (acks_there format p (Data payload))) here ∙ (ap (λ (xs : List (List ℕ)). state.ack_count + length xs) no_acks ∙ add-zero state.ack_count))
+    (ap (λ (p : Place). state.band_count + length (bands_there p (Data payload))) here ∙ add-zero state.band_count)
+    (ap (λ (p : Place). state.byte_count + length (data_of (bands_there p (Data payload)))) here ∙ add-zero state.byte_count)
 
 -- a packet of the pack's section
 pub state-band : (format : Format) (state : State) (payload : List ℕ) → state.place ≡ InPack
     → next_state format state (Data payload)
-    ≡ record { place = InPack; acks = state.acks; packets = state.packets + 1; bytes = state.bytes + length (data_in (band_form payload)) }
+    ≡ record { place = InPack; ack_count = state.ack_count; band_count = state.band_count + 1; byte_count = state.byte_count + length (data_in (band_form payload)) }
 state-band format state payload here =
     same_state
     (ap (λ (p : Place). next_place p (Data payload)) here)
-    (ap (λ (p : Place). state.acks + length (acks_there format p (Data payload))) here ∙ add-zero state.acks)
-    (ap (λ (p : Place). state.packets + length (bands_there p (Data payload))) here)
-    (ap (λ (p : Place). state.bytes + length (data_of (bands_there p (Data payload)))) here ∙ ap (λ (xs : List ℕ). state.bytes + length xs) (data_of-one payload))
+    (ap (λ (p : Place). state.ack_count + length (acks_there format p (Data payload))) here ∙ add-zero state.ack_count)
+    (ap (λ (p : Place). state.band_count + length (bands_there p (Data payload))) here)
+    (ap (λ (p : Place). state.byte_count + length (data_of (bands_there p (Data payload)))) here ∙ ap (λ (xs : List ℕ). state.byte_count + length xs) (data_of-one payload))
 
 -- a packet that gives nothing: it changes at most the place
 pub state-move : (format : Format) (state : State) (packet : Packet) → texts_there state.place packet ≡ [] → bands_there state.place packet ≡ []
-    → next_state format state packet ≡ record { place = next_place state.place packet; acks = state.acks; packets = state.packets; bytes = state.bytes }
+    → next_state format state packet ≡ record { place = next_place state.place packet; ack_count = state.ack_count; band_count = state.band_count; byte_count = state.byte_count }
 state-move format state packet no_texts no_bands =
     same_state refl
-    (ap (λ (xs : List (List ℕ)). state.acks + length (acks_of format xs)) no_texts ∙ add-zero state.acks)
-    (ap (λ (xs : List (List ℕ)). state.packets + length xs) no_bands ∙ add-zero state.packets)
-    (ap (λ (xs : List (List ℕ)). state.bytes + length (data_of xs)) no_bands ∙ add-zero state.bytes)
+    (ap (λ (xs : List (List ℕ)). state.ack_count + length (acks_of format xs)) no_texts ∙ add-zero state.ack_count)
+    (ap (λ (xs : List (List ℕ)). state.band_count + length xs) no_bands ∙ add-zero state.band_count)
+    (ap (λ (xs : List (List ℕ)). state.byte_count + length (data_of xs)) no_bands ∙ add-zero state.byte_count)

@@ -20,14 +20,14 @@ IsDataOrProgress (Ok (Progress bytes)) = Unit {0}
 IsDataOrProgress _ = ⊥
 
 -- `acknowledgments`, and the acknowledged ids
-pub record IsAckSection (format : Format) (packets : List Packet) (commons : List (List ℕ)) : Type 0 where
+pub record IsAckSection (format : Format) (packets : List Packet) (ids : List (List ℕ)) : Type 0 where
   pub heading : List ℕ
   pub acks : List (List ℕ)
   pub parts : packets ≡ Data heading ∷ map Data acks
   pub is_heading : text heading ≡ codes "acknowledgments"
   pub are_acks : All (IsAck format) (map text acks)
   pub few : length acks ≤ max_acks
-  pub are : commons ≡ acks_of format (map text acks)
+  pub are : ids ≡ acks_of format (map text acks)
 
 -- `packfile`, side-band packets and a flush
 pub record IsPackSection (limit : ℕ) (packets : List Packet) (pack : List ℕ) : Type 0 where
@@ -49,28 +49,28 @@ pub record IsNakReply (format : Format) (packets : List Packet) : Type 0 where
   pub parts : packets ≡ section ++ Data nak ∷ Flush ∷ []
 
 -- some ids are common, and it is not enough
-pub record IsAckReply (format : Format) (packets : List Packet) (commons : List (List ℕ)) : Type 0 where
+pub record IsAckReply (format : Format) (packets : List Packet) (ids : List (List ℕ)) : Type 0 where
   pub section : List Packet
-  pub acks : IsAckSection format section commons
+  pub acks : IsAckSection format section ids
   pub parts : packets ≡ section ++ Flush ∷ []
 
 -- enough is common, and the pack follows
-pub record IsReadyReply (format : Format) (limit : ℕ) (packets : List Packet) (commons : List (List ℕ))
+pub record IsReadyReply (format : Format) (limit : ℕ) (packets : List Packet) (ids : List (List ℕ))
     (pack : List ℕ) : Type 0 where
   pub section : List Packet
   pub readiness : List ℕ
   pub rest : List Packet
-  pub acks : IsAckSection format section commons
+  pub acks : IsAckSection format section ids
   pub is_readiness : text readiness ≡ codes "ready"
   pub packs : IsPackSection limit rest pack
   pub parts : packets ≡ section ++ Data readiness ∷ Delim ∷ rest
 
 abbrev pub IsBody : Reading → List Packet → FetchReply → Type 0
-IsBody reading packets (Acks commons) =
+IsBody reading packets (Acks ids) =
     (reading.direct ≡ false)
-    × (((commons ≡ []) × IsNakReply reading.format packets) ⊎ IsAckReply reading.format packets commons)
-IsBody reading packets (Ready commons pack) =
-    (reading.direct ≡ false) × IsReadyReply reading.format reading.limit packets commons pack
+    × (((ids ≡ []) × IsNakReply reading.format packets) ⊎ IsAckReply reading.format packets ids)
+IsBody reading packets (Ready ids pack) =
+    (reading.direct ≡ false) × IsReadyReply reading.format reading.limit packets ids pack
 IsBody reading packets (Pack pack) = (reading.direct ≡ true) × IsPackSection reading.limit packets pack
 
 -- the packets are a reply, and say this

@@ -7,7 +7,7 @@
 -- A reply is `direct` where the request had `done` or no have: then it is the pack's section alone. Otherwise the
 -- acknowledgments come first, and the pack follows exactly where they are ready. Where the peer ends each reply
 -- so, a response-end follows the flush.
-use Rattle.std.specs.Prelude.{◌≡◌, ℕ, ◌+◌, ◌≤◌, ◌<◌, Bool, true, false, ◌&&◌, List, [], ◌∷◌, ◌++◌, length, map}
+use Rattle.std.specs.Prelude.{◌≡◌, ℕ, zero, suc, ◌+◌, Bool, true, false, ◌&&◌, List, [], ◌∷◌, ◌++◌, length, map, take, drop}
 use Rattle.std.specs.Prelude.{if◌then◌else◌, codes, nat_le, nat_lt, Option, Some, None, is_some, Result, Ok, Err}
 use Rattle.std.specs.List.{filter_map, flat_map, list_any}
 use Rattle.std.specs.Str.{bytes_eq}
@@ -28,8 +28,8 @@ use Rattle.ggrammar.specs.declared.fault.Why.TheVariants as why
 
 -- what the reply says
 pub data FetchReply : Type 0 where
-  Acks : (commons : List (List ℕ)) → FetchReply
-  Ready : (commons : List (List ℕ)) (pack : List ℕ) → FetchReply
+  Acks : (ids : List (List ℕ)) → FetchReply
+  Ready : (ids : List (List ℕ)) (pack : List ℕ) → FetchReply
   Pack : (pack : List ℕ) → FetchReply
 
 -- how a reply is read: whether the pack comes at once, the most bytes of a pack, how a reply ends, and the format
@@ -71,7 +71,7 @@ pub data Place : Type 0 where
   -- after it, and after acknowledged ids
   Acking : Place
   -- after NAK: nothing was common
-  Naked : Place
+  AfterNak : Place
   -- after `ready`: the delimiter is due
   AfterReady : Place
   -- the pack's heading is due
@@ -88,7 +88,7 @@ first_place false = Start
 -- a text of the acknowledgments leads on
 abbrev pub after_text : Place → ReplyForm → Place
 after_text Start Acknowledgments = Acking
-after_text Acking Nak = Naked
+after_text Acking Nak = AfterNak
 after_text Acking Readiness = AfterReady
 after_text BeforePack Packfile = InPack
 after_text place line = place
@@ -100,7 +100,7 @@ next_place place (Data payload) = after_text place (reply_form (text payload))
 next_place AfterReady Delim = BeforePack
 next_place place Delim = place
 next_place Acking Flush = Over
-next_place Naked Flush = Over
+next_place AfterNak Flush = Over
 next_place InPack Flush = Over
 next_place place Flush = place
 next_place place ResponseEnd = place
@@ -163,16 +163,16 @@ reply_of reading packets = reply_by reading (ack_texts reading.direct packets) (
 -- what the packets so far count for
 pub record State : Type 0 where
   pub place : Place
-  pub acks : ℕ
-  pub packets : ℕ
-  pub bytes : ℕ
+  pub ack_count : ℕ
+  pub band_count : ℕ
+  pub byte_count : ℕ
 
 abbrev pub state_of : Reading → List Packet → State
 state_of reading packets = record {
   place = place_of reading.direct packets;
-  acks = length (acks_of reading.format (ack_texts reading.direct packets));
-  packets = length (band_payloads reading.direct packets);
-  bytes = length (data_of (band_payloads reading.direct packets));
+  ack_count = length (acks_of reading.format (ack_texts reading.direct packets));
+  band_count = length (band_payloads reading.direct packets);
+  byte_count = length (data_of (band_payloads reading.direct packets));
 }
 
 -- the most packets of a pack's section
@@ -181,11 +181,11 @@ max_packets = 4294967295
 
 abbrev pub judge_ack : Format → State → List ℕ → Verdict
 judge_ack format state id =
-    if is_some (id_of_text format id) then if_room (nat_lt state.acks max_acks) else Refused why.BadId
+    if is_some (id_of_text format id) then if_room (nat_lt state.ack_count max_acks) else Refused why.BadId
 
 abbrev pub judge_acking : Format → State → ReplyForm → Verdict
 judge_acking format state (Ack id) = judge_ack format state id
-judge_acking format state Nak = if nat_lt 0 state.acks then Refused why.WrongSection else Open
+judge_acking format state Nak = if nat_lt 0 state.ack_count then Refused why.WrongSection else Open
 judge_acking format state Readiness = Open
 judge_acking format state Acknowledgments = Refused why.WrongSection
 judge_acking format state Packfile = Refused why.WrongSection
@@ -210,13 +210,13 @@ abbrev pub judge_band : ℕ → State → Result BandPacket BandFault → Verdic
 judge_band limit state (Err fault) = Refused (why.Band fault)
 judge_band limit state (Ok (Fatal bytes)) = Refused (why.RemoteFatal (kept_text bytes))
 judge_band limit state (Ok (BandData bytes)) =
-    if_room (nat_lt state.packets max_packets && nat_le (state.bytes + length bytes) limit)
-judge_band limit state (Ok (Progress bytes)) = if_room (nat_lt state.packets max_packets)
+    if_room (nat_lt state.band_count max_packets && nat_le (state.byte_count + length bytes) limit)
+judge_band limit state (Ok (Progress bytes)) = if_room (nat_lt state.band_count max_packets)
 
 abbrev pub judge_payload : Reading → Place → State → List ℕ → Verdict
 judge_payload reading Start state payload = judge_start (reply_form (text payload))
 judge_payload reading Acking state payload = judge_acking reading.format state (reply_form (text payload))
-judge_payload reading Naked state payload = judge_late (reply_form (text payload))
+judge_payload reading AfterNak state payload = judge_late (reply_form (text payload))
 judge_payload reading AfterReady state payload = judge_late (reply_form (text payload))
 judge_payload reading BeforePack state payload = judge_before_pack (reply_form (text payload))
 judge_payload reading InPack state payload = judge_band reading.limit state (band_form payload)
@@ -224,7 +224,7 @@ judge_payload reading Over state payload = Refused why.UnexpectedFrame
 
 abbrev pub judge_flush : Ends → Place → Verdict
 judge_flush ends Acking = at_flush ends
-judge_flush ends Naked = at_flush ends
+judge_flush ends AfterNak = at_flush ends
 judge_flush ends InPack = at_flush ends
 judge_flush ends _ = Refused why.WrongSection
 
@@ -278,37 +278,40 @@ abbrev pub nak_if_none : List Packet → List Packet
 nak_if_none [] = text_packet (codes "NAK") ∷ []
 nak_if_none (first ∷ acks) = first ∷ acks
 
--- the pack in pieces of the largest size, the last one shorter or equal; none of an empty pack
-pub data IsPieces : List ℕ → List (List ℕ) → Type 0 where
-  none : IsPieces [] []
-  last : (piece : List ℕ) → 0 < length piece → length piece ≤ max_band → IsPieces piece (piece ∷ [])
-  full : (piece rest : List ℕ) (pieces : List (List ℕ)) → length piece ≡ max_band → 0 < length rest
-      → IsPieces rest pieces → IsPieces (piece ++ rest) (piece ∷ pieces)
+-- the pack in pieces of the largest size, the last one shorter or equal: so many at most
+abbrev pub pieces_within : ℕ → List ℕ → List (List ℕ)
+pieces_within zero pack = []
+pieces_within (suc most) [] = []
+pieces_within (suc most) (byte ∷ rest) =
+    take max_band (byte ∷ rest) ∷ pieces_within most (drop max_band (byte ∷ rest))
+
+-- all of them, which are no more than the bytes; none of an empty pack
+unfoldable pub pieces : List ℕ → List (List ℕ)
+pieces pack = pieces_within (length pack) pack
 
 abbrev pub data_packet : List ℕ → Packet
 data_packet bytes = Data (band_payload (BandData bytes))
 
 -- `packfile`, the pack on band 1, and a flush
-pub record IsCanonicalPack (pack : List ℕ) (packets : List Packet) : Type 0 where
-  pub pieces : List (List ℕ)
-  pub are_pieces : IsPieces pack pieces
-  pub parts :
-      packets ≡ text_packet (codes "packfile") ∷ (map data_packet pieces ++ Flush ∷ [])
+abbrev pub pack_section : List ℕ → List Packet
+pack_section pack = text_packet (codes "packfile") ∷ (map data_packet (pieces pack) ++ Flush ∷ [])
 
-abbrev pub heading : Packet
-heading = text_packet (codes "acknowledgments")
+abbrev pub heading_packet : Packet
+heading_packet = text_packet (codes "acknowledgments")
 
-abbrev pub readiness : Packet
-readiness = text_packet (codes "ready")
+abbrev pub ready_packet : Packet
+ready_packet = text_packet (codes "ready")
 
-abbrev pub IsCanonicalBody : FetchReply → List Packet → Type 0
-IsCanonicalBody (Acks commons) packets = packets ≡ heading ∷ (nak_if_none (map ack_packet commons) ++ Flush ∷ [])
-IsCanonicalBody (Ready commons pack) packets = (section : List Packet) × IsCanonicalPack pack section
-    × (packets ≡ heading ∷ (map ack_packet commons ++ readiness ∷ Delim ∷ section))
-IsCanonicalBody (Pack pack) packets = IsCanonicalPack pack packets
+-- the packets before the end of the reply
+abbrev pub body_packets : FetchReply → List Packet
+body_packets (Acks ids) = heading_packet ∷ (nak_if_none (map ack_packet ids) ++ Flush ∷ [])
+body_packets (Ready ids pack) = heading_packet ∷ (map ack_packet ids ++ ready_packet ∷ Delim ∷ pack_section pack)
+body_packets (Pack pack) = pack_section pack
 
 -- the packets that are written of a reply
-pub record IsCanonicalReply (ends : Ends) (reply : FetchReply) (packets : List Packet) : Type 0 where
-  pub body : List Packet
-  pub is_body : IsCanonicalBody reply body
-  pub parts : packets ≡ body ++ ends_with ends
+unfoldable pub canonical_reply : Ends → FetchReply → List Packet
+canonical_reply ends reply = body_packets reply ++ ends_with ends
+
+-- those lines are written of that reply
+abbrev pub IsCanonical : Ends → List Packet → FetchReply → Type 0
+IsCanonical ends packets reply = packets ≡ canonical_reply ends reply

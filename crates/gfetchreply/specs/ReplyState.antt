@@ -11,11 +11,11 @@ use Rattle.ggrammar.specs.declared.fault.Why.{Why}
 use Rattle.ggrammar.specs.declared.message.Step.{Step}
 use Rattle.ggrammar.specs.declared.message.Step.TheVariants as step
 use Rattle.gfetchreply.specs.FetchReplies.{Reading, State}
-use Rattle.gfetchreply.specs.FetchReplies.{Place, Start, Acking, Naked, AfterReady, BeforePack, InPack, Over}
+use Rattle.gfetchreply.specs.FetchReplies.{Place, Start, Acking, AfterNak, AfterReady, BeforePack, InPack, Over}
 use Rattle.gfetchreply.specs.FetchReplies.{ReplyForm, Acknowledgments, Nak, Readiness, Packfile, Ack, reply_form}
 use Rattle.gfetchreply.specs.FetchReplies.{ack_texts, acks_of, band_payloads, data_in, data_of, first_place, is_ready}
 use Rattle.gfetchreply.specs.FetchReplies.{next_place, payload_brings, place_of}
-use Rattle.gfetchreply.specs.Values.{Commons}
+use Rattle.gfetchreply.specs.Values.{Acks}
 use Rattle.gfetchreply.specs.declared.sections.Place as coded
 use Rattle.gfetchreply.specs.declared.sections.Place.TheVariants as place
 use Rattle.gfetchreply.specs.declared.sections.Sections.{Sections}
@@ -24,37 +24,37 @@ use Rattle.gfetchreply.specs.declared.sections.Sections.{Sections}
 -- pack came
 pub record Kept : Type 0 where
   pub place : Place
-  pub commons : Commons
+  pub acks : Acks
   pub ready : Bool
-  pub packets : ℕ
-  pub bytes : ℕ
+  pub band_count : ℕ
+  pub byte_count : ℕ
 
 -- what is kept of these packets
 abbrev pub kept_of : Format → Bool → List Packet → Kept
 kept_of format direct packets = record {
   place = place_of direct packets;
-  commons = record { format = format; ids = acks_of format (ack_texts direct packets) };
+  acks = record { format = format; ids = acks_of format (ack_texts direct packets) };
   ready = is_ready (ack_texts direct packets);
-  packets = length (band_payloads direct packets);
-  bytes = length (data_of (band_payloads direct packets));
+  band_count = length (band_payloads direct packets);
+  byte_count = length (data_of (band_payloads direct packets));
 }
 
 abbrev pub first_kept : Format → Bool → Kept
 first_kept format direct = record {
   place = first_place direct;
-  commons = record { format = format; ids = [] };
+  acks = record { format = format; ids = [] };
   ready = false;
-  packets = 0;
-  bytes = 0;
+  band_count = 0;
+  byte_count = 0;
 }
 
 -- what it counts for
 abbrev pub state_kept : Kept → State
 state_kept kept = record {
   place = kept.place;
-  acks = length kept.commons.ids;
-  packets = kept.packets;
-  bytes = kept.bytes;
+  ack_count = length kept.acks.ids;
+  band_count = kept.band_count;
+  byte_count = kept.byte_count;
 }
 
 -- ---- what a packet adds
@@ -65,17 +65,17 @@ id_list (Some id) = id ∷ []
 
 abbrev pub with_text : Place → Kept → ReplyForm → Kept
 with_text Start kept Acknowledgments = record kept { place = Acking }
-with_text Acking kept Nak = record kept { place = Naked }
+with_text Acking kept Nak = record kept { place = AfterNak }
 with_text Acking kept Readiness = record kept { place = AfterReady; ready = true }
 with_text Acking kept (Ack id) = record kept {
-  commons = record kept.commons { ids = kept.commons.ids ++ id_list (id_of_text kept.commons.format id) };
+  acks = record kept.acks { ids = kept.acks.ids ++ id_list (id_of_text kept.acks.format id) };
 }
 with_text BeforePack kept Packfile = record kept { place = InPack }
 with_text place kept form = kept
 
 -- so many bytes of the pack in a packet more
 abbrev pub with_band : Kept → ℕ → Kept
-with_band kept more = record kept { packets = kept.packets + 1; bytes = kept.bytes + more }
+with_band kept more = record kept { band_count = kept.band_count + 1; byte_count = kept.byte_count + more }
 
 abbrev pub with_payload : Place → Kept → List ℕ → Kept
 with_payload InPack kept payload = with_band kept (length (data_in (band_form payload)))
@@ -111,7 +111,7 @@ brings_there place ResponseEnd = false
 abbrev pub place_in : coded.Place → Place
 place_in place.Start = Start
 place_in place.Acking = Acking
-place_in place.Naked = Naked
+place_in place.AfterNak = AfterNak
 place_in place.AfterReady = AfterReady
 place_in place.BeforePack = BeforePack
 place_in place.InPack = InPack
@@ -120,10 +120,10 @@ place_in place.Over = Over
 abbrev pub kept_in : {A : Type 0} → Sections A → Kept
 kept_in sections = record {
   place = place_in sections.place;
-  commons = sections.commons;
+  acks = sections.acks;
   ready = sections.ready;
-  packets = sections.packets;
-  bytes = sections.bytes;
+  band_count = sections.band_count;
+  byte_count = sections.byte_count;
 }
 
 abbrev pub state_in : {A : Type 0} → Sections A → State
@@ -132,12 +132,9 @@ state_in sections = state_kept (kept_in sections)
 -- The packet is taken as the verdict says, and then this holds; where it is refused, for a reason of the verdict or
 -- for memory for what it brings, that holds.
 abbrev pub TakesOr : Verdict → Bool → Type 0 → Type 0 → Result Step Why → Type 0
-TakesOr verdict brings P Q (Ok step.Open) = (verdict ≡ Open) × P
-TakesOr verdict brings P Q (Ok step.Whole) = (verdict ≡ Whole) × P
-TakesOr verdict brings P Q (Err why) = IsReason verdict brings why × Q
-
-abbrev pub TakesAs : Verdict → Bool → Type 0 → Result Step Why → Type 0
-TakesAs verdict brings P result = TakesOr verdict brings P (Unit {0}) result
+TakesOr verdict brings taken left (Ok step.Open) = (verdict ≡ Open) × taken
+TakesOr verdict brings taken left (Ok step.Whole) = (verdict ≡ Whole) × taken
+TakesOr verdict brings taken left (Err why) = IsReason verdict brings why × left
 
 abbrev pub verdict_of : Step → Verdict
 verdict_of step.Open = Open
@@ -159,18 +156,21 @@ module _ {S : Type 0} (taken : S → List ℕ → Type 0) where
   TakesBoth verdict brings wanted kept more old new result =
       TakesOr verdict brings ((kept ≡ wanted) × TakesMore old new more) (TakesNone old new) result
 
+module _ {S : Type 0} (taken : S → List ℕ → Type 0) (same : S → S → Type 0) where
   -- this is what is held of the packets so far, which are read as was asked: what is kept; the pack's data in the
-  -- sink, after all that it had before; and the sink is still the same one
-  pub record Holds (had : List ℕ → Type 0) (seat : ℕ) (asked reading : Reading) (kept : Kept) (sink : S) (name : ℕ)
-      (packets : List Packet) : Type 0 where
+  -- sink, after all that it had before; and the sink is in its place, and still what it was
+  pub record Holds (had : List ℕ → Type 0) (starts : S → Type 0) (seat : ℕ) (asked reading : Reading) (kept : Kept)
+      (sink : S) (name : ℕ) (packets : List Packet) : Type 0 where
     pub kind : reading ≡ asked
     pub counts : kept ≡ kept_of reading.format reading.direct packets
     pub pack : (before : List ℕ) → had before → taken sink (before ++ data_of (band_payloads reading.direct packets))
-    pub same : name ≡ seat
+    pub is_same : (start : S) → starts start → same start sink
+    pub in_place : name ≡ seat
 
   -- and this is left of them
-  pub record Leaves (had : List ℕ → Type 0) (seat : ℕ) (asked reading : Reading) (sink : S) (name : ℕ)
-      (packets : List Packet) : Type 0 where
+  pub record Leaves (had : List ℕ → Type 0) (starts : S → Type 0) (seat : ℕ) (asked reading : Reading) (sink : S)
+      (name : ℕ) (packets : List Packet) : Type 0 where
     pub kind : reading ≡ asked
     pub pack : (before : List ℕ) → had before → taken sink (before ++ data_of (band_payloads reading.direct packets))
-    pub same : name ≡ seat
+    pub is_same : (start : S) → starts start → same start sink
+    pub in_place : name ≡ seat

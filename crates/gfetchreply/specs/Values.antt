@@ -1,6 +1,8 @@
 -- The values of replies to fetch, and how they are built.
-use Rattle.std.specs.Prelude.{◌≡◌, ℕ, ◌≤◌, ◌<◌, List, [], ◌∷◌, ◌++◌, length, Result, Ok, Err}
-use Rattle.gname.specs.Ids.{IsIdOf}
+use Rattle.std.specs.Prelude.{◌≡◌, ℕ, ◌≤◌, ◌<◌, ◌==◌, Bool, List, [], ◌∷◌, ◌++◌, length, nat_le, if◌then◌else◌}
+use Rattle.std.specs.Prelude.{Option, Some, None, Result, Ok, Err}
+use Rattle.std.specs.List.{list_all}
+use Rattle.gname.specs.Formats.{id_length}
 use Rattle.gname.specs.Limits.{max_pack}
 use Rattle.gname.specs.declared.formats.Format.{Format}
 use Rattle.ggrammar.specs.declared.fault.Why.{Why}
@@ -13,30 +15,35 @@ abbrev pub default_limit : ℕ
 default_limit = 16777216
 
 -- acknowledged ids of a format
-pub record Commons : Type 0 where
+pub record Acks : Type 0 where
   pub format : Format
   pub ids : List (List ℕ)
 
-abbrev pub with_id : Commons → List ℕ → Commons
-with_id commons id = record commons { ids = commons.ids ++ id ∷ [] }
+abbrev pub with_id : Acks → List ℕ → Acks
+with_id acks id = record acks { ids = acks.ids ++ id ∷ [] }
 
--- An id of the format is added at the end, where there is room for it and memory.
-abbrev pub AddsId : Commons → Commons → List ℕ → Result Unit Why → Type 0
+-- an id has the format
+abbrev pub has_format : Format → List ℕ → Bool
+has_format format id = length id == id_length format
+
+-- why ids are not acknowledged together: one has another format; else they are too many
+abbrev pub acks_fault : Format → List (List ℕ) → Option Why
+acks_fault format ids =
+    if list_all (has_format format) ids then if nat_le (length ids) max_acks then None else Some why.Limit
+    else Some why.BadText
+
+-- ids are acknowledged together; or not, for that reason
+abbrev pub MakesAcks : Format → List (List ℕ) → Result Acks MessageFault → Type 0
+MakesAcks format ids (Ok acks) =
+    (acks_fault format ids ≡ None) × (acks ≡ record { format = format; ids = ids })
+MakesAcks format ids (Err fault) = (fault.frame ≡ 0) × (acks_fault format ids ≡ Some fault.why)
+
+-- an id of the format is added at the end, where there is room for it and memory
+abbrev pub AddsId : Acks → Acks → List ℕ → Result Unit Why → Type 0
 AddsId old new id (Ok _) = (length old.ids < max_acks) × (new ≡ with_id old id)
 AddsId old new id (Err why.Limit) = (max_acks ≤ length old.ids) × (new ≡ old)
 AddsId old new id (Err why.Memory) = (length old.ids < max_acks) × (new ≡ old)
 AddsId old new id (Err _) = ⊥
-
--- An id is added at the end, where it has the format, and there is room for it and memory.
-abbrev pub PushesIdAs : Commons → Commons → List ℕ → Why → Type 0
-PushesIdAs old new id why.BadText = (IsIdOf old.format id → ⊥) × (new ≡ old)
-PushesIdAs old new id why.Limit = IsIdOf old.format id × (max_acks ≤ length old.ids) × (new ≡ old)
-PushesIdAs old new id why.Memory = IsIdOf old.format id × (length old.ids < max_acks) × (new ≡ old)
-PushesIdAs old new id _ = ⊥
-
-abbrev pub PushesId : Commons → Commons → List ℕ → Result Unit MessageFault → Type 0
-PushesId old new id (Ok _) = IsIdOf old.format id × (length old.ids < max_acks) × (new ≡ with_id old id)
-PushesId old new id (Err fault) = (fault.frame ≡ 0) × PushesIdAs old new id fault.why
 
 -- some bytes are a pack where they are not too many
 abbrev pub MakesPack : List ℕ → Result (List ℕ) MessageFault → Type 0

@@ -1,5 +1,6 @@
 -- Forms, values and parameters without where their bytes lie in memory.
-use Rattle.std.specs.Prelude.{ℕ, Bool, false, Result, Ok, Err}
+use Rattle.std.specs.Prelude.{◌≡◌, ℕ, Bool, false, Result, Ok, Err}
+use Rattle.gname.specs.declared.formats.Format.{Format}
 use Rattle.gname.specs.declared.formats.Format.TheVariants.{Sha1}
 use Rattle.ggrammar.specs.declared.ends.Ends.{Ends}
 use Rattle.ggrammar.specs.declared.ends.Ends.TheVariants.{Plain}
@@ -27,14 +28,29 @@ form_in lent.Other = OtherForm
 
 -- what a reply says
 abbrev pub reply_in : {A : Type 0} → FetchReply A → reply.FetchReply
-reply_in (value.Acks commons) = reply.Acks commons.ids
-reply_in (value.Ready commons pack) = reply.Ready commons.ids pack
+reply_in (value.Acks acks) = reply.Acks acks.ids
+reply_in (value.Ready acks pack) = reply.Ready acks.ids pack
 reply_in (value.Pack pack) = reply.Pack pack
 
 abbrev pub head_in : {A : Type 0} → FetchHead A → head.FetchHead
-head_in (value_head.Acks commons) = head.Acks commons.ids
-head_in (value_head.Ready commons) = head.Ready commons.ids
+head_in (value_head.Acks acks) = head.Acks acks.ids
+head_in (value_head.Ready acks) = head.Ready acks.ids
 head_in value_head.Pack = head.Pack
+
+-- the acknowledged ids have the format, which is said also where there are none
+abbrev pub IsHeadOf : {A : Type 0} → Format → FetchHead A → Type 0
+IsHeadOf format (value_head.Acks acks) = acks.format ≡ format
+IsHeadOf format (value_head.Ready acks) = acks.format ≡ format
+IsHeadOf format value_head.Pack = Unit {0}
+
+abbrev pub IsReplyOf : {A : Type 0} → Format → FetchReply A → Type 0
+IsReplyOf format (value.Acks acks) = acks.format ≡ format
+IsReplyOf format (value.Ready acks pack) = acks.format ≡ format
+IsReplyOf format (value.Pack pack) = Unit {0}
+
+-- the format that the head's ids have is that of the reply's
+abbrev pub KeepsFormat : {A : Type 0} → FetchHead A → FetchReply A → Type 0
+KeepsFormat head reply = (format : Format) → IsHeadOf format head → IsReplyOf format reply
 
 abbrev pub head_result : {A : Type 0} → Result (FetchHead A) MessageFault → Result head.FetchHead MessageFault
 head_result (Ok head) = Ok (head_in head)
@@ -50,7 +66,7 @@ reading_in reading = record {
 
 -- with the format of the ids that are kept
 abbrev pub reading_with : {A : Type 0} → FetchReading → Sections A → Reading
-reading_with reading sections = record (reading_in reading) { format = sections.commons.format }
+reading_with reading sections = record (reading_in reading) { format = sections.acks.format }
 
 abbrev pub reply_result : {A : Type 0} → Result (FetchReply A) MessageFault → Result reply.FetchReply MessageFault
 reply_result (Ok found) = Ok (reply_in found)
@@ -62,7 +78,7 @@ sha1_reading direct limit ends = record { format = Sha1; direct = direct; limit 
 
 -- the head of what was read, once it is
 abbrev pub head_after : {A : Type 0} → Bool → Sections A → Result Unit MessageFault → Result head.FetchHead MessageFault
-head_after direct sections (Ok done) = Ok (head.head_by direct sections.ready sections.commons.ids)
+head_after direct sections (Ok done) = Ok (head.head_by direct sections.ready sections.acks.ids)
 head_after direct sections (Err fault) = Err fault
 
 abbrev pub no_reading : Reading

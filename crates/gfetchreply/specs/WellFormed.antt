@@ -4,9 +4,9 @@ use Rattle.gname.specs.Ids.{IsIdOf}
 use Rattle.gname.specs.declared.formats.Format.{Format}
 use Rattle.gfetchreply.specs.FetchReplies.{FetchReply, Acks, Ready, Pack, Reading, max_acks, max_packets}
 
-pub record AreAcks (format : Format) (commons : List (List ℕ)) : Type 0 where
-  pub ids : All (IsIdOf format) commons
-  pub few : length commons ≤ max_acks
+pub record AreAcks (format : Format) (acked : List (List ℕ)) : Type 0 where
+  pub ids : All (IsIdOf format) acked
+  pub few : length acked ≤ max_acks
 
 -- a pack within the limit; one with no more bytes than its section may have packets has room for its pieces
 pub record IsPackWithin (limit : ℕ) (pack : List ℕ) : Type 0 where
@@ -15,7 +15,7 @@ pub record IsPackWithin (limit : ℕ) (pack : List ℕ) : Type 0 where
 
 -- the pack comes alone exactly where the reply is direct
 abbrev pub IsReplyIn : Reading → FetchReply → Type 0
-IsReplyIn reading (Acks commons) = (reading.direct ≡ false) × AreAcks reading.format commons
-IsReplyIn reading (Ready commons pack) =
-    (reading.direct ≡ false) × AreAcks reading.format commons × IsPackWithin reading.limit pack
+IsReplyIn reading (Acks ids) = (reading.direct ≡ false) × AreAcks reading.format ids
+IsReplyIn reading (Ready ids pack) =
+    (reading.direct ≡ false) × AreAcks reading.format ids × IsPackWithin reading.limit pack
 IsReplyIn reading (Pack pack) = (reading.direct ≡ true) × IsPackWithin reading.limit pack

@@ -1,58 +1,101 @@
 //! The laws of replies to fetch. Each function does nothing, and its contract is the law: a caller that calls it
 //! may rely on the law from there on.
 
-ghost use Rattle.std.specs.Prelude.{◌≡◌, ◌<◌, ◌^◌, ◌↔◌, ◌++◌, All, List, [], length};
-ghost use Rattle.gpkt.specs.Laws.{Fits};
-ghost use Rattle.gpkt.specs.Packets.{Packet};
-ghost use Rattle.ggrammar.specs.Grammar.{HasEndings, IsOpen, IsPrefixFree};
-ghost use Rattle.ggrammar.specs.declared.ends.Ends.{Ends};
+ghost use Rattle.ggrammar.specs.Grammar.{HasEndings, IsPrefixFree, RefusesFirstMisfits};
+ghost use Rattle.ggrammar.specs.Kinds.{AsInManual, CanonicalSays, OneMeaning, ReadsBack, ReadsExactly, SaysWhole};
+ghost use Rattle.ggrammar.specs.MessageBytes.{SpellingsPrefixFree};
 ghost use Rattle.gfetchreply.specs.FetchManual.{IsFetchReply};
-ghost use Rattle.gfetchreply.specs.FetchReplies.{FetchReply, IsCanonicalReply, Reading, Says, judge};
-ghost use Rattle.gfetchreply.specs.Laws.{HasShortEndings};
+ghost use Rattle.gfetchreply.specs.FetchReplies.{IsCanonical, Reading, Says, brings, judge};
+ghost use Rattle.gfetchreply.specs.Laws.{HasShortEndings, IsInAnyLimit, IsRefusedOverLimit, OneInWhateverReading, ReadsBackInto, ReadsIntoOnlySaid, ReadsIntoWhereSaid};
 ghost use Rattle.gfetchreply.specs.WellFormed.{IsReplyIn};
 
+use crate::sink::PackSink;
+use ggrammar::laws::{grammars_are_exact, messages_are_read};
 use gname::laws::{ids_have_one_format, ids_have_texts};
-use gpkt::laws::text_reads_back;
+use gpkt::laws::{canonical_spells, text_reads_back};
 
 /// The lists of packets that are read as a reply are those of the manual's grammar, and they say the same
 /// (gitprotocol-v2(5), "fetch").
 pub fn manual()
-    ensures { (reading : Reading) (packets : List Packet) (reply : FetchReply)
-        → Says reading packets reply ↔ IsFetchReply reading packets reply }
+    ensures { (reading : Reading) → AsInManual (Says reading) (IsFetchReply reading) }
 {}
 
-/// Packets say one reply.
+/// Packets say one reply, and exactly those that are a whole reply say one.
 pub fn one_meaning()
-    ensures { (reading : Reading) (packets : List Packet) (a : FetchReply) (b : FetchReply)
-        → Says reading packets a → Says reading packets b → a ≡ b }
+    ensures meaning { (reading : Reading) → OneMeaning (Says reading) }
+    ensures whole { (reading : Reading) → SaysWhole (judge reading) (Says reading) }
 {}
 
-/// No reply begins another, so its end and what it says are known without what follows it.
+/// No reply begins another, and no spelling of one does: its end is known without what follows it.
 pub fn prefix_free()
     ensures packets { (reading : Reading) → IsPrefixFree (judge reading) }
-    ensures meaning { (reading : Reading) (packets : List Packet) (back : List Packet) (reply : FetchReply) (other : FetchReply)
-        → Says reading packets reply → Says reading (packets ++ back) other → (back ≡ []) × (other ≡ reply) }
-{}
+    ensures spellings { (reading : Reading) → SpellingsPrefixFree (judge reading) }
+{
+    grammars_are_exact();
+    messages_are_read();
+}
 
-/// A reply that goes on has an ending of at most four packets, and has had fewer packets than 2^60.
+/// A reply that goes on has an ending of at most four packets, and a refused packet is the first that does not fit.
 pub fn endings()
     ensures endings { (reading : Reading) → HasEndings (judge reading) }
     ensures short { (reading : Reading) → HasShortEndings reading }
-    ensures bounded { (reading : Reading) (front : List Packet) → IsOpen (judge reading) front → length front < 2 ^ 60 }
-{}
+    ensures first { (reading : Reading) → RefusesFirstMisfits (judge reading) }
+{
+    grammars_are_exact();
+}
 
-/// Of each reply one list of packets is written. Each of them fits a packet line, and they say the reply, where
-/// it can be written at all.
+/// The packets that are written of a reply say it, and each fits a packet line.
 pub fn canonical_says()
-    ensures exists { (ends : Ends) (reply : FetchReply) → (packets : List Packet) × IsCanonicalReply ends reply packets }
-    ensures one { (ends : Ends) (reply : FetchReply) (a : List Packet) (b : List Packet)
-        → IsCanonicalReply ends reply a → IsCanonicalReply ends reply b → a ≡ b }
-    ensures fits { (reading : Reading) (reply : FetchReply) (packets : List Packet)
-        → IsReplyIn reading reply → IsCanonicalReply reading.ends reply packets → All Fits packets }
-    ensures says { (reading : Reading) (reply : FetchReply) (packets : List Packet)
-        → IsReplyIn reading reply → IsCanonicalReply reading.ends reply packets → Says reading packets reply }
+    ensures { (reading : Reading) → CanonicalSays (Says reading) (IsReplyIn reading) (IsCanonical reading.ends) }
 {
     ids_have_one_format();
     ids_have_texts();
     text_reads_back();
+}
+
+/// A reply is read, as [`crate::read_fetch_reply_in`] reads it, exactly where a front of the bytes spells packets that
+/// say it.
+pub fn reads_exactly()
+    ensures { (reading : Reading) → ReadsExactly (judge reading) (brings reading) (Says reading) }
+{
+    messages_are_read();
+}
+
+/// What is written of a reply reads back, whatever follows it.
+pub fn reads_back()
+    ensures { (reading : Reading) → ReadsBack (judge reading) (brings reading) (Says reading) (IsReplyIn reading) (IsCanonical reading.ends) }
+{
+    messages_are_read();
+    canonical_says();
+    canonical_spells();
+}
+
+/// A reply is read into a sink, as [`crate::read_fetch_reply_into_in`] reads it, exactly where a front of the bytes spells
+/// packets that say it.
+pub fn reads_into_exactly<T: PackSink>()
+    ensures said { (reading : Reading) → ReadsIntoWhereSaid T.taken reading }
+    ensures only { (reading : Reading) → ReadsIntoOnlySaid T.taken reading }
+{
+    messages_are_read();
+}
+
+/// What is written of a reply reads back into a sink, whatever follows it.
+pub fn reads_back_into<T: PackSink>()
+    ensures { (reading : Reading) → ReadsBackInto T.taken reading }
+{
+    messages_are_read();
+    canonical_says();
+    canonical_spells();
+}
+
+/// A reply that is delivered as the answer to another request, or read within another limit. Whatever way some packets
+/// are read, at most one front of them is a reply, and it says the same. A reply is read within each limit that its pack
+/// keeps; within another one it is refused for the limit alone.
+pub fn other_readings()
+    ensures whatever_reading { OneInWhateverReading }
+    ensures any_limit { IsInAnyLimit }
+    ensures over_limit { IsRefusedOverLimit }
+{
+    grammars_are_exact();
+    messages_are_read();
 }

@@ -4,28 +4,34 @@
 //! # Proved
 //!
 //! - [`read_fetch_reply_into_in`] reads a reply exactly to its end, in whatever pieces its bytes come, and answers the
-//!   head of what it says; the sink has taken the pack's data in order after what it had, at most as many bytes as
-//!   the limit allows. Else the reply is refused at the first packet that does not fit, with the grammar's reason
-//!   (`judge` in `specs/FetchReplies.antt`), and the sink has taken exactly the data of the packets before. Out of
-//!   memory comes only at an acknowledged id and at a packet with some of the pack. [`read_fetch_reply_into`] does
-//!   the same in SHA-1, and [`read_fetch_reply`] keeps the pack in memory.
-//! - [`Commons`] holds ids of one format, at most 4,096, [`PackBytes`] at most `gname::MAX_PACK` bytes, and a
+//!   head of what it says, whose ids have the format that was asked for; the sink has taken the reply's pack after what
+//!   it had, at most as many bytes as the limit allows. Else the reply is refused at the first packet that does not fit,
+//!   with the grammar's reason (`judge` in `specs/FetchReplies.antt`), and the sink has taken exactly the data of the
+//!   packets before, within the limit too. Whatever is answered, the sink is still the same one, as its [`PackSink`] says
+//!   what that is. Out of memory comes only at an acknowledged id and at a packet with some of the pack.
+//!   [`read_fetch_reply_into`] does the same in SHA-1; [`read_fetch_reply_in`] and [`read_fetch_reply`] keep the pack in
+//!   memory.
+//! - [`Acks`] holds ids of one format, at most 4,096, [`PackBytes`] at most `gname::MAX_PACK` bytes, and a
 //!   [`PackLimit`] is at most that; a building call reports another format first, then the limit, and changes
-//!   nothing then.
-//! - [`write_fetch_reply`] writes exactly the bytes of the canonical lines of a reply, and where the sink fails a
-//!   beginning of them. A line is never too long.
+//!   nothing then. A reply is built of ids and of a pack that are there, as they are.
+//! - [`write_fetch_reply`] writes exactly the bytes of the lines of a reply (`canonical_reply`), and where the sink fails
+//!   a beginning of them. A line is never too long.
 //! - [`laws`]: the lists of lines that are replies are those of the manual (`specs/FetchManual.antt`), and what they
-//!   say is the same; lines say one reply, no reply begins another, each beginning has an ending, and what is
-//!   written says the reply.
+//!   say is the same; lines say one reply, no reply and no spelling of one begins another, each beginning has a short
+//!   ending, and a refused packet is the first that does not fit. What is written says the reply and reads back,
+//!   whatever follows; a reply is read exactly where a front of the bytes spells it. Read as the answer to another
+//!   request, the same bytes are the same reply or none; within another limit they are the same reply or are refused for
+//!   the limit alone.
 //!
 //! # Only tested
 //!
-//! That a sink gets no empty piece, and that memory is found where there is some.
+//! That a sink gets no empty piece, that memory is found where there is some, and that writing, and building of ids and
+//! of a pack that are there, take none.
 //!
 //! # What a body can still get away with
 //!
-//! It may give a sink any pieces of a packet's data, and report out of memory at any id and at any packet with data. It
-//! may take as long as it likes.
+//! It may give a sink any pieces of a packet's data, and report out of memory at any id and at any packet with data. A
+//! writing or building call may take memory and let it go. It may take as long as it likes.
 //!
 //! # Stands on
 //!
@@ -46,8 +52,9 @@ mod write;
 
 pub use crate::limit::PackLimit;
 pub use crate::reading::{
-    FetchReading, read_fetch_reply, read_fetch_reply_into, read_fetch_reply_into_in,
+    FetchReading, read_fetch_reply, read_fetch_reply_in, read_fetch_reply_into,
+    read_fetch_reply_into_in,
 };
 pub use crate::sink::PackSink;
-pub use crate::value::{Commons, FetchHead, FetchReply, MAX_ACKS, PackBytes};
+pub use crate::value::{Acks, FetchHead, FetchReply, MAX_ACKS, PackBytes};
 pub use crate::write::write_fetch_reply;

@@ -1,15 +1,18 @@
 //! Reading a reply to fetch.
 
-ghost use Rattle.std.specs.Prelude.{◌≡◌, ℕ, List, length, nat_lt, IfErr, OnOk, MatchResult, true, false, Ok};
+ghost use Rattle.std.specs.Prelude.{◌≡◌, ◌≤◌, ℕ, List, length, nat_lt, IfOk, OnOk, Ok};
 ghost use Rattle.gpkt.specs.Packets.{Data, packet_of};
 ghost use Rattle.gpkt.specs.Bands.{Data as BandData, band_form};
 ghost use Rattle.ggrammar.specs.PeerErrors.{peer_error, unless_error};
 ghost use Rattle.gpkt.specs.Change.{change_of};
-ghost use Rattle.ggrammar.specs.MessageReading.{IsReadFailure, IsFailedBy};
-ghost use Rattle.gfetchreply.specs.FetchReplies.{judge_at, judge_band, judge_payload, payload_brings, band_brings, data_in};
+ghost use Rattle.gname.specs.declared.formats.Format.TheVariants.{Sha1};
+ghost use Rattle.ggrammar.specs.Kinds.{ReadsOrRefuses};
+ghost use Rattle.ggrammar.specs.MessageReading.{LeavesReader};
+ghost use Rattle.gfetchreply.specs.FetchReplies.{Says, band_brings, brings, data_in, judge, judge_at, judge_band, judge_payload, payload_brings};
+ghost use Rattle.gfetchreply.specs.FetchHeads.{pack_of};
 ghost use Rattle.gfetchreply.specs.ReplyState.{TakesBoth, brings_there, data_there, first_kept, kept_in, place_in, state_in, with_band, with_packet, with_payload};
-ghost use Rattle.gfetchreply.specs.ReplyReading.{ReadsReply, ReadsValue};
-ghost use Rattle.gfetchreply.specs.Views.{head_after, head_result, reading_in, reading_with, reply_result, sha1_reading};
+ghost use Rattle.gfetchreply.specs.ReplyReading.{ReadsReply};
+ghost use Rattle.gfetchreply.specs.Views.{IsHeadOf, IsReplyOf, head_after, head_result, reading_in, reading_with, reply_in, reply_result, sha1_reading};
 
 use crate::form::reply_form;
 use crate::limit::PackLimit;
@@ -35,8 +38,8 @@ pub struct FetchReading {
     pub ends: Ends,
 }
 
-// The sink that a reading was lent, what that had taken before, and how the reply is read.
-trait Lent {
+// The sink that a reading was lent, what it was and had taken before, and how the reply is read.
+trait Lent<T> {
     ghost use Rattle.gfetchreply.specs.FetchReplies.{Reading};
 
     ghost asked: { Reading };
@@ -44,9 +47,11 @@ trait Lent {
     ghost seat: { ℕ };
 
     ghost had: { List ℕ → Type 0 };
+
+    ghost starts: { T → Type 0 };
 }
 
-impl Lent for Brand {
+impl<T> Lent<T> for Brand {
     ghost use Rattle.gfetchreply.specs.Views.{no_reading};
 
     ghost asked = { no_reading };
@@ -54,6 +59,8 @@ impl Lent for Brand {
     ghost seat = { 0 };
 
     ghost had = { λ _. ⊥ };
+
+    ghost starts = { λ _. ⊥ };
 }
 
 // A reply that is being read: what its packets have said, and the sink that has their data.
@@ -65,10 +72,10 @@ struct ReplyReader<'s, T, A: Allocator + Copy, L> {
     lent: PhantomData<L>,
 }
 
-impl<'s, T: PackSink, A: Allocator + Copy, L: Lent> ReplyReader<'s, T, A, L> {
+impl<'s, T: PackSink, A: Allocator + Copy, L: Lent<T>> ReplyReader<'s, T, A, L> {
     // A reply without packets.
     fn new(alloc: A, reading: FetchReading, sink: &'s mut T) -> ReplyReader<'s, T, A, L>
-        ensures same { result.sink.ghost_name ≡ sink.entry.ghost_name }
+        ensures in_place { result.sink.ghost_name ≡ sink.entry.ghost_name }
         ensures sink { result.sink.now ≡ sink.old }
         ensures reading { result.reading ≡ reading }
         ensures kept { kept_in result.sections ≡ first_kept reading.format reading.direct }
@@ -83,12 +90,14 @@ impl<'s, T: PackSink, A: Allocator + Copy, L: Lent> ReplyReader<'s, T, A, L> {
 
     fn take_packet(&mut self, line: Line<'_>) -> Result<Step, Why>
         ensures reading { self.new.reading ≡ self.old.reading }
-        ensures same { self.new.sink.ghost_name ≡ self.old.sink.ghost_name }
+        ensures in_place { self.new.sink.ghost_name ≡ self.old.sink.ghost_name }
+        ensures same { T.same self.old.sink.now self.new.sink.now }
         ensures takes { TakesBoth T.taken (judge_at (reading_with self.old.reading self.old.sections) (state_in self.old.sections) (packet_of line.entry))
             (brings_there (place_in self.old.sections.place) (packet_of line.entry))
             (with_packet (kept_in self.old.sections) (packet_of line.entry)) (kept_in self.new.sections)
             (data_there (place_in self.old.sections.place) (packet_of line.entry)) self.old.sink.now self.new.sink.now result }
     {
+        T::laws();
         match line {
             Line::Data(payload) => self.take_payload(payload),
             Line::Flush => self.sections.take_flush(self.reading.ends),
@@ -99,13 +108,15 @@ impl<'s, T: PackSink, A: Allocator + Copy, L: Lent> ReplyReader<'s, T, A, L> {
 
     fn take_payload(&mut self, payload: &[u8]) -> Result<Step, Why>
         ensures reading { self.new.reading ≡ self.old.reading }
-        ensures same { self.new.sink.ghost_name ≡ self.old.sink.ghost_name }
+        ensures in_place { self.new.sink.ghost_name ≡ self.old.sink.ghost_name }
+        ensures same { T.same self.old.sink.now self.new.sink.now }
         ensures takes { TakesBoth T.taken
             (unless_error (peer_error payload.now) (judge_payload (reading_with self.old.reading self.old.sections) (place_in self.old.sections.place) (state_in self.old.sections) payload.now))
             (payload_brings (place_in self.old.sections.place) payload.now)
             (with_payload (place_in self.old.sections.place) (kept_in self.old.sections) payload.now) (kept_in self.new.sections)
             (data_there (place_in self.old.sections.place) (Data payload.now)) self.old.sink.now self.new.sink.now result }
     {
+        T::laws();
         if let Some(said) = peer_error(payload) {
             return Err(Why::RemoteErr(PeerText::new(said)));
         }
@@ -113,7 +124,7 @@ impl<'s, T: PackSink, A: Allocator + Copy, L: Lent> ReplyReader<'s, T, A, L> {
         match self.sections.place {
             Place::Start => self.sections.take_start(form),
             Place::Acking => self.sections.take_acking(form),
-            Place::Naked | Place::AfterReady => Err(late(form)),
+            Place::AfterNak | Place::AfterReady => Err(late(form)),
             Place::BeforePack => self.sections.take_before_pack(form),
             Place::InPack => self.take_band(payload),
             Place::Over => Err(Why::UnexpectedFrame),
@@ -122,12 +133,14 @@ impl<'s, T: PackSink, A: Allocator + Copy, L: Lent> ReplyReader<'s, T, A, L> {
 
     fn take_band(&mut self, payload: &[u8]) -> Result<Step, Why>
         ensures reading { self.new.reading ≡ self.old.reading }
-        ensures same { self.new.sink.ghost_name ≡ self.old.sink.ghost_name }
+        ensures in_place { self.new.sink.ghost_name ≡ self.old.sink.ghost_name }
+        ensures same { T.same self.old.sink.now self.new.sink.now }
         ensures takes { TakesBoth T.taken (judge_band self.old.reading.limit (state_in self.old.sections) (band_form payload.now))
             (band_brings (band_form payload.now))
             (with_band (kept_in self.old.sections) (length (data_in (band_form payload.now)))) (kept_in self.new.sections)
             (data_in (band_form payload.now)) self.old.sink.now self.new.sink.now result }
     {
+        T::laws();
         match band_of(payload) {
             Ok(Band::Data(bytes)) => self.take_data(bytes),
             Ok(Band::Progress(_)) => self.sections.take_progress(),
@@ -138,12 +151,14 @@ impl<'s, T: PackSink, A: Allocator + Copy, L: Lent> ReplyReader<'s, T, A, L> {
 
     fn take_data(&mut self, bytes: &[u8]) -> Result<Step, Why>
         ensures reading { self.new.reading ≡ self.old.reading }
-        ensures same { self.new.sink.ghost_name ≡ self.old.sink.ghost_name }
+        ensures in_place { self.new.sink.ghost_name ≡ self.old.sink.ghost_name }
+        ensures same { T.same self.old.sink.now self.new.sink.now }
         ensures takes { TakesBoth T.taken (judge_band self.old.reading.limit (state_in self.old.sections) (Ok (BandData bytes.now)))
             (nat_lt 0 (length bytes.now))
             (with_band (kept_in self.old.sections) (length bytes.now)) (kept_in self.new.sections)
             bytes.now self.old.sink.now self.new.sink.now result }
     {
+        T::laws();
         let total = match self.sections.with_room(self.reading.limit, bytes.len()) {
             Some(total) => total,
             None => return Err(Why::Limit),
@@ -156,7 +171,7 @@ impl<'s, T: PackSink, A: Allocator + Copy, L: Lent> ReplyReader<'s, T, A, L> {
     }
 }
 
-impl<T: PackSink, A: Allocator + Copy, L: Lent> Message for ReplyReader<'_, T, A, L> {
+impl<T: PackSink, A: Allocator + Copy, L: Lent<T>> Message for ReplyReader<'_, T, A, L> {
     ghost use Rattle.gfetchreply.specs.FetchReplies.{brings, judge};
     ghost use Rattle.gfetchreply.specs.ReplyState.{Holds, Leaves, kept_in};
     ghost use Rattle.gfetchreply.specs.Views.{reading_in};
@@ -165,13 +180,14 @@ impl<T: PackSink, A: Allocator + Copy, L: Lent> Message for ReplyReader<'_, T, A
 
     ghost brings = { λ reader. brings (reading_in reader.reading) };
 
-    ghost holds = { λ reader packets. Holds T.taken L.had L.seat L.asked (reading_in reader.reading)
+    ghost holds = { λ reader packets. Holds T.taken T.same L.had L.starts L.seat L.asked (reading_in reader.reading)
         (kept_in reader.sections) reader.sink.now reader.sink.ghost_name packets };
 
-    ghost left = { λ reader packets. Leaves T.taken L.had L.seat L.asked (reading_in reader.reading)
+    ghost left = { λ reader packets. Leaves T.taken T.same L.had L.starts L.seat L.asked (reading_in reader.reading)
         reader.sink.now reader.sink.ghost_name packets };
 
     fn take(&mut self, line: Line<'_>) -> Result<Step, Why> {
+        T::laws();
         self.take_packet(line)
     }
 
@@ -180,22 +196,20 @@ impl<T: PackSink, A: Allocator + Copy, L: Lent> Message for ReplyReader<'_, T, A
 
 /// Reads the reply to fetch of a repository whose ids are SHA-1, as [`read_fetch_reply_into_in`] does: whether the
 /// pack comes at once, the most bytes of it, and how the reply ends.
-pub fn read_fetch_reply_into<S: Source, T: PackSink, A: Allocator + Copy>(
+pub fn read_fetch_reply_into<S: Source, T: PackSink, A: Allocator + Copy, B: Allocator + Copy>(
     direct: bool,
     limit: PackLimit,
     ends: Ends,
     reader: &mut LineReader<S, A>,
     sink: &mut T,
-    alloc: A,
-) -> Result<FetchHead<A>, MessageFault>
+    alloc: B,
+) -> Result<FetchHead<B>, MessageFault>
     ensures read { ReadsReply T.taken (sha1_reading direct limit ends)
         (change_of S.remaining reader.old.source reader.new.source) (T.taken sink.old) sink.new (head_result result) }
+    ensures format { IfOk result (IsHeadOf Sha1) }
+    ensures same { T.same sink.old sink.new }
     ensures loans { S.loans reader.new.source ≡ S.loans reader.old.source }
-    ensures device { IfErr result (λ fault. IsReadFailure reader.old.failed (S.is_down reader.new.source) fault.why) }
-    ensures failed { IfErr result (λ fault. IsFailedBy fault.why reader.new.failed) }
-    ensures goes_on { OnOk result (reader.new.failed ≡ false) }
-    ensures well { OnOk result ((reader.old.failed ≡ false) × (S.is_down reader.new.source ≡ false)) }
-    ensures at_once { reader.old.failed ≡ true → IfErr result (λ fault. fault.frame ≡ 0) }
+    ensures reader { LeavesReader S.is_down reader.old reader.new result }
 {
     let reading = FetchReading {
         format: Format::Sha1,
@@ -207,32 +221,32 @@ pub fn read_fetch_reply_into<S: Source, T: PackSink, A: Allocator + Copy>(
 }
 
 /// Reads one reply to fetch to its end, and nothing after it (gitprotocol-v2(5), "fetch"). The pack goes to the sink,
-/// piece by piece, from the reader's buffer; a sink gets no empty piece.
+/// piece by piece, from the reader's buffer; a sink gets no empty piece. The ids are kept where `alloc` says.
 ///
 /// The fault has the first packet, from 0, that does not fit, and why. What the line reader refuses comes first
 /// ([`Why::Line`]), then the end of the input ([`Why::Ended`]), then an error that the peer reports
 /// ([`Why::RemoteErr`]), then what the grammar refuses: a 4,097th id, and the packet with which the pack would pass its
 /// limit, with [`Why::Limit`] where their form is right. [`Why::Memory`] comes only at an acknowledged id and at a packet
-/// with some of the pack. After a refusal the sink has taken the data of the packets before, and the line reader has
-/// failed exactly where the line itself was refused.
-pub fn read_fetch_reply_into_in<S: Source, T: PackSink, A: Allocator + Copy>(
+/// with some of the pack. After a refusal the sink has taken the data of the packets before, and no more than the limit,
+/// and the line reader has failed exactly where the line itself was refused. Whatever is answered, the sink is still the
+/// same one.
+pub fn read_fetch_reply_into_in<S: Source, T: PackSink, A: Allocator + Copy, B: Allocator + Copy>(
     reading: FetchReading,
     reader: &mut LineReader<S, A>,
     sink: &mut T,
-    alloc: A,
-) -> Result<FetchHead<A>, MessageFault>
+    alloc: B,
+) -> Result<FetchHead<B>, MessageFault>
     ensures read { ReadsReply T.taken (reading_in reading) (change_of S.remaining reader.old.source reader.new.source)
         (T.taken sink.old) sink.new (head_result result) }
+    ensures format { IfOk result (IsHeadOf reading.format) }
+    ensures same { T.same sink.old sink.new }
     ensures loans { S.loans reader.new.source ≡ S.loans reader.old.source }
-    ensures device { IfErr result (λ fault. IsReadFailure reader.old.failed (S.is_down reader.new.source) fault.why) }
-    ensures failed { IfErr result (λ fault. IsFailedBy fault.why reader.new.failed) }
-    ensures goes_on { OnOk result (reader.new.failed ≡ false) }
-    ensures well { OnOk result ((reader.old.failed ≡ false) × (S.is_down reader.new.source ≡ false)) }
-    ensures at_once { reader.old.failed ≡ true → IfErr result (λ fault. fault.frame ≡ 0) }
+    ensures reader { LeavesReader S.is_down reader.old reader.new result }
 {
+    T::laws();
     let direct = reading.direct;
-    let mut reply = ReplyReader::<T, A, Brand>::new(alloc, reading, sink);
-    let end = read_to_end::<S, T, A, Brand>(reader, &mut reply);
+    let mut reply = ReplyReader::<T, B, Brand>::new(alloc, reading, sink);
+    let end = read_to_end::<S, T, A, B, Brand>(reader, &mut reply);
     let ReplyReader {
         reading: _,
         sections,
@@ -245,19 +259,44 @@ pub fn read_fetch_reply_into_in<S: Source, T: PackSink, A: Allocator + Copy>(
     }
 }
 
-/// Reads one reply to fetch with its pack in memory, as [`read_fetch_reply_into_in`] does.
-pub fn read_fetch_reply<S: Source, A: Allocator + Copy>(
+/// Reads the reply to fetch of a repository whose ids are SHA-1 with its pack in memory, as [`read_fetch_reply_in`]
+/// does.
+pub fn read_fetch_reply<S: Source, A: Allocator + Copy, B: Allocator + Copy>(
+    direct: bool,
+    limit: PackLimit,
+    ends: Ends,
+    reader: &mut LineReader<S, A>,
+    alloc: B,
+) -> Result<FetchReply<B>, MessageFault>
+    ensures read { ReadsOrRefuses (judge (sha1_reading direct limit ends)) (brings (sha1_reading direct limit ends)) (Says (sha1_reading direct limit ends))
+        (change_of S.remaining reader.old.source reader.new.source) (reply_result result) }
+    ensures short { IfOk result (λ reply. length (pack_of (reply_in reply)) ≤ limit) }
+    ensures format { IfOk result (IsReplyOf Sha1) }
+    ensures loans { S.loans reader.new.source ≡ S.loans reader.old.source }
+    ensures reader { LeavesReader S.is_down reader.old reader.new result }
+{
+    let reading = FetchReading {
+        format: Format::Sha1,
+        direct,
+        limit,
+        ends,
+    };
+    read_fetch_reply_in(reading, reader, alloc)
+}
+
+/// Reads one reply to fetch with its pack in memory, as [`read_fetch_reply_into_in`] does. The ids and the pack are kept
+/// where `alloc` says; after a refusal nothing is.
+pub fn read_fetch_reply_in<S: Source, A: Allocator + Copy, B: Allocator + Copy>(
     reading: FetchReading,
     reader: &mut LineReader<S, A>,
-    alloc: A,
-) -> Result<FetchReply<A>, MessageFault>
-    ensures read { ReadsValue (reading_in reading) (change_of S.remaining reader.old.source reader.new.source) (reply_result result) }
+    alloc: B,
+) -> Result<FetchReply<B>, MessageFault>
+    ensures read { ReadsOrRefuses (judge (reading_in reading)) (brings (reading_in reading)) (Says (reading_in reading))
+        (change_of S.remaining reader.old.source reader.new.source) (reply_result result) }
+    ensures short { IfOk result (λ reply. length (pack_of (reply_in reply)) ≤ reading.limit) }
+    ensures format { IfOk result (IsReplyOf reading.format) }
     ensures loans { S.loans reader.new.source ≡ S.loans reader.old.source }
-    ensures device { IfErr result (λ fault. IsReadFailure reader.old.failed (S.is_down reader.new.source) fault.why) }
-    ensures failed { IfErr result (λ fault. IsFailedBy fault.why reader.new.failed) }
-    ensures goes_on { OnOk result (reader.new.failed ≡ false) }
-    ensures well { OnOk result ((reader.old.failed ≡ false) × (S.is_down reader.new.source ≡ false)) }
-    ensures at_once { reader.old.failed ≡ true → IfErr result (λ fault. fault.frame ≡ 0) }
+    ensures reader { LeavesReader S.is_down reader.old reader.new result }
 {
     let _limit = reading.limit.bytes();
     let mut pack = Vec::new(alloc);
@@ -267,24 +306,23 @@ pub fn read_fetch_reply<S: Source, A: Allocator + Copy>(
     }
 }
 
-// Reads a reply to its end into a sink that is named, with what that had taken before.
-fn read_to_end<S: Source, T: PackSink, A: Allocator + Copy, L: Lent>(
+// Reads a reply to its end into a sink that is named, with what it was and had taken before.
+fn read_to_end<S: Source, T: PackSink, A: Allocator + Copy, B: Allocator + Copy, L: Lent<T>>(
     reader: &mut LineReader<S, A>,
-    reply: &mut ReplyReader<'_, T, A, L>,
+    reply: &mut ReplyReader<'_, T, B, L>,
 ) -> Result<(), MessageFault>
     requires kept { kept_in reply.old.sections ≡ first_kept reply.old.reading.format reply.old.reading.direct }
     requires asked { reading_in reply.old.reading ≡ L.asked }
     requires seat { reply.old.sink.ghost_name ≡ L.seat }
     requires had { (before : List ℕ) → L.had before → T.taken reply.old.sink.now before }
-    ensures same { reply.new.sink.ghost_name ≡ reply.old.sink.ghost_name }
+    requires starts { (start : T) → L.starts start → T.same start reply.old.sink.now }
+    ensures in_place { reply.new.sink.ghost_name ≡ reply.old.sink.ghost_name }
     ensures read { ReadsReply T.taken (reading_in reply.old.reading) (change_of S.remaining reader.old.source reader.new.source)
         L.had reply.new.sink.now (head_after reply.old.reading.direct reply.new.sections result) }
+    ensures format { OnOk result (reply.new.sections.acks.format ≡ reply.old.reading.format) }
+    ensures same { (start : T) → L.starts start → T.same start reply.new.sink.now }
     ensures loans { S.loans reader.new.source ≡ S.loans reader.old.source }
-    ensures device { IfErr result (λ fault. IsReadFailure reader.old.failed (S.is_down reader.new.source) fault.why) }
-    ensures failed { IfErr result (λ fault. IsFailedBy fault.why reader.new.failed) }
-    ensures goes_on { OnOk result (reader.new.failed ≡ false) }
-    ensures well { OnOk result ((reader.old.failed ≡ false) × (S.is_down reader.new.source ≡ false)) }
-    ensures at_once { reader.old.failed ≡ true → IfErr result (λ fault. fault.frame ≡ 0) }
+    ensures reader { LeavesReader S.is_down reader.old reader.new result }
 {
     match read_message(reader, reply) {
         Ok(()) => Ok(()),

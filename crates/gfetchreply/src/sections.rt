@@ -5,13 +5,14 @@ ghost use Rattle.gpkt.specs.Packets.{Flush, Delim, ResponseEnd};
 ghost use Rattle.ggrammar.specs.Grammar.{Refused, if_room};
 ghost use Rattle.ggrammar.specs.Endings.{at_flush};
 ghost use Rattle.gfetchreply.specs.FetchReplies.{Reading, Acking, Start, BeforePack, Ack, Nak, judge_acking, judge_ack, judge_before_pack, judge_late, judge_start, judge_there, max_packets, form_brings};
+ghost use Rattle.ggrammar.specs.MessageReading.{TakesAs};
 ghost use Rattle.gfetchreply.specs.FetchHeads.{head_by};
-ghost use Rattle.gfetchreply.specs.ReplyState.{TakesAs, kept_in, first_kept, place_in, state_in, verdict_of, with_band, with_packet, with_text};
-ghost use Rattle.gfetchreply.specs.Views.{form_in, head_in};
+ghost use Rattle.gfetchreply.specs.ReplyState.{kept_in, first_kept, place_in, state_in, verdict_of, with_band, with_packet, with_text};
+ghost use Rattle.gfetchreply.specs.Views.{IsHeadOf, form_in, head_in};
 
 use crate::form::ReplyForm;
 use crate::limit::PackLimit;
-use crate::value::{Commons, FetchHead};
+use crate::value::{Acks, FetchHead};
 use ggrammar::{Ends, Step, Why, id_of_text};
 use gname::Format;
 use gname::laws::texts_have_one_reading;
@@ -28,7 +29,7 @@ pub(crate) enum Place {
     /// After it, and after acknowledged ids.
     Acking,
     /// After `NAK`.
-    Naked,
+    AfterNak,
     /// After `ready`: the delimiter is due.
     AfterReady,
     /// The heading of the pack is due.
@@ -43,10 +44,10 @@ pub(crate) enum Place {
 #[derive(Drop)]
 pub(crate) struct Sections<A: Allocator + Copy> {
     pub(crate) place: Place,
-    commons: Commons<A>,
+    acks: Acks<A>,
     ready: bool,
-    packets: u32,
-    bytes: usize,
+    band_count: u32,
+    byte_count: usize,
 }
 
 impl<A: Allocator + Copy> Sections<A> {
@@ -60,10 +61,10 @@ impl<A: Allocator + Copy> Sections<A> {
             } else {
                 Place::Start
             },
-            commons: Commons::new(alloc, format),
+            acks: Acks::new(alloc, format),
             ready: false,
-            packets: 0,
-            bytes: 0,
+            band_count: 0,
+            byte_count: 0,
         }
     }
 
@@ -84,7 +85,7 @@ impl<A: Allocator + Copy> Sections<A> {
 
     /// Takes a text of the acknowledgments.
     pub(crate) fn take_acking(&mut self, form: ReplyForm<'_>) -> Result<Step, Why>
-        ensures { TakesAs (judge_acking self.old.commons.format (state_in self.old) (form_in form.entry)) (form_brings (form_in form.entry))
+        ensures { TakesAs (judge_acking self.old.acks.format (state_in self.old) (form_in form.entry)) (form_brings (form_in form.entry))
             (kept_in self.new ≡ with_text Acking (kept_in self.old) (form_in form.entry)) result }
     {
         match form {
@@ -101,26 +102,26 @@ impl<A: Allocator + Copy> Sections<A> {
     }
 
     fn take_ack(&mut self, id: &[u8]) -> Result<Step, Why>
-        ensures { TakesAs (judge_ack self.old.commons.format (state_in self.old) id.now) true
+        ensures { TakesAs (judge_ack self.old.acks.format (state_in self.old) id.now) true
             (kept_in self.new ≡ with_text Acking (kept_in self.old) (Ack id.now)) result }
     {
         texts_have_one_reading();
-        let id = match id_of_text(self.commons.format(), id) {
+        let id = match id_of_text(self.acks.format(), id) {
             Some(id) => id,
             None => return Err(Why::BadId),
         };
-        match self.commons.add(id) {
+        match self.acks.add(id) {
             Ok(()) => Ok(Step::Open),
             Err(why) => Err(why),
         }
     }
 
     fn take_nak(&mut self) -> Result<Step, Why>
-        ensures { TakesAs (judge_acking self.old.commons.format (state_in self.old) Nak) false
+        ensures { TakesAs (judge_acking self.old.acks.format (state_in self.old) Nak) false
             (kept_in self.new ≡ with_text Acking (kept_in self.old) Nak) result }
     {
-        if self.commons.ids().is_empty() {
-            self.place = Place::Naked;
+        if self.acks.ids().is_empty() {
+            self.place = Place::AfterNak;
             Ok(Step::Open)
         } else {
             Err(Why::WrongSection)
@@ -144,33 +145,33 @@ impl<A: Allocator + Copy> Sections<A> {
 
     /// How many bytes the pack has with some more. `None` where there is no room for them in a packet more.
     pub(crate) fn with_room(&self, limit: PackLimit, more: usize) -> Option<usize>
-        ensures { result ≡ (if nat_lt self.now.packets max_packets && nat_le (self.now.bytes + more) limit
-            then Some (self.now.bytes + more) else None) }
+        ensures { result ≡ (if nat_lt self.now.band_count max_packets && nat_le (self.now.byte_count + more) limit
+            then Some (self.now.byte_count + more) else None) }
     {
-        match self.bytes.checked_add(more) {
-            Some(bytes) if self.packets < MAX_PACKETS && bytes <= limit.bytes() => Some(bytes),
+        match self.byte_count.checked_add(more) {
+            Some(bytes) if self.band_count < MAX_PACKETS && bytes <= limit.bytes() => Some(bytes),
             _ => None,
         }
     }
 
     /// Counts a packet of the pack's section, with which the pack has so many bytes.
     pub(crate) fn count(&mut self, bytes: usize)
-        requires { self.old.packets < max_packets }
-        ensures { kept_in self.new ≡ record (kept_in self.old) { packets = self.old.packets + 1; bytes = bytes } }
+        requires { self.old.band_count < max_packets }
+        ensures { kept_in self.new ≡ record (kept_in self.old) { band_count = self.old.band_count + 1; byte_count = bytes } }
     {
-        self.packets += 1;
-        self.bytes = bytes;
+        self.band_count += 1;
+        self.byte_count = bytes;
     }
 
     /// Counts a packet of progress.
     pub(crate) fn take_progress(&mut self) -> Result<Step, Why>
-        ensures { TakesAs (if_room (nat_lt self.old.packets max_packets)) false
+        ensures { TakesAs (if_room (nat_lt self.old.band_count max_packets)) false
             (kept_in self.new ≡ with_band (kept_in self.old) 0) result }
     {
-        if self.packets >= MAX_PACKETS {
+        if self.band_count >= MAX_PACKETS {
             return Err(Why::Limit);
         }
-        self.packets += 1;
+        self.band_count += 1;
         Ok(Step::Open)
     }
 
@@ -181,7 +182,7 @@ impl<A: Allocator + Copy> Sections<A> {
             (kept_in self.new ≡ with_packet (kept_in self.old) Flush) result }
     {
         match self.place {
-            Place::Acking | Place::Naked | Place::InPack => {
+            Place::Acking | Place::AfterNak | Place::InPack => {
                 self.place = Place::Over;
                 Ok(after_flush(ends))
             }
@@ -218,15 +219,16 @@ impl<A: Allocator + Copy> Sections<A> {
 
     /// What the whole reply says, without its pack.
     pub(crate) fn into_head(self, direct: bool) -> FetchHead<A>
-        ensures { head_in result ≡ head_by direct self.ready self.commons.ids }
+        ensures head { head_in result ≡ head_by direct self.ready self.acks.ids }
+        ensures format { IsHeadOf self.acks.format result }
     {
-        let Sections { commons, ready, .. } = self;
+        let Sections { acks, ready, .. } = self;
         if direct {
             FetchHead::Pack
         } else if ready {
-            FetchHead::Ready(commons)
+            FetchHead::Ready(acks)
         } else {
-            FetchHead::Acks(commons)
+            FetchHead::Acks(acks)
         }
     }
 }

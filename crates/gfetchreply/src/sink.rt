@@ -10,16 +10,29 @@ pub trait PackSink {
     // These bytes were taken, in this order.
     ghost taken: { Self → List ℕ → Type 0 };
 
+    // The second is still the sink that the first is: what pieces leave as it was.
+    ghost same: { Self → Self → Type 0 };
+
     /// Takes the next piece of the pack. `false` where memory for it is refused; then nothing of it is taken.
     fn piece(&mut self, bytes: &[u8]) -> bool
-        ensures takes { TakesPiece taken self.old self.new bytes.now result };
+        ensures takes { TakesPiece taken self.old self.new bytes.now result }
+        ensures same { same self.old self.new };
+
+    /// Laws of the sink; the call has no effect. Each sink is still itself, and stays so piece after piece.
+    fn laws()
+        ensures still { (sink : Self) → same sink sink }
+        ensures onward { (first : Self) (second : Self) (third : Self) → same first second → same second third → same first third };
 }
 
 /// A vector takes a pack after the bytes that it has.
 impl<A: Allocator + Copy> PackSink for Vec<u8, A> {
     ghost taken = { λ bytes taken. bytes.items ≡ taken };
 
+    ghost same = { λ _ _. Unit {0} };
+
     fn piece(&mut self, bytes: &[u8]) -> bool {
         self.extend_from_slice(bytes).is_ok()
     }
+
+    fn laws() {}
 }

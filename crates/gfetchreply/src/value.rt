@@ -1,12 +1,15 @@
 //! What a reply to fetch says.
 
-ghost use Rattle.std.specs.Prelude.{◌≡◌, ◌≤◌, [], length, IfOk};
+ghost use Rattle.std.specs.Prelude.{◌≡◌, ◌≤◌, [], length, nat_lt, All, IsTrue};
+ghost use Rattle.std.specs.List.{list_all};
 ghost use Rattle.gname.specs.Ids.{IsIdOf};
 ghost use Rattle.gname.specs.Limits.{max_pack};
+ghost use Rattle.ggrammar.specs.Building.{Builds};
+ghost use Rattle.gfetchreply.specs.FetchReplies.{max_acks};
 ghost use Rattle.gfetchreply.specs.WellFormed.{AreAcks};
 ghost use Rattle.gfetchreply.specs.FetchHeads.{reply_with};
-ghost use Rattle.gfetchreply.specs.Views.{head_in, reply_in};
-ghost use Rattle.gfetchreply.specs.Values.{AddsId, PushesId, MakesPack};
+ghost use Rattle.gfetchreply.specs.Views.{KeepsFormat, head_in, reply_in};
+ghost use Rattle.gfetchreply.specs.Values.{AddsId, MakesAcks, MakesPack, has_format, with_id};
 
 use ggrammar::{MessageFault, Why};
 use gname::{Format, MAX_PACK, Oid};
@@ -16,32 +19,50 @@ use std::marker::Model;
 /// The most ids that are acknowledged.
 pub const MAX_ACKS: usize = 4_096;
 
-/// The ids that a server acknowledges, which both ends have: at most 4,096, of one format, in order.
-#[derive(Drop)]
-pub struct Commons<A: Allocator + Copy> {
+/// The ids that a server acknowledges, which it has of those that a request named: at most 4,096, of one format, in
+/// order.
+#[derive(Debug, Drop)]
+pub struct Acks<A: Allocator + Copy> {
     format: Format,
     ids: Vec<Oid, A>,
 }
 
-impl<A: Allocator + Copy> Model for Commons<A> {
-    ghost use Rattle.gfetchreply.specs.Values.{Commons};
+impl<A: Allocator + Copy> Model for Acks<A> {
+    ghost use Rattle.gfetchreply.specs.Values.{Acks};
     ghost use Rattle.gfetchreply.specs.WellFormed.{AreAcks};
 
-    ghost Value = { Commons };
+    ghost Value = { Acks };
 
-    ghost view = { λ commons. record { format = commons.format; ids = commons.ids.items } };
+    ghost view = { λ acks. record { format = acks.format; ids = acks.ids.items } };
 
-    ghost invariant = { λ commons. AreAcks commons.format commons.ids.items };
+    ghost invariant = { λ acks. AreAcks acks.format acks.ids.items };
 }
 
-impl<A: Allocator + Copy> Commons<A> {
+impl<A: Allocator + Copy> Acks<A> {
     /// No ids. It takes no memory.
-    pub fn new(alloc: A, format: Format) -> Commons<A>
+    pub fn new(alloc: A, format: Format) -> Acks<A>
         ensures { result ≡ record { format = format; ids = [] } }
     {
-        Commons {
+        Acks {
             format,
             ids: Vec::new(alloc),
+        }
+    }
+
+    /// These ids, which are not copied. It takes no memory.
+    ///
+    /// It fails at packet 0 with [`Why::BadText`] where one of them has another format, else with
+    /// [`Why::Limit`] where there are more than 4,096. The ids are let go then.
+    pub fn from_ids(format: Format, ids: Vec<Oid, A>) -> Result<Acks<A>, MessageFault>
+        ensures { MakesAcks format ids.items result }
+    {
+        if !are_of(format, ids.as_slice()) {
+            return Err(MessageFault::of_value(Why::BadText));
+        }
+        if ids.len() <= MAX_ACKS {
+            Ok(Acks { format, ids })
+        } else {
+            Err(MessageFault::of_value(Why::Limit))
         }
     }
 
@@ -65,14 +86,15 @@ impl<A: Allocator + Copy> Commons<A> {
     /// It fails at packet 0 with [`Why::BadText`] where the id has another format, else with
     /// [`Why::Limit`] where there are 4,096 ids, else with [`Why::Memory`]. Nothing changes then.
     pub fn push(&mut self, id: Oid) -> Result<(), MessageFault>
-        ensures { PushesId self.old self.new id result }
+        ensures { Builds (has_format self.old.format id) (nat_lt (length self.old.ids) max_acks)
+            self.old self.new (with_id self.old id) result }
     {
-        if id.format() != self.format {
-            return Err(unfit(Why::BadText));
+        if !is_of(self.format, &id) {
+            return Err(MessageFault::of_value(Why::BadText));
         }
         match self.add(id) {
             Ok(()) => Ok(()),
-            Err(why) => Err(unfit(why)),
+            Err(why) => Err(MessageFault::of_value(why)),
         }
     }
 
@@ -91,8 +113,29 @@ impl<A: Allocator + Copy> Commons<A> {
     }
 }
 
+// Whether an id has the format.
+fn is_of(format: Format, id: &Oid) -> bool
+    ensures same { result ≡ has_format format id.now }
+    ensures of_format { IsTrue result → IsIdOf format id.now }
+{
+    id.as_bytes().len() == format.id_length()
+}
+
+// Whether each id has the format.
+fn are_of(format: Format, ids: &[Oid]) -> bool
+    ensures same { result ≡ list_all (has_format format) ids.now }
+    ensures of_format { IsTrue result → All (IsIdOf format) ids.now }
+{
+    for id in ids {
+        if !is_of(format, id) {
+            return false;
+        }
+    }
+    true
+}
+
 /// The bytes of a pack, at most [`MAX_PACK`].
-#[derive(Drop)]
+#[derive(Debug, Drop)]
 pub struct PackBytes<A: Allocator + Copy> {
     bytes: Vec<u8, A>,
 }
@@ -118,7 +161,7 @@ impl<A: Allocator + Copy> PackBytes<A> {
         if bytes.len() <= MAX_PACK {
             Ok(PackBytes { bytes })
         } else {
-            Err(unfit(Why::Limit))
+            Err(MessageFault::of_value(Why::Limit))
         }
     }
 
@@ -140,20 +183,13 @@ impl<A: Allocator + Copy> PackBytes<A> {
     }
 }
 
-// A value that does not fit its message.
-fn unfit(why: Why) -> MessageFault
-    ensures { result ≡ record { frame = 0; why = why } }
-{
-    MessageFault { frame: 0, why }
-}
-
 /// The reply to fetch (gitprotocol-v2(5), "fetch").
-#[derive(Drop)]
+#[derive(Debug, Drop)]
 pub enum FetchReply<A: Allocator + Copy> {
     /// These ids are common, and it is not enough.
-    Acks(Commons<A>),
+    Acks(Acks<A>),
     /// These ids are common, which is enough, and this is the pack.
-    Ready(Commons<A>, PackBytes<A>),
+    Ready(Acks<A>, PackBytes<A>),
     /// The pack alone, to a request with `done` or without haves.
     Pack(PackBytes<A>),
 }
@@ -162,23 +198,24 @@ impl<A: Allocator + Copy> FetchReply<A> {
     // The reply of a head and the bytes of its pack.
     pub(crate) fn with_pack(head: FetchHead<A>, pack: Vec<u8, A>) -> FetchReply<A>
         requires { length pack.items ≤ max_pack }
-        ensures { reply_in result ≡ reply_with (head_in head) pack.items }
+        ensures reply { reply_in result ≡ reply_with (head_in head) pack.items }
+        ensures format { KeepsFormat head result }
     {
         match head {
-            FetchHead::Acks(commons) => FetchReply::Acks(commons),
-            FetchHead::Ready(commons) => FetchReply::Ready(commons, PackBytes { bytes: pack }),
+            FetchHead::Acks(acks) => FetchReply::Acks(acks),
+            FetchHead::Ready(acks) => FetchReply::Ready(acks, PackBytes { bytes: pack }),
             FetchHead::Pack => FetchReply::Pack(PackBytes { bytes: pack }),
         }
     }
 }
 
 /// The reply to fetch without its pack.
-#[derive(Drop)]
+#[derive(Debug, Drop)]
 pub enum FetchHead<A: Allocator + Copy> {
     /// These ids are common, and it is not enough. There is no pack.
-    Acks(Commons<A>),
+    Acks(Acks<A>),
     /// These ids are common, which is enough for the pack.
-    Ready(Commons<A>),
+    Ready(Acks<A>),
     /// The pack alone.
     Pack,
 }

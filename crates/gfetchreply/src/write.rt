@@ -1,11 +1,10 @@
 //! Writing a reply to fetch (gitprotocol-v2(5), "fetch").
 
-ghost use Rattle.std.specs.Prelude.{IfErr, ◌≢◌, List, ℕ, [], ◌∷◌, ◌++◌, map};
-ghost use Rattle.gpkt.specs.LineWriting.{HasWritten};
-ghost use Rattle.gpkt.specs.Packets.{canonical_all, Delim, Flush, Packet};
+ghost use Rattle.std.specs.Prelude.{[], ◌∷◌, ◌++◌, map};
+ghost use Rattle.gpkt.specs.Packets.{Delim, Flush};
 ghost use Rattle.ggrammar.specs.Endings.{ends_with};
 ghost use Rattle.ggrammar.specs.Writing.{WritesLines, WritesPart};
-ghost use Rattle.gfetchreply.specs.FetchReplies.{ack_packet, data_packet, heading, nak_if_none, readiness, IsCanonicalPack, IsCanonicalReply, IsPieces};
+ghost use Rattle.gfetchreply.specs.FetchReplies.{ack_packet, canonical_reply, data_packet, heading_packet, nak_if_none, pack_section, pieces, ready_packet};
 ghost use Rattle.gfetchreply.specs.Views.{reply_in};
 
 use crate::value::FetchReply;
@@ -15,25 +14,23 @@ use gname::{MAX_ID_TEXT, Oid};
 use gpkt::{Band, LineWriter, MAX_BAND, Sink, WriteFault};
 use std::alloc::Allocator;
 
-/// Writes a reply in its one list of packets: the pack in pieces of the largest size, and no progress. It takes
-/// no memory.
+/// Writes a reply in its one list of packets (gitprotocol-v2(5), "fetch"): the pack in pieces of the largest size, and no
+/// progress. The ids and the pack are written from where they are, and it takes no memory.
 ///
 /// It fails with `Io` where the sink fails, and then a beginning of the reply stands written; with `Failed`
 /// where the writer had failed before.
+#[tactic(auto, unfolding(crate::specs::FetchReplies::canonical_reply))]
 pub fn write_fetch_reply<A: Allocator + Copy, W: Sink>(
     reply: &FetchReply<A>,
     ends: Ends,
     writer: &mut LineWriter<W>,
 ) -> Result<(), WriteFault>
-    ensures written { (packets : List Packet) → IsCanonicalReply ends (reply_in reply.now) packets
-        → HasWritten W.contents W.passed_on W.is_down W.loans writer.old writer.new result (canonical_all packets) }
-    ensures fits { IfErr result (λ fault. fault ≢ WriteFault.Payload) }
+    ensures { WritesLines W.contents W.passed_on W.is_down W.loans writer.old writer.new result
+        (canonical_reply ends (reply_in reply.now)) }
 {
     match reply {
-        FetchReply::Acks(commons) => write_acks(commons.ids(), ends, writer),
-        FetchReply::Ready(commons, pack) => {
-            write_ready(commons.ids(), pack.as_bytes(), ends, writer)
-        }
+        FetchReply::Acks(acks) => write_acks(acks.ids(), ends, writer),
+        FetchReply::Ready(acks, pack) => write_ready(acks.ids(), pack.as_bytes(), ends, writer),
         FetchReply::Pack(pack) => write_pack(pack.as_bytes(), ends, writer),
     }
 }
@@ -45,7 +42,7 @@ fn write_acks<W: Sink>(
     writer: &mut LineWriter<W>,
 ) -> Result<(), WriteFault>
     ensures { WritesLines W.contents W.passed_on W.is_down W.loans writer.old writer.new result
-        ((heading ∷ (nak_if_none (map ack_packet ids.now) ++ Flush ∷ [])) ++ ends_with ends) }
+        ((heading_packet ∷ (nak_if_none (map ack_packet ids.now) ++ Flush ∷ [])) ++ ends_with ends) }
 {
     writes_lines::<W>();
     writer.text(b"acknowledgments")?;
@@ -60,9 +57,8 @@ fn write_ready<W: Sink>(
     ends: Ends,
     writer: &mut LineWriter<W>,
 ) -> Result<(), WriteFault>
-    ensures { (section : List Packet) → IsCanonicalPack pack.now section
-        → WritesLines W.contents W.passed_on W.is_down W.loans writer.old writer.new result
-        ((heading ∷ (map ack_packet ids.now ++ readiness ∷ Delim ∷ section)) ++ ends_with ends) }
+    ensures { WritesLines W.contents W.passed_on W.is_down W.loans writer.old writer.new result
+        ((heading_packet ∷ (map ack_packet ids.now ++ ready_packet ∷ Delim ∷ pack_section pack.now)) ++ ends_with ends) }
 {
     writes_lines::<W>();
     writer.text(b"acknowledgments")?;
@@ -78,8 +74,7 @@ fn write_pack<W: Sink>(
     ends: Ends,
     writer: &mut LineWriter<W>,
 ) -> Result<(), WriteFault>
-    ensures { (section : List Packet) → IsCanonicalPack pack.now section
-        → WritesLines W.contents W.passed_on W.is_down W.loans writer.old writer.new result (section ++ ends_with ends) }
+    ensures { WritesLines W.contents W.passed_on W.is_down W.loans writer.old writer.new result (pack_section pack.now ++ ends_with ends) }
 {
     writes_lines::<W>();
     writer.text(b"packfile")?;
@@ -89,8 +84,7 @@ fn write_pack<W: Sink>(
 
 // Writes the bytes of the pack on band 1, in pieces of the largest size.
 fn write_pieces<W: Sink>(pack: &[u8], writer: &mut LineWriter<W>) -> Result<(), WriteFault>
-    ensures { (pieces : List (List ℕ)) → IsPieces pack.now pieces
-        → WritesPart W.contents W.passed_on W.is_down W.loans writer.old writer.new result (map data_packet pieces) }
+    ensures { WritesPart W.contents W.passed_on W.is_down W.loans writer.old writer.new result (map data_packet (pieces pack.now)) }
 {
     writes_lines::<W>();
     for piece in pack.chunks(MAX_BAND) {

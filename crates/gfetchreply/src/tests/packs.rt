@@ -2,7 +2,10 @@
 ghost use Rattle.std.specs.Prelude.{◌≡◌};
 
 use crate::tests::samples::{Outcome, PACK, READY, after_acks, direct, read_into};
-use crate::{FetchReading, FetchReply, PackSink, read_fetch_reply, read_fetch_reply_into};
+use crate::{
+    FetchReading, FetchReply, PackSink, read_fetch_reply, read_fetch_reply_in,
+    read_fetch_reply_into,
+};
 use ggrammar::Ends;
 use gpkt::LineReader;
 use gpkt::memory::SliceSource;
@@ -32,9 +35,10 @@ const PACKS: [(&[u8], &[u8]); 7] = [
     (b"000dpackfile\n0000", b""),
 ];
 
-// A sink that keeps what it takes, refuses one piece, and counts empty ones.
+// A sink with a name that stays; it keeps what it takes, refuses one piece, and counts empty ones.
 #[derive(Drop)]
 struct Picky {
+    name: &'static str,
     taken: Vec<u8, Global>,
     left: u32,
     empty: u32,
@@ -42,6 +46,8 @@ struct Picky {
 
 impl PackSink for Picky {
     ghost taken = { λ sink bytes. sink.taken.items ≡ bytes };
+
+    ghost same = { λ first second. first.name.now ≡ second.name.now };
 
     fn piece(&mut self, bytes: &[u8]) -> bool {
         if bytes.is_empty() {
@@ -53,12 +59,15 @@ impl PackSink for Picky {
         self.left -= 1;
         self.taken.extend_from_slice(bytes).is_ok()
     }
+
+    fn laws() {}
 }
 
 #[test]
 fn packs_come_in_any_pieces(rt: HostRuntime) -> Result<(), Fail> {
     for (bytes, pack) in &PACKS {
         let mut sink = Picky {
+            name: "picky",
             taken: Vec::new(rt.alloc()),
             left: 100,
             empty: 0,
@@ -81,6 +90,7 @@ fn sinks_refuse(rt: HostRuntime) -> Result<(), Fail> {
     ];
     for (left, end, taken) in &cases {
         let mut sink = Picky {
+            name: "picky",
             taken: Vec::new(rt.alloc()),
             left: *left,
             empty: 0,
@@ -88,6 +98,7 @@ fn sinks_refuse(rt: HostRuntime) -> Result<(), Fail> {
         let met = read_into(rt.alloc(), direct(), PACK, &mut sink)?;
         assert_eq!(rt; met.0, *end);
         assert_eq!(rt; sink.taken.as_slice(), *taken);
+        assert_eq!(rt; sink.name, "picky");
     }
     Ok(())
 }
@@ -105,10 +116,10 @@ fn vectors_take_more(rt: HostRuntime) -> Result<(), Fail> {
 #[test]
 fn whole_replies_are_values(rt: HostRuntime) -> Result<(), Fail> {
     let mut reader = LineReader::new(rt.alloc(), SliceSource::new(READY))?;
-    let reply = read_fetch_reply(after_acks(), &mut reader, rt.alloc())?;
+    let reply = read_fetch_reply_in(after_acks(), &mut reader, rt.alloc())?;
     match &reply {
-        FetchReply::Ready(commons, pack) => {
-            assert_eq!(rt; commons.ids().len(), 1);
+        FetchReply::Ready(acks, pack) => {
+            assert_eq!(rt; acks.ids().len(), 1);
             assert_eq!(rt; pack.as_bytes(), b"disket".as_slice());
         }
         _ => assert!(rt; false),
@@ -116,9 +127,9 @@ fn whole_replies_are_values(rt: HostRuntime) -> Result<(), Fail> {
     Ok(())
 }
 
-// The plain call reads SHA-1 ids, with a response-end too.
+// The plain calls read SHA-1 ids, with a response-end too.
 #[test]
-fn the_plain_call_reads(rt: HostRuntime) -> Result<(), Fail> {
+fn the_plain_calls_read(rt: HostRuntime) -> Result<(), Fail> {
     let FetchReading { limit, .. } = direct();
     let mut sink = Vec::new(rt.alloc());
     let bytes = b"000dpackfile\n0009\x01disk000000020000";
@@ -133,5 +144,10 @@ fn the_plain_call_reads(rt: HostRuntime) -> Result<(), Fail> {
     )?;
     assert_eq!(rt; sink.as_slice(), b"disk".as_slice());
     assert_eq!(rt; reader.into_inner().rest(), b"0000".as_slice());
+    let mut reader = LineReader::new(rt.alloc(), SliceSource::new(bytes))?;
+    match read_fetch_reply(true, limit, Ends::Response, &mut reader, rt.alloc())? {
+        FetchReply::Pack(pack) => assert_eq!(rt; pack.as_bytes(), b"disk".as_slice()),
+        _ => assert!(rt; false),
+    }
     Ok(())
 }

@@ -42,8 +42,8 @@ pub(super) enum Outcome {
 
 pub(super) fn outcome_of(answer: &Result<FetchHead<Global>, MessageFault>) -> Outcome {
     match answer {
-        Ok(FetchHead::Acks(commons)) => Outcome::Acks(commons.ids().len()),
-        Ok(FetchHead::Ready(commons)) => Outcome::Ready(commons.ids().len()),
+        Ok(FetchHead::Acks(acks)) => Outcome::Acks(acks.ids().len()),
+        Ok(FetchHead::Ready(acks)) => Outcome::Ready(acks.ids().len()),
         Ok(FetchHead::Pack) => Outcome::Pack,
         Err(fault) => Outcome::Refused(fault.name(), fault.frame),
     }

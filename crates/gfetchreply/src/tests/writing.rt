@@ -1,6 +1,6 @@
 // Replies that are written, what is read of them, and writers that fail.
 use crate::tests::samples::{after_acks, direct};
-use crate::{Commons, FetchReading, FetchReply, PackBytes, read_fetch_reply, write_fetch_reply};
+use crate::{Acks, FetchReading, FetchReply, PackBytes, read_fetch_reply_in, write_fetch_reply};
 use ggrammar::Ends;
 use gname::{Format, Oid};
 use gpkt::memory::{Limited, SliceSource, VecSink};
@@ -70,14 +70,14 @@ fn reply(
     ids: &[&[u8]],
     pack: &[u8],
 ) -> Result<FetchReply<Global>, Fail> {
-    let mut commons = Commons::new(alloc, Format::Sha1);
+    let mut acks = Acks::new(alloc, Format::Sha1);
     for id in ids {
-        commons.push(Oid::from_hex(id)?)?;
+        acks.push(Oid::from_hex(id)?)?;
     }
     let pack = PackBytes::new(Vec::from_slice(alloc, pack)?)?;
     match kind {
-        Kind::Acks => Ok(FetchReply::Acks(commons)),
-        Kind::Ready => Ok(FetchReply::Ready(commons, pack)),
+        Kind::Acks => Ok(FetchReply::Acks(acks)),
+        Kind::Ready => Ok(FetchReply::Ready(acks, pack)),
         Kind::Pack => Ok(FetchReply::Pack(pack)),
     }
 }
@@ -101,7 +101,7 @@ fn check(
     let first = written(alloc, reply, ends)?;
     assert!(rt; first.as_slice() == bytes);
     let mut reader = LineReader::new(alloc, SliceSource::new(first.as_slice()))?;
-    let back = read_fetch_reply(reading, &mut reader, alloc)?;
+    let back = read_fetch_reply_in(reading, &mut reader, alloc)?;
     assert!(rt; reader.into_inner().rest().is_empty());
     let again = written(alloc, &back, ends)?;
     assert!(rt; again.as_slice() == bytes);
@@ -135,8 +135,8 @@ fn replies_have_their_bytes(rt: HostRuntime) -> Result<(), Fail> {
 
 #[test]
 fn long_ids_have_their_bytes(rt: HostRuntime) -> Result<(), Fail> {
-    let mut commons = Commons::new(rt.alloc(), Format::Sha256);
-    commons.push(Oid::from_hex_in(Format::Sha256, LONG)?)?;
+    let mut acks = Acks::new(rt.alloc(), Format::Sha256);
+    acks.push(Oid::from_hex_in(Format::Sha256, LONG)?)?;
     let reading = FetchReading {
         format: Format::Sha256,
         ..after_acks()
@@ -145,7 +145,7 @@ fn long_ids_have_their_bytes(rt: HostRuntime) -> Result<(), Fail> {
         &rt,
         rt.alloc(),
         reading,
-        &FetchReply::Acks(commons),
+        &FetchReply::Acks(acks),
         b"0014acknowledgments\n0049ACK 0123456789abcdef0123456789abcdef0123456789abcdef0123456789abcdef\n0000",
     )
 }

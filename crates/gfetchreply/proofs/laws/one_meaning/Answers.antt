@@ -1,5 +1,9 @@
+use Rattle.gfetchreply.proofs.ReadLaws.{says_whole}
 use Rattle.gfetchreply.proofs.ReplyManual.{one_value}
 use Rattle.gfetchreply.proofs.laws.one_meaning.Goals as goal
 
-pub returns : goal.returns
-returns c = one_value
+pub returns-clause-meaning : goal.returns-clause-meaning
+returns-clause-meaning c = one_value
+
+pub returns-clause-whole : goal.returns-clause-whole
+returns-clause-whole c = says_whole

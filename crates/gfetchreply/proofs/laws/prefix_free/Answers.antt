@@ -1,8 +1,8 @@
-use Rattle.gfetchreply.proofs.ReplyManual.{none_begins_another, one_reply_begins}
+use Rattle.gfetchreply.specs.FetchReplies.{judge}
 use Rattle.gfetchreply.proofs.laws.prefix_free.Goals as goal
 
 pub returns-clause-packets : goal.returns-clause-packets
-returns-clause-packets c = none_begins_another
+returns-clause-packets c = λ reading. (c.grammars_are_exact.ensures (judge reading)).one_end
 
-pub returns-clause-meaning : goal.returns-clause-meaning
-returns-clause-meaning c = one_reply_begins
+pub returns-clause-spellings : goal.returns-clause-spellings
+returns-clause-spellings c = λ reading. (c.messages_are_read.ensures (judge reading)).prefix_free

@@ -2,8 +2,8 @@ use Rattle.std.proofs.Common.{◌≡◌, ℕ, ◌≤◌, [], ◌∷◌, List, le
 use Rattle.std.specs.Slice.Iter.{chunks_rest, chunks_size}
 use Rattle.gpkt.specs.Bands.{max_band}
 use Rattle.ggrammar.specs.Writing.{IsWriting, WritesPart}
-use Rattle.gfetchreply.specs.FetchReplies.{data_packet}
-use Rattle.gfetchreply.proofs.CanonicalLemmas.{made, made_is, made_next, made_none}
+use Rattle.gfetchreply.specs.FetchReplies.{data_packet, pieces}
+use Rattle.gfetchreply.proofs.CanonicalLemmas.{pieces_next, pieces_none}
 use Rattle.gfetchreply.proofs.WritingLemmas.{fits_band}
 use Rattle.gfetchreply.proofs.write.write_pieces.Goals as goal
 
@@ -14,14 +14,14 @@ loop-piece-init g c =
     let start = c.args.writer.now in (
       ap chunks_size same ∙ c.chunks-piece-items.ensures.size,
       subst
-          (λ (xs : List ℕ). IsWriting g.W.Sink.contents g.W.Sink.passed_on g.W.Sink.is_down g.W.Sink.loans start start (map data_packet (made pack)) (map data_packet (made xs)))
-          (sym (ap chunks_rest same ∙ c.chunks-piece-items.ensures.rest)) (c.writes_lines.ensures.starts start (map data_packet (made pack))),
+          (λ (xs : List ℕ). IsWriting g.W.Sink.contents g.W.Sink.passed_on g.W.Sink.is_down g.W.Sink.loans start start (map data_packet (pieces pack)) (map data_packet (pieces xs)))
+          (sym (ap chunks_rest same ∙ c.chunks-piece-items.ensures.rest)) (c.writes_lines.ensures.starts start (map data_packet (pieces pack))),
     )
 
 pub returns-in_err-put_band : goal.returns-in_err-put_band
-returns-in_err-put_band g c = λ pieces are.
+returns-in_err-put_band g c =
     let law = c.writes_lines.ensures in
-    let all = map data_packet (made c.args.pack.now) in
+    let all = map data_packet (pieces c.args.pack.now) in
     let rest = chunks_rest c.loop-piece.piece-iterator in
     let after = chunks_rest c.next.new.self in
     let piece = c.in-Some.piece.now in
@@ -29,18 +29,15 @@ returns-in_err-put_band g c = λ pieces are.
     let size : length piece ≡ min max_band (length rest) = steps.1.1 ∙ ap (λ (n : ℕ). min n (length rest)) c.loop-piece.invariant.0 in
     let short : length piece ≤ max_band = omega arith in
     let band = c.in_err-put_band.ensures in
-    subst
-    (λ (ps : List (List ℕ)). WritesPart g.W.Sink.contents g.W.Sink.passed_on g.W.Sink.is_down g.W.Sink.loans c.args.writer.now c.put_band.new.self c.from_residual.result (map data_packet ps))
-    (made_is c.args.pack.now pieces are)
-    (law.part _ _ _ all
-    (law.fails _ _ _ all (map data_packet (made rest)) (data_packet piece ∷ []) (map data_packet (made after)) _ _ c.loop-piece.invariant.1
-    (ap (map data_packet) (made_next rest piece after steps.1.0 size steps.1.2))
-    (law.line _ _ (Err _) (data_packet piece) band.written (fits_band (Err _) piece band.too_long short)) c.from_residual.ensures.1))
+    law.part _ _ _ all
+    (law.fails _ _ _ all (map data_packet (pieces rest)) (data_packet piece ∷ []) (map data_packet (pieces after)) _ _ c.loop-piece.invariant.1
+    (ap (map data_packet) (pieces_next rest piece after steps.1.0 size steps.1.2))
+    (law.line _ _ (Err _) (data_packet piece) band.written (fits_band (Err _) piece band.too_long short)) c.from_residual.ensures.1)
 
 pub loop-piece-preserved : goal.loop-piece-preserved
 loop-piece-preserved g c =
     let law = c.writes_lines.ensures in
-    let all = map data_packet (made c.args.pack.now) in
+    let all = map data_packet (pieces c.args.pack.now) in
     let rest = chunks_rest c.loop-piece.piece-iterator in
     let after = chunks_rest c.next.new.self in
     let piece = c.in-Some.piece.now in
@@ -49,18 +46,15 @@ loop-piece-preserved g c =
     let short : length piece ≤ max_band = omega arith in
     let band = c.in_ok-put_band.ensures in (
       steps.0 ∙ c.loop-piece.invariant.0,
-      law.goes_on _ _ _ all (map data_packet (made rest)) (data_packet piece ∷ []) (map data_packet (made after)) c.loop-piece.invariant.1
-          (ap (map data_packet) (made_next rest piece after steps.1.0 size steps.1.2))
+      law.goes_on _ _ _ all (map data_packet (pieces rest)) (data_packet piece ∷ []) (map data_packet (pieces after)) c.loop-piece.invariant.1
+          (ap (map data_packet) (pieces_next rest piece after steps.1.0 size steps.1.2))
           (law.line _ _ (Ok tt) (data_packet piece) band.written (fits_band (Ok tt) piece band.too_long short)),
     )
 
 pub returns : goal.returns
-returns g c = λ pieces are.
+returns g c =
     let rest = chunks_rest c.loop-piece.piece-iterator in
     let pack = c.args.pack.now in
     subst
-    (λ (ps : List (List ℕ)). IsWriting g.W.Sink.contents g.W.Sink.passed_on g.W.Sink.is_down g.W.Sink.loans c.args.writer.now c.loop-piece.writer (map data_packet ps) [])
-    (made_is pack pieces are)
-    (subst
-    (λ (ps : List (List ℕ)). IsWriting g.W.Sink.contents g.W.Sink.passed_on g.W.Sink.is_down g.W.Sink.loans c.args.writer.now c.loop-piece.writer (map data_packet (made pack)) (map data_packet ps))
-    (made_none rest c.in-None.ensures.steps.1.0) c.loop-piece.invariant.1)
+    (λ (ps : List (List ℕ)). IsWriting g.W.Sink.contents g.W.Sink.passed_on g.W.Sink.is_down g.W.Sink.loans c.args.writer.now c.loop-piece.writer (map data_packet (pieces pack)) (map data_packet ps))
+    (pieces_none rest c.in-None.ensures.steps.1.0) c.loop-piece.invariant.1

@@ -5,5 +5,5 @@ use Rattle.gfetchreply.proofs.sections.Sections.take_ack.Goals as goal
 
 pub add-requires : goal.add-requires
 add-requires g c =
-    id_is_of c.args.self.now.commons.format c.args.id.now c.in-Some.id c.texts_have_one_reading.ensures
+    id_is_of c.args.self.now.acks.format c.args.id.now c.in-Some.id c.texts_have_one_reading.ensures
     (c.in-Some.ensures ∙ ap (λ format. id_of_text format c.args.id.now) c.format.ensures)
