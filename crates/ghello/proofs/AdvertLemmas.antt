@@ -16,15 +16,15 @@ use Rattle.ggrammar.specs.Capabilities.{Capability, IsWellFormed, capability_of,
 use Rattle.std.specs.Option.{option_copied}
 use Rattle.ggrammar.specs.CapabilityView.{capability_view}
 use Rattle.ggrammar.specs.declared.capability.Capability as lent
-use Rattle.ggrammar.specs.MessageReading.{IsReason, TakesPacket, HasTaken}
+use Rattle.ggrammar.specs.Building.{IsBuildReason}
+use Rattle.ggrammar.specs.Kinds.{ReadsOrRefuses}
+use Rattle.ggrammar.specs.MessageReading.{IsReason, TakesAs, TakesPacket, HasTaken}
 use Rattle.ggrammar.specs.declared.fault.Why.{Why}
 use Rattle.ggrammar.specs.declared.fault.Why.TheVariants as why
-use Rattle.ggrammar.specs.declared.fault.MessageFault.{MessageFault}
 use Rattle.ggrammar.specs.declared.message.Step.{Step}
 use Rattle.ggrammar.specs.declared.message.Step.TheVariants as step
-use Rattle.ghello.specs.Building.{building_fault}
-use Rattle.ghello.specs.Reading.{ReadsMessage, TakesAs}
-use Rattle.ghello.specs.Adverts.{AreCapabilities, Says, adding_fault, brings, capabilities_in, capabilities_of, capability_packet, first_with, has_key, is_capability, is_value_or_none, judge, judge_at, judge_capability, judge_text, judge_version, max_capabilities}
+use Rattle.ghello.specs.Adverts.{AreCapabilities, Says, brings, capabilities_in, capabilities_of, capability_packet, has_room, is_capability, is_value_or_none, judge, judge_at, judge_capability, judge_text, judge_version, max_advertised}
+use Rattle.ghello.specs.Offers.{first_with, has_key}
 use Rattle.ghello.specs.AdvertReading.{IsKept, added_by, brings_after, capability_list, judge_after, texts_at_least}
 
 -- ---- looking up
@@ -91,7 +91,7 @@ one_is : {X : Type 0} (P : X → Type 0) (x : X) → P x → All P (x ∷ [])
 one_is P x h zero d within = h
 one_is P x h (suc k) d within = absurd (omega (arith, within))
 
-pub AreCapabilities-push : (capabilities : List Capability) (capability : Capability) → AreCapabilities capabilities → IsWellFormed capability → length capabilities < max_capabilities
+pub AreCapabilities-push : (capabilities : List Capability) (capability : Capability) → AreCapabilities capabilities → IsWellFormed capability → length capabilities < max_advertised
     → AreCapabilities (capabilities ++ capability ∷ [])
 AreCapabilities-push capabilities capability are form room = record {
   each = All-append IsWellFormed capabilities (capability ∷ []) are.each (one_is IsWellFormed capability form);
@@ -115,27 +115,34 @@ pub capability_of_form : (line : List ℕ) (capability : Capability) → capabil
 unfolding capability_of
 capability_of_form line capability e = split_form line _ capability e
 
-added : (form room : Bool) → form ≡ true → (if form then (if room then None else Some why.Limit) else Some why.BadText) ≡ None → if_room room ≡ Open
-added true true is e = refl
-added true false is e = absurd (let no : Some why.Limit ≡ None = e in cc)
-added false room is e = absurd cc
-
-not_added : (form room : Bool) (fault : MessageFault) → form ≡ true → fault ≡ building_fault (if form then (if room then None else Some why.Limit) else Some why.BadText)
-    → IsReason (if_room room) true fault.why
-not_added true true fault is e = subst (λ (f : MessageFault). IsReason Open true f.why) (sym e) (tt, refl)
-not_added true false fault is e = subst (λ (f : MessageFault). IsReason (Refused why.Limit) true f.why) (sym e) refl
-not_added false room fault is e = absurd cc
+-- with room for it, a capability goes on; the reason that it is not added is the reason that it is refused
+not_added : (room : Bool) (reason : Why) → IsBuildReason true room reason → IsReason (if_room room) true reason
+not_added room (why.Line fault) h = absurd h
+not_added room (why.Band fault) h = absurd h
+not_added room why.UnexpectedFrame h = absurd h
+not_added room why.BadText h = absurd cc
+not_added room why.UnknownCommand h = absurd h
+not_added room why.UnknownCapability h = absurd h
+not_added room why.UnknownArgument h = absurd h
+not_added room why.BadId h = absurd h
+not_added room why.BadName h = absurd h
+not_added room why.Limit h = rw h.1 refl
+not_added room (why.RemoteErr said) h = absurd h
+not_added room (why.RemoteFatal said) h = absurd h
+not_added room why.WrongSection h = absurd h
+not_added room why.Format h = absurd h
+not_added room why.Memory h = rw h.1 (tt, refl)
+not_added room why.Ended h = absurd h
 
 pub capability_is_added : (line : List ℕ) (capability : Capability) (capabilities : List Capability) → capability_of line ≡ Some capability
-    → adding_fault capabilities capability ≡ None → judge_capability (length capabilities) (capability_of line) ≡ Open
-capability_is_added line capability capabilities is none =
-    ap (judge_capability (length capabilities)) is ∙ added (is_capability capability) (nat_lt (length capabilities) max_capabilities) (capability_of_form line capability is) none
+    → has_room capabilities ≡ true → judge_capability (length capabilities) (capability_of line) ≡ Open
+capability_is_added line capability capabilities is room = ap (judge_capability (length capabilities)) is ∙ ap if_room room
 
-pub capability_is_not_added : (line : List ℕ) (capability : Capability) (capabilities : List Capability) (fault : MessageFault) → capability_of line ≡ Some capability
-    → fault ≡ building_fault (adding_fault capabilities capability) → IsReason (judge_capability (length capabilities) (capability_of line)) true fault.why
-capability_is_not_added line capability capabilities fault is e =
-    subst (λ (o : Option Capability). IsReason (judge_capability (length capabilities) o) true fault.why) (sym is)
-    (not_added (is_capability capability) (nat_lt (length capabilities) max_capabilities) fault (capability_of_form line capability is) e)
+pub capability_is_not_added : (line : List ℕ) (capability : Capability) (capabilities : List Capability) (reason : Why) → capability_of line ≡ Some capability
+    → IsBuildReason (is_capability capability) (has_room capabilities) reason → IsReason (judge_capability (length capabilities) (capability_of line)) true reason
+capability_is_not_added line capability capabilities reason is h =
+    subst (λ (o : Option Capability). IsReason (judge_capability (length capabilities) o) true reason) (sym is)
+    (not_added (has_room capabilities) reason (subst (λ (form : Bool). IsBuildReason form (has_room capabilities) reason) (capability_of_form line capability is) h))
 
 -- the lines of the capabilities from a place on
 pub packets_from : (capabilities : List Capability) (at : ℕ) (found : Capability) → at < length capabilities → found ≡ get_or capabilities at found
@@ -256,5 +263,6 @@ module _ {M : Type 0} (has : M → Bool) (kept : M → List Capability) where
       (rw (judge_kept front (has old) (kept old) packet held, brings_kept front (has old) (kept old) packet held) h, tt)
 
   pub advert_is_read : (bytes : Change) (message : M) → HasTaken judge brings (λ reader packets. IsKept packets (has reader) (kept reader)) (λ reader packets. ⊤) bytes message
-      → ReadsMessage judge brings Says bytes (Ok (kept message))
-  advert_is_read bytes message taken = (taken.lines, taken.read, record { whole = taken.read.whole; says = taken.held.listed })
+      → ReadsOrRefuses judge brings Says bytes (Ok (kept message))
+  advert_is_read bytes message taken =
+      record { lines = taken.lines; read = taken.read; says = record { whole = taken.read.whole; says = taken.held.listed } }

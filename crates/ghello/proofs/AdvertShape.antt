@@ -11,7 +11,7 @@ use Rattle.ggrammar.specs.Texts.{texts_of}
 use Rattle.ggrammar.specs.PeerErrors.{after_word, peer_error, unless_error}
 use Rattle.ggrammar.specs.Capabilities.{Capability, capability_of}
 use Rattle.ggrammar.specs.declared.fault.Why.TheVariants as why
-use Rattle.ghello.specs.Adverts.{capabilities_in, capabilities_of, judge, judge_at, judge_capability, judge_text, judge_version, max_capabilities, version}
+use Rattle.ghello.specs.Adverts.{capabilities_in, capabilities_of, judge, judge_at, judge_capability, judge_text, judge_version, max_advertised, version}
 
 -- ---- what an open list is, once the version came
 
@@ -21,7 +21,7 @@ pub record HasBegun (front : List Packet) (capabilities : List Capability) : Typ
   pub parts : front ≡ Data first ∷ map Data payloads
   pub is_version : text first ≡ version
   pub each : map (λ payload. capability_of (text payload)) payloads ≡ map (λ capability. Some capability) capabilities
-  pub few : length capabilities ≤ max_capabilities
+  pub few : length capabilities ≤ max_advertised
 
 abbrev pub Shape : List Packet → Type 0
 Shape front = (front ≡ []) ⊎ ((capabilities : List Capability) × HasBegun front capabilities)
@@ -78,16 +78,16 @@ room_left : (b : Bool) → if_room b ≡ Open → b ≡ true
 room_left true e = refl
 room_left false e = absurd cc
 
-open_capability : (count : ℕ) (found : Option Capability) → judge_capability count found ≡ Open → (capability : Capability) × (found ≡ Some capability) × (count < max_capabilities)
+open_capability : (count : ℕ) (found : Option Capability) → judge_capability count found ≡ Open → (capability : Capability) × (found ≡ Some capability) × (count < max_advertised)
 open_capability count None e = absurd cc
 open_capability count (Some capability) e =
-    let room : nat_lt count max_capabilities ≡ true = room_left (nat_lt count max_capabilities) e in (capability, refl, grind (arith, nat_tests))
+    let room : nat_lt count max_advertised ≡ true = room_left (nat_lt count max_advertised) e in (capability, refl, grind (arith, nat_tests))
 
 pub HasBegun-first : (payload : List ℕ) → text payload ≡ version → HasBegun (Data payload ∷ []) []
 HasBegun-first payload e = record { first = payload; payloads = []; parts = refl; is_version = e; each = refl; few = omega arith }
 
 pub HasBegun-push : (front : List Packet) (capabilities : List Capability) (payload : List ℕ) (capability : Capability) → HasBegun front capabilities → capability_of (text payload) ≡ Some capability
-    → length capabilities < max_capabilities → HasBegun (front ++ Data payload ∷ []) (capabilities ++ capability ∷ [])
+    → length capabilities < max_advertised → HasBegun (front ++ Data payload ∷ []) (capabilities ++ capability ∷ [])
 HasBegun-push front capabilities payload capability h is room = record {
   first = h.first;
   payloads = h.payloads ++ payload ∷ [];
@@ -134,7 +134,7 @@ short front (inr h) =
     let count : length begun.payloads ≡ length h.0 = count_of begun.payloads h.0 begun.each in
     let all : length front ≡ length (Data begun.first ∷ map Data begun.payloads) = ap (λ (xs : List Packet). length xs) begun.parts in
     let rest : length (map Data begun.payloads) ≡ length begun.payloads = length-map begun.payloads Data in
-    let few : length h.0 ≤ max_capabilities = begun.few in
+    let few : length h.0 ≤ max_advertised = begun.few in
     grind (arith, all, rest, count, few)
 
 pub open_is_short : (front : List Packet) → IsOpen judge front → length front < 2 ^ 60

@@ -1,5 +1,5 @@
 -- What is written says its value, in lines that fit.
-use Rattle.std.proofs.Common.{◌≡◌, ℕ, zero, suc, ◌+◌, ◌<◌, ◌≤◌, ◌&&◌, true, false, nat_lt, List, [], ◌∷◌, ◌++◌, map, length, take, drop, get_or, position, Option, Some, None, refl, sym, ap, ◌∙◌, append-nil, arith}
+use Rattle.std.proofs.Common.{◌≡◌, ℕ, zero, suc, ◌+◌, ◌<◌, ◌≤◌, ◌&&◌, true, false, nat_lt, List, [], ◌∷◌, ◌++◌, map, length, take, drop, get_or, position, Option, Some, None, refl, sym, ap, subst, ◌∙◌, append-nil, arith}
 use Rattle.std.specs.Prelude.{All, IfSome, IsTrue}
 use Rattle.std.specs.List.{list_all, position_or_len}
 use Rattle.std.proofs.lemmas.List.{take_at, drop_at, length_push, length-append, get_or_append_left, get_or_at, append_assoc}
@@ -11,9 +11,11 @@ use Rattle.std.proofs.lemmas.Grind.{common_steps}
 use Rattle.gpkt.specs.Packets.{Packet, Data, Flush, text, max_payload, line_feed}
 use Rattle.gpkt.specs.Laws.{Fits, TextOfLine}
 use Rattle.ggrammar.specs.Capabilities.{Capability, IsWellFormed, capability_of, capability_split, is_equals_sign, is_key, is_key_byte, is_value, has_length, key_and_value, max_capability}
+use Rattle.ggrammar.specs.Kinds.{AsInManual, CanonicalSays}
+use Rattle.ghello.specs.Hello as hello
 use Rattle.ghello.specs.Hello.{Hello, IsHello, canonical_hello, hello_payload}
-use Rattle.ghello.specs.Adverts.{canonical_advert, capability_packet, capability_text, value_text, version}
-use Rattle.ghello.specs.Laws.{CanonicalSaysHello, CanonicalSaysAdvert, TableIsManual}
+use Rattle.ghello.specs.Adverts as advert
+use Rattle.ghello.specs.Adverts.{AreCapabilities, canonical_advert, capability_packet, capability_text, value_text, version}
 use Rattle.ghello.proofs.HelloLemmas.{path_within, host_within}
 use Rattle.ghello.proofs.AdvertLemmas.{key_within, value_within}
 
@@ -29,9 +31,10 @@ hello_fits said form =
     let host : length said.host ≤ 255 = host_within said form in
     grind (arith, common_steps)
 
-pub canonical_says_hello : CanonicalSaysHello
+pub canonical_says_hello : CanonicalSays hello.Says IsHello hello.IsCanonical
 unfolding canonical_hello
-canonical_says_hello said form = (record { form = form; line = refl }, all_one Fits (Data (hello_payload said)) (hello_fits said form))
+canonical_says_hello packets said form line =
+    (record { form = form; line = line }, rw line (all_one Fits (Data (hello_payload said)) (hello_fits said form)))
 
 -- ---- capabilities
 
@@ -119,8 +122,9 @@ all_fit (capability ∷ capabilities) forms =
     (all_one Fits (capability_packet capability) (capability_fits capability (All-first IsWellFormed capability capabilities forms)))
     (all_fit capabilities (All-rest IsWellFormed capability capabilities forms))
 
-pub canonical_says_advert : TextOfLine → TableIsManual → CanonicalSaysAdvert
-canonical_says_advert law manual capabilities are = (
+advert_says : TextOfLine → AsInManual advert.Says advert.IsAdvert → (capabilities : List Capability) → AreCapabilities capabilities
+    → advert.Says (canonical_advert capabilities) capabilities × All Fits (canonical_advert capabilities)
+advert_says law manual capabilities are = (
   (manual (canonical_advert capabilities) capabilities).1 (record {
     first = version ++ line_feed ∷ [];
     payloads = map payload_of_capability capabilities;
@@ -132,3 +136,7 @@ canonical_says_advert law manual capabilities are = (
   All-append Fits (Data (version ++ line_feed ∷ []) ∷ []) (map capability_packet capabilities ++ Flush ∷ [])
       (all_one Fits (Data (version ++ line_feed ∷ [])) (omega arith)) (all_fit capabilities are.each),
 )
+
+pub canonical_says_advert : TextOfLine → AsInManual advert.Says advert.IsAdvert → CanonicalSays advert.Says AreCapabilities advert.IsCanonical
+canonical_says_advert law manual packets capabilities are line =
+    subst (λ (lines : List Packet). advert.Says lines capabilities × All Fits lines) (sym line) (advert_says law manual capabilities are)

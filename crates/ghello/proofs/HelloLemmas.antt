@@ -15,14 +15,14 @@ use Rattle.gpkt.specs.Packets.{Packet, Data, Flush, Delim, ResponseEnd}
 use Rattle.ggrammar.specs.Grammar.{Open, Whole, IsOpen, IsWhole, HasEndings, NothingIsOpen}
 use Rattle.ggrammar.specs.Capabilities.{is_graphic, is_printable}
 use Rattle.ggrammar.specs.PeerErrors.{after_word}
-use Rattle.ghello.specs.Hello.{Hello, IsHello, Says, brings, judge, judge_payload, canonical_hello, hello_of, hello_of_parts, hello_payload, hello_with, is_host, is_nul, is_path, max_host, max_path}
+use Rattle.ghello.specs.Hello.{Hello, IsHello, Says, brings, judge, judge_payload, canonical_hello, hello_of, hello_of_parts, hello_payload, hello_with, is_hello, is_host, is_nul, is_path, max_host, max_path, nul}
 use Rattle.ghello.specs.HelloReading.{hello_in}
 use Rattle.gpkt.specs.Change.{Change}
-use Rattle.ggrammar.specs.MessageReading.{TakesPacket, HasTaken, HasRefused}
+use Rattle.ggrammar.specs.Kinds.{ReadsOrRefuses, SaysWhole, OneMeaning}
+use Rattle.ggrammar.specs.MessageReading.{TakesAs, TakesPacket, HasTaken, HasRefused}
 use Rattle.ggrammar.specs.declared.fault.Why.{Why}
 use Rattle.ggrammar.specs.declared.fault.MessageFault.{MessageFault}
 use Rattle.ggrammar.specs.declared.message.Step.{Step}
-use Rattle.ghello.specs.Reading.{ReadsMessage, TakesAs}
 use Rattle.ghello.proofs.TakingLemmas.{TakesPacket-by_verdict}
 
 -- ---- forms
@@ -80,12 +80,15 @@ with_says (Some path) (Some host) hello e =
 
 -- two ways to put a payload together
 pub joined : (command host_word host version end : List ℕ)
-    → command ++ 0 ∷ host_word ++ host ++ 0 ∷ 0 ∷ version ++ end ≡ command ++ 0 ∷ (host_word ++ host ++ 0 ∷ 0 ∷ (version ++ end))
+    → command ++ nul ++ host_word ++ host ++ nul ++ nul ++ version ++ end ≡ command ++ 0 ∷ (host_word ++ host ++ 0 ∷ 0 ∷ (version ++ end))
 joined command host_word host version end =
-    append_assoc (command ++ 0 ∷ host_word ++ host) (0 ∷ 0 ∷ version) end
-    ∙ (append_assoc (command ++ 0 ∷ host_word) host (0 ∷ 0 ∷ (version ++ end))
-    ∙ (append_assoc command (0 ∷ host_word) (host ++ 0 ∷ 0 ∷ (version ++ end))
-    ∙ ap (λ (xs : List ℕ). command ++ 0 ∷ xs) (sym (append_assoc host_word host (0 ∷ 0 ∷ (version ++ end))))))
+    append_assoc (command ++ nul ++ host_word ++ host ++ nul ++ nul) version end
+    ∙ (append_assoc (command ++ nul ++ host_word ++ host ++ nul) nul (version ++ end)
+    ∙ (append_assoc (command ++ nul ++ host_word ++ host) nul (0 ∷ (version ++ end))
+    ∙ (append_assoc (command ++ nul ++ host_word) host (0 ∷ 0 ∷ (version ++ end))
+    ∙ (append_assoc (command ++ nul) host_word (host ++ 0 ∷ 0 ∷ (version ++ end))
+    ∙ (append_assoc command nul (host_word ++ (host ++ 0 ∷ 0 ∷ (version ++ end)))
+    ∙ ap (λ (xs : List ℕ). command ++ 0 ∷ xs) (sym (append_assoc host_word host (0 ∷ 0 ∷ (version ++ end)))))))))
 
 pub parts_say : (parts : List (List ℕ)) (hello : Hello) → hello_of_parts parts ≡ Some hello → IsHello hello × (join_with_byte 0 parts ≡ hello_payload hello)
 parts_say [] hello e = absurd cc
@@ -178,11 +181,11 @@ word_follows word rest =
 line_is_said : (hello : Hello) → IsHello hello → hello_of (hello_payload hello) ≡ Some hello
 unfolding hello_of
 line_is_said hello form =
-    let forms : (is_path hello.path && is_host hello.host) ≡ true = rw form.path form.host in
+    let forms : is_hello hello ≡ true = rw form.path form.host in
     ap hello_of_parts (parts_of_line hello form)
     ∙ (ap (λ (path : Option (List ℕ)). hello_with path (after_word (codes "host=") (codes "host=" ++ hello.host))) (word_follows (codes "git-upload-pack ") hello.path)
     ∙ (ap (λ (host : Option (List ℕ)). hello_with (Some hello.path) host) (word_follows (codes "host=") hello.host)
-    ∙ cond-true (is_path hello.path && is_host hello.host) (Some hello) None forms))
+    ∙ cond-true (is_hello hello) (Some hello) None forms))
 
 -- the line of a hello says it
 pub said_is_hello : (payload : List ℕ) (hello : Hello) → Says (Data payload ∷ []) hello → hello_of payload ≡ Some hello
@@ -192,7 +195,7 @@ said_is_hello payload hello says =
     ap hello_of same ∙ line_is_said hello says.form
 
 -- and no other hello
-pub one_hello : (packets : List Packet) (said other : Hello) → Says packets said → Says packets other → said ≡ other
+pub one_hello : OneMeaning Says
 unfolding canonical_hello
 one_hello packets said other says also =
     let same : hello_payload other ≡ hello_payload said = (let line = sym also.line ∙ says.line in cc) in
@@ -256,6 +259,12 @@ said_is_whole nothing packets hello says = record {
   ends = ap judge_payload (line_is_said hello says.form);
 }
 
+pub hello_says_whole : NothingIsOpen judge → SaysWhole judge Says
+hello_says_whole nothing packets = (
+  (λ whole. let h = whole_list packets whole in (h.0, packet_says packets h.0 h.1)),
+  (λ h. said_is_whole nothing packets h.0 h.1),
+)
+
 -- ---- an ending
 
 sample : Hello
@@ -283,8 +292,8 @@ hello_takes kept front packet new result opened h =
 
 module _ {M : Type 0} (kept : M → Option Hello) (left : M → List Packet → Type 0) (bytes : Change) (message : M) where
   pub hello_is_read : (hello : Hello) → HasTaken judge brings (λ reader packets. kept reader ≡ hello_in packets) left bytes message
-      → kept message ≡ Some hello → ReadsMessage judge brings Says bytes (Ok hello)
-  hello_is_read hello taken e = (taken.lines, taken.read, packet_says taken.lines hello (sym taken.held ∙ e))
+      → kept message ≡ Some hello → ReadsOrRefuses judge brings Says bytes (Ok hello)
+  hello_is_read hello taken e = record { lines = taken.lines; read = taken.read; says = packet_says taken.lines hello (sym taken.held ∙ e) }
 
   pub some_is_read : {P : Type 0} → HasTaken judge brings (λ reader packets. kept reader ≡ hello_in packets) left bytes message
       → kept message ≡ None → P
@@ -293,7 +302,7 @@ module _ {M : Type 0} (kept : M → Option Hello) (left : M → List Packet → 
       let no : None ≡ Some h.0 = sym e ∙ (taken.held ∙ h.1) in absurd cc
 
   pub hello_is_refused : (fault : MessageFault) → HasRefused judge brings (λ reader packets. kept reader ≡ hello_in packets) left bytes message fault
-      → ReadsMessage {X = Hello} judge brings Says bytes (Err fault)
+      → ReadsOrRefuses {M = Hello} judge brings Says bytes (Err fault)
   hello_is_refused fault refused = (refused.front, refused.refused)
 
   pub refused_at_once : (fault : MessageFault) → HasRefused judge brings (λ reader packets. kept reader ≡ hello_in packets) left bytes message fault

@@ -14,8 +14,8 @@ use Rattle.ggrammar.specs.PeerErrors.{peer_error, unless_error}
 use Rattle.ggrammar.specs.Texts.{TextsOfMore, texts_of}
 use Rattle.ggrammar.specs.Capabilities.{Capability, capability_of, capability_split, has_length, is_equals_sign, is_key, is_key_byte, is_value}
 use Rattle.ggrammar.specs.declared.fault.Why.TheVariants as why
-use Rattle.ghello.specs.Adverts.{IsAdvert, Says, capabilities_in, capabilities_of, judge, judge_at, judge_capability, judge_version, max_capabilities, version}
-use Rattle.ghello.specs.Laws.{TableIsManual}
+use Rattle.ghello.specs.Adverts.{IsAdvert, Says, capabilities_in, capabilities_of, judge, judge_at, judge_capability, judge_version, max_advertised, version}
+use Rattle.ggrammar.specs.Kinds.{AsInManual}
 use Rattle.ghello.proofs.HelloLemmas.{follows_word}
 use Rattle.ghello.proofs.AdvertShape.{HasBegun, HasBegun-first, HasBegun-push, Shape, begun_capabilities, begun_flush, begun_judge, open_shape}
 
@@ -120,18 +120,18 @@ module _ (law : TextOrLine) (more_texts : TextsOfMore) (laws : LawsOf judge) whe
       ap (λ (said : Option (List ℕ)). unless_error said (judge_version (text payload))) (version_reports_none law payload (peer_error payload) refl is)
       ∙ cond-true (bytes_eq (text payload) version) Open (Refused why.BadText) ((bytes_eq-Decides (text payload) version).1 is)
 
-  room : (count : ℕ) → count < max_capabilities → if_room (nat_lt count max_capabilities) ≡ Open
-  room count h = cond-true (nat_lt count max_capabilities) Open (Refused why.Limit) (grind (arith, nat_tests))
+  room : (count : ℕ) → count < max_advertised → if_room (nat_lt count max_advertised) ≡ Open
+  room count h = cond-true (nat_lt count max_advertised) Open (Refused why.Limit) (grind (arith, nat_tests))
 
   capability_goes : (front : List Packet) (capabilities : List Capability) (payload : List ℕ) (capability : Capability) → HasBegun front capabilities → capability_of (text payload) ≡ Some capability
-      → length capabilities < max_capabilities → judge front (Data payload) ≡ Open
+      → length capabilities < max_advertised → judge front (Data payload) ≡ Open
   capability_goes front capabilities payload capability begun is few =
       begun_judge front capabilities payload begun
       ∙ (ap (λ (said : Option (List ℕ)). unless_error said (judge_capability (length capabilities) (capability_of (text payload)))) (capability_reports_none law payload (peer_error payload) capability refl is)
       ∙ (ap (judge_capability (length capabilities)) is ∙ room (length capabilities) few))
 
   all_go : (front : List Packet) (capabilities : List Capability) (payloads : List (List ℕ)) (more : List Capability) → IsOpen judge front → HasBegun front capabilities
-      → map (λ payload. capability_of (text payload)) payloads ≡ map (λ capability. Some capability) more → length (capabilities ++ more) ≤ max_capabilities
+      → map (λ payload. capability_of (text payload)) payloads ≡ map (λ capability. Some capability) more → length (capabilities ++ more) ≤ max_advertised
       → IsOpen judge (front ++ map Data payloads) × HasBegun (front ++ map Data payloads) (capabilities ++ more)
   all_go front capabilities [] [] opened begun each few =
       (subst (IsOpen judge) (sym (append-nil front)) opened, subst (λ (xs : List Packet). HasBegun xs (capabilities ++ [])) (sym (append-nil front)) (subst (HasBegun front) (sym (append-nil capabilities)) begun))
@@ -141,7 +141,7 @@ module _ (law : TextOrLine) (more_texts : TextsOfMore) (laws : LawsOf judge) whe
       let is : capability_of (text payload) ≡ Some capability = cc in
       let rest : map (λ line. capability_of (text line)) payloads ≡ map (λ other. Some other) more = cc in
       let count : length (capabilities ++ capability ∷ more) ≡ length capabilities + length (capability ∷ more) = length-append capabilities (capability ∷ more) in
-      let few_before : length capabilities < max_capabilities = omega (arith, count, few) in
+      let few_before : length capabilities < max_advertised = omega (arith, count, few) in
       let goes = capability_goes front capabilities payload capability begun is few_before in
       let lines : (front ++ Data payload ∷ []) ++ map Data payloads ≡ front ++ Data payload ∷ map Data payloads = append_assoc front (Data payload ∷ []) (map Data payloads) in
       let all : (capabilities ++ capability ∷ []) ++ more ≡ capabilities ++ capability ∷ more = append_assoc capabilities (capability ∷ []) more in
@@ -159,5 +159,5 @@ module _ (law : TextOrLine) (more_texts : TextsOfMore) (laws : LawsOf judge) whe
         says = sym (ap capabilities_of advert.parts ∙ (capabilities_of-flush more_texts front ∙ begun_capabilities front capabilities h.1));
       }
 
-  pub table_is_manual : TableIsManual
+  pub table_is_manual : AsInManual Says IsAdvert
   table_is_manual packets capabilities = (said_is_advert more_texts packets capabilities, advert_is_said packets capabilities)

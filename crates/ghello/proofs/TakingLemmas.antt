@@ -2,11 +2,10 @@
 use Rattle.std.proofs.Common.{Bool, List, [], ◌∷◌, ◌++◌, Result, Ok, Err}
 use Rattle.gpkt.specs.Packets.{Packet}
 use Rattle.ggrammar.specs.Grammar.{Judge}
-use Rattle.ggrammar.specs.MessageReading.{TakesPacket}
+use Rattle.ggrammar.specs.MessageReading.{TakesAs, TakesPacket}
 use Rattle.ggrammar.specs.declared.fault.Why.{Why}
 use Rattle.ggrammar.specs.declared.message.Step.{Step}
 use Rattle.ggrammar.specs.declared.message.Step.TheVariants as step
-use Rattle.ghello.specs.Reading.{TakesAs}
 
 -- what is taken by the verdict of a judge is taken by the judge
 pub TakesPacket-by_verdict : {M : Type 0} (judge : Judge) (brings : List Packet → Packet → Bool) (holds left : M → List Packet → Type 0)

@@ -6,22 +6,18 @@
 --   capability = PKT-LINE(key[=value] LF)
 use Rattle.std.specs.Prelude.{◌≡◌, ℕ, ◌≤◌, Bool, true, false, List, [], ◌∷◌, ◌++◌, length, map, codes, All}
 use Rattle.std.specs.Prelude.{if◌then◌else◌, ◌==◌, ◌&&◌, nat_lt, Option, Some, None}
-use Rattle.std.specs.List.{filter_map, list_any}
+use Rattle.std.specs.List.{filter_map}
 use Rattle.std.specs.Str.{bytes_eq}
 use Rattle.gpkt.specs.Packets.{Packet, Data, Flush, Delim, ResponseEnd, text}
-use Rattle.gname.specs.Formats.{format_name}
-use Rattle.gname.specs.declared.formats.Format.{Format}
-use Rattle.gname.specs.declared.formats.Format.TheVariants.{Sha1}
 use Rattle.ggrammar.specs.Grammar.{Verdict, Open, Whole, Refused, IsWhole, if_room}
 use Rattle.ggrammar.specs.Texts.{text_packet, texts_of}
 use Rattle.ggrammar.specs.PeerErrors.{judge_unless_error}
 use Rattle.ggrammar.specs.Capabilities.{Capability, IsWellFormed, capability_of, is_key, is_value}
-use Rattle.ggrammar.specs.declared.fault.Why.{Why}
 use Rattle.ggrammar.specs.declared.fault.Why.TheVariants as why
 
--- the most capabilities
-abbrev pub max_capabilities : ℕ
-max_capabilities = 64
+-- how many capabilities are advertised at most
+abbrev pub max_advertised : ℕ
+max_advertised = 64
 
 abbrev pub version : List ℕ
 version = codes "version 2"
@@ -35,7 +31,7 @@ pub record IsAdvert (packets : List Packet) (capabilities : List Capability) : T
   pub parts : packets ≡ Data first ∷ (map Data payloads ++ Flush ∷ [])
   pub is_version : text first ≡ version
   pub each : map (λ payload. capability_of (text payload)) payloads ≡ map (λ capability. Some capability) capabilities
-  pub few : length capabilities ≤ max_capabilities
+  pub few : length capabilities ≤ max_advertised
 
 -- ---- the table
 
@@ -51,7 +47,7 @@ judge_version line = if bytes_eq line version then Open else Refused why.BadText
 
 abbrev pub judge_capability : ℕ → Option Capability → Verdict
 judge_capability count None = Refused why.BadText
-judge_capability count (Some capability) = if_room (nat_lt count max_capabilities)
+judge_capability count (Some capability) = if_room (nat_lt count max_advertised)
 
 -- so many texts came before, and so many capabilities are among them
 abbrev pub judge_text : ℕ → ℕ → List ℕ → Verdict
@@ -83,7 +79,7 @@ pub record Says (packets : List Packet) (capabilities : List Capability) : Type 
 -- the capabilities of an advertisement
 pub record AreCapabilities (capabilities : List Capability) : Type 0 where
   pub each : All IsWellFormed capabilities
-  pub few : length capabilities ≤ max_capabilities
+  pub few : length capabilities ≤ max_advertised
 
 abbrev pub value_text : Option (List ℕ) → List ℕ
 value_text None = []
@@ -98,6 +94,10 @@ capability_packet capability = text_packet (capability_text capability)
 abbrev pub canonical_advert : List Capability → List Packet
 canonical_advert capabilities = text_packet version ∷ (map capability_packet capabilities ++ Flush ∷ [])
 
+-- these packets are written of capabilities
+abbrev pub IsCanonical : List Packet → List Capability → Type 0
+IsCanonical packets capabilities = packets ≡ canonical_advert capabilities
+
 -- ---- what can be added
 
 abbrev pub is_value_or_none : Option (List ℕ) → Bool
@@ -108,39 +108,6 @@ is_value_or_none (Some value) = is_value value
 abbrev pub is_capability : Capability → Bool
 is_capability capability = is_key capability.key && is_value_or_none capability.value
 
--- why a capability can't be added to these, if there is a reason
-abbrev pub adding_fault : List Capability → Capability → Option Why
-adding_fault capabilities capability =
-    if is_capability capability
-    then (if nat_lt (length capabilities) max_capabilities then None else Some why.Limit)
-    else Some why.BadText
-
--- ---- what a client looks for
-
-abbrev pub has_key : List ℕ → Capability → Bool
-has_key key capability = bytes_eq capability.key key
-
--- the first capability with a key
-abbrev pub first_with : List ℕ → List Capability → Option Capability
-first_with key [] = None
-first_with key (capability ∷ capabilities) =
-    if has_key key capability then Some capability else first_with key capabilities
-
--- an advertisement without `object-format` is for sha1; one without a value names none
-abbrev pub named_format : Option Capability → Option (List ℕ)
-named_format None = Some (format_name Sha1)
-named_format (Some capability) = capability.value
-
-abbrev pub names_format : Format → Option (List ℕ) → Bool
-names_format format None = false
-names_format format (Some name) = bytes_eq name (format_name format)
-
--- why a client can't go on with the server: it lists no refs, or fetches nothing; or its object format is another
-abbrev pub check_fault : Format → List Capability → Option Why
-check_fault format capabilities =
-    if list_any (has_key (codes "ls-refs")) capabilities
-    then (if list_any (has_key (codes "fetch")) capabilities
-    then (if names_format format (named_format (first_with (codes "object-format") capabilities))
-    then None else Some why.Format)
-    else Some why.UnknownCommand)
-    else Some why.UnknownCommand
+-- there is room for one more
+abbrev pub has_room : List Capability → Bool
+has_room capabilities = nat_lt (length capabilities) max_advertised

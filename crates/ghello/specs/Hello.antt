@@ -6,15 +6,16 @@
 --   extra-parameters = "version=2" NUL
 --
 -- The host and the version are demanded here, and there is no other parameter.
-use Rattle.std.specs.Prelude.{◌≡◌, ℕ, Bool, false, ◌&&◌, IsTrue, List, [], ◌∷◌, ◌++◌, length, codes, nat_eq, nat_le}
-use Rattle.std.specs.Prelude.{if◌then◌else◌, Option, Some, None, is_some}
+use Rattle.std.specs.Prelude.{◌≡◌, ℕ, Bool, true, false, ◌&&◌, IsTrue, List, [], ◌∷◌, ◌++◌, length, codes, nat_eq}
+use Rattle.std.specs.Prelude.{nat_le, if◌then◌else◌, Option, Some, None, is_some, Result, Ok, Err}
 use Rattle.std.specs.List.{list_all, slice_split, starts_with}
 use Rattle.std.specs.Str.{bytes_eq}
 use Rattle.gpkt.specs.Packets.{Packet, Data, Flush, Delim, ResponseEnd}
 use Rattle.ggrammar.specs.Grammar.{Verdict, Whole, Refused}
 use Rattle.ggrammar.specs.Capabilities.{is_graphic, is_printable}
 use Rattle.ggrammar.specs.PeerErrors.{after_word}
-use Rattle.ggrammar.specs.declared.fault.Why.{Why}
+use Rattle.ggrammar.specs.Building.{IsBuildReason}
+use Rattle.ggrammar.specs.declared.fault.MessageFault.{MessageFault}
 use Rattle.ggrammar.specs.declared.fault.Why.TheVariants.{UnexpectedFrame, BadText}
 
 -- the most bytes of a path, and of a host
@@ -41,24 +42,36 @@ pub record IsHello (hello : Hello) : Type 0 where
   pub path : IsTrue (is_path hello.path)
   pub host : IsTrue (is_host hello.host)
 
--- why there is no such hello, if there is a reason
-abbrev pub hello_fault : Hello → Option Why
-hello_fault hello = if is_path hello.path && is_host hello.host then None else Some BadText
+abbrev pub is_hello : Hello → Bool
+is_hello hello = is_path hello.path && is_host hello.host
+
+-- the hello of this path and host is made; or a fault at packet 0 says that it is none, or that memory is refused
+abbrev pub MakesHello : Hello → Result Hello MessageFault → Type 0
+MakesHello wanted (Ok hello) = (hello ≡ wanted) × IsHello hello
+MakesHello wanted (Err fault) = (fault.frame ≡ 0) × IsBuildReason (is_hello wanted) true fault.why
 
 -- ---- what is written
+
+abbrev pub nul : List ℕ
+nul = 0 ∷ []
 
 -- the payload of the line: no line feed is left out of it
 abbrev pub hello_payload : Hello → List ℕ
 hello_payload hello =
-    codes "git-upload-pack " ++ hello.path ++ 0 ∷ codes "host=" ++ hello.host ++ 0 ∷ 0 ∷ codes "version=2" ++ 0 ∷ []
+    codes "git-upload-pack " ++ hello.path ++ nul ++ codes "host=" ++ hello.host ++ nul ++ nul
+    ++ codes "version=2" ++ nul
 
 unfoldable pub canonical_hello : Hello → List Packet
 canonical_hello hello = Data (hello_payload hello) ∷ []
 
+-- these packets are written of a hello
+abbrev pub IsCanonical : List Packet → Hello → Type 0
+IsCanonical packets hello = packets ≡ canonical_hello hello
+
 -- the packets say this: they are written so, and in no other way
 pub record Says (packets : List Packet) (hello : Hello) : Type 0 where
   pub form : IsHello hello
-  pub line : packets ≡ canonical_hello hello
+  pub line : IsCanonical packets hello
 
 -- ---- the table
 
@@ -67,7 +80,7 @@ is_nul byte = nat_eq byte 0
 
 abbrev pub hello_with : Option (List ℕ) → Option (List ℕ) → Option Hello
 hello_with (Some path) (Some host) =
-    if is_path path && is_host host then Some (record { path = path; host = host }) else None
+    if is_hello (record { path = path; host = host }) then Some (record { path = path; host = host }) else None
 hello_with (Some path) None = None
 hello_with None host = None
 

@@ -1,9 +1,10 @@
 pub mod Hello
 pub mod Adverts
-pub mod Building
-pub mod Reading
+pub mod Offers
 pub mod HelloReading
 pub mod AdvertReading
 pub mod Laws
 pub use Rattle.ggrammar.specs.Grammar
 pub use Rattle.ggrammar.specs.MessageReading
+pub use Rattle.ggrammar.specs.Kinds
+pub use Rattle.ggrammar.specs.Building

@@ -1,6 +1,6 @@
 //! The capability advertisement (gitprotocol-v2(5), "Capability Advertisement").
 
-ghost use Rattle.std.specs.Prelude.{All, map, ◌≡◌, ◌<◌, ◌≤◌, ◌↔◌, ◌++◌, ◌∷◌, [], IsTrue, IfErr, IfSome, OnOk, OnErr, IfOk, MatchResult, None, Some, true, false, length, slice_get, codes, ⊤};
+ghost use Rattle.std.specs.Prelude.{All, map, ◌≡◌, ◌<◌, ◌≤◌, ◌↔◌, ◌++◌, ◌∷◌, [], IsTrue, IfSome, OnOk, OnErr, IfOk, MatchResult, None, Some, true, false, length, slice_get, codes, ⊤};
 ghost use Rattle.std.specs.List.{list_any};
 ghost use Rattle.std.specs.Option.{option_copied, option_map};
 ghost use Rattle.gname.specs.declared.formats.Format.TheVariants.{Sha1};
@@ -8,15 +8,15 @@ ghost use Rattle.gpkt.specs.Packets.{Data, Flush, packet_of, text};
 ghost use Rattle.gpkt.specs.Change.{change_of};
 ghost use Rattle.ggrammar.specs.Capabilities.{IsWellFormed, capability_of, max_capability};
 ghost use Rattle.ggrammar.specs.CapabilityView.{capability_view};
-ghost use Rattle.ggrammar.specs.MessageReading.{IsFailedBy, IsReadFailure};
+ghost use Rattle.ggrammar.specs.Building.{Builds};
+ghost use Rattle.ggrammar.specs.Kinds.{ReadsOrRefuses};
+ghost use Rattle.ggrammar.specs.MessageReading.{LeavesReader, TakesAs};
 ghost use Rattle.ggrammar.specs.Texts.{text_packet};
 ghost use Rattle.ggrammar.specs.Writing.{WritesLines, WritesPart};
-ghost use Rattle.ghello.specs.Building.{building_fault};
-ghost use Rattle.ghello.specs.Reading.{ReadsMessage, TakesAs};
-ghost use Rattle.ghello.specs.Adverts.{AreCapabilities, Says, adding_fault, brings, canonical_advert, capability_packet, capability_text, version, check_fault, first_with, has_key, is_capability, is_value_or_none, judge, judge_version, judge_capability, max_capabilities, named_format, names_format};
+ghost use Rattle.ghello.specs.Adverts.{AreCapabilities, Says, brings, canonical_advert, capability_packet, capability_text, version, has_room, is_capability, is_value_or_none, judge, judge_version, judge_capability, max_advertised};
+ghost use Rattle.ghello.specs.Offers.{IsFormatOf, check_fault, first_with, has_feature, has_format, has_key, has_word, is_name_of, is_space, lacks_command, named_format};
 ghost use Rattle.ghello.specs.AdvertReading.{IsKept, added_by, brings_after, judge_after, capability_list};
 
-use crate::building::refused;
 use crate::compose::add;
 use arrayvec::ArrayVec;
 use ggrammar::laws::{grammars_are_exact, texts_are_read, writes_lines};
@@ -29,8 +29,8 @@ use gpkt::{Line, LineReader, LineWriter, Sink, Source, WriteFault, text_of};
 use std::alloc::{AllocError, Allocator};
 use std::marker::Model;
 
-/// The most capabilities of an advertisement.
-pub const MAX_CAPABILITIES: usize = 64;
+/// How many capabilities a server advertises at most.
+pub const MAX_ADVERTISED: usize = 64;
 
 // The text of the first line.
 const VERSION: &[u8] = b"version 2";
@@ -141,27 +141,25 @@ impl<A: Allocator + Copy> Advert<A> {
     /// `Memory` only where the capability could not be kept. The fault's packet is 0, and the
     /// advertisement is then as before.
     pub fn push(&mut self, capability: Capability<'_>) -> Result<(), MessageFault>
-        ensures pushed { MatchResult result
-            (λ _. (self.new ≡ self.old ++ capability_view capability.entry ∷ []) × (adding_fault self.old (capability_view capability.entry) ≡ None))
-            (λ fault. fault ≡ building_fault (adding_fault self.old (capability_view capability.entry))) }
-        ensures refused { OnErr result (self.new ≡ self.old) }
+        ensures { Builds (is_capability (capability_view capability.entry)) (has_room self.old)
+            self.old self.new (self.old ++ capability_view capability.entry ∷ []) result }
     {
         if !is_capability(capability) {
-            return Err(refused(Why::BadText));
+            return Err(MessageFault::of_value(Why::BadText));
         }
-        if self.capabilities.len() >= MAX_CAPABILITIES {
-            return Err(refused(Why::Limit));
+        if self.capabilities.len() >= MAX_ADVERTISED {
+            return Err(MessageFault::of_value(Why::Limit));
         }
         match self.add(capability) {
             Ok(()) => Ok(()),
-            Err(_) => Err(refused(Why::Memory)),
+            Err(_) => Err(MessageFault::of_value(Why::Memory)),
         }
     }
 
     // Adds a capability for which there is room.
     fn add(&mut self, capability: Capability<'_>) -> Result<(), AllocError>
         requires form { IsWellFormed (capability_view capability) }
-        requires room { length self.old < max_capabilities }
+        requires room { length self.old < max_advertised }
         ensures ok { OnOk result (self.new ≡ self.old ++ capability_view capability.entry ∷ []) }
         ensures err { OnErr result (self.new ≡ self.old) }
     {
@@ -194,11 +192,36 @@ impl<A: Allocator + Copy> Advert<A> {
         Some(kept.as_capability())
     }
 
-    /// The first capability with a key.
+    /// The first capability with a key, and with it its value: a capability may have none.
     pub fn value_of(&self, key: &[u8]) -> Option<Capability<'_>>
         ensures { option_map capability_view result ≡ first_with key.now self.now }
     {
         first_with(key, self.capabilities.as_slice()).map(|kept| kept.as_capability())
+    }
+
+    /// Whether the first capability with a key has a value of which a word is a part between spaces: a
+    /// server lists unborn branches where its `ls-refs` has the word `unborn` (gitprotocol-v2(5), "ls-refs").
+    pub fn has_feature(&self, key: &[u8], word: &[u8]) -> bool
+        ensures { result ≡ has_feature key.now word.now self.now }
+    {
+        match self.value_of(key) {
+            Some(capability) => has_word(capability.value, word),
+            None => false,
+        }
+    }
+
+    /// The format of the server's ids: the one that the first `object-format` names, and SHA-1 where there
+    /// is no `object-format`. `None` where another is named, or none.
+    pub fn format(&self) -> Option<Format>
+        ensures { IsFormatOf self.now result }
+    {
+        if self.has_format(Format::Sha1) {
+            return Some(Format::Sha1);
+        }
+        if self.has_format(Format::Sha256) {
+            return Some(Format::Sha256);
+        }
+        None
     }
 
     /// Whether a client of SHA-1 ids can go on with the server, as [`check_in`](Self::check_in) says.
@@ -218,13 +241,19 @@ impl<A: Allocator + Copy> Advert<A> {
         ensures { MatchResult result (λ _. check_fault format self.now ≡ None)
             (λ fault. (check_fault format self.now ≡ Some fault.why) × (fault.frame ≡ 0)) }
     {
-        if !self.has_key(LS_REFS) || !self.has_key(FETCH) {
-            return Err(refused(Why::UnknownCommand));
+        if self.lacks_command() {
+            return Err(MessageFault::of_value(Why::UnknownCommand));
         }
-        if !self.names_format(format) {
-            return Err(refused(Why::Format));
+        if !self.has_format(format) {
+            return Err(MessageFault::of_value(Why::Format));
         }
         Ok(())
+    }
+
+    fn lacks_command(&self) -> bool
+        ensures { result ≡ lacks_command self.now }
+    {
+        !self.has_key(LS_REFS) || !self.has_key(FETCH)
     }
 
     fn has_key(&self, key: &[u8]) -> bool
@@ -234,8 +263,8 @@ impl<A: Allocator + Copy> Advert<A> {
     }
 
     // An advertisement that names no format is for SHA-1.
-    fn names_format(&self, format: Format) -> bool
-        ensures { result ≡ names_format format (named_format (first_with (codes "object-format") self.now)) }
+    fn has_format(&self, format: Format) -> bool
+        ensures { result ≡ has_format format self.now }
     {
         let name = match self.value_of(OBJECT_FORMAT) {
             Some(capability) => capability.value,
@@ -278,6 +307,16 @@ fn first_with<'a, A: Allocator + Copy>(
     None
 }
 
+// Whether there is a value, and the word is one of its parts between spaces.
+fn has_word(value: Option<&[u8]>, word: &[u8]) -> bool
+    ensures { result ≡ has_word word.now (option_copied value.entry) }
+{
+    match value {
+        Some(value) => value.split(|byte| *byte == b' ').any(|part| part == word),
+        None => false,
+    }
+}
+
 // Whether the key and the value have their forms.
 fn is_capability(capability: Capability<'_>) -> bool
     ensures { result ≡ is_capability (capability_view capability.entry) }
@@ -305,13 +344,9 @@ pub fn read_advert<S: Source, A: Allocator + Copy, B: Allocator + Copy>(
     alloc: A,
     reader: &mut LineReader<S, B>,
 ) -> Result<Advert<A>, MessageFault>
-    ensures read { ReadsMessage judge brings Says (change_of S.remaining reader.old.source reader.new.source) result }
+    ensures read { ReadsOrRefuses judge brings Says (change_of S.remaining reader.old.source reader.new.source) result }
     ensures loans { S.loans reader.new.source ≡ S.loans reader.old.source }
-    ensures device { IfErr result (λ fault. IsReadFailure reader.old.failed (S.is_down reader.new.source) fault.why) }
-    ensures failed { IfErr result (λ fault. IsFailedBy fault.why reader.new.failed) }
-    ensures goes_on { OnOk result (reader.new.failed ≡ false) }
-    ensures well { OnOk result ((reader.old.failed ≡ false) × (S.is_down reader.new.source ≡ false)) }
-    ensures at_once { reader.old.failed ≡ true → IfErr result (λ fault. fault.frame ≡ 0) }
+    ensures reader { LeavesReader S.is_down reader.old reader.new result }
 {
     let mut message = AdvertReader::new(alloc);
     read_message(reader, &mut message)?;

@@ -1,19 +1,17 @@
 //! The first line of a `git://` connection (gitprotocol-pack(5), "Git Transport").
 
-ghost use Rattle.std.specs.Prelude.{◌≡◌, ◌<◌, ◌≤◌, ◌∷◌, [], IfOk, IfErr, IfSome, OnOk, MatchResult, false, length, position, is_some, ⊤};
+ghost use Rattle.std.specs.Prelude.{◌≡◌, ◌<◌, ◌≤◌, ◌∷◌, [], IfOk, IfErr, IfSome, length, position, is_some, ⊤};
 ghost use Rattle.std.specs.List.{list_all, slice_split};
 ghost use Rattle.std.specs.Option.{option_copied, option_map, option_map_or};
 ghost use Rattle.gpkt.specs.Packets.{max_payload, packet_of};
 ghost use Rattle.gpkt.specs.Change.{change_of};
 ghost use Rattle.ggrammar.specs.Capabilities.{is_graphic, is_printable};
-ghost use Rattle.ggrammar.specs.MessageReading.{IsFailedBy, IsReadFailure};
+ghost use Rattle.ggrammar.specs.Kinds.{ReadsOrRefuses};
+ghost use Rattle.ggrammar.specs.MessageReading.{LeavesReader, TakesAs};
 ghost use Rattle.ggrammar.specs.Writing.{WritesLines};
-ghost use Rattle.ghello.specs.Building.{building_fault};
-ghost use Rattle.ghello.specs.Reading.{ReadsMessage, TakesAs};
-ghost use Rattle.ghello.specs.Hello.{IsHello, Says, brings, canonical_hello, hello_fault, hello_payload, hello_of, hello_of_parts, hello_with, is_host, is_nul, is_path, judge, judge_payload, max_host, max_path};
+ghost use Rattle.ghello.specs.Hello.{IsHello, MakesHello, Says, brings, canonical_hello, hello_payload, hello_of, hello_of_parts, hello_with, is_host, is_nul, is_path, judge, judge_payload, max_host, max_path};
 ghost use Rattle.ghello.specs.HelloReading.{hello_in, hello_view};
 
-use crate::building::refused;
 use crate::compose::add;
 use arrayvec::ArrayVec;
 use ggrammar::laws::{grammars_are_exact, writes_lines};
@@ -34,6 +32,9 @@ const COMMAND: &[u8] = b"git-upload-pack ";
 const HOST: &[u8] = b"host=";
 
 const VERSION: &[u8] = b"version=2";
+
+// What ends each part.
+const NUL: &[u8] = b"\0";
 
 // The most bytes of the line: its words, a path, a host, and the NULs.
 const MAX_LINE: usize = 1_289;
@@ -62,16 +63,14 @@ impl<A: Allocator + Copy> Hello<A> {
     /// It fails with `BadText` where one of them is not so, and else with `Memory` only where it could
     /// not be kept. The fault's packet is 0.
     pub fn new(alloc: A, path: &[u8], host: &[u8]) -> Result<Hello<A>, MessageFault>
-        ensures { MatchResult result
-            (λ hello. (hello ≡ record { path = path.now; host = host.now }) × IsHello hello)
-            (λ fault. fault ≡ building_fault (hello_fault (record { path = path.now; host = host.now }))) }
+        ensures { MakesHello (record { path = path.now; host = host.now }) result }
     {
         if !is_path(path) || !is_host(host) {
-            return Err(refused(Why::BadText));
+            return Err(MessageFault::of_value(Why::BadText));
         }
         match Hello::keep(alloc, path, host) {
             Ok(hello) => Ok(hello),
-            Err(_) => Err(refused(Why::Memory)),
+            Err(_) => Err(MessageFault::of_value(Why::Memory)),
         }
     }
 
@@ -150,13 +149,10 @@ pub fn read_hello<S: Source, A: Allocator + Copy, B: Allocator + Copy>(
     alloc: A,
     reader: &mut LineReader<S, B>,
 ) -> Result<Hello<A>, MessageFault>
-    ensures read { ReadsMessage judge brings Says (change_of S.remaining reader.old.source reader.new.source) result }
-    ensures loans { S.loans reader.new.source ≡ S.loans reader.old.source }
-    ensures device { IfErr result (λ fault. IsReadFailure reader.old.failed (S.is_down reader.new.source) fault.why) }
-    ensures failed { IfErr result (λ fault. IsFailedBy fault.why reader.new.failed) }
-    ensures goes_on { OnOk result (reader.new.failed ≡ false) }
-    ensures well { OnOk result ((reader.old.failed ≡ false) × (S.is_down reader.new.source ≡ false)) }
+    ensures read { ReadsOrRefuses judge brings Says (change_of S.remaining reader.old.source reader.new.source) result }
     ensures first { IfErr result (λ fault. fault.frame ≡ 0) }
+    ensures loans { S.loans reader.new.source ≡ S.loans reader.old.source }
+    ensures reader { LeavesReader S.is_down reader.old reader.new result }
 {
     let mut message = HelloReader { alloc, hello: None };
     read_message(reader, &mut message)?;
@@ -192,10 +188,13 @@ fn compose<A: Allocator + Copy>(hello: &Hello<A>, line: &mut ArrayVec<u8, MAX_LI
 {
     add(COMMAND, line);
     add(hello.path(), line);
-    add(b"\0host=", line);
+    add(NUL, line);
+    add(HOST, line);
     add(hello.host(), line);
-    add(b"\0\0version=2", line);
-    add(b"\0", line);
+    add(NUL, line);
+    add(NUL, line);
+    add(VERSION, line);
+    add(NUL, line);
 }
 
 // What a payload says, lent from it.

@@ -1,49 +1,129 @@
 //! The laws of hellos and advertisements: functions without effect, whose contracts they are.
 
-ghost use Rattle.ggrammar.specs.Grammar.{HasEndings};
-ghost use Rattle.ghello.specs.Laws.{CanonicalSaysAdvert, CanonicalSaysHello, OneAdvert, OneHello, PayloadSaysHello, TableIsManual, WholeSaysHello};
+ghost use Rattle.ggrammar.specs.Grammar.{HasEndings, IsPrefixFree, RefusesFirstMisfits};
+ghost use Rattle.ggrammar.specs.Kinds.{AsInManual, CanonicalSays, OneMeaning, ReadsBack, ReadsExactly, SaysWhole};
+ghost use Rattle.ggrammar.specs.MessageBytes.{SpellingsPrefixFree};
+ghost use Rattle.ghello.specs.Laws.{PayloadSaysHello};
 ghost use Rattle.ghello.specs.Hello as hello;
 ghost use Rattle.ghello.specs.Adverts as advert;
 
-use ggrammar::laws::{grammars_are_exact, texts_are_read};
+use ggrammar::Kind;
+use ggrammar::laws::{grammars_are_exact, kinds_are_read, messages_are_read, texts_are_read};
 use gpkt::laws::text_reads_back;
+
+// Hellos, as a kind of message.
+struct Hellos;
+
+impl Kind for Hellos {
+    ghost use Rattle.ghello.specs.Hello as hello;
+
+    ghost Given = { Unit {0} };
+
+    ghost Said = { hello.Hello };
+
+    ghost judge = { λ _. hello.judge };
+
+    ghost brings = { λ _. hello.brings };
+
+    ghost says = { λ _. hello.Says };
+
+    ghost is_value = { λ _. hello.IsHello };
+
+    ghost is_canonical = { λ _. hello.IsCanonical };
+}
+
+// Advertisements, as a kind of message.
+struct Adverts;
+
+impl Kind for Adverts {
+    ghost use Rattle.std.specs.Prelude.{List};
+    ghost use Rattle.ggrammar.specs.Capabilities.{Capability};
+    ghost use Rattle.ghello.specs.Adverts as advert;
+
+    ghost Given = { Unit {0} };
+
+    ghost Said = { List Capability };
+
+    ghost judge = { λ _. advert.judge };
+
+    ghost brings = { λ _. advert.brings };
+
+    ghost says = { λ _. advert.Says };
+
+    ghost is_value = { λ _. advert.AreCapabilities };
+
+    ghost is_canonical = { λ _. advert.IsCanonical };
+}
 
 /// Packets say at most one hello, and at most one advertisement.
 pub fn one_meaning()
-    ensures hello { OneHello }
-    ensures advert { OneAdvert }
+    ensures hello { OneMeaning hello.Says }
+    ensures advert { OneMeaning advert.Says }
 {}
 
-/// A payload is read as a hello exactly where it is the line of it, and such a line is all of a hello's packets.
-pub fn hellos_are_their_lines()
-    ensures payload { PayloadSaysHello }
-    ensures packets { WholeSaysHello }
+/// No hello begins another, and no advertisement does: neither as packets nor as the bytes that spell them.
+pub fn prefix_free()
+    ensures hello { IsPrefixFree hello.judge }
+    ensures hello_spellings { SpellingsPrefixFree hello.judge }
+    ensures advert { IsPrefixFree advert.judge }
+    ensures advert_spellings { SpellingsPrefixFree advert.judge }
 {
     grammars_are_exact();
+    messages_are_read();
 }
 
-/// Packets are read as an advertisement exactly where the manual's grammar has them, with the same capabilities.
-pub fn adverts_are_the_manuals()
-    ensures { TableIsManual }
+/// The packets that are read as a hello, or as an advertisement, are those that the manual has, and they say the
+/// same (gitprotocol-pack(5), "Git Transport"; gitprotocol-v2(5), "Capability Advertisement").
+pub fn manual()
+    ensures hello { SaysWhole hello.judge hello.Says }
+    ensures hello_payload { PayloadSaysHello }
+    ensures advert { AsInManual advert.Says advert.IsAdvert }
+    ensures advert_whole { SaysWhole advert.judge advert.Says }
 {
     text_reads_back();
     texts_are_read();
     grammars_are_exact();
 }
 
-/// What begins a hello, or an advertisement, can be ended.
-pub fn beginnings_have_endings()
+/// What begins a hello, or an advertisement, can be ended, and a packet that is refused is the first that does
+/// not fit.
+pub fn endings()
     ensures hello { HasEndings hello.judge }
+    ensures hello_first { RefusesFirstMisfits hello.judge }
     ensures advert { HasEndings advert.judge }
+    ensures advert_first { RefusesFirstMisfits advert.judge }
 {
     grammars_are_exact();
 }
 
 /// What is written of a hello, or of an advertisement, says it, and each of its lines fits a packet.
 pub fn canonical_says()
-    ensures hello { CanonicalSaysHello }
-    ensures advert { CanonicalSaysAdvert }
+    ensures hello { CanonicalSays hello.Says hello.IsHello hello.IsCanonical }
+    ensures advert { CanonicalSays advert.Says advert.AreCapabilities advert.IsCanonical }
 {
     text_reads_back();
-    adverts_are_the_manuals();
+    manual();
+}
+
+/// A hello, or an advertisement, is read exactly where the bytes begin with it, and nothing after it is taken.
+pub fn reads_exactly()
+    ensures hello { ReadsExactly hello.judge hello.brings hello.Says }
+    ensures advert { ReadsExactly advert.judge advert.brings advert.Says }
+{
+    one_meaning();
+    manual();
+    kinds_are_read::<Hellos>();
+    kinds_are_read::<Adverts>();
+}
+
+/// What is written of a hello, or of an advertisement, reads back as it, whatever follows.
+pub fn reads_back()
+    ensures hello { ReadsBack hello.judge hello.brings hello.Says hello.IsHello hello.IsCanonical }
+    ensures advert { ReadsBack advert.judge advert.brings advert.Says advert.AreCapabilities advert.IsCanonical }
+{
+    one_meaning();
+    manual();
+    canonical_says();
+    kinds_are_read::<Hellos>();
+    kinds_are_read::<Adverts>();
 }

@@ -5,17 +5,22 @@
 //! # Proved
 //!
 //! - [`Hello`] and [`Advert`] keep their forms and limits: a call that would break a form fails with
-//!   `BadText`, else one that would pass a limit with `Limit`, and nothing changes then.
+//!   `BadText`, else one that would pass a limit with `Limit`, else with `Memory` at most, and nothing changes
+//!   then.
 //! - [`read_hello`] and [`read_advert`] read exactly one message, in whatever pieces its bytes come, and
 //!   nothing after it; else they refuse it at the first packet that does not fit, with the reason of the
 //!   table (`specs/Hello.antt`, `specs/Adverts.antt`). Out of memory comes only at a packet that brings
-//!   something to keep.
+//!   something to keep. After a message the line reader goes on; after a refusal it has failed exactly where
+//!   the line itself was refused.
 //! - [`write_hello`] and [`write_advert`] write the canonical lines of the value, or a beginning of them
 //!   where the sink fails.
-//! - What a client looks for: [`Advert::value_of`] gives the first capability with a key, and
-//!   [`Advert::check_in`] says why a client of an object format can't go on.
-//! - [`laws`]: the tables have exactly the messages of the manual's words, with the same value; packets say
-//!   one value at most; each beginning has an ending; what is written says its value, in lines that fit.
+//! - What a client looks for (`specs/Offers.antt`): [`Advert::value_of`] gives the first capability with a key,
+//!   [`Advert::has_feature`] looks for a word in its value, [`Advert::format`] gives the format of the server's
+//!   ids, and [`Advert::check_in`] says why a client of an object format can't go on.
+//! - [`laws`], of both kinds: the tables have exactly the messages of the manual's words, with the same value;
+//!   packets say one value at most; no message begins another, as packets or as bytes; each beginning has an
+//!   ending, and a refused packet is the first that does not fit; what is written says its value, in lines
+//!   that fit; a message is read exactly where the bytes begin with it, and what is written reads back.
 //!
 //! # Only tested
 //!
@@ -35,12 +40,11 @@
 #![tactic(auto)]
 
 mod advert;
-mod building;
 mod compose;
 mod hello;
 pub mod laws;
 #[cfg(test)]
 mod tests;
 
-pub use crate::advert::{Advert, MAX_CAPABILITIES, read_advert, write_advert};
+pub use crate::advert::{Advert, MAX_ADVERTISED, read_advert, write_advert};
 pub use crate::hello::{Hello, MAX_HOST, MAX_PATH, is_host, is_path, read_hello, write_hello};

@@ -128,6 +128,84 @@ fn a_client_goes_on_where_it_can(rt: HostRuntime) -> Result<(), Fail> {
     Ok(())
 }
 
+// Advertisements: whether the server lists unborn branches, and the format of its ids.
+const OFFERED: &[(&[u8], bool, Option<Format>)] = &[
+    (SHA1, true, Some(Format::Sha1)),
+    (SHA256, true, Some(Format::Sha256)),
+    (OLD, false, Some(Format::Sha1)),
+    (b"000eversion 2\n0000", false, Some(Format::Sha1)),
+    (
+        b"000eversion 2\n0014ls-refs=a unborn0000",
+        true,
+        Some(Format::Sha1),
+    ),
+    (
+        b"000eversion 2\n0015ls-refs= unborn b0000",
+        true,
+        Some(Format::Sha1),
+    ),
+    (
+        b"000eversion 2\n0013ls-refs=unbornx0000",
+        false,
+        Some(Format::Sha1),
+    ),
+    (
+        b"000eversion 2\n0013ls-refs=xunborn0000",
+        false,
+        Some(Format::Sha1),
+    ),
+    // The first `ls-refs` decides, and a value of another key does not.
+    (
+        b"000eversion 2\n000bls-refs0012ls-refs=unborn0000",
+        false,
+        Some(Format::Sha1),
+    ),
+    (
+        b"000eversion 2\n0010fetch=unborn0000",
+        false,
+        Some(Format::Sha1),
+    ),
+    // The first `object-format` decides.
+    (
+        b"000eversion 2\n0019object-format=sha256\n0017object-format=sha1\n0000",
+        false,
+        Some(Format::Sha256),
+    ),
+    (b"000eversion 2\n0012object-format\n0000", false, None),
+    (b"000eversion 2\n0016object-format=md5\n0000", false, None),
+];
+
+#[test]
+fn what_a_server_offers_is_found(rt: HostRuntime) -> Result<(), Fail> {
+    for (bytes, lists_unborn, format) in OFFERED {
+        let advert = advert_from(rt.alloc(), bytes)??;
+        assert!(rt; advert.has_feature(b"ls-refs", b"unborn") == *lists_unborn);
+        assert!(rt; advert.format() == *format);
+    }
+    Ok(())
+}
+
+// An advertisement, from its capabilities.
+fn advert_of(alloc: Global, format: Format) -> Result<Advert<Global>, Fail> {
+    let mut advert = Advert::new(alloc);
+    advert.push(capability_with(b"agent", b"gitv2/1"))?;
+    advert.push(capability_with(b"ls-refs", b"unborn"))?;
+    advert.push(Capability {
+        key: b"fetch",
+        value: None,
+    })?;
+    advert.push(capability_with(b"object-format", format.name().as_bytes()))?;
+    Ok(advert)
+}
+
+#[test]
+fn an_advertisement_is_built(rt: HostRuntime) -> Result<(), Fail> {
+    let sha1 = advert_of(rt.alloc(), Format::Sha1)?;
+    check_advert_written(&rt, rt.alloc(), &sha1, SHA1)?;
+    let sha256 = advert_of(rt.alloc(), Format::Sha256)?;
+    check_advert_written(&rt, rt.alloc(), &sha256, SHA256)
+}
+
 #[test]
 fn the_first_of_a_key_is_found(rt: HostRuntime) -> Result<(), Fail> {
     let advert = advert_from(rt.alloc(), b"000eversion 2\n0008a=1\n0008a=2\n0000")??;

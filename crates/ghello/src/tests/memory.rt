@@ -4,6 +4,7 @@ use crate::tests::reading::{check_advert_written, check_hello_written};
 use crate::{Advert, Hello, read_advert, read_hello};
 use bumpalo::Bump;
 use ggrammar::Capability;
+use gname::Format;
 use gpkt::LineReader;
 use gpkt::memory::SliceSource;
 use std::alloc::Global;
@@ -93,6 +94,7 @@ fn an_advertisement_takes_memory_where_it_grows(rt: HostRuntime) -> Result<(), F
     assert!(rt; Advert::new(&arena).is_empty());
     assert!(rt; advert.len() == 3 && advert.at(2) == Some(fetch) && advert.at(3) == None);
     assert!(rt; advert.value_of(b"fetch") == Some(fetch) && advert.value_of(b"a") == None);
+    assert!(rt; advert.has_feature(b"ls-refs", b"unborn") && advert.format() == Some(Format::Sha1));
     assert!(rt; advert.check().is_ok());
     check_advert_written(&rt, rt.alloc(), &advert, ADVERT)
 }

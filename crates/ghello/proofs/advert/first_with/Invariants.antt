@@ -1,5 +1,5 @@
 use Rattle.std.proofs.Common.{◌≡◌, drop}
-use Rattle.ghello.specs.Adverts.{first_with}
+use Rattle.ghello.specs.Offers.{first_with}
 use Rattle.ghello.proofs.advert.first_with.Given as goal
 
 abbrev pub invariant-loop-kept : goal.invariant-loop-kept

@@ -1,0 +1,65 @@
+-- What a client looks for among the capabilities of a server (gitprotocol-v2(5), "Capabilities").
+use Rattle.std.specs.Prelude.{◌≡◌, ℕ, Bool, true, false, not, ◌&&◌, if◌then◌else◌, List, [], ◌∷◌, codes, nat_eq}
+use Rattle.std.specs.Prelude.{Option, Some, None}
+use Rattle.std.specs.List.{list_any, slice_split}
+use Rattle.std.specs.Str.{bytes_eq}
+use Rattle.gname.specs.Formats.{format_name}
+use Rattle.gname.specs.declared.formats.Format.{Format}
+use Rattle.gname.specs.declared.formats.Format.TheVariants.{Sha1}
+use Rattle.ggrammar.specs.Capabilities.{Capability}
+use Rattle.ggrammar.specs.declared.fault.Why.{Why}
+use Rattle.ggrammar.specs.declared.fault.Why.TheVariants.{UnknownCommand, Format as OtherFormat}
+
+abbrev pub has_key : List ℕ → Capability → Bool
+has_key key capability = bytes_eq capability.key key
+
+-- the first capability with a key
+abbrev pub first_with : List ℕ → List Capability → Option Capability
+first_with key [] = None
+first_with key (capability ∷ capabilities) =
+    if has_key key capability then Some capability else first_with key capabilities
+
+abbrev pub value_in : Option Capability → Option (List ℕ)
+value_in None = None
+value_in (Some capability) = capability.value
+
+abbrev pub is_space : ℕ → Bool
+is_space byte = nat_eq byte 32
+
+-- there is a value, and the word is one of its parts between spaces
+abbrev pub has_word : List ℕ → Option (List ℕ) → Bool
+has_word word None = false
+has_word word (Some value) = list_any (λ part. bytes_eq part word) (slice_split is_space value)
+
+-- the first capability with a key has a value with this word
+abbrev pub has_feature : List ℕ → List ℕ → List Capability → Bool
+has_feature key word capabilities = has_word word (value_in (first_with key capabilities))
+
+-- an advertisement without `object-format` is for sha1; one without a value names none
+abbrev pub named_format : Option Capability → Option (List ℕ)
+named_format None = Some (format_name Sha1)
+named_format (Some capability) = capability.value
+
+abbrev pub is_name_of : Format → Option (List ℕ) → Bool
+is_name_of format None = false
+is_name_of format (Some name) = bytes_eq name (format_name format)
+
+-- the ids are of this format
+abbrev pub has_format : Format → List Capability → Bool
+has_format format capabilities = is_name_of format (named_format (first_with (codes "object-format") capabilities))
+
+-- the format of the ids; there is none where another is named
+abbrev pub IsFormatOf : List Capability → Option Format → Type 0
+IsFormatOf capabilities (Some format) = has_format format capabilities ≡ true
+IsFormatOf capabilities None = (format : Format) → has_format format capabilities ≡ false
+
+-- the server lists no refs, or fetches nothing
+abbrev pub lacks_command : List Capability → Bool
+lacks_command capabilities =
+    not (list_any (has_key (codes "ls-refs")) capabilities && list_any (has_key (codes "fetch")) capabilities)
+
+-- why a client of this format can't go on with the server
+abbrev pub check_fault : Format → List Capability → Option Why
+check_fault format capabilities =
+    if lacks_command capabilities then Some UnknownCommand
+    else (if has_format format capabilities then None else Some OtherFormat)
