@@ -1,14 +1,15 @@
 -- What a server answers to a request (gitprotocol-v2(5), "Command Request").
 use Rattle.std.specs.Prelude.{◌≡◌, ◌≢◌, ⊤, ℕ, List, [], All, Result, Ok, Err}
+use Rattle.gname.specs.declared.formats.Format.{Format}
 use Rattle.gobject.specs.Packs.{PackFails, Packs}
 use Rattle.ghistory.specs.Graphs.{Holds, IsFirstAbsent}
-use Rattle.grequest.specs.Asked.{Asked, FetchAsked, Empty, Ls as LsAsked, Fetches}
+use Rattle.grequest.specs.Asked.{Asked, FetchAsked, Empty, Ls as LsAsked, Fetches, is_direct}
 use Rattle.glsreply.specs.LsReplies.{LsReply}
 use Rattle.gfetchreply.specs.FetchReplies.{FetchReply}
-use Rattle.gfetchreply.specs.Views.{reply_in}
+use Rattle.gfetchreply.specs.Views.{IsReplyOf, reply_in}
 use Rattle.ganswer.specs.Servers.{Server}
 use Rattle.ganswer.specs.LsAnswers.{LsAnswer}
-use Rattle.ganswer.specs.FetchAnswers.{CanServe, FailsToPack, FetchAnswer, IsPackDue, SendsPack, is_direct}
+use Rattle.ganswer.specs.FetchAnswers.{CanServe, FailsToPack, FetchAnswer, IsPackDue, SendsPack}
 use Rattle.ganswer.specs.declared.answer.Reply as value
 use Rattle.ganswer.specs.declared.answer.Reply.TheVariants as values
 use Rattle.ganswer.specs.declared.fault.ServeFault.{ServeFault}
@@ -24,6 +25,11 @@ abbrev pub reply_of : {A : Type 0} → value.Reply A → Reply
 reply_of values.Nothing = Nothing
 reply_of (values.Ls reply) = Ls reply
 reply_of (values.Fetch reply) = Fetch (reply_in reply)
+
+-- the acknowledged ids have the format, which is said also where there are none
+abbrev pub HasFormat : {A : Type 0} → Format → value.Reply A → Type 0
+HasFormat format (values.Fetch reply) = IsReplyOf format reply
+HasFormat format _ = ⊤
 
 -- the reply answers the request
 abbrev pub Answers : {A : Type 0} → Server A → Packs A → Asked → Reply → Type 0

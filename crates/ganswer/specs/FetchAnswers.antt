@@ -1,20 +1,16 @@
 -- What fetch answers (gitprotocol-v2(5), "fetch"). A request with `done`, or without haves, is answered with a pack at
 -- once. Any other is answered with the common ids, and where each want reaches one of these, with a pack, too.
-use Rattle.std.specs.Prelude.{◌≡◌, ◌≢◌, ℕ, Bool, true, false, ◌||◌, ◌==◌, List, [], length, All, if◌then◌else◌}
+use Rattle.std.specs.Prelude.{◌≡◌, ◌≢◌, ℕ, Bool, true, false, List, [], All, if◌then◌else◌}
 use Rattle.std.specs.Map.{values_of}
 use Rattle.gobject.specs.declared.node.Entry.{Entry}
 use Rattle.gobject.specs.declared.fault.PackFault.{PackFault}
 use Rattle.gobject.specs.Packs.{MayPack, PackFails, Packs}
-use Rattle.ghistory.specs.Graphs.{Holds, IsFirstAbsent}
+use Rattle.ghistory.specs.Graphs.{Holds}
 use Rattle.ghistory.specs.Sending.{IsListToSend}
 use Rattle.ghistory.specs.Walks.{IsReady, common_of}
-use Rattle.grequest.specs.Asked.{FetchAsked}
+use Rattle.grequest.specs.Asked.{FetchAsked, is_direct}
 use Rattle.gfetchreply.specs.FetchReplies.{FetchReply, Acks, Ready, Pack}
 use Rattle.ganswer.specs.Servers.{Server}
-
--- a pack is asked for at once
-abbrev pub is_direct : FetchAsked → Bool
-is_direct asked = asked.done || length asked.haves == 0
 
 -- something is wanted, and all of it is held
 pub record CanServe {A : Type 0} (server : Server A) (asked : FetchAsked) : Type 0 where

@@ -5,6 +5,7 @@ pub mod FaultViews
 pub mod Faults
 pub mod FetchAnswers
 pub mod LsAnswers
+pub mod LsBuilding
 pub mod Servers
 pub use Rattle.gobject.specs.Objects
 pub use Rattle.gobject.specs.Packs

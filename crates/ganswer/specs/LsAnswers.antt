@@ -39,9 +39,6 @@ is_asked (prefix ∷ prefixes) name = list_any (starts_with nat_eq name) (prefix
 abbrev pub is_shown : List (List ℕ) → List ℕ × List ℕ → Bool
 is_shown prefixes ref = is_asked prefixes ref.0
 
-abbrev pub shown_refs : {A : Type 0} → Server A → List (List ℕ) → RefList
-shown_refs server prefixes = filter (is_shown prefixes) (all_refs server)
-
 -- ---- their attributes
 
 -- the name that HEAD points at
@@ -74,6 +71,17 @@ pub record HasAttributes {A : Type 0} (server : Server A) (asked : LsRefsAsked) 
   pub symref : line.symref ≡ symref_of server.head asked line.name
   pub peeled : IsPeeledIf asked.peel server.graph.entries line.id line.peeled
 
+-- ---- the lines
+
+abbrev pub name_and_id : RefLine → List ℕ × List ℕ
+name_and_id line = (line.name, line.id)
+
+-- there is a line for each of the refs that is shown, in order
+pub record ShowsLines {A : Type 0} (server : Server A) (asked : LsRefsAsked) (refs : RefList)
+    (lines : List RefLine) : Type 0 where
+  pub shown : map name_and_id lines ≡ filter (is_shown asked.prefixes) refs
+  pub attributes : All (HasAttributes server asked) lines
+
 -- ---- HEAD on a branch that is not there yet
 
 -- the name that HEAD points at, where there is no such ref
@@ -89,11 +97,7 @@ unborn_of server asked =
 
 -- ---- the answer
 
-abbrev pub name_and_id : RefLine → List ℕ × List ℕ
-name_and_id line = (line.name, line.id)
-
--- the reply has a line for each ref that is shown, in order, and the target of an unborn HEAD
+-- HEAD and the refs are shown, and the target of an unborn HEAD
 pub record LsAnswer {A : Type 0} (server : Server A) (asked : LsRefsAsked) (reply : LsReply) : Type 0 where
-  pub refs : map name_and_id reply.lines ≡ shown_refs server asked.prefixes
-  pub attributes : All (HasAttributes server asked) reply.lines
+  pub lines : ShowsLines server asked (all_refs server) reply.lines
   pub unborn : reply.unborn ≡ unborn_of server asked

@@ -1,8 +1,8 @@
 //! What a server advertises (gitprotocol-v2(5), "Capability Advertisement").
 
-ghost use Rattle.std.specs.Prelude.{◌≡◌, ◌∷◌, ◌++◌, [], IfOk, IfErr, None, OnOk};
+ghost use Rattle.std.specs.Prelude.{◌≡◌, ◌∷◌, ◌++◌, [], IfOk, IfErr, OnOk, true};
 ghost use Rattle.std.specs.Option.{option_copied};
-ghost use Rattle.ghello.specs.Adverts.{adding_fault};
+ghost use Rattle.ghello.specs.Adverts.{has_room, is_capability};
 ghost use Rattle.ganswer.specs.Adverts.{advertised};
 ghost use Rattle.ganswer.specs.declared.fault.ServeFault.TheVariants.{Memory};
 
@@ -35,7 +35,8 @@ fn add<A: Allocator + Copy>(
     key: &[u8],
     value: Option<&[u8]>,
 ) -> Result<(), ServeFault>
-    requires { adding_fault advert.old (record { key = key.now; value = option_copied value }) ≡ None }
+    requires form { is_capability (record { key = key.now; value = option_copied value }) ≡ true }
+    requires room { has_room advert.old ≡ true }
     ensures ok { OnOk result (advert.new ≡ advert.old ++ record { key = key.now; value = option_copied value.entry } ∷ []) }
     ensures fault { IfErr result (λ fault. fault ≡ Memory) }
 {

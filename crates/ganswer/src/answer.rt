@@ -1,8 +1,8 @@
 //! What a server answers (gitprotocol-v2(5), "Command Request").
 
-ghost use Rattle.std.specs.Prelude.{MatchResult};
+ghost use Rattle.std.specs.Prelude.{IfOk, MatchResult};
 ghost use Rattle.grequest.specs.RequestValues.{asked_by_request};
-ghost use Rattle.ganswer.specs.Answers.{Answers, Refuses, reply_of};
+ghost use Rattle.ganswer.specs.Answers.{Answers, HasFormat, Refuses, reply_of};
 
 use crate::fault::ServeFault;
 use crate::server::Server;
@@ -42,9 +42,10 @@ impl<A: Allocator + Copy> Server<A> {
         request: &Request<A>,
         packer: &K,
     ) -> Result<Reply<A>, ServeFault>
-        ensures { MatchResult result
+        ensures answer { MatchResult result
             (λ reply. Answers self.now (K.packs packer.now) (asked_by_request request.now) (reply_of reply))
             (Refuses self.now (K.pack_fails packer.now) (asked_by_request request.now)) }
+        ensures format { IfOk result (HasFormat self.now.graph.format) }
     {
         match request {
             Request::Empty => Ok(Reply::Nothing),

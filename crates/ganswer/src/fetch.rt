@@ -1,17 +1,15 @@
 //! What fetch answers (gitprotocol-v2(5), "fetch").
 
-ghost use Rattle.std.specs.Prelude.{◌≡◌, ◌<◌, ◌↔◌, ◌∷◌, ◌++◌, [], IfOk, IfErr, IsTrue, MatchResult, OnOk, length};
-ghost use Rattle.gname.specs.Ids.{IsIdOf};
+ghost use Rattle.std.specs.Prelude.{◌≡◌, ◌↔◌, IfOk, IfErr, IsTrue, MatchResult};
 ghost use Rattle.ghistory.specs.declared.fault.GraphFault.TheVariants.{Memory as OutOfMemory};
-ghost use Rattle.gfetchreply.specs.FetchReplies.{max_acks};
-ghost use Rattle.gfetchreply.specs.Views.{reply_in};
+ghost use Rattle.gfetchreply.specs.Views.{IsReplyOf, reply_in};
 ghost use Rattle.ganswer.specs.Answers.{ChecksWants, FetchRefuses, PacksFor};
-ghost use Rattle.ganswer.specs.FetchAnswers.{FetchAnswer, IsReadyFor, IsSent, commons_of, is_direct};
+ghost use Rattle.ganswer.specs.FetchAnswers.{FetchAnswer, IsReadyFor, IsSent, commons_of};
 ghost use Rattle.ganswer.specs.declared.fault.ServeFault.TheVariants.{Memory};
 
 use crate::fault::ServeFault;
 use crate::server::Server;
-use gfetchreply::{Commons, FetchReply, PackBytes};
+use gfetchreply::{Acks, FetchReply, PackBytes};
 use ggraph::{Entry, GraphFault, Packer, common_ids, ready, send_list, send_list_tags};
 use gname::Oid;
 use grequest::FetchRequest;
@@ -24,13 +22,14 @@ impl<A: Allocator + Copy> Server<A> {
         asked: &FetchRequest<A>,
         packer: &K,
     ) -> Result<FetchReply<A>, ServeFault>
-        ensures { MatchResult result
+        ensures answer { MatchResult result
             (λ reply. FetchAnswer self.now (K.packs packer.now) asked.now.asked (reply_in reply))
             (FetchRefuses self.now (K.pack_fails packer.now) asked.now.asked) }
+        ensures format { IfOk result (IsReplyOf self.now.graph.format) }
     {
         self.check_wants(asked.wants())?;
         let commons = self.commons(asked)?;
-        if is_direct(asked) {
+        if asked.is_direct() {
             let pack = self.pack(asked, commons.ids(), packer)?;
             return Ok(FetchReply::Pack(pack));
         }
@@ -55,18 +54,14 @@ impl<A: Allocator + Copy> Server<A> {
     }
 
     // The ids that both ends have.
-    fn commons(&self, asked: &FetchRequest<A>) -> Result<Commons<A>, ServeFault>
+    fn commons(&self, asked: &FetchRequest<A>) -> Result<Acks<A>, ServeFault>
         ensures commons { IfOk result (λ commons. commons ≡ record {
             format = self.now.graph.format; ids = commons_of self.now asked.now.asked }) }
         ensures fault { IfErr result (λ fault. fault ≡ Memory) }
     {
         let graph = self.graph();
         let ids = common_ids(graph, asked.haves()).map_err(no_memory)?;
-        let mut commons = Commons::new(graph.allocator(), graph.format());
-        for id in &ids {
-            add_common(*id, &mut commons)?;
-        }
-        Ok(commons)
+        Ok(Acks::from_ids(graph.format(), ids).unwrap())
     }
 
     // Whether each want reaches one of the common ids.
@@ -113,13 +108,6 @@ impl<A: Allocator + Copy> Server<A> {
     }
 }
 
-// Whether a pack is asked for at once.
-fn is_direct<A: Allocator + Copy>(asked: &FetchRequest<A>) -> bool
-    ensures { result ≡ is_direct asked.now.asked }
-{
-    asked.done() || asked.haves().is_empty()
-}
-
 // The fault of a walk, which fails for want of memory alone.
 fn no_memory(fault: GraphFault) -> ServeFault
     requires { fault ≡ OutOfMemory }
@@ -127,17 +115,4 @@ fn no_memory(fault: GraphFault) -> ServeFault
 {
     let _ = fault;
     ServeFault::Memory
-}
-
-// Adds an id that has the format, and for which there is room.
-fn add_common<A: Allocator + Copy>(id: Oid, commons: &mut Commons<A>) -> Result<(), ServeFault>
-    requires format { IsIdOf commons.old.format id }
-    requires room { length commons.old.ids < max_acks }
-    ensures ok { OnOk result (commons.new ≡ record commons.old { ids = commons.old.ids ++ id ∷ [] }) }
-    ensures fault { IfErr result (λ fault. fault ≡ Memory) }
-{
-    match commons.push(id) {
-        Ok(()) => Ok(()),
-        Err(_) => Err(ServeFault::Memory),
-    }
 }
