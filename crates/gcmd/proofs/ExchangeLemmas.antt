@@ -5,7 +5,7 @@ use Rattle.gobject.specs.declared.node.Entry.{Entry}
 use Rattle.grefs.specs.declared.head.Head.{Head}
 use Rattle.gcmd.specs.Request.{LsRefs, Ls}
 use Rattle.gcmd.specs.Reply.{reply_bytes}
-use Rattle.gcmd.specs.Sending.{Input, Output, IsUp, Sends}
+use Rattle.gpkt.specs.Sending.{Input, Output, IsUp, Sends}
 use Rattle.gcmd.specs.Exchange.{err_bytes, IsRefusal, Exchanges, ReadsRequest, TakesRequest, ReportsRefusal, Replies}
 use Rattle.gcmd.specs.declared.exchange.LsFault.{LsFault}
 use Rattle.gcmd.specs.declared.exchange.LsFault.TheVariants.{Buffer, Message, Memory}

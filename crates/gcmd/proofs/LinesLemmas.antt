@@ -14,7 +14,7 @@ use Rattle.gpkt.specs.LineReading.{Reader, HasRead, ReadsLines}
 use Rattle.gpkt.specs.declared.device.Down.{Down}
 use Rattle.gpkt.specs.declared.fault.LineFault.{LineFault}
 use Rattle.gcmd.specs.Lines.{digits_part, max_lines, shown_line, shown_lines, ShowsEach, ShowsSome, HasPassed}
-use Rattle.gcmd.specs.Sending.{Input, input_of, output_of, HasPut}
+use Rattle.gpkt.specs.Sending.{Input, input_of, output_of, HasPut}
 use Rattle.gcmd.proofs.ReadingLemmas.{read_failure}
 
 -- ---- bytes

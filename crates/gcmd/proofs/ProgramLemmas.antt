@@ -1,6 +1,6 @@
 -- How programs end.
 use Rattle.std.proofs.Common.{◌≡◌, ℕ, List, Option, Some, sym, subst}
-use Rattle.gcmd.specs.Sending.{Output}
+use Rattle.gpkt.specs.Sending.{Output}
 use Rattle.gcmd.specs.Commands.{EndsWith}
 
 -- what was printed is the line of the fault that was met

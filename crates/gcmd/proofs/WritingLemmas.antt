@@ -2,7 +2,7 @@
 use Rattle.std.proofs.Common.{◌≡◌, ◌≢◌, ℕ, Bool, List, [], ◌++◌, Option, false, Result, Ok, Err, refl, sym, ◌∙◌, append_assoc, append-nil}
 use Rattle.std.proofs.lemmas.Bool.{false≢true}
 use Rattle.std.specs.Result.{IfErr}
-use Rattle.gcmd.specs.Sending.{output_of, HasSent}
+use Rattle.gpkt.specs.Sending.{output_of, HasSent}
 use Rattle.gpkt.specs.Laws.{WritesJoin, PushesWritten}
 use Rattle.gpkt.specs.LineWriting.{Writer, HasWritten, HasPushed}
 use Rattle.gpkt.specs.declared.fault.WriteFault.{WriteFault}
@@ -35,7 +35,7 @@ module _ {W : Type 0} (contents passed_on : W → Option (List ℕ)) (is_down : 
     rest = [];
     parts = sym (append-nil bytes);
     written = (pushes a b c bytes (Err Io) wrote pushed).0;
-    down = pushed.outcome.2;
+    down = pushed.outcome.0.2;
   }
   HasSent-pushed pushes a b c bytes (Err Payload) wrote pushed = absurd pushed.outcome
   HasSent-pushed pushes a b c bytes (Err Failed) wrote pushed = absurd (false≢true (sym wrote.outcome.0.1 ∙ pushed.outcome.0))

@@ -12,7 +12,7 @@ use Rattle.ggraph.specs.declared.text.Repository.{Repository}
 use Rattle.gcmd.specs.Repository.{IsServerText, HoldsRefs, HoldsHead, RefusesText}
 use Rattle.gcmd.specs.Exchange.{Exchanges}
 use Rattle.gcmd.specs.Printing.{check_fault_line, ls_fault_line, repo_fault_line, write_fault_line}
-use Rattle.gcmd.specs.Sending.{Input, Output, IsUnread, IsUnwritten, Sends, SendsSome}
+use Rattle.gpkt.specs.Sending.{Input, Output, IsUnread, IsUnwritten, Sends, SendsSome}
 use Rattle.gcmd.specs.declared.check.CheckFault.{CheckFault}
 use Rattle.gcmd.specs.declared.check.CheckFault.TheVariants.{Text, Memory, WriteFailed}
 use Rattle.gcmd.specs.declared.check.Report.{Report}

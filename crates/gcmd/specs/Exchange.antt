@@ -9,7 +9,7 @@ use Rattle.gpkt.specs.declared.fault.LineFault.TheVariants as line
 use Rattle.gcmd.specs.Request.{LsRefs, Request, Empty, Ls, Says, judge}
 use Rattle.gcmd.specs.MessageReading.{ReadsRefused, IsReadFailure}
 use Rattle.gcmd.specs.Reply.{reply_bytes}
-use Rattle.gcmd.specs.Sending.{Input, Output, IsUnread, IsUp, IsUnwritten, Sends, SendsSome}
+use Rattle.gpkt.specs.Sending.{Input, Output, IsUnread, IsUp, IsUnwritten, Sends, SendsSome}
 use Rattle.gcmd.specs.RequestReader.{request_view}
 use Rattle.gcmd.specs.declared.request.Request as read
 use Rattle.gcmd.specs.Answer.{IsAnswer}

@@ -1,7 +1,6 @@
 pub mod Answer
 pub mod Commands
 pub mod Lines
-pub mod Sending
 pub mod Exchange
 pub mod Repository
 pub mod Reply

@@ -11,7 +11,7 @@ use Rattle.gpkt.specs.declared.fault.LineFault.{LineFault}
 use Rattle.gcmd.specs.Commands.{EndsWith}
 use Rattle.gcmd.specs.MessageReading.{IsReadFailure}
 use Rattle.gcmd.specs.Printing.{lines_fault_line}
-use Rattle.gcmd.specs.Sending.{Input, Output, IsUnread, IsUnwritten, Sends, SendsSome, HasPut}
+use Rattle.gpkt.specs.Sending.{Input, Output, IsUnread, IsUnwritten, Sends, SendsSome, HasPut}
 use Rattle.gcmd.specs.declared.fault.Why.TheVariants as why
 use Rattle.gcmd.specs.declared.lines.LinesFault.{LinesFault}
 use Rattle.gcmd.specs.declared.lines.LinesFault.TheVariants.{Memory, Line, WriteFailed}

@@ -2,7 +2,7 @@
 
 ghost use Rattle.std.specs.Prelude.{◌≡◌, ◌+◌, ◌≤◌, ◌++◌, [], length, IfErr, IfOk};
 ghost use Rattle.gcmd.specs.Commands.{report_line, yes_or_no, Checks, HasChecked, IsReport};
-ghost use Rattle.gcmd.specs.Sending.{output_of, HasSent};
+ghost use Rattle.gpkt.specs.Sending.{output_of, HasSent};
 
 use crate::compose::{add, add_number};
 use crate::print::FaultLine;

@@ -2,7 +2,7 @@
 
 ghost use Rattle.std.specs.Prelude.{◌≡◌, false};
 ghost use Rattle.gcmd.specs.Faults.{ls_fault_row};
-ghost use Rattle.gcmd.specs.Sending.{input_of, output_of, HasSent};
+ghost use Rattle.gpkt.specs.Sending.{input_of, output_of, HasSent};
 ghost use Rattle.gcmd.specs.Reply.{reply_bytes};
 ghost use Rattle.gcmd.specs.Exchange.{err_text, why_text, line_text, err_bytes, Exchanges, TakesRequest, Replies, ReportsRefusal};
 

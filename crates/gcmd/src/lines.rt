@@ -5,7 +5,7 @@ ghost use Rattle.std.specs.Fmt.{decimal};
 ghost use Rattle.hex.specs.Hex.{encode_lower};
 ghost use Rattle.gpkt.specs.Packets.{packet_of};
 ghost use Rattle.gcmd.specs.Lines.{chunk, digits_part, shown_line, ShowsEach, HasPassed, HasShown, ShowsLines};
-ghost use Rattle.gcmd.specs.Sending.{input_of, output_of, HasPut};
+ghost use Rattle.gpkt.specs.Sending.{input_of, output_of, HasPut};
 
 use crate::compose::{add, add_number};
 use crate::print::FaultLine;

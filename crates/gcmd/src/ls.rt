@@ -2,7 +2,7 @@
 
 ghost use Rattle.std.specs.Prelude.{◌≡◌};
 ghost use Rattle.gcmd.specs.Commands.{line_at_end, EndsWith, Serves};
-ghost use Rattle.gcmd.specs.Sending.{input_of, output_of};
+ghost use Rattle.gpkt.specs.Sending.{input_of, output_of};
 
 use crate::exchange::{LsEnd, ls_once};
 use crate::print::FaultLine;

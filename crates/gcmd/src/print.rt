@@ -5,7 +5,7 @@
 ghost use Rattle.std.specs.Prelude.{◌≡◌, ◌+◌, ◌≤◌, ◌++◌, length, map, None, []};
 ghost use Rattle.gcmd.specs.Printing.{check_fault_line, graph_fault_line, id_fault_line, id_in_conflict, index_fault_line, line_fault_line, line_in_pack, line_in_text, lines_fault_line, ls_fault_line, max_decimal, max_fault_line, max_fault_name, max_subject, message_fault_line, name_fault_line, number_part, peer_text, place_in_id, place_in_name, printed, program_fault_line, repo_fault_line, shown, subject_part, text_fault_line, text_part, write_fault_line, IsShort, IsShortText};
 ghost use Rattle.std.specs.Option.{option_copied};
-ghost use Rattle.gcmd.specs.Sending.{output_of, HasSent};
+ghost use Rattle.gpkt.specs.Sending.{output_of, HasSent};
 
 use crate::check::CheckFault;
 use crate::compose::{add, add_id, add_number};

@@ -4,7 +4,7 @@ ghost use Rattle.std.specs.Prelude.{◌≡◌, Some};
 ghost use Rattle.gcmd.specs.Commands.{EndsWith};
 ghost use Rattle.gcmd.specs.Faults.{program_fault_row};
 ghost use Rattle.gcmd.specs.Printing.{program_fault_line, printed, IsShort};
-ghost use Rattle.gcmd.specs.Sending.{output_of};
+ghost use Rattle.gpkt.specs.Sending.{output_of};
 
 use crate::print::FaultLine;
 use gpkt::Sink;

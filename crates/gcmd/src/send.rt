@@ -1,7 +1,7 @@
 //! Bytes written to a sink, and passed on.
 
 ghost use Rattle.std.specs.Prelude.{◌≡◌};
-ghost use Rattle.gcmd.specs.Sending.{output_of, HasPut, HasSent};
+ghost use Rattle.gpkt.specs.Sending.{output_of, HasPut, HasSent};
 
 use gpkt::{Down, Sink, write_all};
 

@@ -7,7 +7,7 @@ use Rattle.gpkt.specs.declared.fault.LineFault.{LineFault}
 use Rattle.gpkt.specs.declared.fault.LineFault.TheVariants as line_fault
 use Rattle.ggrammar.specs.Grammar.{Judge, Whole, Refused, IsOpen, IsUnfinished, IsWhole}
 use Rattle.ggrammar.specs.MessageReading.{IsReasonAfter}
-use Rattle.ggrammar.specs.MessageBytes.{known, IsFront, IsOfBytes, ReadsFront, ReadsNoOther, RefusedIsNoMessage, EndedIsNoMessage, SpellingsPrefixFree, LawsOfBytes}
+use Rattle.ggrammar.specs.MessageBytes.{known, IsFront, IsOfBytes, ReadsFront, ReadsNoOther, RefusedIsNoMessage, EndedIsNoMessage, SpellingsPrefixFree}
 use Rattle.ggrammar.specs.declared.fault.Why.{Why}
 use Rattle.ggrammar.specs.declared.fault.Why.TheVariants as why
 use Rattle.ggrammar.proofs.GrammarLemmas.{nil_has_none, split_push, IsOpen-never_refuses, IsPrefixFree-always}
@@ -52,12 +52,12 @@ module _ (judge : Judge) where
       ]
 
   -- a line is spelt where a message goes on
-  module _ (one : OneReading) (no_line : RefusedIsNoLine) (four : HasFourBytes) (brings : List Packet → Packet → Bool) (front more : List Packet)
-      (line : Packet) (mid new spelling rest : List ℕ) (parts : mid ≡ spelling ++ rest) (spelt : Spells line spelling) (whole : IsWhole judge (front ++ line ∷ more)) where
+  module _ (one : OneReading) (no_line : RefusedIsNoLine) (four : HasFourBytes) (brings : List Packet → Packet → Bool) (front : List Packet)
+      (line : Packet) (mid new spelling rest : List ℕ) (parts : mid ≡ spelling ++ rest) (spelt : Spells line spelling) (fits : (reason : Why) → judge front line ≡ Refused reason → ⊥) where
     refuses_packet : (reason : Why) (packet : Packet) → Reads (known mid new) (Ok (Some packet)) → judge front packet ≡ Refused reason → ⊥
     refuses_packet reason packet read refuses =
         let same : line ≡ packet = (one line packet spelling read.0 rest new spelt read.2 (sym parts ∙ read.1)).0 in
-        refused_is_not_whole front more packet reason refuses (subst (λ (p : Packet). IsWhole judge (front ++ p ∷ more)) same whole)
+        fits reason (ap (judge front) same ∙ refuses)
 
     refuses_line : (fault : LineFault) → IsOfBytes (why.Line fault) → Reads (known mid new) (Err fault) → ⊥
     refuses_line line_fault.BadDigits certain read = no_line line_fault.BadDigits line mid spelling rest read.0 (sym parts) spelt
@@ -75,7 +75,7 @@ module _ (judge : Judge) where
         let some = four line spelling spelt in
         omega (arith, bytes, none, some)
 
-    refuses : (reason : Why) → IsOfBytes reason → IsReasonAfter judge brings front (known mid new) reason → ⊥
+    pub refuses : (reason : Why) → IsOfBytes reason → IsReasonAfter judge brings front (known mid new) reason → ⊥
     refuses (why.Line fault) certain h = refuses_line fault certain h
     refuses why.Ended certain h = ends h
     refuses why.Memory certain h = certain
@@ -100,8 +100,9 @@ module _ (judge : Judge) where
   goes_no_further one no_line four brings front [] mid new spelling rest reason before certain h parts spelt whole =
       before.unfinished front [] (sym (append-nil front)) (subst (IsWhole judge) (append-nil front) whole)
   goes_no_further one no_line four brings front (line ∷ more) mid new spelling rest reason before certain h parts spelt whole =
-      refuses one no_line four brings front more line mid new spelt.0 (spelt.1 ++ rest)
-      (parts ∙ ap (λ (xs : List ℕ). xs ++ rest) spelt.2 ∙ append_assoc spelt.0 spelt.1 rest) spelt.3 whole reason certain h
+      refuses one no_line four brings front line mid new spelt.0 (spelt.1 ++ rest)
+      (parts ∙ ap (λ (xs : List ℕ). xs ++ rest) spelt.2 ∙ append_assoc spelt.0 spelt.1 rest) spelt.3
+      (λ why is. refused_is_not_whole front more line why is whole) reason certain h
 
   -- where the bytes between are known
   refused_at : OneBegins → OneReading → RefusedIsNoLine → HasFourBytes → (brings : List Packet → Packet → Bool) (front lines : List Packet) (bytes new rest : List ℕ) (between : Option (List ℕ)) (reason : Why)
@@ -128,12 +129,3 @@ module _ (judge : Judge) where
       let none : length bytes ≡ 0 = ap length read.0 in
       let some = four line spelt.0 spelt.3 in
       omega (arith, parts, front, none, some)
-
-pub LawsOfBytes-always : OneBegins → OneReading → RefusedIsNoLine → HasFourBytes → (judge : Judge) → LawsOfBytes judge
-LawsOfBytes-always begins one no_line four judge = record {
-  front = reads_front judge;
-  no_other = reads_no_other judge begins;
-  refused = refused_is_no_message judge begins one no_line four;
-  ended = ended_is_no_message judge four;
-  prefix_free = spellings_prefix_free judge begins;
-}

@@ -5,12 +5,12 @@ use Rattle.std.proofs.lemmas.Bool.Decides.{eqb_tells}
 use Rattle.hex.specs.Hex.{decode_of}
 use Rattle.hex.specs.declared.error.FromHexError.{FromHexError}
 use Rattle.gname.specs.Formats.{id_text_length}
-use Rattle.gname.specs.Ids.{ReadsId}
+use Rattle.gname.specs.Ids.{ReadsId, IsIdTextOf}
 use Rattle.gname.specs.Laws.{TextsHaveOneReading}
 use Rattle.gname.specs.declared.formats.Format.{Format}
 use Rattle.gname.specs.declared.ids.OidFault.{OidFault}
 use Rattle.gname.specs.declared.ids.OidFault.TheVariants.{Length, Digit}
-use Rattle.ggrammar.specs.Ids.{id_of_text, ok_of}
+use Rattle.ggrammar.specs.Ids.{id_of_text, ok_of, IdIsSpelt}
 
 -- a text of the right length that spells none
 spells_none : (format : Format) (text : List ℕ) (fault : OidFault) (decoded : Result (List ℕ) FromHexError) → TextsHaveOneReading → ReadsId format text (Err fault)
@@ -29,3 +29,28 @@ unfolding id_of_text
 id_refused format text Length law h = sym (cond-false (length text == id_text_length format) (ok_of (decode_of text)) None (elim (eqb_tells (length text) (id_text_length format)) [ inl e ↦ absurd (h e.1) | inr n ↦ n.0 ]))
 id_refused format text (Digit at) law h =
     sym (cond-true (length text == id_text_length format) (ok_of (decode_of text)) None (eq-eqb _ _ h.0) ∙ spells_none format text (Digit at) _ law h h.0 refl)
+
+-- ---- an id is what its text spells
+
+decodes : (decoded : Result (List ℕ) FromHexError) (id : List ℕ) → ok_of decoded ≡ Some id → decoded ≡ Ok id
+decodes (Ok other) id e = cc
+decodes (Err fault) id e = let none : None ≡ Some id = e in cc
+
+spelt_by : (format : Format) (text id : List ℕ) → id_of_text format text ≡ Some id → IsIdTextOf format text id
+unfolding id_of_text
+spelt_by format text id e =
+    elim (eqb_tells (length text) (id_text_length format)) [
+      | inl h ↦ record {
+        long = h.1;
+        spells = decodes (decode_of text) id (sym (cond-true (length text == id_text_length format) (ok_of (decode_of text)) None h.0) ∙ e);
+      }
+      | inr h ↦ (let none : None ≡ Some id = sym (cond-false (length text == id_text_length format) (ok_of (decode_of text)) None h.0) ∙ e in cc)
+    ]
+
+is_spelt : (format : Format) (text id : List ℕ) → IsIdTextOf format text id → id_of_text format text ≡ Some id
+unfolding id_of_text
+is_spelt format text id h =
+    cond-true (length text == id_text_length format) (ok_of (decode_of text)) None (eq-eqb _ _ h.long) ∙ ap ok_of h.spells
+
+pub id_is_spelt : IdIsSpelt
+id_is_spelt format text id = (spelt_by format text id, is_spelt format text id)

@@ -1,8 +1,10 @@
 pub mod GrammarLemmas
 pub mod ReadingLemmas
 pub mod IdLemmas
+pub mod CapabilityLemmas
 pub mod WritingLemmas
 pub mod BytesLemmas
+pub mod RefusalLemmas
 pub mod KindLemmas
 pub mod PlaceLemmas
 pub mod TestGrammarLemmas

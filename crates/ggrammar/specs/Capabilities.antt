@@ -5,8 +5,8 @@
 --   value = 1*(ALPHA | DIGIT | " -_.,?\/{}[]()<>!@#$%^&*+=:;")
 --
 -- Keys and values have at most 1,000 bytes here, and a value any printable byte.
-use Rattle.std.specs.Prelude.{ℕ, ◌+◌, Bool, ◌&&◌, ◌||◌, List, length, drop, take, if◌then◌else◌, nat_eq, nat_le}
-use Rattle.std.specs.Prelude.{Option, Some, None, position, IfSome, IsTrue}
+use Rattle.std.specs.Prelude.{◌≡◌, ◌↔◌, ℕ, ◌+◌, Bool, ◌&&◌, ◌||◌, List, [], ◌++◌, length, drop, take, codes}
+use Rattle.std.specs.Prelude.{if◌then◌else◌, nat_eq, nat_le, Option, Some, None, position, IfSome, IsTrue}
 use Rattle.std.specs.List.{list_all}
 use Rattle.std.specs.Char.{is_ascii_alphanumeric}
 
@@ -60,7 +60,22 @@ capability_split text (Some at) = key_and_value (take at text) (drop (at + 1) te
 unfoldable pub capability_of : List ℕ → Option Capability
 capability_of text = capability_split text (position is_equals_sign text)
 
+-- ---- in the manual's words
+
 -- a capability that can be written
 pub record IsWellFormed (capability : Capability) : Type 0 where
   pub key : IsTrue (is_key capability.key)
   pub value : IfSome capability.value (λ value. IsTrue (is_value value))
+
+abbrev pub value_text : Option (List ℕ) → List ℕ
+value_text None = []
+value_text (Some value) = codes "=" ++ value
+
+-- the text of a capability
+abbrev pub capability_text : Capability → List ℕ
+capability_text capability = capability.key ++ value_text capability.value
+
+-- a text is a capability exactly where it is that capability's text
+abbrev pub CapabilityIsItsText : Type 0
+CapabilityIsItsText = (text : List ℕ) (capability : Capability) → (capability_of text ≡ Some capability)
+    ↔ ((text ≡ capability_text capability) × IsWellFormed capability)

@@ -35,17 +35,17 @@ module _ {M : Type 0} where
   -- ---- what reading a message answers
 
   -- whole lines are read that say the message
-  pub record ReadsMessage (judge : Judge) (Says : Meaning M) (bytes : Change) (message : M) : Type 0 where
+  pub record ReadsMessage (judge : Judge) (Says : Meaning M) (change : Change) (message : M) : Type 0 where
     pub lines : List Packet
-    pub read : ReadsWhole judge bytes lines
+    pub read : ReadsWhole judge change lines
     pub says : Says lines message
 
   -- or it is refused after some lines
   abbrev pub ReadsOrRefuses : Judge → (List Packet → Packet → Bool) → Meaning M → Change → Result M MessageFault
       → Type 0
-  ReadsOrRefuses judge brings Says bytes (Ok message) = ReadsMessage judge Says bytes message
-  ReadsOrRefuses judge brings Says bytes (Err fault) =
-      (front : List Packet) × ReadsRefused judge brings front bytes fault
+  ReadsOrRefuses judge brings Says change (Ok message) = ReadsMessage judge Says change message
+  ReadsOrRefuses judge brings Says change (Err fault) =
+      (front : List Packet) × ReadsRefused judge brings front change fault
 
   -- a front of the bytes, which is all but the rest, spells lines that say the message
   abbrev pub SaysAtFront : Meaning M → List ℕ → List ℕ → M → Type 0
@@ -72,10 +72,10 @@ module _ {M : Type 0} where
   -- the input has ended before it; or it is read or refused
   abbrev pub ReadsIfAny : Judge → (List Packet → Packet → Bool) → Meaning M → Change
       → Result (Option M) MessageFault → Type 0
-  ReadsIfAny judge brings Says bytes (Ok (Some message)) = ReadsMessage judge Says bytes message
-  ReadsIfAny judge brings Says bytes (Ok None) = Reads bytes (Ok None)
-  ReadsIfAny judge brings Says bytes (Err fault) =
-      (front : List Packet) × ReadsRefused judge brings front bytes fault
+  ReadsIfAny judge brings Says change (Ok (Some message)) = ReadsMessage judge Says change message
+  ReadsIfAny judge brings Says change (Ok None) = Reads change (Ok None)
+  ReadsIfAny judge brings Says change (Err fault) =
+      (front : List Packet) × ReadsRefused judge brings front change fault
 
   -- it is read exactly where a front of the bytes spells lines that say it
   abbrev pub ReadsExactlyIfAny : Judge → (List Packet → Packet → Bool) → Meaning M → Type 0

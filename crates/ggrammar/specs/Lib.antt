@@ -9,6 +9,7 @@ pub mod PeerErrors
 pub mod Capabilities
 pub mod Ids
 pub mod Endings
+pub mod Writing
 pub mod Texts
 pub mod Places
 pub mod CapabilityView
@@ -16,4 +17,7 @@ pub mod TestGrammar
 pub use Rattle.gpkt.specs.Packets
 pub use Rattle.gpkt.specs.Change
 pub use Rattle.gpkt.specs.LineReading
-pub mod Writing
+pub use Rattle.gpkt.specs.LineWriting
+pub use Rattle.gpkt.specs.Laws as LineLaws
+pub use Rattle.gname.specs.Ids as ObjectIds
+pub use Rattle.gname.specs.Formats

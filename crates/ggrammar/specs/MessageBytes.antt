@@ -1,13 +1,13 @@
 -- Messages at the front of some bytes: what reading them comes to, whatever the kind of message.
-use Rattle.std.specs.Prelude.{◌≡◌, ℕ, Bool, List, [], ◌++◌, Some, None, Ok}
+use Rattle.std.specs.Prelude.{◌≡◌, ◌⊎◌, ℕ, Bool, List, [], ◌++◌, Some, None, Ok}
 use Rattle.gpkt.specs.Packets.{Packet, SpellsAll}
 use Rattle.gpkt.specs.Change.{Change}
 use Rattle.gpkt.specs.LineReading.{Reads}
 use Rattle.gpkt.specs.declared.fault.LineFault.TheVariants.{Io, Failed}
-use Rattle.ggrammar.specs.Grammar.{Judge, IsWhole}
+use Rattle.ggrammar.specs.Grammar.{Judge, Refused, IsWhole, HasEndings}
 use Rattle.ggrammar.specs.MessageReading.{ReadsWhole, ReadsRefused}
 use Rattle.ggrammar.specs.declared.fault.Why.{Why}
-use Rattle.ggrammar.specs.declared.fault.Why.TheVariants.{Line, Memory}
+use Rattle.ggrammar.specs.declared.fault.Why.TheVariants.{Line, Memory, Ended}
 use Rattle.ggrammar.specs.declared.fault.MessageFault.{MessageFault}
 
 -- bytes that are known before and after
@@ -49,6 +49,44 @@ abbrev pub EndedIsNoMessage : Judge → Type 0
 EndedIsNoMessage judge = (lines : List Packet) (bytes new rest : List ℕ) → Reads (known bytes new) (Ok None)
     → IsFront lines bytes rest → ¬ IsWhole judge lines
 
+-- bytes that are refused for a reason in them are refused with one fault, and leave one rest
+abbrev pub OneRefusal : Judge → Type 0
+OneRefusal judge =
+    (brings : List Packet → Packet → Bool) (front others : List Packet) (bytes new after : List ℕ)
+    (fault other : MessageFault) → ReadsRefused judge brings front (known bytes new) fault
+    → ReadsRefused judge brings others (known bytes after) other → IsOfBytes fault.why → IsOfBytes other.why
+    → (fault ≡ other) × (new ≡ after)
+
+-- why a packet is refused for its own sake: no fault of a line, no end of the input, no want of memory
+abbrev pub IsOfPacket : Why → Type 0
+IsOfPacket (Line fault) = ⊥
+IsOfPacket Ended = ⊥
+IsOfPacket Memory = ⊥
+IsOfPacket why = Unit {0}
+
+-- a judge has no other reasons
+abbrev pub RefusesPackets : Judge → Type 0
+RefusesPackets judge = (front : List Packet) (packet : Packet) (why : Why) → judge front packet ≡ Refused why
+    → IsOfPacket why
+
+-- the bytes begin with a message
+abbrev pub BeginsWithMessage : Judge → List ℕ → Type 0
+BeginsWithMessage judge bytes =
+    (lines : List Packet) × (rest : List ℕ) × IsWhole judge lines × IsFront lines bytes rest
+
+-- the bytes are refused, for a reason in them
+pub record IsRefused (judge : Judge) (brings : List Packet → Packet → Bool) (bytes : List ℕ) : Type 0 where
+  pub front : List Packet
+  pub rest : List ℕ
+  pub fault : MessageFault
+  pub refused : ReadsRefused judge brings front (known bytes rest) fault
+  pub certain : IsOfBytes fault.why
+
+-- all bytes begin with a message or are refused, where the grammar has endings and reasons of packets alone
+abbrev pub EveryInput : Judge → Type 0
+EveryInput judge = HasEndings judge → RefusesPackets judge → (brings : List Packet → Packet → Bool) (bytes : List ℕ)
+    → BeginsWithMessage judge bytes ⊎ IsRefused judge brings bytes
+
 -- no spelling of a message begins another
 abbrev pub SpellingsPrefixFree : Judge → Type 0
 SpellingsPrefixFree judge = (lines others : List Packet) (bytes rest : List ℕ) → IsWhole judge lines
@@ -61,4 +99,6 @@ pub record LawsOfBytes (judge : Judge) : Type 0 where
   pub no_other : ReadsNoOther judge
   pub refused : RefusedIsNoMessage judge
   pub ended : EndedIsNoMessage judge
+  pub one_refusal : OneRefusal judge
+  pub every : EveryInput judge
   pub prefix_free : SpellingsPrefixFree judge

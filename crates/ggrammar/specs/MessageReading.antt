@@ -13,9 +13,9 @@ use Rattle.ggrammar.specs.declared.message.Step.{Step}
 use Rattle.ggrammar.specs.declared.message.Step.TheVariants as step
 
 -- these lines are read, a whole message
-pub record ReadsWhole (judge : Judge) (read : Change) (lines : List Packet) : Type 0 where
+pub record ReadsWhole (judge : Judge) (change : Change) (lines : List Packet) : Type 0 where
   pub whole : IsWhole judge lines
-  pub bytes : ReadsLines read lines
+  pub bytes : ReadsLines change lines
 
 -- the packet goes on with the message, or ends it
 abbrev pub IsAccepted : Verdict → Type 0
@@ -33,24 +33,24 @@ IsReason verdict brings why = verdict ≡ Refused why
 
 -- the next packet is read, and refused for this reason
 abbrev pub ReadsRefusedPacket : Judge → (List Packet → Packet → Bool) → List Packet → Change → Why → Type 0
-ReadsRefusedPacket judge brings front bytes why =
-    (packet : Packet) × Reads bytes (Ok (Some packet)) × IsReason (judge front packet) (brings front packet) why
+ReadsRefusedPacket judge brings front change why =
+    (packet : Packet) × Reads change (Ok (Some packet)) × IsReason (judge front packet) (brings front packet) why
 
 -- why the message is refused after these lines: no line is spelt there; the input ends; or a packet is refused
 abbrev pub IsReasonAfter : Judge → (List Packet → Packet → Bool) → List Packet → Change → Why → Type 0
-IsReasonAfter judge brings front bytes (Line fault) = Reads bytes (Err fault)
-IsReasonAfter judge brings front bytes Ended = Reads bytes (Ok None)
-IsReasonAfter judge brings front bytes why = ReadsRefusedPacket judge brings front bytes why
+IsReasonAfter judge brings front change (Line fault) = Reads change (Err fault)
+IsReasonAfter judge brings front change Ended = Reads change (Ok None)
+IsReasonAfter judge brings front change why = ReadsRefusedPacket judge brings front change why
 
 -- the message is refused after these lines, which begin a message and hold no whole one
-pub record ReadsRefused (judge : Judge) (brings : List Packet → Packet → Bool) (front : List Packet) (bytes : Change)
+pub record ReadsRefused (judge : Judge) (brings : List Packet → Packet → Bool) (front : List Packet) (change : Change)
     (fault : MessageFault) : Type 0 where
   pub between : Option (List ℕ)
   pub goes : IsOpen judge front
   pub unfinished : IsUnfinished judge front
   pub frame : fault.frame ≡ length front
-  pub before : ReadsLines (record { old = bytes.old; new = between }) front
-  pub reason : IsReasonAfter judge brings front (record { old = between; new = bytes.new }) fault.why
+  pub before : ReadsLines (record { old = change.old; new = between }) front
+  pub reason : IsReasonAfter judge brings front (record { old = between; new = change.new }) fault.why
 
 -- ---- what a message that is being read does with a packet
 
@@ -63,15 +63,15 @@ module _ {M : Type 0} (judge : Judge) (brings : List Packet → Packet → Bool)
   TakesPacket front packet new (Err why) = IsReason (judge front packet) (brings front packet) why × left new front
 
   -- a whole message was read, and it holds its packets
-  pub record HasTaken (bytes : Change) (message : M) : Type 0 where
+  pub record HasTaken (change : Change) (message : M) : Type 0 where
     pub lines : List Packet
-    pub read : ReadsWhole judge bytes lines
+    pub read : ReadsWhole judge change lines
     pub held : holds message lines
 
   -- it was refused, and this is left of it
-  pub record HasRefused (bytes : Change) (message : M) (fault : MessageFault) : Type 0 where
+  pub record HasRefused (change : Change) (message : M) (fault : MessageFault) : Type 0 where
     pub front : List Packet
-    pub refused : ReadsRefused judge brings front bytes fault
+    pub refused : ReadsRefused judge brings front change fault
     pub leaves : left message front
 
 -- The fault is the device's exactly where the device is down now and the reader had not failed before, and that of a

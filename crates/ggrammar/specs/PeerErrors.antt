@@ -7,7 +7,7 @@ use Rattle.ggrammar.specs.declared.fault.Why.TheVariants.{RemoteErr}
 
 -- what follows a word at the front of a text
 unfoldable pub after_word : List ℕ → List ℕ → Option (List ℕ)
-after_word word line = if starts_with nat_eq line word then Some (drop (length word) line) else None
+after_word word text = if starts_with nat_eq text word then Some (drop (length word) text) else None
 
 -- what the peer reports: the text after `ERR `
 abbrev pub peer_error : List ℕ → Option (List ℕ)

@@ -2,14 +2,14 @@
 -- and read with or without.
 use Rattle.std.specs.Prelude.{◌≡◌, ℕ, List, [], ◌∷◌, ◌++◌, Option, Some, None}
 use Rattle.std.specs.List.{filter_map}
-use Rattle.gpkt.specs.Packets.{Packet, Data, line_feed, text}
+use Rattle.gpkt.specs.Packets.{Packet, Data, line_feed, text as stripped}
 
 -- the line of a text that is written
 abbrev pub text_packet : List ℕ → Packet
-text_packet line = Data (line ++ line_feed ∷ [])
+text_packet text = Data (text ++ line_feed ∷ [])
 
 abbrev pub text_in : Packet → Option (List ℕ)
-text_in (Data payload) = Some (text payload)
+text_in (Data payload) = Some (stripped payload)
 text_in _ = None
 
 -- the texts of all data lines, in order
@@ -22,4 +22,4 @@ TextsOfMore = (packets more : List Packet) → texts_of (packets ++ more) ≡ te
 
 -- the line of a text is read as that text
 abbrev pub TextIsRead : Type 0
-TextIsRead = (line : List ℕ) → text_in (text_packet line) ≡ Some line
+TextIsRead = (text : List ℕ) → text_in (text_packet text) ≡ Some text

@@ -97,7 +97,8 @@ fn is_key_byte(byte: u8) -> bool
     byte.is_ascii_alphanumeric() || byte == b'-' || byte == b'_'
 }
 
-fn is_printable(byte: u8) -> bool
+/// Whether a byte is one from space to `~`.
+pub fn is_printable(byte: u8) -> bool
     ensures { result ≡ is_printable byte }
 {
     b' ' <= byte && byte <= b'~'
@@ -109,13 +110,15 @@ fn are_key_bytes(bytes: &[u8]) -> bool
     bytes.iter().all(|byte| is_key_byte(*byte))
 }
 
-fn are_printable(bytes: &[u8]) -> bool
+/// Whether all the bytes are from space to `~`.
+pub fn are_printable(bytes: &[u8]) -> bool
     ensures { result ≡ list_all is_printable bytes.now }
 {
     bytes.iter().all(|byte| is_printable(*byte))
 }
 
-fn are_graphic(bytes: &[u8]) -> bool
+/// Whether all the bytes are from `!` to `~`.
+pub fn are_graphic(bytes: &[u8]) -> bool
     ensures { result ≡ list_all is_graphic bytes.now }
 {
     bytes.iter().all(|byte| byte.is_ascii_graphic())

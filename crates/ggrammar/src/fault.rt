@@ -30,13 +30,13 @@ impl Model for PeerText {
 impl PeerText {
     /// Keeps what a peer says, after the word of an `ERR` line or on the side band for fatal errors: one
     /// line feed at its end is left out, and then all after the first 256 bytes. Takes no memory.
-    pub fn new(text: &[u8]) -> PeerText
-        ensures { result ≡ kept_text text.now }
+    pub fn new(said: &[u8]) -> PeerText
+        ensures { result ≡ kept_text said.now }
     {
-        let line = text_of(text);
-        let mut text = ArrayVec::new();
-        add_short(&line[..line.len().min(MAX_PEER_TEXT)], &mut text);
-        PeerText { text }
+        let text = text_of(said);
+        let mut kept = ArrayVec::new();
+        add_short(&text[..text.len().min(MAX_PEER_TEXT)], &mut kept);
+        PeerText { text: kept }
     }
 
     /// The bytes, at most 256.
@@ -69,7 +69,8 @@ pub enum Why {
     Line(LineFault),
     /// 29, 30: the payload is of no side band.
     Band(BandFault),
-    /// 41: a flush, delimiter or response-end where the grammar has none.
+    /// 41: a flush, delimiter or response-end where the grammar has none; where a response-end is due, any other
+    /// packet.
     UnexpectedFrame,
     /// 42: a text that no case of the grammar has.
     BadText,

@@ -1,6 +1,8 @@
 //! The laws of every grammar: functions without effect, whose contracts they are.
 
+ghost use Rattle.ggrammar.specs.Capabilities.{CapabilityIsItsText};
 ghost use Rattle.ggrammar.specs.Grammar.{Judge, LawsOf};
+ghost use Rattle.ggrammar.specs.Ids.{IdIsSpelt};
 ghost use Rattle.ggrammar.specs.Kinds.{CanonicalSays, OneMeaning, ReadsBack, ReadsBackIfAny, ReadsExactly, ReadsExactlyIfAny, SaysWhole};
 ghost use Rattle.ggrammar.specs.MessageBytes.{LawsOfBytes};
 ghost use Rattle.ggrammar.specs.Texts.{TextIsRead, TextsOfMore};
@@ -9,8 +11,8 @@ ghost use Rattle.ggrammar.specs.Writing.{EndsWriting, FailsWriting, GoesOnAfterP
 use crate::kind::Kind;
 use gpkt::Sink;
 use gpkt::laws::{
-    canonical_spells, has_four_bytes, one_begins, one_reading, refused_front, text_reads_back,
-    writes_join,
+    canonical_spells, every_front, has_four_bytes, one_begins, one_outcome, one_reading,
+    refused_front, text_reads_back, writes_join,
 };
 
 /// Open lists grow packet by packet. No message begins another. Where each open list has an ending, it begins a
@@ -20,8 +22,9 @@ pub fn grammars_are_exact()
 {}
 
 /// Whole lines at the front of some bytes are read, and no others, and what follows them stays. Where reading
-/// is refused for a reason in the bytes, no whole lines are at their front. No spelling of a message begins
-/// another.
+/// is refused for a reason in the bytes, no whole lines are at their front, and there is one fault and one rest.
+/// Where the input has ended none are there either. All bytes begin with a message or are refused, where each
+/// open list has an ending. No spelling of a message begins another.
 pub fn messages_are_read()
     ensures { (judge : Judge) → LawsOfBytes judge }
 {
@@ -29,7 +32,16 @@ pub fn messages_are_read()
     one_reading();
     refused_front();
     has_four_bytes();
+    one_outcome();
+    every_front();
 }
+
+/// A text is an id of a format exactly where it spells the id, in either case of digits. A text is a capability
+/// exactly where it is the text of one that is well formed.
+pub fn texts_are_classified()
+    ensures ids { IdIsSpelt }
+    ensures capabilities { CapabilityIsItsText }
+{}
 
 /// The texts of packets come in their order, and the line of a text is read as that text.
 pub fn texts_are_read()

@@ -9,11 +9,13 @@
 //!   holds no whole one. Out of memory comes only at a packet that brings something to keep.
 //! - [`laws`]: no message begins another, in every grammar; and a refused packet is the first that does not
 //!   fit, in every grammar whose beginnings have endings. Whole lines at the front of some bytes are read and
-//!   no others; where reading is refused for a reason in the bytes, none are there. A kind of message whose
-//!   whole lists each say one message is read exactly where the bytes begin with it, and what is written of a
-//!   value of the kind reads back, whatever follows. Lines written one after the other are one write of all
-//!   of them, also where one fails.
-//! - [`capability_of`] splits a capability into its key and its value exactly where it is one.
+//!   no others; where reading is refused for a reason in the bytes, none are there, and there is one fault and
+//!   one rest. All bytes begin with a message or are refused, in every grammar that has endings and refuses
+//!   packets for their own sake. A kind of message whose whole lists each say one message is read exactly
+//!   where the bytes begin with it, and what is written of a value of the kind reads back, whatever follows.
+//!   Lines written one after the other are one write of all of them, also where one fails.
+//! - [`capability_of`] splits a capability into its key and its value exactly where it is one, and
+//!   [`id_of_text`] reads an id exactly where a text spells one.
 //! - The number, the name and the phrase of each fault stand in one row, `why_row`; of a peer's error the
 //!   first 256 bytes are kept.
 //!
@@ -45,7 +47,8 @@ mod message;
 mod peer;
 
 pub use crate::capability::{
-    Capability, MAX_CAPABILITY, capability_of, is_key, is_value, is_word_value,
+    Capability, MAX_CAPABILITY, are_graphic, are_printable, capability_of, is_key, is_printable,
+    is_value, is_word_value,
 };
 pub use crate::ends::Ends;
 pub use crate::fault::{MAX_PEER_TEXT, MessageFault, PeerText, Why};

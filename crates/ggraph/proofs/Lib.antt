@@ -8,5 +8,6 @@ pub mod ReadingLemmas
 pub mod SafeLemmas
 pub mod SaveLemmas
 pub mod Stopping
+pub mod StoppingOnce
 pub mod TextLemmas
 pub mod WholeLemmas

@@ -39,6 +39,10 @@ pub front_lines : (xs ys : List (List ℕ)) → AreLines (xs ++ ys) → AreLines
 front_lines [] ys each = tt
 front_lines (x ∷ xs) ys each = (each.0, front_lines xs ys each.1)
 
+pub back_lines : (xs ys : List (List ℕ)) → AreLines (xs ++ ys) → AreLines ys
+back_lines [] ys each = each
+back_lines (x ∷ xs) ys each = back_lines xs ys each.1
+
 abbrev head_of : List ℕ → ℕ
 head_of [] = 0
 head_of (x ∷ xs) = x

@@ -17,7 +17,7 @@ use Rattle.ggraph.specs.Saving.{PointsBelowRefs, head_ids, named_ids, ref_ids}
 nodes_follow : {A : Type 0} → EntriesComeInOrder A → (g : History A) → IsGraph g → EachFollows (MayFollow Any g.format) g.entries
 nodes_follow {A} law g graph front x rest e =
     let next = law g.format front x rest (subst (λ (es : List (Entry A)). IsGraph (record { format = g.format; entries = es })) e graph) in
-    record { ids = next.ids; new = next.new; shaped = next.shaped; room = next.room; after = tt }
+    record { comes = next; after = tt }
 
 all_front : {X : Type 0} (P : X → Type 0) (front back : List X) → All P (front ++ back) → All P front × All P back
 all_front P [] back all = (All-nil P, all)
@@ -32,12 +32,7 @@ id_at format (first ∷ front) ref rest all = id_at format front ref rest (All-t
 refs_follow : RefsComeInOrder → (format : Format) (refs : RefList) → IsRefs refs → All (IsIdOf format) (ref_ids refs) → EachFollows (RefMayFollow format) refs
 refs_follow law format refs valid ids front x rest e =
     let next = law front x rest (subst IsRefs e valid) in
-    record {
-      name = next.below;
-      id = id_at format front x rest (subst (λ (rs : RefList). All (IsIdOf format) (ref_ids rs)) e ids);
-      above = next.above;
-      room = next.room;
-    }
+    record { comes = next; id = id_at format front x rest (subst (λ (rs : RefList). All (IsIdOf format) (ref_ids rs)) e ids) }
 
 head_stands : {A : Type 0} (format : Format) (head : Head A) → PointsBelowRefs head → All (IsIdOf format) (head_ids head) → IsHead format head
 head_stands format (Id id) below ids = All-head (IsIdOf format) id [] ids

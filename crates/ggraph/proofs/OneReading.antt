@@ -156,8 +156,8 @@ module _ (laws : TextLaws) where
 
   item_is_line : {A : Type 0} (order : Order) (old : Reading A) (item : Item A) → MayCome order old item → IsLine (line_of item)
   item_is_line order old (begins format) may = first_is_line format
-  item_is_line order old (node entry) may = node_is_line old.graph.format entry may.1.ids
-  item_is_line order old (ref it) may = ref_is_line old.graph.format it may.1.id may.1.name
+  item_is_line order old (node entry) may = node_is_line old.graph.format entry may.1.comes.ids
+  item_is_line order old (ref it) may = ref_is_line old.graph.format it may.1.id may.1.comes.below
   item_is_line order old (heads head) may = head_is_line old.graph.format head may.1
   item_is_line order old ends may = tested_line last_line refl
 

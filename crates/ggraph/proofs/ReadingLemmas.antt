@@ -207,7 +207,7 @@ module _ (laws : TextLaws) where
   one_item order other old (begins f) (heads head) may there e = absurd (no_refs_at old.stage First may (λ h. cc) (λ h. cc) there.0)
   one_item order other old (begins f) ends may there e = let h = sym may ∙ there in cc
   one_item order other old (node entry) (begins g) may there e = let h = sym may.0 ∙ there in cc
-  one_item order other old (node a) (node b) may there e = ap node (one_entry old.graph.format a b may.1.ids there.1.ids e)
+  one_item order other old (node a) (node b) may there e = ap node (one_entry old.graph.format a b may.1.comes.ids there.1.comes.ids e)
   one_item order other old (node entry) (ref it) may there e = absurd (node_not_ref entry it e)
   one_item order other old (node entry) (heads head) may there e = absurd (node_not_head entry head e)
   one_item order other old (node entry) ends may there e = let h = sym may.0 ∙ there in cc
@@ -234,7 +234,7 @@ module _ (laws : TextLaws) where
   no_node_id {A} order old kind text here none = no_node_comes order old (letter kind ∷ text) kind text here refl never
     where
       never : (entry : Entry A) → letter kind ∷ text ≡ node_text entry → MayFollow order old.graph.format old.graph.entries entry → ⊥
-      never entry e may = none entry.id (ids_text entry.node.parents) may.ids.id (letters_one kind entry.node.kind text (ids_text (ids_of entry)) e).1
+      never entry e may = none entry.id (ids_text entry.node.parents) may.comes.ids.id (letters_one kind entry.node.kind text (ids_text (ids_of entry)) e).1
 
   -- its parents are wrong
   pub no_node_parents : {A : Type 0} (order : Order) (old : Reading A) (kind : Kind) (text id after : List ℕ) → old.stage ≡ Nodes → text ≡ codes " " ++ (id_text id ++ after) → IsIdOf old.graph.format id → IsNoParents old.graph.format after → NeverComes order old (letter kind ∷ text)
@@ -244,7 +244,7 @@ module _ (laws : TextLaws) where
       never entry e may =
           let same = sym is ∙ (letters_one kind entry.node.kind text (ids_text (ids_of entry)) e).1 in
           let both = append_cancel_left (codes " ") (id_text id ++ after) (id_text entry.id ++ ids_text entry.node.parents) same in
-          none entry.node.parents may.ids.parents may.shaped.few (one_front laws old.graph.format id entry.id after (ids_text entry.node.parents) valid may.ids.id both).1
+          none entry.node.parents may.comes.ids.parents may.comes.shaped.few (one_front laws old.graph.format id entry.id after (ids_text entry.node.parents) valid may.comes.ids.id both).1
 
   -- the line of a node
   node_line_is : (A : Type 0) (kind : Kind) (text id after : List ℕ) (parents : List (List ℕ)) → text ≡ codes " " ++ (id_text id ++ after) → after ≡ ids_text parents → letter kind ∷ text ≡ node_text (entry_of {A = A} id (node_of kind parents))
@@ -262,7 +262,7 @@ module _ (laws : TextLaws) where
 
     refused : (other : Order) → HasIdsOf old.graph.format this → (MayFollow other old.graph.format old.graph.entries this → ⊥) → NeverComes other old (letter kind ∷ text)
     refused other valid never = no_node_comes other old (letter kind ∷ text) kind text here refl (λ entry e may.
-        never (subst (λ (x : Entry A). MayFollow other old.graph.format old.graph.entries x) (one_entry old.graph.format entry this may.ids valid (sym e ∙ node_line_is A kind text id after parents is are)) may))
+        never (subst (λ (x : Entry A). MayFollow other old.graph.format old.graph.entries x) (one_entry old.graph.format entry this may.comes.ids valid (sym e ∙ node_line_is A kind text id after parents is are)) may))
 
     pub node_stopped : (number : ℕ) (r : Result (Unit {0}) LoadFault) → HasIdsOf old.graph.format this → IfErr r (RefusesEntry order old.graph this number) → IfErr r (RefusesLine order old (letter kind ∷ text) number)
     node_stopped number (Ok u) valid facts = tt

@@ -1,5 +1,5 @@
 -- Refs over a graph.
-use Rattle.std.proofs.Common.{◌≡◌, inl, inr, ◌⊎◌, ℕ, ◌+◌, zero, suc, take, drop, slice_get, List, [], ◌∷◌, ◌++◌, Bool, true, false, Some, None, refl, sym, ap, ◌∙◌, subst, Option, IsTrue, ◌↔◌, not, All, Contains}
+use Rattle.std.proofs.Common.{◌≡◌, inl, inr, ◌⊎◌, ℕ, zero, suc, take, drop, slice_get, List, [], ◌∷◌, ◌++◌, Bool, true, false, Some, None, refl, sym, ap, ◌∙◌, subst, Option, IsTrue, ◌↔◌, not, All, Contains}
 use Rattle.std.specs.Option.{is_some}
 use Rattle.std.specs.Map.{values_of}
 use Rattle.std.proofs.lemmas.Bool.{false≢true}
@@ -10,7 +10,7 @@ use Rattle.ghistory.specs.Graphs.{Holds}
 use Rattle.ghistory.specs.Laws.{FullStaysFull}
 use Rattle.ghistory.specs.Reach.{IsFull, Keeps}
 use Rattle.ghistory.specs.Walks.{Misses}
-use Rattle.grefs.specs.RefLists.{RefList, SetsRef}
+use Rattle.grefs.specs.RefLists.{RefList}
 use Rattle.ggraph.specs.SafeRefs.{IsSafe, SafeStays, SettingStaysSafe}
 
 module _ {A : Type 0} where

@@ -13,9 +13,9 @@ use Rattle.ggraph.specs.declared.text.reading.Reading.{Reading}
 use Rattle.grefs.specs.RefLists.{RefList}
 use Rattle.ggraph.specs.RepositoryText.{IsLoadable, lines_of, repository_text}
 use Rattle.ggraph.specs.Reading.{Item, IsKept, MayCome, RefusesLine, NeverComes, after, begins, ends, heads, line_of, node, nothing_read, ref}
-use Rattle.gobject.specs.PlainPackText.{IsInLine, line}
+use Rattle.gobject.specs.PlainPackText.{GoesOn, IsInLine, line}
 use Rattle.ghistory.specs.Graphs.{History}
-use Rattle.ggraph.specs.Loading.{AcceptsText, BeginsText, EndsEarly, GoesOn, IsKeptLine, IsWholeText, IsWrongLine, StopsAt}
+use Rattle.ggraph.specs.Loading.{AcceptsText, BeginsText, EndsEarly, IsKeptLine, IsWholeText, IsWrongLine, StopsAt}
 use Rattle.ggraph.proofs.Items.{HasRead, ReadsTo, items_text}
 use Rattle.ggraph.proofs.Lines.{AreLines, front_lines, line_from, lines-append, more_lines, no_line_left}
 use Rattle.ggraph.proofs.LoadLemmas.{Progress, map_more, reads_more, text_of-push}
@@ -28,7 +28,7 @@ module _ (laws : TextLaws) where
 
   may_in_any : {A : Type 0} (order : Order) (old : Reading A) (item : Item A) → MayCome order old item → MayCome Any old item
   may_in_any order old (begins format) may = may
-  may_in_any order old (node entry) may = (may.0, record { ids = may.1.ids; new = may.1.new; shaped = may.1.shaped; room = may.1.room; after = tt })
+  may_in_any order old (node entry) may = (may.0, record { comes = may.1.comes; after = tt })
   may_in_any order old (ref it) may = may
   may_in_any order old (heads head) may = may
   may_in_any order old ends may = may
@@ -124,12 +124,12 @@ module _ (laws : TextLaws) where
 
   -- ---- no text of a repository is refused
 
-  lines_begun : {A : Type 0} (order : Order) (lines : List (List ℕ)) → BeginsText A order lines → AreLines lines
+  pub lines_begun : {A : Type 0} (order : Order) (lines : List (List ℕ)) → BeginsText A order lines → AreLines lines
   lines_begun order lines more = front_lines lines more.more (subst AreLines more.parts (lines_are_lines laws order more.graph more.refs more.head more.loadable))
 
-  loadable_in_any : {A : Type 0} (order : Order) (g : History A) (refs : RefList) (head : Head A) → IsLoadable order g refs head → IsLoadable Any g refs head
+  pub loadable_in_any : {A : Type 0} (order : Order) (g : History A) (refs : RefList) (head : Head A) → IsLoadable order g refs head → IsLoadable Any g refs head
   loadable_in_any order g refs head valid = record {
-    nodes = λ front x rest parts. (let may = valid.nodes front x rest parts in record { ids = may.ids; new = may.new; shaped = may.shaped; room = may.room; after = tt });
+    nodes = λ front x rest parts. (let may = valid.nodes front x rest parts in record { comes = may.comes; after = tt });
     refs_follow = valid.refs_follow;
     stands = valid.stands;
   }

@@ -1,8 +1,8 @@
 -- Loading a repository text: where it is refused, and for what.
-use Rattle.std.specs.Prelude.{◌≡◌, ◌⊎◌, ℕ, ◌+◌, List, [], ◌∷◌, ◌++◌, length, Result}
+use Rattle.std.specs.Prelude.{◌≡◌, ◌≢◌, ◌⊎◌, ℕ, ◌+◌, List, [], ◌∷◌, ◌++◌, length, Result}
 use Rattle.std.specs.Prelude.{MatchResult}
 use Rattle.gobject.specs.declared.node.Entry.{Entry}
-use Rattle.gobject.specs.PlainPackText.{IsInLine, node_text, text_of}
+use Rattle.gobject.specs.PlainPackText.{GoesOn, IsInLine, node_text, text_of}
 use Rattle.ghistory.specs.Graphs.{History, IsOrdered}
 use Rattle.grefs.specs.declared.head.Head.{Head}
 use Rattle.grefs.specs.declared.head.Head.TheVariants.{Symref}
@@ -30,10 +30,6 @@ pub record IsWholeText (A : Type 0) (order : Order) (lines : List (List ℕ)) : 
   pub head : Head A
   pub loadable : IsLoadable order graph refs head
   pub parts : lines_of graph refs head ≡ lines
-
--- after the lines the text goes on with this one
-abbrev pub GoesOn : List ℕ → List (List ℕ) → List ℕ → Type 0
-GoesOn text lines line = (rest : List ℕ) × (text ≡ text_of (lines ++ line ∷ []) ++ rest) × IsInLine line
 
 -- the next line comes after these in no order of nodes
 abbrev pub IsWrongLine : (A : Type 0) → List ℕ → List (List ℕ) → Type 0
@@ -84,3 +80,9 @@ abbrev pub ParentsFirstIsOrdered : Type 0 → Type 0
 ParentsFirstIsOrdered A =
     (graph : History A) (refs : RefList) (head : Head A) → IsLoadable ParentsFirst graph refs head
     → IsOrdered graph.entries
+
+-- a text is refused at one line and for one reason, but for want of memory
+abbrev pub TextsStopOnce : Type 0 → Type 0
+TextsStopOnce A =
+    (order : Order) (text : List ℕ) (a b : LoadFault) → StopsAt A order text a → StopsAt A order text b
+    → a ≢ Memory → b ≢ Memory → a ≡ b

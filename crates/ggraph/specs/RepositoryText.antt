@@ -1,6 +1,6 @@
 -- The text that keeps a repository: a first line, which says the format of its ids, a line a node in store order, a
 -- line a ref in name order, a line for HEAD and a last line, each ended by LF. Ids are written in lower case.
-use Rattle.std.specs.Prelude.{◌≡◌, ⊤, ℕ, ◌<◌, List, [], ◌∷◌, ◌++◌, length, map, All, codes, None}
+use Rattle.std.specs.Prelude.{◌≡◌, ⊤, ℕ, List, [], ◌∷◌, ◌++◌, map, codes}
 use Rattle.gname.specs.declared.formats.Format.{Format}
 use Rattle.gname.specs.declared.formats.Format.TheVariants.{Sha1, Sha256}
 use Rattle.gname.specs.Ids.{IsIdOf, id_text}
@@ -9,10 +9,11 @@ use Rattle.grefs.specs.declared.head.Head.{Head}
 use Rattle.grefs.specs.declared.head.Head.TheVariants.{Id, Symref}
 use Rattle.ggraph.specs.declared.text.Order.{Order}
 use Rattle.ggraph.specs.declared.text.Order.TheVariants.{Any, ParentsFirst}
-use Rattle.gobject.specs.Objects.{IsShaped, node_at}
 use Rattle.gobject.specs.PlainPackText.{node_text, text_of}
-use Rattle.ghistory.specs.Graphs.{History, HasIdsOf, Holds, max_nodes}
-use Rattle.grefs.specs.RefLists.{RefList, AreBelow, IsBelowRefs, max_refs}
+use Rattle.ghistory.specs.Graphs.{History, HoldsParents}
+use Rattle.ghistory.specs.Laws.{MayComeNext}
+use Rattle.grefs.specs.Laws.{MayComeNext as NameMayComeNext}
+use Rattle.grefs.specs.RefLists.{RefList, IsBelowRefs}
 
 -- ---- lines
 
@@ -53,23 +54,18 @@ IsHead format _ = ⊤
 -- each parent is on an earlier line, where that is asked
 abbrev pub ComesAfter : {A : Type 0} → Order → List (Entry A) → Entry A → Type 0
 ComesAfter Any g entry = ⊤
-ComesAfter ParentsFirst g entry = All (Holds g) entry.node.parents
+ComesAfter ParentsFirst g entry = HoldsParents g entry
 
--- an entry may come next
+-- the entry may follow these: it may come next in their graph, and after its parents where that is asked
 pub record MayFollow {A : Type 0} (order : Order) (format : Format) (g : List (Entry A))
     (entry : Entry A) : Type 0 where
-  pub ids : HasIdsOf format entry
-  pub new : node_at g entry.id ≡ None
-  pub shaped : IsShaped entry.node
-  pub room : length g < max_nodes
+  pub comes : MayComeNext format g entry
   pub after : ComesAfter order g entry
 
--- a ref may come next
+-- the ref may follow these: its name may come next, and its id is of the format
 pub record RefMayFollow (format : Format) (refs : RefList) (ref : List ℕ × List ℕ) : Type 0 where
-  pub name : IsBelowRefs ref.0
+  pub comes : NameMayComeNext refs ref.0
   pub id : IsIdOf format ref.1
-  pub above : AreBelow refs ref.0
-  pub room : length refs < max_refs
 
 -- P holds of each element and the elements before it
 abbrev pub EachFollows : {X : Type 0} → (List X → X → Type 0) → List X → Type 0

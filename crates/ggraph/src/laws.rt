@@ -1,8 +1,9 @@
 //! Laws of repositories. A call does nothing, and gives its caller's proof the law.
 
-ghost use Rattle.ggraph.specs.Loading.{ParentsFirstIsOrdered};
+ghost use Rattle.ggraph.specs.Loading.{ParentsFirstIsOrdered, TextsStopOnce};
 ghost use Rattle.ggraph.specs.SafeRefs.{SafeStays, SettingStaysSafe};
 
+use crate::text::text_laws;
 use ghistory::laws::full_stays_full;
 use std::alloc::Allocator;
 
@@ -22,3 +23,11 @@ pub fn setting_stays_safe<A: Allocator + Copy>()
 pub fn parents_first_is_ordered<A: Allocator + Copy>()
     ensures { ParentsFirstIsOrdered A }
 {}
+
+/// A text is refused at one line and for one reason, but for want of memory: what [`load`](crate::load) reports
+/// is the first line that is wrong.
+pub fn texts_stop_once<A: Allocator + Copy>()
+    ensures { TextsStopOnce A }
+{
+    text_laws();
+}

@@ -8,6 +8,7 @@
 //!   ids: the text of a graph, refs and HEAD whose nodes and refs may each follow those before it is read
 //!   as these, or memory is missing. Any other text is refused at the first line with which it begins no
 //!   such text, or where it ends early; for a later parent only where the line is right but for the order.
+//!   There is one such line, and one reason: [`laws::texts_stop_once`].
 //! - Out of memory is reported only at a line of a node, a ref or a HEAD on a ref that is right, as the lines
 //!   before it are: a line that breaks a rule or passes a limit is refused for that.
 //! - [`save`] writes the one text of what it is given, which `load` reads back in any order of nodes. It is
@@ -25,8 +26,9 @@
 //!
 //! # What a body can still get away with
 //!
-//! Loading may report out of memory at any line that is right and keeps something, and saving of anything
-//! that can be saved. A call may take as long as it likes, and more memory than it needs.
+//! Loading may report out of memory at any line that is right and keeps something, saving of anything that
+//! can be saved, and `is_safe` of any refs, as often as they like. A call may take as long as it likes, and
+//! more memory than it needs.
 //!
 //! # Stands on
 //!
@@ -43,7 +45,7 @@ mod text;
 pub use crate::fault::{LoadFault, SaveFault};
 pub use crate::safe::is_safe;
 pub use crate::text::{Order, Repository, load, save};
-pub use ghistory::{Graph, GraphFault, IdHasher, MAX_NODES, laws as graph_laws};
+pub use ghistory::{Graph, GraphFault, IdHasher, MAX_NODES, distinct_ids, laws as graph_laws};
 pub use gobject::{
     Entry, Faithful, IndexFault, Indexer, Kind, MAX_PARENTS, Node, PackFault, Packer, Parents,
     PlainPack,

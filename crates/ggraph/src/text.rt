@@ -8,6 +8,7 @@ mod parts;
 mod reading;
 mod saving;
 
+pub(crate) use crate::text::laws::text_laws;
 pub use crate::text::loading::load;
 pub use crate::text::saving::save;
 use ghistory::Graph;

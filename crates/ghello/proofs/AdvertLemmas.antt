@@ -1,5 +1,5 @@
 -- Facts on advertisements: what is kept of the packets, and what may be added.
-use Rattle.std.proofs.Common.{◌≡◌, ℕ, zero, suc, ◌+◌, ◌<◌, ◌≤◌, Bool, true, false, not, ◌&&◌, if◌then◌else◌, ◌==◌, nat_le, nat_lt, Bor, map, List, [], ◌∷◌, ◌++◌, length, take, drop, get_or, ◌⊎◌, inl, inr, Option, Some, None, Result, Ok, Err, refl, sym, ap, subst, ◌∙◌, append-nil, arith}
+use Rattle.std.proofs.Common.{◌≡◌, ℕ, zero, suc, ◌+◌, ◌<◌, ◌≤◌, Bool, true, false, not, ◌&&◌, if◌then◌else◌, ◌==◌, nat_le, nat_lt, Bor, map, List, [], ◌∷◌, ◌++◌, length, drop, get_or, ◌⊎◌, inl, inr, Option, Some, None, Result, Ok, Err, refl, sym, ap, subst, ◌∙◌, append-nil, arith}
 use Rattle.std.specs.Prelude.{All, IfSome, IsTrue, ⊤}
 use Rattle.std.specs.List.{cons_option, filter_map, list_all}
 use Rattle.std.proofs.lemmas.List.{drop_more, drop_all, length_push}
@@ -12,7 +12,7 @@ use Rattle.ggrammar.specs.Grammar.{Open, Whole, Refused, if_room}
 use Rattle.ggrammar.specs.Texts.{TextsOfMore, texts_of}
 use Rattle.ggrammar.specs.PeerErrors.{peer_error, unless_error}
 use Rattle.ggrammar.specs.Faults.{kept_text}
-use Rattle.ggrammar.specs.Capabilities.{Capability, IsWellFormed, capability_of, capability_split, has_length, is_key, is_key_byte, is_printable, is_value, max_capability}
+use Rattle.ggrammar.specs.Capabilities.{Capability, CapabilityIsItsText, IsWellFormed, capability_of, has_length, is_key, is_key_byte, is_printable, is_value, max_capability}
 use Rattle.std.specs.Option.{option_copied}
 use Rattle.ggrammar.specs.CapabilityView.{capability_view}
 use Rattle.ggrammar.specs.declared.capability.Capability as lent
@@ -98,22 +98,14 @@ AreCapabilities-push capabilities capability are form room = record {
   few = rw (length_push capabilities capability) (omega (arith, room));
 }
 
-of_test : (b : Bool) (found capability : Capability) → is_capability found ≡ b → (if b then Some found else None) ≡ Some capability → is_capability capability ≡ true
-of_test true found capability is e = let same : found ≡ capability = cc in ap is_capability (sym same) ∙ is
-of_test false found capability is e = absurd (let no : None ≡ Some capability = e in cc)
-
-key_alone_form : (b : Bool) (key : List ℕ) (capability : Capability) → is_key key ≡ b → (if b then Some (record { key = key; value = None }) else None) ≡ Some capability → is_capability capability ≡ true
-key_alone_form true key capability is e = let same : record { key = key; value = None } ≡ capability = cc in ap is_capability (sym same) ∙ rw is refl
-key_alone_form false key capability is e = absurd (let no : None ≡ Some capability = e in cc)
-
-split_form : (line : List ℕ) (place : Option ℕ) (capability : Capability) → capability_split line place ≡ Some capability → is_capability capability ≡ true
-split_form line None capability e = key_alone_form (is_key line) line capability refl e
-split_form line (Some at) capability e = of_test _ (record { key = take at line; value = Some (drop (at + 1) line) }) capability refl e
+value_is : (value : Option (List ℕ)) → IfSome value (λ bytes. IsTrue (is_value bytes)) → is_value_or_none value ≡ true
+value_is None h = refl
+value_is (Some value) h = h
 
 -- a capability that is read has its form
-pub capability_of_form : (line : List ℕ) (capability : Capability) → capability_of line ≡ Some capability → is_capability capability ≡ true
-unfolding capability_of
-capability_of_form line capability e = split_form line _ capability e
+pub capability_of_form : CapabilityIsItsText → (line : List ℕ) (capability : Capability) → capability_of line ≡ Some capability → is_capability capability ≡ true
+capability_of_form texts line capability e =
+    let form = ((texts line capability).0 e).1 in rw (form.key, value_is capability.value form.value) refl
 
 -- with room for it, a capability goes on; the reason that it is not added is the reason that it is refused
 not_added : (room : Bool) (reason : Why) → IsBuildReason true room reason → IsReason (if_room room) true reason
@@ -134,15 +126,11 @@ not_added room why.Format h = absurd h
 not_added room why.Memory h = rw h.1 (tt, refl)
 not_added room why.Ended h = absurd h
 
-pub capability_is_added : (line : List ℕ) (capability : Capability) (capabilities : List Capability) → capability_of line ≡ Some capability
-    → has_room capabilities ≡ true → judge_capability (length capabilities) (capability_of line) ≡ Open
-capability_is_added line capability capabilities is room = ap (judge_capability (length capabilities)) is ∙ ap if_room room
-
-pub capability_is_not_added : (line : List ℕ) (capability : Capability) (capabilities : List Capability) (reason : Why) → capability_of line ≡ Some capability
+pub capability_is_not_added : CapabilityIsItsText → (line : List ℕ) (capability : Capability) (capabilities : List Capability) (reason : Why) → capability_of line ≡ Some capability
     → IsBuildReason (is_capability capability) (has_room capabilities) reason → IsReason (judge_capability (length capabilities) (capability_of line)) true reason
-capability_is_not_added line capability capabilities reason is h =
+capability_is_not_added texts line capability capabilities reason is h =
     subst (λ (o : Option Capability). IsReason (judge_capability (length capabilities) o) true reason) (sym is)
-    (not_added (has_room capabilities) reason (subst (λ (form : Bool). IsBuildReason form (has_room capabilities) reason) (capability_of_form line capability is) h))
+    (not_added (has_room capabilities) reason (subst (λ (form : Bool). IsBuildReason form (has_room capabilities) reason) (capability_of_form texts line capability is) h))
 
 -- the lines of the capabilities from a place on
 pub packets_from : (capabilities : List Capability) (at : ℕ) (found : Capability) → at < length capabilities → found ≡ get_or capabilities at found

@@ -12,7 +12,7 @@ use Rattle.gpkt.specs.Packets.{Packet, Data, Flush, Delim, ResponseEnd, text}
 use Rattle.ggrammar.specs.Grammar.{Verdict, Open, Whole, Refused, IsWhole, if_room}
 use Rattle.ggrammar.specs.Texts.{text_packet, texts_of}
 use Rattle.ggrammar.specs.PeerErrors.{judge_unless_error}
-use Rattle.ggrammar.specs.Capabilities.{Capability, IsWellFormed, capability_of, is_key, is_value}
+use Rattle.ggrammar.specs.Capabilities.{Capability, IsWellFormed, capability_of, capability_text, is_key, is_value}
 use Rattle.ggrammar.specs.declared.fault.Why.TheVariants as why
 
 -- how many capabilities are advertised at most
@@ -80,13 +80,6 @@ pub record Says (packets : List Packet) (capabilities : List Capability) : Type 
 pub record AreCapabilities (capabilities : List Capability) : Type 0 where
   pub each : All IsWellFormed capabilities
   pub few : length capabilities ≤ max_advertised
-
-abbrev pub value_text : Option (List ℕ) → List ℕ
-value_text None = []
-value_text (Some value) = codes "=" ++ value
-
-abbrev pub capability_text : Capability → List ℕ
-capability_text capability = capability.key ++ value_text capability.value
 
 abbrev pub capability_packet : Capability → Packet
 capability_packet capability = text_packet (capability_text capability)

@@ -6,20 +6,20 @@ ghost use Rattle.std.specs.Option.{option_copied, option_map};
 ghost use Rattle.gname.specs.declared.formats.Format.TheVariants.{Sha1};
 ghost use Rattle.gpkt.specs.Packets.{Data, Flush, packet_of, text};
 ghost use Rattle.gpkt.specs.Change.{change_of};
-ghost use Rattle.ggrammar.specs.Capabilities.{IsWellFormed, capability_of, max_capability};
+ghost use Rattle.ggrammar.specs.Capabilities.{IsWellFormed, capability_of, capability_text, max_capability};
 ghost use Rattle.ggrammar.specs.CapabilityView.{capability_view};
 ghost use Rattle.ggrammar.specs.Building.{Builds};
 ghost use Rattle.ggrammar.specs.Kinds.{ReadsOrRefuses};
 ghost use Rattle.ggrammar.specs.MessageReading.{LeavesReader, TakesAs};
 ghost use Rattle.ggrammar.specs.Texts.{text_packet};
 ghost use Rattle.ggrammar.specs.Writing.{WritesLines, WritesPart};
-ghost use Rattle.ghello.specs.Adverts.{AreCapabilities, Says, brings, canonical_advert, capability_packet, capability_text, version, has_room, is_capability, is_value_or_none, judge, judge_version, judge_capability, max_advertised};
+ghost use Rattle.ghello.specs.Adverts.{AreCapabilities, Says, brings, canonical_advert, capability_packet, version, has_room, is_capability, is_value_or_none, judge, judge_version, judge_capability, max_advertised};
 ghost use Rattle.ghello.specs.Offers.{IsFormatOf, check_fault, first_with, has_feature, has_format, has_key, has_word, is_name_of, is_space, lacks_command, named_format};
 ghost use Rattle.ghello.specs.AdvertReading.{IsKept, added_by, brings_after, judge_after, capability_list};
 
 use crate::compose::add;
 use arrayvec::ArrayVec;
-use ggrammar::laws::{grammars_are_exact, texts_are_read, writes_lines};
+use ggrammar::laws::{grammars_are_exact, texts_are_classified, texts_are_read, writes_lines};
 use ggrammar::{
     Capability, Message, MessageFault, PeerText, Step, Why, capability_of, is_key, is_value,
     peer_error, read_message,
@@ -200,7 +200,8 @@ impl<A: Allocator + Copy> Advert<A> {
     }
 
     /// Whether the first capability with a key has a value of which a word is a part between spaces: a
-    /// server lists unborn branches where its `ls-refs` has the word `unborn` (gitprotocol-v2(5), "ls-refs").
+    /// server tells of a `HEAD` that is not born where its `ls-refs` has the word `unborn`
+    /// (gitprotocol-v2(5), "ls-refs").
     pub fn has_feature(&self, key: &[u8], word: &[u8]) -> bool
         ensures { result ≡ has_feature key.now word.now self.now }
     {
@@ -472,6 +473,7 @@ impl<A: Allocator + Copy> AdvertReader<A> {
             ((self.new.has_version ≡ self.old.has_version) × (self.new.advert ≡ self.old.advert ++ capability_list (capability_of text.now)))
             result }
     {
+        texts_are_classified();
         let Some(capability) = capability_of(text) else {
             return Err(Why::BadText);
         };

@@ -1,11 +1,10 @@
 //! The first line of a `git://` connection (gitprotocol-pack(5), "Git Transport").
 
 ghost use Rattle.std.specs.Prelude.{◌≡◌, ◌<◌, ◌≤◌, ◌∷◌, [], IfOk, IfErr, IfSome, length, position, is_some, ⊤};
-ghost use Rattle.std.specs.List.{list_all, slice_split};
+ghost use Rattle.std.specs.List.{slice_split};
 ghost use Rattle.std.specs.Option.{option_copied, option_map, option_map_or};
 ghost use Rattle.gpkt.specs.Packets.{max_payload, packet_of};
 ghost use Rattle.gpkt.specs.Change.{change_of};
-ghost use Rattle.ggrammar.specs.Capabilities.{is_graphic, is_printable};
 ghost use Rattle.ggrammar.specs.Kinds.{ReadsOrRefuses};
 ghost use Rattle.ggrammar.specs.MessageReading.{LeavesReader, TakesAs};
 ghost use Rattle.ggrammar.specs.Writing.{WritesLines};
@@ -15,7 +14,9 @@ ghost use Rattle.ghello.specs.HelloReading.{hello_in, hello_view};
 use crate::compose::add;
 use arrayvec::ArrayVec;
 use ggrammar::laws::{grammars_are_exact, writes_lines};
-use ggrammar::{Message, MessageFault, Step, Why, after_word, read_message};
+use ggrammar::{
+    Message, MessageFault, Step, Why, after_word, are_graphic, are_printable, read_message,
+};
 use gpkt::{Line, LineReader, LineWriter, Sink, Source, WriteFault};
 use std::alloc::{AllocError, Allocator};
 use std::marker::Model;
@@ -119,24 +120,6 @@ pub fn is_host(host: &[u8]) -> bool
     ensures { result ≡ is_host host.now }
 {
     1 <= host.len() && host.len() <= MAX_HOST && are_graphic(host)
-}
-
-fn is_printable(byte: u8) -> bool
-    ensures { result ≡ is_printable byte }
-{
-    b' ' <= byte && byte <= b'~'
-}
-
-fn are_printable(bytes: &[u8]) -> bool
-    ensures { result ≡ list_all is_printable bytes.now }
-{
-    bytes.iter().all(|byte| is_printable(*byte))
-}
-
-fn are_graphic(bytes: &[u8]) -> bool
-    ensures { result ≡ list_all is_graphic bytes.now }
-{
-    bytes.iter().all(|byte| byte.is_ascii_graphic())
 }
 
 /// Reads the first line of a connection, and nothing after it.

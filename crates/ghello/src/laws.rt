@@ -8,7 +8,9 @@ ghost use Rattle.ghello.specs.Hello as hello;
 ghost use Rattle.ghello.specs.Adverts as advert;
 
 use ggrammar::Kind;
-use ggrammar::laws::{grammars_are_exact, kinds_are_read, messages_are_read, texts_are_read};
+use ggrammar::laws::{
+    grammars_are_exact, kinds_are_read, messages_are_read, texts_are_classified, texts_are_read,
+};
 use gpkt::laws::text_reads_back;
 
 // Hellos, as a kind of message.
@@ -102,6 +104,7 @@ pub fn canonical_says()
     ensures advert { CanonicalSays advert.Says advert.AreCapabilities advert.IsCanonical }
 {
     text_reads_back();
+    texts_are_classified();
     manual();
 }
 

@@ -7,8 +7,8 @@ use Rattle.std.proofs.lemmas.List.Elements.{All-nil, All-cons, All-head, All-tai
 use Rattle.gobject.specs.declared.node.Node.{Node}
 use Rattle.gobject.specs.declared.node.Entry.{Entry}
 use Rattle.gobject.specs.Objects.{node_at, IdsDiffer}
-use Rattle.ghistory.specs.Graphs.{Holds, IsNode}
-use Rattle.ghistory.specs.Reach.{HoldsParents, IsClosed}
+use Rattle.ghistory.specs.Graphs.{Holds, HoldsParents, IsNode}
+use Rattle.ghistory.specs.Reach.{IsClosed}
 use Rattle.ghistory.proofs.Holding.{has_id_is, is_has_id, id_cases, node_here, node_there}
 
 module _ {A : Type 0} (P : Node A → Type 0) where
@@ -33,12 +33,10 @@ module _ {A : Type 0} (P : Node A → Type 0) where
       ]))
 
 pub closed_from_each : {A : Type 0} (g : List (Entry A)) → All (HoldsParents g) g → IsClosed g
-unfolding HoldsParents
 closed_from_each {A} g each a b has =
     All-contains (Holds g) has.0.parents b (holds_of_found (λ (node : Node A). All (Holds g) node.parents) g a has.0 each has.1) has.2
 
 pub each_from_closed : {A : Type 0} (g : List (Entry A)) → IdsDiffer g → IsClosed g → All (HoldsParents g) g
-unfolding HoldsParents
 each_from_closed {A} g differ closed =
     holds_of_each (λ (node : Node A). All (Holds g) node.parents) g differ (λ a node is k d inside. closed a _ (node, is, All-contains_itself node.parents k d inside))
 
@@ -53,7 +51,6 @@ parents_entry {A} g p parents at = by (slice_get g p) refl
 
 -- where each entry's parents are held, those at a place are
 pub holds_at : {A : Type 0} (g : List (Entry A)) (p : ℕ) (parents : List (List ℕ)) → option_map (λ entry. entry.node.parents) (slice_get g p) ≡ Some parents → All (HoldsParents g) g → All (Holds g) parents
-unfolding HoldsParents
 holds_at {A} g p parents at each =
     let e = parents_entry g p parents at in
     let P : Entry A → Type 0 = λ entry. All (Holds g) entry.node.parents in
@@ -61,7 +58,6 @@ holds_at {A} g p parents at each =
 
 -- and one place more
 pub holds_more : {A : Type 0} (g : List (Entry A)) (p : ℕ) (parents : List (List ℕ)) → option_map (λ entry. entry.node.parents) (slice_get g p) ≡ Some parents → All (HoldsParents g) (take p g) → All (Holds g) parents → All (HoldsParents g) (take (p + 1) g)
-unfolding HoldsParents
 holds_more {A} g p parents at each here =
     let e = parents_entry g p parents at in
     let P : Entry A → Type 0 = λ entry. All (Holds g) entry.node.parents in

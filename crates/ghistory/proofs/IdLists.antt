@@ -1,11 +1,12 @@
 -- Lists of ids: which ids they have, and which of others are new to them.
-use Rattle.std.proofs.Common.{◌≡◌, ◌⊎◌, ℕ, zero, suc, ◌<◌, Bool, true, false, true≢false, cond, ◌||◌, List, [], ◌∷◌, ◌++◌, length, get_or, Contains, flat_map, bytes_eq, refl, sym, ap, ap₂, subst, ◌∙◌, inl, inr, append_assoc, append-nil, arith}
+use Rattle.std.proofs.Common.{◌≡◌, ◌⊎◌, ℕ, zero, suc, ◌<◌, Bool, true, false, true≢false, cond, ◌||◌, List, [], ◌∷◌, ◌++◌, length, get_or, Contains, flat_map, bytes_eq, refl, sym, ap, ap₂, subst, ◌∙◌, inl, inr, append_assoc, append-nil, if◌then◌else◌, arith}
 use Rattle.std.specs.List.{list_any, IsDistinct}
 use Rattle.std.proofs.lemmas.Cmp.{nat_list_eq_equiv}
 use Rattle.std.proofs.lemmas.Slice.Eq.{bytes_eq-Decides}
 use Rattle.std.proofs.lemmas.List.Elements.{Contains-append_left, Contains-append_right, Contains-append_cases, Contains-push_cases}
 use Rattle.std.proofs.lemmas.Map.Keys.{IsDistinct-push}
 use Rattle.std.proofs.lemmas.Map.Views.{Contains-from_any, list_any-from_Contains}
+use Rattle.indexmap.specs.IndexSet.{insert_key}
 use Rattle.ghistory.specs.Levels.{is_in, new_ids}
 
 -- ---- which ids a list has
@@ -110,6 +111,27 @@ new_ids-has s (x ∷ xs) a h out =
           (elim (contains_cases x xs a h) [ inl same ↦ absurd (other same) | inr later ↦ later ])
           (λ c. elim (Contains-push_cases s x a c) [ inl before ↦ out before | inr same ↦ other same ]))
     ]))
+
+-- the new ids of a beginning come first
+pub new_ids-append : (s xs ys : List (List ℕ)) → new_ids s (xs ++ ys) ≡ new_ids s xs ++ new_ids (with_new s xs) ys
+new_ids-append s [] ys = ap (λ l. new_ids l ys) (sym (append-nil s))
+new_ids-append s (x ∷ xs) ys =
+    let whole : List (List ℕ) → List (List ℕ) = λ l. l ++ new_ids (s ++ l) ys in
+    let later = s ++ x ∷ [] in
+    either_way (is_in s x)
+    (λ e. new_ids-old s x (xs ++ ys) e ∙ new_ids-append s xs ys ∙ ap whole (sym (new_ids-old s x xs e)))
+    (λ e. new_ids-new s x (xs ++ ys) e
+    ∙ ap (λ l. x ∷ l) (new_ids-append later xs ys)
+    ∙ ap (λ l. x ∷ (new_ids later xs ++ new_ids l ys)) (append_assoc s (x ∷ []) (new_ids later xs))
+    ∙ ap whole (sym (new_ids-new s x xs e)))
+
+-- a list takes in one id more
+pub with_new-insert : (s : List (List ℕ)) (x : List ℕ) (xs : List (List ℕ)) → with_new (insert_key bytes_eq s x) xs ≡ with_new s (x ∷ xs)
+with_new-insert s x xs =
+    let grown : Bool → List (List ℕ) = λ b. with_new (if b then s else s ++ x ∷ []) xs in
+    either_way (is_in s x)
+    (λ e. ap grown (sym (is_in-any s x) ∙ e) ∙ sym (with_new-old s x xs e))
+    (λ e. ap grown (sym (is_in-any s x) ∙ e) ∙ sym (with_new-new s x xs e))
 
 -- ---- the ids that each of some ids gives
 

@@ -3,6 +3,7 @@ pub mod Choosing
 pub mod ClosedLemmas
 pub mod CommonLaws
 pub mod Counting
+pub mod DistinctLaws
 pub mod Growing
 pub mod Holding
 pub mod IdLists

@@ -24,7 +24,7 @@ new_after_front (y ∷ front) x back differ =
 
 pub entries_come_in_order : (A : Type 0) → EntriesComeInOrder A
 entries_come_in_order A format front entry back graph = record {
-  new = new_after_front front entry back graph.differ;
+  absent = new_after_front front entry back graph.differ;
   ids = all_at (HasIdsOf format) front entry back graph.ids;
   shaped = all_at (λ (e : Entry A). IsShaped e.node) front entry back graph.shaped;
   room = let few = graph.few in omega (arith, length-append front (entry ∷ back), few);

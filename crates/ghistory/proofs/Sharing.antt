@@ -11,8 +11,8 @@ use Rattle.gobject.specs.Objects.{node_at, entry_of, HasIds, IdsDiffer, IsShaped
 use Rattle.gobject.specs.Packs.{AreEntries}
 use Rattle.gname.specs.Laws.{IdsHaveOneFormat}
 use Rattle.gname.specs.declared.formats.Format.{Format}
-use Rattle.ghistory.specs.Graphs.{History, IsNode, IsGraph, Holds, HasIdsOf, HasParent}
-use Rattle.ghistory.specs.Reach.{Reaches, here, onward, SomeReaches, IsFull, IsClosed, HoldsParents, Agree, Keeps}
+use Rattle.ghistory.specs.Graphs.{History, IsNode, IsGraph, Holds, HoldsParents, HasIdsOf, HasParent}
+use Rattle.ghistory.specs.Reach.{Reaches, here, onward, SomeReaches, IsFull, IsClosed, Agree, Keeps}
 use Rattle.ghistory.specs.Insert.{ComesIn, Inserts, Lists, AddsOnly, AddsOnlyParents}
 use Rattle.ghistory.specs.Peeling.{IsTagOf, IsCommit, Tags, PeelsTo}
 use Rattle.ghistory.specs.Selecting.{Selects, none, keep, skip}
@@ -96,7 +96,6 @@ adds_only_parents old entries new only a b parent =
 
 -- where no parent is missing, none is after an entry came in whose parents are held
 pub closed_stays : {A : Type 0} (format : Format) (g : List (Entry A)) (entry : Entry A) (h : List (Entry A)) → IsClosed g → HoldsParents g entry → ComesIn format g entry h → IsClosed h
-unfolding HoldsParents
 closed_stays {A} format g entry h closed held comes a b parent =
     let keeps = grows_keeps g h (comes_grows format g entry h comes) in
     let kept : Holds g b → Holds h b = λ there. let n = held_node g b there in holds_node h b n.0 (keeps b n.0 n.1) in

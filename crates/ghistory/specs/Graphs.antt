@@ -48,10 +48,14 @@ pub record IsGraph {A : Type 0} (g : History A) : Type 0 where
   pub shaped : All (λ entry. IsShaped entry.node) g.entries
   pub few : length g.entries ≤ max_nodes
 
+-- each parent of the entry's node is held
+abbrev pub HoldsParents : {A : Type 0} → List (Entry A) → Entry A → Type 0
+HoldsParents g entry = All (Holds g) entry.node.parents
+
 -- parents come first: each parent of an entry is held by the entries before it
 abbrev pub IsOrdered : {A : Type 0} → List (Entry A) → Type 0
 IsOrdered {A} g =
-    (place : ℕ) (entry : Entry A) → slice_get g place ≡ Some entry → All (Holds (take place g)) entry.node.parents
+    (place : ℕ) (entry : Entry A) → slice_get g place ≡ Some entry → HoldsParents (take place g) entry
 
 -- the entries of a map's pairs, and the pairs of entries
 abbrev pub entries_of : {A : Type 0} → List (List ℕ × Node A) → List (Entry A)

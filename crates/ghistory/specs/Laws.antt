@@ -7,21 +7,21 @@ use Rattle.gobject.specs.Objects.{node_at, place_of, entry_of, IdsDiffer, IsShap
 use Rattle.gname.specs.declared.formats.Format.{Format}
 use Rattle.ghistory.specs.declared.fault.GraphFault.{GraphFault}
 use Rattle.ghistory.specs.declared.fault.GraphFault.TheVariants.{TooMany, Memory}
-use Rattle.ghistory.specs.Graphs.{History, Holds, IsNode, IsGraph, IsOrdered, HasIdsOf, max_nodes}
+use Rattle.ghistory.specs.Graphs.{History, Holds, HoldsParents, IsNode, IsGraph, IsOrdered, HasIdsOf, max_nodes}
 use Rattle.gobject.specs.declared.node.Node.{Node}
 use Rattle.gobject.specs.Packs.{AreEntries}
-use Rattle.ghistory.specs.Reach.{Reaches, IsFull, IsClosed, HoldsParents, Agree, Grows, Keeps}
+use Rattle.ghistory.specs.Reach.{Reaches, IsFull, IsClosed, Agree, Grows, Keeps}
 use Rattle.ghistory.specs.Insert.{ComesIn, Inserts, IsCause, IsRefused}
 use Rattle.ghistory.specs.Peeling.{IsTagOf, PeelsTo}
 use Rattle.ghistory.specs.Sending.{IsListToSend}
 use Rattle.ghistory.specs.Reach.{SomeReaches}
-use Rattle.ghistory.specs.Levels.{level, AreDistances}
+use Rattle.ghistory.specs.Levels.{distinct_of, level, AreDistances}
 use Rattle.ghistory.specs.Offer.{IsExact}
 use Rattle.ghistory.specs.Walks.{CountsReached, common_of}
 
--- an entry may come next: its id is new, its ids are of the format, its node has its shape, and there is room
+-- an entry may come next: its id is not held, its ids are of the format, its node has its shape, and there is room
 pub record MayComeNext {A : Type 0} (format : Format) (g : List (Entry A)) (entry : Entry A) : Type 0 where
-  pub new : node_at g entry.id ≡ None
+  pub absent : node_at g entry.id ≡ None
   pub ids : HasIdsOf format entry
   pub shaped : IsShaped entry.node
   pub room : length g < max_nodes
@@ -185,3 +185,13 @@ CommonsAreHeld A =
     (g : List (Entry A)) (haves : List (List ℕ))
     → IsDistinct bytes_eq (common_of g haves)
     × ((a : List ℕ) → Contains (common_of g haves) a ↔ (Contains haves a × Holds g a))
+
+-- the distinct ids of a list are its ids, each once; those of its beginning come first
+pub record AreDistinct (ids : List (List ℕ)) : Type 0 where
+  pub once : IsDistinct bytes_eq (distinct_of ids)
+  pub same : (a : List ℕ) → Contains (distinct_of ids) a ↔ Contains ids a
+  pub order : (front back : List (List ℕ)) → ids ≡ front ++ back →
+      (rest : List (List ℕ)) × (distinct_of ids ≡ distinct_of front ++ rest)
+
+abbrev pub DistinctAreOnce : Type 0
+DistinctAreOnce = (ids : List (List ℕ)) → AreDistinct ids

@@ -17,6 +17,10 @@ abbrev pub new_ids : List (List ℕ) → List (List ℕ) → List (List ℕ)
 new_ids earlier [] = []
 new_ids earlier (a ∷ ids) = cond (is_in earlier a) (new_ids earlier ids) (a ∷ new_ids (earlier ++ a ∷ []) ids)
 
+-- the distinct ids of a list, in the order in which each comes first
+abbrev pub distinct_of : List (List ℕ) → List (List ℕ)
+distinct_of ids = new_ids [] ids
+
 -- the parents of an id in order; an id that is not held has none
 abbrev pub parents_of : {A : Type 0} → List (Entry A) → List ℕ → List (List ℕ)
 parents_of g a = unwrap_or (option_map (λ node. node.parents) (node_at g a)) []
@@ -40,7 +44,7 @@ next_depth g depth = record { before = down_to depth; ids = new_ids (down_to dep
 
 -- level 0 is the tips in order, each once
 abbrev pub depth_at : {A : Type 0} → List (Entry A) → List (List ℕ) → ℕ → Depth
-depth_at g tips zero = record { before = []; ids = new_ids [] tips }
+depth_at g tips zero = record { before = []; ids = distinct_of tips }
 depth_at g tips (suc k) = next_depth g (depth_at g tips k)
 
 -- the ids of level k

@@ -1,6 +1,6 @@
 -- Which objects lead to which: a commit to its parents, a tag to the object that it names, and so on to theirs
 -- (gitglossary(7), "reachable").
-use Rattle.std.specs.Prelude.{◌≡◌, ℕ, List, ◌++◌, All, Contains}
+use Rattle.std.specs.Prelude.{◌≡◌, ℕ, List, ◌++◌, Contains}
 use Rattle.gobject.specs.declared.node.Node.{Node}
 use Rattle.gobject.specs.declared.node.Entry.{Entry}
 use Rattle.ghistory.specs.Graphs.{Holds, HasParent, IsNode}
@@ -21,10 +21,6 @@ IsFull g a = (b : List ℕ) → Reaches g a b → Holds g b
 -- no parent is missing: each one of a held object is held
 abbrev pub IsClosed : {A : Type 0} → List (Entry A) → Type 0
 IsClosed g = (a b : List ℕ) → HasParent g a b → Holds g b
-
--- each parent of the entry's node is held
-unfoldable pub HoldsParents : {A : Type 0} → List (Entry A) → Entry A → Type 0
-HoldsParents g entry = All (Holds g) entry.node.parents
 
 -- an id that both hold names one object
 abbrev pub Agree : {A : Type 0} → List (Entry A) → List (Entry A) → Type 0

@@ -4,7 +4,7 @@ use Rattle.std.specs.List.{Any}
 use Rattle.gobject.specs.declared.node.Entry.{Entry}
 use Rattle.gobject.specs.Objects.{node_at}
 use Rattle.ghistory.specs.Reach.{Reaches, SomeReaches, IsFull}
-use Rattle.ghistory.specs.Levels.{new_ids}
+use Rattle.ghistory.specs.Levels.{distinct_of}
 use Rattle.ghistory.specs.Selecting.{Selects}
 
 -- what is missing of the ancestries of some ids: nothing, and each of them is full; or an id that one of them
@@ -23,7 +23,7 @@ pub record CountsReached {A : Type 0} (g : List (Entry A)) (ids : List (List ℕ
 -- the common ids (gitprotocol-v2(5), "fetch": `ACK`): the distinct haves that are held, in the order in which each
 -- comes first
 abbrev pub common_of : {A : Type 0} → List (Entry A) → List (List ℕ) → List (List ℕ)
-common_of g haves = filter (λ a. is_some (node_at g a)) (new_ids [] haves)
+common_of g haves = filter (λ a. is_some (node_at g a)) (distinct_of haves)
 
 -- enough is common for a pack (gitprotocol-v2(5), "fetch": `ready`): there are common ids, and each want reaches
 -- one of them

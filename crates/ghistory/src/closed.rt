@@ -2,8 +2,8 @@
 #![tactic(auto)]
 
 ghost use Rattle.std.specs.Prelude.{◌↔◌, All, IsTrue};
-ghost use Rattle.ghistory.specs.Graphs.{IsGraph};
-ghost use Rattle.ghistory.specs.Reach.{HoldsParents, IsClosed};
+ghost use Rattle.ghistory.specs.Graphs.{HoldsParents, IsGraph};
+ghost use Rattle.ghistory.specs.Reach.{IsClosed};
 
 use crate::graph::Graph;
 use std::alloc::Allocator;

@@ -13,10 +13,11 @@
 //! - `is_closed` answers whether no parent is missing. `peel` answers the commit at the end of a chain of
 //!   tags exactly where there is one. Neither takes memory.
 //! - `first_absent` answers the first of some ids that is not held.
+//! - `distinct_ids` answers the distinct ids of a list, in the order in which each comes first.
 //! - `laws` speak of all graphs and lists: of reaching, of whole ancestries, of graphs that grow, of graphs
 //!   that agree and what they refuse of each other, of places, of peeling, of how many ids are reached, of
-//!   the levels about some tips, of the ids to offer, and that a list to send, once it is inserted,
-//!   completes the ancestries of the wants at the client.
+//!   the levels about some tips, of the ids to offer, of distinct ids, and that a list to send, once it is
+//!   inserted, completes the ancestries of the wants at the client.
 //!
 //! # Only tested
 //!
@@ -25,15 +26,18 @@
 //! # What a body can still get away with
 //!
 //! It may take as long as it likes, and more memory than it needs. It may report out of memory of any new
-//! object for which there is room.
+//! object for which there is room, of any copy and of any list of distinct ids. A copy by `entry_in` may take
+//! its memory from the graph's own allocator and not from the one that is given: no clause says where memory
+//! comes from.
 //!
 //! # Stands on
 //!
-//! `gname` for ids, `gobject` for nodes and entries, `indexmap` for the map from ids to nodes, and
-//! `thiserror` for the texts of faults; in tests `bumpalo`, for memory that ends.
+//! `gname` for ids, `gobject` for nodes and entries, `indexmap` for the map from ids to nodes and the set
+//! of distinct ids, and `thiserror` for the texts of faults; in tests `bumpalo`, for memory that ends.
 #![tactic(auto)]
 
 mod closed;
+mod distinct;
 mod fault;
 mod graph;
 mod insert;
@@ -42,5 +46,6 @@ mod peel;
 #[cfg(test)]
 mod tests;
 
+pub use crate::distinct::distinct_ids;
 pub use crate::fault::GraphFault;
 pub use crate::graph::{Graph, IdHasher, MAX_NODES};

@@ -1,4 +1,5 @@
 //! What no clause says, and examples from outside the proofs.
+mod distinct;
 mod faults;
 mod limits;
 mod makers;

@@ -1,13 +1,13 @@
 -- The lines that are written of a reply say it, and each fits a packet.
-use Rattle.std.proofs.Common.{◌≡◌, ℕ, ◌+◌, ◌≤◌, true, List, [], ◌∷◌, ◌++◌, length, map, codes, Option, Some, None, inl, refl, sym, ap, subst, ◌∙◌, append_assoc, arith, length-append}
-use Rattle.std.specs.Prelude.{All, IfSome, IsTrue}
+use Rattle.std.proofs.Common.{◌≡◌, ℕ, ◌+◌, ◌≤◌, List, [], ◌∷◌, ◌++◌, length, map, codes, Option, Some, None, inl, refl, sym, ap, subst, ◌∙◌, append_assoc, arith, length-append}
+use Rattle.std.specs.Prelude.{All, IfSome}
 use Rattle.std.proofs.lemmas.List.{length-map}
 use Rattle.std.proofs.lemmas.List.Elements.{All-cons, All-nil, All-head, All-tail, All-append}
 use Rattle.gpkt.specs.Packets.{Packet, Data, Flush, ResponseEnd, text, line_feed}
 use Rattle.gpkt.specs.Laws.{Fits}
 use Rattle.gname.specs.Ids.{IsIdOf, IsIdTextOf, id_text}
 use Rattle.gname.specs.Laws.{IdsHaveTexts}
-use Rattle.gname.specs.Names.{max_name}
+use Rattle.gname.specs.Names.{IsRefName, max_name}
 use Rattle.gname.specs.declared.formats.Format.{Format}
 use Rattle.gname.specs.declared.formats.Format.TheVariants.{Sha1, Sha256}
 use Rattle.ggrammar.specs.Endings.{ends_with}
@@ -15,13 +15,13 @@ use Rattle.ggrammar.specs.Kinds.{CanonicalSays}
 use Rattle.ggrammar.specs.Texts.{TextIsRead, text_packet}
 use Rattle.ggrammar.specs.declared.ends.Ends.{Ends}
 use Rattle.ggrammar.specs.declared.ends.Ends.TheVariants.{Plain, Response}
-use Rattle.glsreply.specs.RefTexts.{RefLine, is_name, symref_text, peeled_text, ref_text, unborn_text}
+use Rattle.glsreply.specs.RefTexts.{RefLine, symref_text, peeled_text, ref_text, unborn_text}
 use Rattle.glsreply.specs.LsReplies.{LsReply, Says, IsCanonicalReply, unborn_packets, ref_packet, canonical_reply}
 use Rattle.glsreply.specs.LsManual.{IsSymref, IsPeeled, IsAttribute, IsRefText, AreRefTexts, IsUnbornFirst, IsLsReply}
 use Rattle.glsreply.specs.WellFormed.{IsRefLine, IsLsReplyIn}
 use Rattle.glsreply.proofs.GrammarLemmas.{GrammarsAreExact}
 use Rattle.glsreply.proofs.ManualLemmas.{map_append}
-use Rattle.glsreply.proofs.RefTextLemmas.{TextLaws, name_is}
+use Rattle.glsreply.proofs.RefTextLemmas.{TextLaws}
 use Rattle.glsreply.proofs.WordLemmas.{words_say}
 
 pub record LawsBelow : Type 0 where
@@ -34,8 +34,8 @@ same_some : {X : Type 0} (x y : X) → Some x ≡ Some y → x ≡ y
 same_some x y e = cc
 
 module _ (laws : LawsBelow) where
-  name_short : (name : List ℕ) → is_name name ≡ true → length name ≤ max_name
-  name_short name h = (laws.words.names name (name_is name h)).within
+  name_short : (name : List ℕ) → IsRefName name → length name ≤ max_name
+  name_short name h = (laws.words.names name h).within
 
   line_text : (line : List ℕ) → text (line ++ line_feed ∷ []) ≡ line
   line_text line = same_some (text (line ++ line_feed ∷ [])) line (laws.reads line)
@@ -50,9 +50,9 @@ module _ (laws : LawsBelow) where
 
   -- ---- texts
 
-  target_is : (symref : Option (List ℕ)) → IfSome symref (λ target. IsTrue (is_name target)) → IsAttribute IsSymref (symref_text symref) symref
+  target_is : (symref : Option (List ℕ)) → IfSome symref IsRefName → IsAttribute IsSymref (symref_text symref) symref
   target_is None h = refl
-  target_is (Some target) h = (refl, name_is target h)
+  target_is (Some target) h = (refl, h)
 
   leads_is : (format : Format) (peeled : Option (List ℕ)) → IfSome peeled (IsIdOf format) → IsAttribute (IsPeeled format) (peeled_text peeled) peeled
   leads_is format None h = refl
@@ -65,7 +65,7 @@ module _ (laws : LawsBelow) where
     attributes = symref_text line.symref ++ peeled_text line.peeled;
     parts = append_assoc (id_text line.id ++ codes " " ++ line.name) (symref_text line.symref) (peeled_text line.peeled);
     is_id = spelt format line.id h.id;
-    is_name = name_is line.name h.name;
+    is_name = h.name;
     are_attributes = record {
       target = symref_text line.symref;
       leads = peeled_text line.peeled;
@@ -87,10 +87,10 @@ module _ (laws : LawsBelow) where
   unborn_payloads None = []
   unborn_payloads (Some target) = line_payload (unborn_text target) ∷ []
 
-  unborn_is_first : (unborn : Option (List ℕ)) → IfSome unborn (λ target. IsTrue (is_name target)) → IsUnbornFirst unborn (unborn_payloads unborn)
+  unborn_is_first : (unborn : Option (List ℕ)) → IfSome unborn IsRefName → IsUnbornFirst unborn (unborn_payloads unborn)
   unborn_is_first None h = refl
   unborn_is_first (Some target) h =
-      (line_payload (unborn_text target), refl, line_text (unborn_text target), name_is target h)
+      (line_payload (unborn_text target), refl, line_text (unborn_text target), h)
 
   lines_are_refs : (format : Format) (lines : List RefLine) → All (IsRefLine format) lines → AreRefTexts format (map text (map ref_payload lines)) lines
   lines_are_refs format [] h = tt
@@ -129,7 +129,7 @@ module _ (laws : LawsBelow) where
 
   -- ---- each line fits a packet
 
-  symref_short : (symref : Option (List ℕ)) → IfSome symref (λ target. IsTrue (is_name target)) → length (symref_text symref) ≤ 1015
+  symref_short : (symref : Option (List ℕ)) → IfSome symref IsRefName → length (symref_text symref) ≤ 1015
   symref_short None h = omega arith
   symref_short (Some target) h = omega (arith, length-append (codes " symref-target:") target, name_short target h)
 
@@ -161,12 +161,12 @@ module _ (laws : LawsBelow) where
       All-cons Fits (ref_packet line) (map ref_packet lines) (ref_fits format line (All-head (IsRefLine format) line lines h))
       (refs_fit format lines (All-tail (IsRefLine format) line lines h))
 
-  head_fits : (target : List ℕ) → is_name target ≡ true → Fits (text_packet (unborn_text target))
+  head_fits : (target : List ℕ) → IsRefName target → Fits (text_packet (unborn_text target))
   unfolding unborn_text
   head_fits target named =
       omega (arith, length-append (unborn_text target) (line_feed ∷ []), length-append (codes "unborn HEAD symref-target:") target, name_short target named)
 
-  unborn_fit : (unborn : Option (List ℕ)) → IfSome unborn (λ target. IsTrue (is_name target)) → All Fits (unborn_packets unborn)
+  unborn_fit : (unborn : Option (List ℕ)) → IfSome unborn IsRefName → All Fits (unborn_packets unborn)
   unborn_fit None h = All-nil Fits
   unborn_fit (Some target) h = All-cons Fits (text_packet (unborn_text target)) [] (head_fits target h) (All-nil Fits)
 

@@ -1,11 +1,12 @@
 -- Each open list has an ending, and is short.
 use Rattle.std.proofs.Common.{◌≡◌, ℕ, suc, ◌+◌, ◌<◌, ◌≤◌, ◌^◌, Bool, true, false, List, [], ◌∷◌, ◌++◌, length, ◌==◌, Option, Some, None, Result, Ok, Err, refl, sym, ap, subst, ◌∙◌, append_assoc, append-nil, arith, length-append}
-use Rattle.std.specs.Prelude.{nat_lt, All, IfSome, IsTrue}
+use Rattle.std.specs.Prelude.{nat_lt, All, IfSome}
 use Rattle.std.proofs.lemmas.Bool.{ltb-true, or_right}
 use Rattle.std.proofs.lemmas.List.{length_push}
 use Rattle.std.proofs.lemmas.List.Elements.{All-cons, All-nil}
 use Rattle.gpkt.specs.Packets.{Packet, Data, Flush, Delim, ResponseEnd, text}
 use Rattle.gname.specs.Laws.{TextsHaveOneReading}
+use Rattle.gname.specs.Names.{IsRefName}
 use Rattle.gname.specs.declared.formats.Format.{Format}
 use Rattle.ggrammar.specs.Grammar.{Verdict, Open, Whole, Refused, IsOpen, IsWhole, HasEndings, if_room}
 use Rattle.ggrammar.specs.Endings.{at_flush}
@@ -15,7 +16,7 @@ use Rattle.ggrammar.specs.declared.ends.Ends.{Ends}
 use Rattle.ggrammar.specs.declared.ends.Ends.TheVariants.{Plain, Response}
 use Rattle.ggrammar.specs.declared.fault.Why.{Why}
 use Rattle.ggrammar.specs.declared.fault.Why.TheVariants.{UnexpectedFrame}
-use Rattle.glsreply.specs.RefTexts.{RefLine, line_of, FirstForm, UnbornForm, RefForm, first_form, is_name}
+use Rattle.glsreply.specs.RefTexts.{RefLine, line_of, FirstForm, UnbornForm, RefForm, first_form}
 use Rattle.glsreply.specs.LsReplies.{max_lines, is_over, unborn_in, unborn_of, unborn_packets, ref_lines, reply_of, judge_line, judge_first, within_limit, judge_text, judge_at, judge}
 use Rattle.glsreply.specs.WellFormed.{IsRefLine, IsLsReplyIn}
 use Rattle.glsreply.proofs.GrammarLemmas.{GrammarsAreExact, cond_holds, open_induction}
@@ -218,12 +219,12 @@ module _ (law : TextsHaveOneReading) (format : Format) where
   lines_formed (line ∷ texts) =
       subst (All (IsRefLine format)) (sym (ref_lines-cons format line texts)) (subst (λ (refs : List RefLine). All (IsRefLine format) (refs ++ ref_lines format texts)) (sym (ref_lines-one format line)) (one_formed texts line (line_of format line) refl (lines_formed texts)))
 
-  target_formed : (form : FirstForm) → FormsWell form → IfSome (unborn_in form) (λ target. IsTrue (is_name target))
+  target_formed : (form : FirstForm) → FormsWell form → IfSome (unborn_in form) IsRefName
   target_formed (UnbornForm (Ok target)) h = h
   target_formed (UnbornForm (Err why)) h = tt
   target_formed RefForm h = tt
 
-  unborn_formed : (texts : List (List ℕ)) → IfSome (unborn_of texts) (λ target. IsTrue (is_name target))
+  unborn_formed : (texts : List (List ℕ)) → IfSome (unborn_of texts) IsRefName
   unborn_formed [] = tt
   unborn_formed (first ∷ texts) = target_formed (first_form first) (form_well first)
 

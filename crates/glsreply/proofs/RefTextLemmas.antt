@@ -13,8 +13,7 @@ use Rattle.hex.specs.Hex.{decode_of}
 use Rattle.gname.specs.Formats.{id_text_length}
 use Rattle.gname.specs.Ids.{IsIdTextOf}
 use Rattle.gname.specs.Laws.{IsClean, NamesAreClean, IdTextsAreDigits, IdsHaveOneFormat, TextsHaveOneReading}
-use Rattle.gname.specs.Names.{IsRefName, name_fault}
-use Rattle.gname.specs.declared.faults.NameFault.{NameFault}
+use Rattle.gname.specs.Names.{IsRefName}
 use Rattle.gname.specs.declared.formats.Format.{Format}
 use Rattle.ggrammar.specs.Ids.{id_of_text, ok_of}
 use Rattle.ggrammar.specs.PeerErrors.{after_word}
@@ -22,7 +21,7 @@ use Rattle.ggrammar.specs.declared.fault.Why.{Why}
 use Rattle.ggrammar.specs.declared.fault.Why.TheVariants.{BadText, BadName}
 use Rattle.glsreply.specs.RefTexts.{RefLine, Attribute, Symref, Peeled, UnknownAttribute, peeled_or_unknown, symref_or_else, is_space, parts_of, is_name, attribute_of, with_attribute, with_attributes, with_id, line_with_id, line_of_parts, line_of, unborn_target, unborn_after_head, unborn_of_parts, UnbornForm, RefForm, first_of_parts, first_form, unborn_text}
 use Rattle.glsreply.specs.LsManual.{IsSymref, IsPeeled, IsAttribute, AreAttributes, IsRefText}
-use Rattle.glsreply.proofs.TextLemmas.{some_if, ok_some}
+use Rattle.glsreply.proofs.TextLemmas.{some_if, ok_some, name_is}
 
 -- the laws of ids and names
 pub record TextLaws : Type 0 where
@@ -254,13 +253,6 @@ module _ (laws : TextLaws) (format : Format) where
       ∙ more.said ref.id ref.name))
 
 -- ---- what a text is that is read
-
-no_fault : (fault : Option NameFault) → is_none fault ≡ true → fault ≡ None
-no_fault None e = refl
-no_fault (Some fault) e = absurd (let no : false ≡ true = e in cc)
-
-pub name_is : (name : List ℕ) → is_name name ≡ true → IsRefName name
-name_is name h = no_fault (name_fault name) h
 
 module _ (format : Format) where
   abbrev IsNext : RefLine → RefLine → List ℕ → Type 0

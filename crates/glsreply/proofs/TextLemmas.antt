@@ -8,6 +8,8 @@ use Rattle.hex.specs.declared.error.FromHexError.{FromHexError}
 use Rattle.gname.specs.Formats.{id_text_length}
 use Rattle.gname.specs.Ids.{IsIdOf}
 use Rattle.gname.specs.Laws.{TextsHaveOneReading}
+use Rattle.gname.specs.Names.{IsRefName, name_fault}
+use Rattle.gname.specs.declared.faults.NameFault.{NameFault}
 use Rattle.gname.specs.declared.formats.Format.{Format}
 use Rattle.ggrammar.specs.Ids.{id_of_text, ok_of}
 use Rattle.ggrammar.specs.PeerErrors.{after_word}
@@ -61,6 +63,15 @@ id_formed law format text id e =
     let h = some_if (length text == id_text_length format) (ok_of (decode_of text)) id e in
     ((law format text).0 id (record { long = eqb-true _ _ h.0; spells = ok_some (decode_of text) id h.1 })).1
 
+-- ---- names
+
+no_fault : (fault : Option NameFault) → is_none fault ≡ true → fault ≡ None
+no_fault None e = refl
+no_fault (Some fault) e = absurd (let no : false ≡ true = e in cc)
+
+pub name_is : (name : List ℕ) → is_name name ≡ true → IsRefName name
+name_is name h = no_fault (name_fault name) h
+
 -- ---- lines
 
 module _ (format : Format) where
@@ -71,7 +82,7 @@ module _ (format : Format) where
   symref_well : (line : RefLine) (target : List ℕ) → IsRefLine format line → ReadsWell (with_symref line target)
   symref_well line target h =
       cond_holds ReadsWell (is_none line.symref) _ _
-      (λ _. cond_holds ReadsWell (is_name target) _ _ (λ named. record { id = h.id; name = h.name; symref = named; peeled = h.peeled }) (λ _. tt)) (λ _. tt)
+      (λ _. cond_holds ReadsWell (is_name target) _ _ (λ named. record { id = h.id; name = h.name; symref = name_is target named; peeled = h.peeled }) (λ _. tt)) (λ _. tt)
 
   module _ (law : TextsHaveOneReading) where
     id_well : (line : RefLine) (id : Option (List ℕ)) → ((x : List ℕ) → id ≡ Some x → IsIdOf format x) → IsRefLine format line → ReadsWell (with_id line id)
@@ -94,7 +105,7 @@ module _ (format : Format) where
     name_well id [] h = tt
     name_well id (name ∷ attributes) h =
         cond_holds ReadsWell (is_name name) _ _
-        (λ named. attributes_well (Ok (record { id = id; name = name; symref = None; peeled = None })) attributes (record { id = h; name = named; symref = tt; peeled = tt })) (λ _. tt)
+        (λ named. attributes_well (Ok (record { id = id; name = name; symref = None; peeled = None })) attributes (record { id = h; name = name_is name named; symref = tt; peeled = tt })) (λ _. tt)
 
     with_id_well : (id : Option (List ℕ)) (parts : List (List ℕ)) → ((x : List ℕ) → id ≡ Some x → IsIdOf format x) → ReadsWell (line_with_id format id parts)
     with_id_well None parts formed = tt
@@ -117,12 +128,12 @@ module _ (format : Format) where
 -- ---- an unborn HEAD
 
 abbrev pub TargetsWell : Result (List ℕ) Why → Type 0
-TargetsWell (Ok target) = is_name target ≡ true
+TargetsWell (Ok target) = IsRefName target
 TargetsWell (Err why) = IsTextFault why
 
 target_well : (name : Option (List ℕ)) → TargetsWell (unborn_target name)
 target_well None = tt
-target_well (Some name) = cond_holds TargetsWell (is_name name) _ _ (λ named. named) (λ _. tt)
+target_well (Some name) = cond_holds TargetsWell (is_name name) _ _ (λ named. name_is name named) (λ _. tt)
 
 after_head_well : (parts : List (List ℕ)) → TargetsWell (unborn_after_head parts)
 after_head_well [] = tt

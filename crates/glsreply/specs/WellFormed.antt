@@ -1,8 +1,9 @@
 -- The replies to ls-refs that can be written.
 use Rattle.std.specs.Prelude.{◌≡◌, ℕ, ◌+◌, ◌≤◌, Bool, true, false, ◌&&◌, ◌||◌, nat_lt, List, [], ◌∷◌, ◌++◌, length}
-use Rattle.std.specs.Prelude.{All, IfSome, IsTrue, is_some, Some, Result, Ok, Err}
+use Rattle.std.specs.Prelude.{All, IfSome, is_some, Some, Result, Ok, Err}
 use Rattle.std.specs.Option.{option_map_or}
 use Rattle.gname.specs.Ids.{IsId, IsIdOf, format_of}
+use Rattle.gname.specs.Names.{IsRefName}
 use Rattle.gname.specs.declared.formats.Format.{Format}
 use Rattle.gname.specs.declared.formats.Format.TheVariants.{Sha1, Sha256}
 use Rattle.ggrammar.specs.Building.{Builds}
@@ -10,21 +11,21 @@ use Rattle.ggrammar.specs.Endings.{ends_with}
 use Rattle.ggrammar.specs.declared.ends.Ends.{Ends}
 use Rattle.ggrammar.specs.declared.fault.Why.TheVariants.{Memory}
 use Rattle.ggrammar.specs.declared.fault.MessageFault.{MessageFault}
-use Rattle.glsreply.specs.RefTexts.{RefLine, is_name}
+use Rattle.glsreply.specs.RefTexts.{RefLine}
 use Rattle.glsreply.specs.LsReplies.{LsReply, max_lines, unborn_packets}
 
 -- a line, whose ids may be of two formats
 pub record IsLine (line : RefLine) : Type 0 where
   pub id : IsId line.id
-  pub name : IsTrue (is_name line.name)
-  pub symref : IfSome line.symref (λ target. IsTrue (is_name target))
+  pub name : IsRefName line.name
+  pub symref : IfSome line.symref IsRefName
   pub peeled : IfSome line.peeled IsId
 
 -- a line of a repository with ids of one format
 pub record IsRefLine (format : Format) (line : RefLine) : Type 0 where
   pub id : IsIdOf format line.id
-  pub name : IsTrue (is_name line.name)
-  pub symref : IfSome line.symref (λ target. IsTrue (is_name target))
+  pub name : IsRefName line.name
+  pub symref : IfSome line.symref IsRefName
   pub peeled : IfSome line.peeled (IsIdOf format)
 
 -- an unborn HEAD counts as a line
@@ -36,7 +37,7 @@ abbrev pub last_frame : Ends → LsReply → ℕ
 last_frame ends reply = line_count reply + length (ends_with ends)
 
 pub record IsLsReplyIn (format : Format) (reply : LsReply) : Type 0 where
-  pub unborn : IfSome reply.unborn (λ target. IsTrue (is_name target))
+  pub unborn : IfSome reply.unborn IsRefName
   pub lines : All (IsRefLine format) reply.lines
   pub few : line_count reply ≤ max_lines
 

@@ -27,6 +27,25 @@ pub struct LentLine<'a, A: Allocator + Copy> {
     pub peeled: Option<Oid>,
 }
 
+impl<'a, A: Allocator + Copy> LentLine<'a, A> {
+    /// The line of these parts, whose names may be lent by different values.
+    pub fn new(
+        id: Oid,
+        name: &'a RefName<A>,
+        symref: Option<&'a RefName<A>>,
+        peeled: Option<Oid>,
+    ) -> LentLine<'a, A>
+        ensures { lent_view result ≡ record { id = id; name = name.now; symref = option_copied symref.entry; peeled = peeled } }
+    {
+        LentLine {
+            id,
+            name,
+            symref,
+            peeled,
+        }
+    }
+}
+
 /// The text of the line of a ref. There is room in it for each such text, so it takes no memory; and it can be
 /// set again and again.
 #[derive(Drop)]

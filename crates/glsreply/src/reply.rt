@@ -1,11 +1,11 @@
 //! The reply as a value.
 
-ghost use Rattle.std.specs.Prelude.{◌≡◌, true, [], length, IfErr, None};
+ghost use Rattle.std.specs.Prelude.{◌≡◌, [], length, IfErr, None};
 ghost use Rattle.std.specs.List.{slice_get};
 ghost use Rattle.std.specs.Option.{option_copied};
+ghost use Rattle.gname.specs.Names.{IsRefName};
 ghost use Rattle.ggrammar.specs.declared.fault.Why.TheVariants.{Limit};
 ghost use Rattle.glsreply.specs.LentViews.{lent_view};
-ghost use Rattle.glsreply.specs.RefTexts.{is_name};
 ghost use Rattle.glsreply.specs.WellFormed.{Adds, IsLine, IsReplyValue, Pushes, SetsUnborn, has_one_format, has_room, last_frame, line_count};
 
 use crate::lent::LentLine;
@@ -226,7 +226,7 @@ fn keeps_forms<A: Allocator + Copy>(line: &RefLine<A>)
 
 // What the type of a name says of it; the call has no effect.
 fn keeps_rules<A: Allocator + Copy>(name: &RefName<A>)
-    ensures { is_name name.now ≡ true }
+    ensures { IsRefName name.now }
 {
     let _bytes = name.as_bytes();
 }

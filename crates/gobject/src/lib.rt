@@ -27,7 +27,9 @@
 //! # What a body can still get away with
 //!
 //! It may report out of memory of any list whose text is not too long, of any bytes in which an entry is
-//! there to keep, and of any copy, as often as it likes. It may take as long as it likes, and more memory
+//! there to keep, and of any copy, as often as it likes: so where a line is bad and an entry stands before
+//! it, it may report out of memory in place of the bad line. A copy may take its memory from another
+//! allocator of the same type than the one that is given. It may take as long as it likes, and more memory
 //! than it needs.
 //!
 //! # Stands on

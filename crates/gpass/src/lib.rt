@@ -19,8 +19,9 @@
 //! # What a body can still get away with
 //!
 //! It may look at an object more often than once, and use more memory than it needs: a pass clears up to three
-//! bytes for each object up to the last id that it starts from, whether it gets there or not. It may report out of
-//! memory at any time.
+//! bytes for each object up to the last id that it starts from, whether it gets there or not. A pass may start
+//! earlier than it has to: the pass down above the last of its ids, the pass up below the first. No clause
+//! speaks of the work. It may report out of memory at any time.
 //!
 //! # Stands on
 //!

@@ -1,7 +1,7 @@
 -- Devices, and what their calls say beside the bytes that they read or wrote.
-use Rattle.std.specs.Prelude.{◌≡◌, ℕ, ◌<◌, Bool, List, length, Option, Result, IfOk, IsErr, IsSome, IsTrue, refl}
+use Rattle.std.specs.Prelude.{◌≡◌, ℕ, ◌<◌, Bool, List, ◌++◌, length, Option, Result, IfOk, IsErr, IsSome, IsTrue, refl}
 use Rattle.std.specs.Coded.{Coded, code_by, coded×, coded_bool, coded_list, coded_ℕ}
-use Rattle.gpkt.specs.Change.{Change}
+use Rattle.gpkt.specs.Change.{Change, WhereKnown}
 
 -- a write of some bytes took some
 abbrev pub TakesSome : {E : Type 0} → Result ℕ E → List ℕ → Type 0
@@ -14,6 +14,10 @@ AnswersDown was_down result = IsTrue was_down → IsErr result
 -- where it was known which bytes were passed on, all that were written now are
 abbrev pub PassesAll : Option (List ℕ) → Change → Type 0
 PassesAll written passed_on = IsSome passed_on.old → passed_on.new ≡ written
+
+-- where it was known which bytes were passed on, these are still passed on, and perhaps more
+abbrev pub KeepsPassed : Change → Type 0
+KeepsPassed passed_on = WhereKnown passed_on (λ old new. (more : List ℕ) × (new ≡ old ++ more))
 
 -- a device: what it reads from or writes to, and whether it has failed
 pub record Device (X : Type 0) : Type 0 where

@@ -7,4 +7,5 @@ pub mod LineReading
 pub mod Heads
 pub mod Lending
 pub mod LineWriting
+pub mod Sending
 pub mod Laws

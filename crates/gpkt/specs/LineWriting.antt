@@ -3,7 +3,7 @@ use Rattle.std.specs.Prelude.{◌≡◌, ℕ, ◌<◌, Bool, true, false, List, 
 use Rattle.std.specs.Coded.{Coded, code_by, coded×, coded_bool}
 use Rattle.std.specs.Io.KnownBytes.{Appends, Keeps}
 use Rattle.gpkt.specs.Change.{Change, change_of}
-use Rattle.gpkt.specs.Devices.{PassesAll}
+use Rattle.gpkt.specs.Devices.{KeepsPassed, PassesAll}
 use Rattle.gpkt.specs.declared.fault.WriteFault.{WriteFault}
 use Rattle.gpkt.specs.declared.fault.WriteFault.TheVariants.{Failed, Payload, Io}
 
@@ -57,7 +57,7 @@ module _
     -- what a call that was to pass on all that was written did, by its result
     abbrev pub Pushed : Writer W → Writer W → Result Unit WriteFault → Type 0
     Pushed old new (Ok done) = SetsWriter old new false × PassesAll (contents_of new.sink) (passed_on_by old new)
-    Pushed old new (Err Io) = SetsWriter old new true
+    Pushed old new (Err Io) = SetsWriter old new true × KeepsPassed (passed_on_by old new)
     Pushed old new (Err Payload) = ⊥
     Pushed old new (Err Failed) = (old.failed ≡ true) × (new ≡ old)
 

@@ -1,10 +1,10 @@
 //! Where bytes come from and go to.
 
-ghost use Rattle.std.specs.Prelude.{◌≡◌, ℕ, ◌∷◌, List, Bool, Option, OnOk, IsErr, is_err, true, false};
+ghost use Rattle.std.specs.Prelude.{◌≡◌, ℕ, ◌∷◌, List, Bool, Option, OnErr, OnOk, IsErr, is_err, true, false};
 ghost use Rattle.std.specs.Io.{ReadsAtMost, WritesAtMost};
 ghost use Rattle.std.specs.Io.KnownBytes.{Keeps, ReadConsumes, WriteAppends};
 ghost use Rattle.gpkt.specs.Change.{change_of};
-ghost use Rattle.gpkt.specs.Devices.{AnswersDown, PassesAll, TakesSome};
+ghost use Rattle.gpkt.specs.Devices.{AnswersDown, KeepsPassed, PassesAll, TakesSome};
 
 use std::marker::Model;
 use thiserror::Error;
@@ -63,11 +63,12 @@ pub trait Sink {
         ensures stays_down { AnswersDown (is_down self.old) result }
         ensures loans { loans self.new ≡ loans self.old };
 
-    /// Passes on what was written and is still held back.
+    /// Passes on what was written and is still held back. At an error perhaps some of it was passed on.
     fn flush(&mut self) -> Result<(), Down>
         ensures bytes { Keeps (contents self.old) (contents self.new) }
         ensures passed_on { OnOk result
             (PassesAll (contents self.new) (change_of passed_on self.old self.new)) }
+        ensures kept { OnErr result (KeepsPassed (change_of passed_on self.old self.new)) }
         ensures down { is_down self.new ≡ is_err result }
         ensures stays_down { AnswersDown (is_down self.old) result }
         ensures loans { loans self.new ≡ loans self.old };

@@ -46,8 +46,8 @@
 //!
 //! A device that is always down; a source that gives a byte a call, and a sink that takes one; a
 //! buffer that is never made; another text for a fault. A sink that passes bytes on at once says that
-//! it is not known which were passed on, since a write keeps what is known. After a flush that failed
-//! nothing is said of what was passed on.
+//! it is not known which were passed on, since a write keeps what is known. A flush that fails may have
+//! passed on any of what was held back.
 //!
 //! # Stands on
 //!

@@ -125,7 +125,7 @@ impl<W: Sink> LineWriter<W> {
         self.put_pieces(b"0002", b"", b"", b"")
     }
 
-    /// Flushes the sink, so that what was written is passed on.
+    /// Flushes the sink, so that what was written is passed on. Where that fails, what was passed on before stays so.
     pub fn push(&mut self) -> Result<(), WriteFault>
         ensures { HasPushed W.contents W.passed_on W.is_down W.loans self.old self.new result }
     {

@@ -1,5 +1,5 @@
--- Refs: names below refs/ with the ids that they stand at, in the byte order of the names
--- (git-check-ref-format(1), git-show-ref(1)).
+-- Refs: names below refs/ with the ids that they stand at (git-check-ref-format(1)), in the byte order of the names:
+-- "sorted by name according to the C locale ordering" (gitprotocol-pack(5), "Reference Discovery").
 use Rattle.std.specs.Prelude.{◌≡◌, ◌≢◌, ◌⊎◌, ℕ, ◌+◌, ◌≤◌, true, Bool, List, length, find, All, Contains, codes, nat_eq}
 use Rattle.std.specs.Prelude.{Option, Some, None}
 use Rattle.std.specs.Str.{bytes_eq}

@@ -22,8 +22,10 @@
 //!
 //! # What a body can still get away with
 //!
-//! Setting or adding a new name, and copying, may report out of memory as often as they like. Each call may
-//! take as long as it likes, and more memory than it needs.
+//! Setting or adding a new name, and copying, may report out of memory as often as they like. A copy by
+//! `Refs::copy_in` may take its memory from the allocator of the refs that it copies and not from the one that
+//! is given: no clause says where memory comes from. Each call may take as long as it likes, and more memory
+//! than it needs.
 //!
 //! # Stands on
 //!

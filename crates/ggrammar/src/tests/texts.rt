@@ -1,6 +1,6 @@
 use crate::{
-    Ends, MAX_CAPABILITY, MAX_PEER_TEXT, PeerText, after_word, capability_of, id_of_text, is_key,
-    is_value, is_word_value, peer_error,
+    Ends, MAX_CAPABILITY, MAX_PEER_TEXT, PeerText, after_word, are_graphic, are_printable,
+    capability_of, id_of_text, is_key, is_printable, is_value, is_word_value, peer_error,
 };
 use gname::Format;
 use std::test::Fail;
@@ -50,6 +50,15 @@ fn keys_and_values_have_at_most_a_thousand_bytes(rt: HostRuntime) -> Result<(), 
     );
     assert!(rt; is_value(b"a b") && !is_word_value(b"a b"));
     Ok(())
+}
+
+#[test]
+fn a_space_is_printable_and_not_graphic(rt: HostRuntime) {
+    assert!(rt;
+        is_printable(b' ') && is_printable(b'~') && !is_printable(b'\n') && !is_printable(b'\x7f')
+    );
+    assert!(rt; are_printable(b" a~") && !are_printable(b"a\n") && are_printable(b""));
+    assert!(rt; are_graphic(b"!a~") && !are_graphic(b"a b"));
 }
 
 // A payload, and what it reports.

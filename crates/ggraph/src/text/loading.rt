@@ -8,6 +8,7 @@ ghost use Rattle.ggraph.specs.RepositoryText.{IsLoadable, repository_text};
 
 use crate::fault::LoadFault;
 use crate::text::laws::text_laws;
+use crate::text::parts::ParentRoom;
 use crate::text::reading::{Reading, Stage};
 use crate::text::{Order, Repository};
 use ghistory::Graph;
@@ -34,10 +35,11 @@ pub fn load<A: Allocator + Copy>(
 {
     text_laws();
     let mut reading = Reading::new(alloc);
+    let mut room = ParentRoom::new();
     let mut rest = text;
     let mut number = 1;
     while let Some(pair) = split_line(rest) {
-        reading.take(alloc, order, pair.0, number)?;
+        reading.take(alloc, &mut room, order, pair.0, number)?;
         rest = pair.1;
         number += 1;
     }

@@ -1,7 +1,7 @@
 // The parts of a line: ids in lower case, and names.
 #![tactic(auto)]
 
-ghost use Rattle.std.specs.Prelude.{◌≡◌, ◌++◌, ◌≤◌, MatchOption, MatchResult, All, IsTrue, ◌↔◌, codes, take};
+ghost use Rattle.std.specs.Prelude.{◌≡◌, ◌++◌, ◌≤◌, MatchOption, MatchResult, All, IsTrue, ◌↔◌, codes, length, take};
 ghost use Rattle.gname.specs.Ids.{IsIdOf, id_text};
 ghost use Rattle.gobject.specs.Objects.{max_parents};
 ghost use Rattle.gobject.specs.PlainPackText.{ids_text};
@@ -53,13 +53,33 @@ pub(crate) fn take_spaced(format: Format, text: &[u8]) -> Option<(Oid, &[u8])>
     take_id(format, text.strip_prefix(b" ")?)
 }
 
-/// Reads the ids of a node's parents, a space before each, into the first places of the array, and
-/// answers how many they are. `None` where the text is not such ids alone.
-pub(crate) fn read_parents(
-    format: Format,
-    text: &[u8],
-    ids: &mut [Oid; MAX_PARENTS],
-) -> Option<usize>
+/// Room for the ids of a node's parents. A text has one for all of its lines.
+#[derive(Drop)]
+pub(crate) struct ParentRoom {
+    ids: [Oid; MAX_PARENTS],
+}
+
+impl ParentRoom {
+    /// Room whose ids say nothing yet.
+    pub(crate) fn new() -> ParentRoom {
+        let blank = Oid::from_hex(&[b'0'; 40]).unwrap();
+        ParentRoom {
+            ids: [blank; MAX_PARENTS],
+        }
+    }
+
+    /// The ids of a node's parents, a space before each. `None` where the text is not such ids alone.
+    pub(crate) fn read(&mut self, format: Format, text: &[u8]) -> Option<&[Oid]>
+        ensures { MatchOption result (IsNoParents format text.now) (λ ids.
+            (text.now ≡ ids_text ids.now) × All (IsIdOf format) ids.now × (length ids.now ≤ max_parents)) }
+    {
+        let count = read_parents(format, text, &mut self.ids)?;
+        Some(&self.ids[..count])
+    }
+}
+
+// Reads the ids of a node's parents into the first places of the array, and answers how many they are.
+fn read_parents(format: Format, text: &[u8], ids: &mut [Oid; MAX_PARENTS]) -> Option<usize>
     ensures { MatchOption result (IsNoParents format text.now) (λ count.
         (text.now ≡ ids_text (take count ids.new)) × All (IsIdOf format) (take count ids.new)
         × (count ≤ max_parents)) }

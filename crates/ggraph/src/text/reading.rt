@@ -13,7 +13,7 @@ use crate::fault::LoadFault;
 use crate::text::Order;
 use crate::text::laws::text_laws;
 use crate::text::lines::{format_of, head_of, node_parts, ref_parts};
-use crate::text::parts::{name_of, read_parents, take_spaced};
+use crate::text::parts::{ParentRoom, name_of, take_spaced};
 use ghistory::{Graph, MAX_NODES};
 use gname::{Format, Oid};
 use gobject::{Entry, Kind, MAX_PARENTS, Node, Parents};
@@ -61,10 +61,11 @@ impl<A: Allocator + Copy> Reading<A> {
         }
     }
 
-    /// Takes the next line, which is the one of the text with this number.
+    /// Takes the next line, which is the one of the text with this number. Its parents are read in the room.
     pub(crate) fn take(
         &mut self,
         alloc: A,
+        room: &mut ParentRoom,
         order: Order,
         line: &[u8],
         number: usize,
@@ -75,7 +76,7 @@ impl<A: Allocator + Copy> Reading<A> {
         match self.stage {
             Stage::First => self.take_first(alloc, line, number),
             Stage::Nodes => match node_parts(line) {
-                Some(parts) => self.take_node(alloc, order, parts.0, parts.1, number),
+                Some(parts) => self.take_node(alloc, room, order, parts.0, parts.1, number),
                 None => self.take_ref(alloc, line, number),
             },
             Stage::Refs => self.take_ref(alloc, line, number),
@@ -115,6 +116,7 @@ impl<A: Allocator + Copy> Reading<A> {
     fn take_node(
         &mut self,
         alloc: A,
+        room: &mut ParentRoom,
         order: Order,
         kind: Kind,
         text: &[u8],
@@ -129,8 +131,7 @@ impl<A: Allocator + Copy> Reading<A> {
         let Some(first) = take_spaced(format, text) else {
             return Err(LoadFault::Text { line: number });
         };
-        let mut ids = [first.0; MAX_PARENTS];
-        let Some(count) = read_parents(format, first.1, &mut ids) else {
+        let Some(parents) = room.read(format, first.1) else {
             return Err(LoadFault::Text { line: number });
         };
         add_node(
@@ -139,7 +140,7 @@ impl<A: Allocator + Copy> Reading<A> {
             order,
             kind,
             first.0,
-            &ids[..count],
+            parents,
             number,
         )
     }

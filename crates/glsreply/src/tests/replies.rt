@@ -107,6 +107,8 @@ fn values_are_looked_up(rt: HostRuntime) -> Result<(), Fail> {
         peeled: None,
     })?;
     assert_eq!(rt; reply.len(), 1);
+    assert_eq!(rt; reply.last_frame(Ends::Plain), 2);
+    assert_eq!(rt; reply.last_frame(Ends::Response), 3);
     assert!(rt; reply.unborn().is_some_and(|name| name.is_head()));
     assert!(rt;
         reply

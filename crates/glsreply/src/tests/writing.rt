@@ -38,19 +38,9 @@ fn lent_lines_are_written_one_by_one(rt: HostRuntime) -> Result<(), Fail> {
     let mut text = RefText::new();
     let mut writer = LineWriter::new(VecSink::new(alloc));
     write_unborn(Some(&branch), &mut writer)?;
-    let line = LentLine {
-        id,
-        name: &head,
-        symref: Some(&branch),
-        peeled: Some(id),
-    };
+    let line = LentLine::new(id, &head, Some(&branch), Some(id));
     write_ref(&line, &mut text, &mut writer)?;
-    let line = LentLine {
-        id,
-        name: &branch,
-        symref: None,
-        peeled: None,
-    };
+    let line = LentLine::new(id, &branch, None, None);
     write_ref(&line, &mut text, &mut writer)?;
     write_end(Ends::Response, &mut writer)?;
     assert_eq!(rt; writer.into_inner().into_written().as_slice(), LINES);
@@ -63,12 +53,7 @@ fn texts_are_made(rt: HostRuntime) -> Result<(), Fail> {
     let name = RefName::head(rt.alloc())?;
     let mut text = RefText::new();
     assert_eq!(rt; text.as_bytes(), b"".as_slice());
-    text.set(&LentLine {
-        id: Oid::from_hex(ID)?,
-        name: &name,
-        symref: None,
-        peeled: None,
-    });
+    text.set(&LentLine::new(Oid::from_hex(ID)?, &name, None, None));
     assert_eq!(rt;
         text.as_bytes(),
         b"aaaaaaaaaaaaaaaaaaaaaaaaaaaaaaaaaaaaaaaa HEAD".as_slice()

@@ -94,7 +94,10 @@ fn check_ls_refs(rt: &impl Abort, case: &LsCase, asked: &LsRefsRequest) {
 fn requests_for_ls_refs_ask(rt: HostRuntime) -> Result<(), Fail> {
     for case in LS_REFS {
         match read(rt.alloc(), Format::Sha1, case.input)? {
-            Ok(Some(Request::Ls(asked))) => check_ls_refs(&rt, case, &asked),
+            Ok(Some(request)) => match &request {
+                Request::Ls(asked) => check_ls_refs(&rt, case, asked),
+                _ => assert!(rt; false),
+            },
             _ => assert!(rt; false),
         }
     }
@@ -204,12 +207,11 @@ const FETCH: &[FetchCase] = &[
 
 // The id of the format that is made of this digit.
 fn id(rt: &impl Abort, format: Format, digit: u8) -> Oid {
-    let text = [digit; 64];
-    let digits = match format {
-        Format::Sha1 => &text[..40],
-        Format::Sha256 => &text[..],
+    let id = match format {
+        Format::Sha1 => Oid::from_hex_in(format, &[digit; 40]),
+        Format::Sha256 => Oid::from_hex_in(format, &[digit; 64]),
     };
-    Oid::from_hex_in(format, digits).expect(rt, "an id")
+    id.expect(rt, "an id")
 }
 
 fn check_ids(rt: &impl Abort, format: Format, ids: &[Oid], digits: &[u8]) {
@@ -231,7 +233,10 @@ fn check_fetch(rt: &impl Abort, case: &FetchCase, asked: &FetchRequest) {
 fn requests_for_fetch_ask(rt: HostRuntime) -> Result<(), Fail> {
     for case in FETCH {
         match read(rt.alloc(), case.format, case.input)? {
-            Ok(Some(Request::Fetch(asked))) => check_fetch(&rt, case, &asked),
+            Ok(Some(request)) => match &request {
+                Request::Fetch(asked) => check_fetch(&rt, case, asked),
+                _ => assert!(rt; false),
+            },
             _ => assert!(rt; false),
         }
     }

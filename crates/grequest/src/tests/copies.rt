@@ -1,5 +1,5 @@
 // Requests that are copied, and compared.
-use crate::tests::samples::{SAMPLES, join, read};
+use crate::tests::samples::{SAMPLES, Sample, join, read};
 use crate::{FetchRequest, LsRefsRequest, Request};
 use bumpalo::Bump;
 use gname::Format;
@@ -8,10 +8,10 @@ use std::process::Abort;
 use std::test::Fail;
 
 // The sample's request.
-fn sample(rt: &impl Abort, alloc: Global, place: usize) -> Result<Request, Fail> {
-    let (format, packets, _) = SAMPLES[place];
+fn request_of(rt: &impl Abort, alloc: Global, sample: &Sample) -> Result<Request, Fail> {
+    let (format, packets, _) = sample;
     let input = join(alloc, packets)?;
-    match read(alloc, format, input.as_slice())? {
+    match read(alloc, *format, input.as_slice())? {
         Ok(Some(request)) => Ok(request),
         _ => {
             assert!(rt; false);
@@ -23,8 +23,8 @@ fn sample(rt: &impl Abort, alloc: Global, place: usize) -> Result<Request, Fail>
 #[test]
 fn copies_ask_the_same(rt: HostRuntime) -> Result<(), Fail> {
     let arena = Bump::new(rt.alloc());
-    for place in 0..SAMPLES.len() {
-        let request = sample(&rt, rt.alloc(), place)?;
+    for sample in SAMPLES {
+        let request = request_of(&rt, rt.alloc(), sample)?;
         let copy = request.copy_in(&arena)?;
         assert!(rt; request.asks_as(&copy));
         assert!(rt; copy.asks_as(&request));
@@ -35,11 +35,11 @@ fn copies_ask_the_same(rt: HostRuntime) -> Result<(), Fail> {
 // Two samples ask the same exactly where the same packets are written for them.
 #[test]
 fn other_samples_ask_something_else(rt: HostRuntime) -> Result<(), Fail> {
-    for one in 0..SAMPLES.len() {
-        let request = sample(&rt, rt.alloc(), one)?;
-        for other in 0..SAMPLES.len() {
-            let same = join(rt.alloc(), SAMPLES[one].2)? == join(rt.alloc(), SAMPLES[other].2)?;
-            assert_eq!(rt; request.asks_as(&sample(&rt, rt.alloc(), other)?), same);
+    for one in SAMPLES {
+        let request = request_of(&rt, rt.alloc(), one)?;
+        for other in SAMPLES {
+            let same = join(rt.alloc(), one.2)? == join(rt.alloc(), other.2)?;
+            assert_eq!(rt; request.asks_as(&request_of(&rt, rt.alloc(), other)?), same);
         }
     }
     Ok(())
@@ -73,10 +73,10 @@ fn formats_tell_no_empty_requests_apart(rt: HostRuntime) -> Result<(), Fail> {
 
 #[test]
 fn copies_take_memory(rt: HostRuntime) -> Result<(), Fail> {
-    for place in 0..SAMPLES.len() {
+    for sample in SAMPLES {
         let arena = Bump::new(rt.alloc());
         arena.set_allocation_limit(Some(0));
-        let request = sample(&rt, rt.alloc(), place)?;
+        let request = request_of(&rt, rt.alloc(), sample)?;
         let keeps = match &request {
             Request::Empty => false,
             Request::Ls(asked) => asked.agent().is_some() || !asked.prefixes().is_empty(),

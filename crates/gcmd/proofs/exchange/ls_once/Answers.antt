@@ -1,6 +1,6 @@
 use Rattle.std.proofs.Common.{subst, ◌∙◌, ap, Option, Some, Ok}
 use Rattle.gcmd.specs.Exchange.{TakesRequest}
-use Rattle.gcmd.specs.Sending.{input_of}
+use Rattle.gpkt.specs.Sending.{input_of}
 use Rattle.gcmd.specs.declared.request.Request.{Request}
 use Rattle.gcmd.proofs.ExchangeLemmas.{Exchanges-replied, Exchanges-refused, TakesRequest-refusal}
 use Rattle.gcmd.proofs.exchange.ls_once.Goals as goal

@@ -1,5 +1,5 @@
 use Rattle.std.proofs.lemmas.Result.{err_from_is_err_and}
-use Rattle.gcmd.specs.Sending.{input_of}
+use Rattle.gpkt.specs.Sending.{input_of}
 use Rattle.gcmd.proofs.LinesLemmas.{HasPassed-all, ShowsSome-all}
 use Rattle.gcmd.proofs.lines.pass_each.Goals as goal
 

@@ -2,7 +2,7 @@ use Rattle.std.proofs.Common.{◌++◌, ℕ, List, Ok, Err, codes, length, subst
 use Rattle.std.proofs.lemmas.Result.{err_from_is_err_and}
 use Rattle.std.specs.Fmt.{decimal}
 use Rattle.gcmd.specs.Lines.{digits_part}
-use Rattle.gcmd.specs.Sending.{output_of, HasPut}
+use Rattle.gpkt.specs.Sending.{output_of, HasPut}
 use Rattle.gcmd.proofs.LinesLemmas.{HasPut-after, HasPut-more}
 use Rattle.gcmd.proofs.lines.show_data.Goals as goal
 

@@ -1,4 +1,4 @@
-use Rattle.std.proofs.Common.{◌≡◌, ℕ, suc, List, ◌∷◌, ◌++◌, take, drop, Some}
+use Rattle.std.proofs.Common.{suc, take, drop}
 use Rattle.ggraph.proofs.SafeLemmas.{split_there}
 use Rattle.ggraph.proofs.laws.parents_first_is_ordered.Goals as goal
 

@@ -5,4 +5,4 @@ pub returns-clause-hello : goal.returns-clause-hello
 returns-clause-hello c = canonical_says_hello
 
 pub returns-clause-advert : goal.returns-clause-advert
-returns-clause-advert c = canonical_says_advert c.text_reads_back.ensures.line c.manual.ensures.advert
+returns-clause-advert c = canonical_says_advert c.text_reads_back.ensures.line c.texts_are_classified.ensures.capabilities c.manual.ensures.advert

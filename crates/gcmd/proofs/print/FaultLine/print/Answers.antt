@@ -1,5 +1,5 @@
 use Rattle.std.proofs.Common.{List, ℕ, subst, ◌∙◌}
-use Rattle.gcmd.specs.Sending.{output_of, HasSent}
+use Rattle.gpkt.specs.Sending.{output_of, HasSent}
 use Rattle.gcmd.proofs.print.FaultLine.print.Goals as goal
 
 pub returns-clause-sent : goal.returns-clause-sent

@@ -6,6 +6,6 @@ use Rattle.ggrammar.proofs.fault.PeerText.new.Goals as goal
 
 pub returns : goal.returns
 returns c =
-    let line = c.text_of-line.result.now in
-    let least : c.min.result ≡ min max_peer_text (length line) = omega arith in
-    c.add_short.ensures ∙ (ap (λ (xs : List ℕ). xs ++ take c.min.result line) c.new-text.ensures ∙ (ap (λ (n : ℕ). take n line) least ∙ (take_min max_peer_text line ∙ ap (λ (xs : List ℕ). take max_peer_text xs) c.text_of-line.ensures)))
+    let text = c.text_of-text.result.now in
+    let least : c.min.result ≡ min max_peer_text (length text) = omega arith in
+    c.add_short.ensures ∙ (ap (λ (xs : List ℕ). xs ++ take c.min.result text) c.new-kept.ensures ∙ (ap (λ (n : ℕ). take n text) least ∙ (take_min max_peer_text text ∙ ap (λ (xs : List ℕ). take max_peer_text xs) c.text_of-text.ensures)))

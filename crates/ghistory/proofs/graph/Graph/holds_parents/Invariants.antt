@@ -1,5 +1,5 @@
 use Rattle.std.proofs.Common.{take, All}
-use Rattle.ghistory.specs.Reach.{HoldsParents}
+use Rattle.ghistory.specs.Graphs.{HoldsParents}
 use Rattle.ghistory.proofs.graph.Graph.holds_parents.Given as goal
 
 abbrev pub invariant-loop-place : goal.invariant-loop-place

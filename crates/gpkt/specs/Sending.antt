@@ -1,5 +1,5 @@
 -- What is read from a source and written to a sink, before a call and after it.
-use Rattle.std.specs.Prelude.{◌≡◌, ℕ, Bool, true, false, List, ◌++◌, Option, Result, Ok, Err}
+use Rattle.std.specs.Prelude.{◌≡◌, ℕ, Bool, true, false, List, ◌++◌, Option, Some, IsSome, Result, Ok, Err}
 use Rattle.std.specs.Io.KnownBytes.{Appends, Keeps}
 use Rattle.gpkt.specs.Change.{Change, change_of}
 use Rattle.gpkt.specs.Devices.{PassesAll}
@@ -52,12 +52,34 @@ pub record Sends (output : Output) (bytes : List ℕ) : Type 0 where
   pub passed_on : PassesAll output.written.new output.passed_on
   pub up : output.is_down ≡ false
 
+-- these bytes were written, and were passed on with all that was written before them
+abbrev pub PassesAfter : Output → List ℕ → Type 0
+PassesAfter output bytes =
+    (old : List ℕ) → output.written.old ≡ Some old → IsSome output.passed_on.old
+    → (more : List ℕ) × (output.passed_on.new ≡ Some (old ++ bytes ++ more))
+
 -- a beginning of these bytes was written, perhaps all of them, and the sink is down
 pub record SendsSome (output : Output) (bytes : List ℕ) : Type 0 where
   pub front : List ℕ
   pub rest : List ℕ
   pub parts : bytes ≡ front ++ rest
   pub written : Appends output.written.old output.written.new front
+  pub down : output.is_down ≡ true
+
+-- these bytes were written, and where it is known what was written and what was passed on, all of it was passed on
+pub record Passes (output : Output) (bytes : List ℕ) : Type 0 where
+  pub written : Appends output.written.old output.written.new bytes
+  pub passed_on : IsSome output.written.old → PassesAll output.written.new output.passed_on
+  pub up : output.is_down ≡ false
+
+-- Some bytes were written and passed on; then a beginning of others was written, perhaps all of them, and the sink is
+-- down.
+pub record SendsAndFails (output : Output) (sent due : List ℕ) : Type 0 where
+  pub front : List ℕ
+  pub rest : List ℕ
+  pub parts : due ≡ front ++ rest
+  pub written : Appends output.written.old output.written.new (sent ++ front)
+  pub passed_on : PassesAfter output sent
   pub down : output.is_down ≡ true
 
 -- what a call did that was to write these bytes and to pass them on

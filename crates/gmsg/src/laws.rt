@@ -1,0 +1,118 @@
+//! The laws of all five messages: functions without effect, whose contracts they are. The kinds are a hello, an
+//! advertisement, a request, a reply to ls-refs and a reply to fetch, each for all that its grammar is given.
+
+ghost use Rattle.gname.specs.declared.formats.Format.{Format};
+ghost use Rattle.ggrammar.specs.Kinds.{AsInManual, CanonicalSays, OneMeaning, ReadsBack, ReadsBackIfAny, ReadsExactly, ReadsExactlyIfAny, SaysWhole};
+ghost use Rattle.ggrammar.specs.declared.ends.Ends.{Ends};
+ghost use Rattle.ghello.specs.Hello as hello;
+ghost use Rattle.ghello.specs.Adverts as advert;
+ghost use Rattle.grequest.specs.Manual as request_manual;
+ghost use Rattle.grequest.specs.Requests as request;
+ghost use Rattle.grequest.specs.RequestWriting as request_writing;
+ghost use Rattle.grequest.specs.WellFormed as request_form;
+ghost use Rattle.glsreply.specs.LsManual as ls_reply_manual;
+ghost use Rattle.glsreply.specs.LsReplies as ls_reply;
+ghost use Rattle.glsreply.specs.WellFormed as ls_reply_form;
+ghost use Rattle.gfetchreply.specs.FetchManual as fetch_reply_manual;
+ghost use Rattle.gfetchreply.specs.FetchReplies as fetch_reply;
+ghost use Rattle.gfetchreply.specs.WellFormed as fetch_reply_form;
+ghost use Rattle.gmsg.specs.Laws.{NoneBeginsAnother};
+
+/// Packets say at most one message of each kind.
+pub fn one_meaning()
+    ensures hello { OneMeaning hello.Says }
+    ensures advert { OneMeaning advert.Says }
+    ensures request { (format : Format) → OneMeaning (request.Says format) }
+    ensures ls_reply { (format : Format) (ends : Ends) → OneMeaning (ls_reply.Says format ends) }
+    ensures fetch_reply { (reading : fetch_reply.Reading) → OneMeaning (fetch_reply.Says reading) }
+{
+    ghello::laws::one_meaning();
+    grequest::laws::one_meaning();
+    glsreply::laws::one_meaning();
+    gfetchreply::laws::one_meaning();
+}
+
+/// No message begins another of its kind: neither its packets nor the bytes that spell them. So the end of a message
+/// is known without what follows it.
+pub fn prefix_free()
+    ensures hello { NoneBeginsAnother hello.judge }
+    ensures advert { NoneBeginsAnother advert.judge }
+    ensures request { (format : Format) → NoneBeginsAnother (request.judge format) }
+    ensures ls_reply { (format : Format) (ends : Ends) → NoneBeginsAnother (ls_reply.judge format ends) }
+    ensures fetch_reply { (reading : fetch_reply.Reading) → NoneBeginsAnother (fetch_reply.judge reading) }
+{
+    ghello::laws::prefix_free();
+    grequest::laws::prefix_free();
+    glsreply::laws::prefix_free();
+    gfetchreply::laws::prefix_free();
+}
+
+/// What a kind's table reads as a message is what the manual has, and says the same (gitprotocol-v2(5), "Capability
+/// Advertisement", "Command Request", "ls-refs" and "fetch"). A hello is all of its one line (gitprotocol-pack(5),
+/// "Git Transport").
+pub fn manual()
+    ensures hello { SaysWhole hello.judge hello.Says }
+    ensures advert { AsInManual advert.Says advert.IsAdvert }
+    ensures request { (format : Format) → AsInManual (request.Says format) (request_manual.IsRequest format) }
+    ensures ls_reply { (format : Format) (ends : Ends) → AsInManual (ls_reply.Says format ends)
+        (ls_reply_manual.IsLsReply format ends) }
+    ensures fetch_reply { (reading : fetch_reply.Reading) → AsInManual (fetch_reply.Says reading)
+        (fetch_reply_manual.IsFetchReply reading) }
+{
+    ghello::laws::manual();
+    grequest::laws::manual();
+    glsreply::laws::manual();
+    gfetchreply::laws::manual();
+}
+
+/// The packets that are written of a value say it, and each fits a packet line.
+pub fn canonical_says()
+    ensures hello { CanonicalSays hello.Says hello.IsHello hello.IsCanonical }
+    ensures advert { CanonicalSays advert.Says advert.AreCapabilities advert.IsCanonical }
+    ensures request { (format : Format) → CanonicalSays (request.Says format) (request_form.IsAsked format)
+        (request_writing.IsCanonicalRequest format) }
+    ensures ls_reply { (format : Format) (ends : Ends) → CanonicalSays (ls_reply.Says format ends)
+        (ls_reply_form.IsLsReplyIn format) (ls_reply.IsCanonicalReply ends) }
+    ensures fetch_reply { (reading : fetch_reply.Reading) → CanonicalSays (fetch_reply.Says reading)
+        (fetch_reply_form.IsReplyIn reading) (fetch_reply.IsCanonical reading.ends) }
+{
+    ghello::laws::canonical_says();
+    grequest::laws::canonical_says();
+    glsreply::laws::canonical_says();
+    gfetchreply::laws::canonical_says();
+}
+
+/// A message is read exactly where the bytes begin with it: that front is taken, and nothing after it. A request may
+/// be missing.
+pub fn reads_exactly()
+    ensures hello { ReadsExactly hello.judge hello.brings hello.Says }
+    ensures advert { ReadsExactly advert.judge advert.brings advert.Says }
+    ensures request { (format : Format) → ReadsExactlyIfAny (request.judge format) request.brings (request.Says format) }
+    ensures ls_reply { (format : Format) (ends : Ends)
+        → ReadsExactly (ls_reply.judge format ends) ls_reply.brings (ls_reply.Says format ends) }
+    ensures fetch_reply { (reading : fetch_reply.Reading)
+        → ReadsExactly (fetch_reply.judge reading) (fetch_reply.brings reading) (fetch_reply.Says reading) }
+{
+    ghello::laws::reads_exactly();
+    grequest::laws::reads_exactly();
+    glsreply::laws::reads_exactly();
+    gfetchreply::laws::reads_exactly();
+}
+
+/// What is written of a value is read back as it, whatever follows.
+pub fn reads_back()
+    ensures hello { ReadsBack hello.judge hello.brings hello.Says hello.IsHello hello.IsCanonical }
+    ensures advert { ReadsBack advert.judge advert.brings advert.Says advert.AreCapabilities advert.IsCanonical }
+    ensures request { (format : Format) → ReadsBackIfAny (request.judge format) request.brings (request.Says format)
+        (request_form.IsAsked format) (request_writing.IsCanonicalRequest format) }
+    ensures ls_reply { (format : Format) (ends : Ends) → ReadsBack (ls_reply.judge format ends) ls_reply.brings
+        (ls_reply.Says format ends) (ls_reply_form.IsLsReplyIn format) (ls_reply.IsCanonicalReply ends) }
+    ensures fetch_reply { (reading : fetch_reply.Reading) → ReadsBack (fetch_reply.judge reading)
+        (fetch_reply.brings reading) (fetch_reply.Says reading) (fetch_reply_form.IsReplyIn reading)
+        (fetch_reply.IsCanonical reading.ends) }
+{
+    ghello::laws::reads_back();
+    grequest::laws::reads_back();
+    glsreply::laws::reads_back();
+    gfetchreply::laws::reads_back();
+}
