@@ -80,22 +80,6 @@ impl<A: Allocator + Copy> From<AllocError> for BuildFault<A> {
     }
 }
 
-impl<A: Allocator + Copy> From<GraphFault> for BuildFault<A> {
-    ghost from_gives = { λ cause fault. fault ≡ build.Graph cause };
-
-    fn from(cause: GraphFault) -> BuildFault<A> {
-        BuildFault::Graph(cause)
-    }
-}
-
-impl<A: Allocator + Copy> From<RefsFault> for BuildFault<A> {
-    ghost from_gives = { λ cause fault. fault ≡ build.Refs cause };
-
-    fn from(cause: RefsFault) -> BuildFault<A> {
-        BuildFault::Refs(cause)
-    }
-}
-
 /// Why a request was not answered.
 #[derive(Debug, Drop, Error)]
 pub enum ServeFault {

@@ -97,8 +97,10 @@ impl<A: Allocator + Copy> Server<A> {
         if let Some(id) = self.graph.first_absent(entry.node.parents.as_slice()) {
             return Err(BuildFault::MissingParent { id });
         }
-        self.graph.insert(entry)?;
-        Ok(())
+        match self.graph.insert(entry) {
+            Ok(_) => Ok(()),
+            Err(cause) => Err(BuildFault::Graph(cause)),
+        }
     }
 
     /// Puts a name at an id.
@@ -112,8 +114,10 @@ impl<A: Allocator + Copy> Server<A> {
         if !self.graph.contains(&id) {
             return Err(BuildFault::RefMissing { name });
         }
-        self.refs.set(name, id)?;
-        Ok(())
+        match self.refs.set(name, id) {
+            Ok(()) => Ok(()),
+            Err(cause) => Err(BuildFault::Refs(cause)),
+        }
     }
 
     /// Puts HEAD where it is to stand. It takes no memory.
