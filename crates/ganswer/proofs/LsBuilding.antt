@@ -18,7 +18,7 @@ use Rattle.ganswer.specs.declared.fault.ServeFault.{ServeFault}
 use Rattle.ganswer.proofs.LsLemmas.{shows_join, shows_none}
 use Rattle.ganswer.proofs.ServerLemmas.{at_place}
 
--- what fits is refused only for want of memory
+-- what fits is refused only when out of memory
 pub only_memory : (well_formed has_room : Bool) (reason : Why) → well_formed ≡ true → has_room ≡ true → IsBuildReason well_formed has_room reason → reason ≡ why.Memory
 only_memory w r why.BadText fits room is = absurd (false≢true (sym is ∙ fits))
 only_memory w r why.Limit fits room is = absurd (false≢true (sym is.1 ∙ room))

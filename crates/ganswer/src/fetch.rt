@@ -57,7 +57,9 @@ impl<A: Allocator + Copy> Server<A> {
     // The ids that both ends have, to be acknowledged.
     fn commons(&self, asked: &FetchRequest<A>) -> Result<Acks<A>, ServeFault>
         ensures commons { IfOk result (λ commons. commons ≡ record {
-            format = self.now.graph.format; ids = commons_of self.now asked.now.asked }) }
+          format = self.now.graph.format;
+          ids = commons_of self.now asked.now.asked;
+        }) }
         ensures fault { IfErr result (λ fault. fault ≡ Memory) }
     {
         places_are_nodes::<A>();
@@ -110,15 +112,14 @@ impl<A: Allocator + Copy> Server<A> {
     {
         let graph = self.graph();
         if asked.include_tag() {
-            send_list_tags(graph, asked.wants(), commons, self.refs())
-                .map_err(no_memory)
+            send_list_tags(graph, asked.wants(), commons, self.refs()).map_err(no_memory)
         } else {
             send_list(graph, asked.wants(), commons).map_err(no_memory)
         }
     }
 }
 
-// The fault of a walk, which fails for want of memory alone.
+// The fault of a walk, which fails only when out of memory.
 fn no_memory(fault: GraphFault) -> ServeFault
     requires { fault ≡ OutOfMemory }
     ensures { result ≡ Memory }

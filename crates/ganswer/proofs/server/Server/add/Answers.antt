@@ -3,8 +3,7 @@ use Rattle.ganswer.proofs.server.Server.add.Goals as goal
 
 pub invariant_of-self : goal.invariant_of-self
 invariant_of-self g c =
-    let inside = c.self.inside in
-    (
+    let inside = c.self.inside in (
       grown_or_same c.closed_stays.ensures inside.graph c.insert.new.self inside.refs inside.head c.args.entry c.self.invariant.0
           (rw c.as_slice.ensures at c.in_default.ensures) c.insert.result c.insert.ensures.adds c.insert.ensures.keeps c.insert.ensures.graph,
       c.self.invariant.1,

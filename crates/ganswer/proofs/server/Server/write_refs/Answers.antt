@@ -27,8 +27,7 @@ loop-reference-preserved g c =
     λ lines shows.
     let law = c.writes_lines.ensures in
     let now = c.loop-reference.invariant lines shows in
-    let parts = split_at c.args.self.now c.args.asked.now c.args.refs.now c.loop-reference.reference-index c.reference-item.result now.0 c.loop-reference-test.true c.reference-item.is now.1 in
-    (
+    let parts = split_at c.args.self.now c.args.asked.now c.args.refs.now c.loop-reference.reference-index c.reference-item.result now.0 c.loop-reference-test.true c.reference-item.is now.1 in (
       parts.second,
       parts.right,
       law.after_part _ _ _ (map ref_packet lines) (map ref_packet now.0) (map ref_packet parts.first) (map ref_packet parts.second) now.2
