@@ -83,7 +83,7 @@ no_plus law false (b ∷ source) destination more rest sides begins =
     let is = below_begins (b ∷ source) (facts.below differs) in
     let r : b ≡ 114 = cc is in
     omega (arith, plus, r)
-no_plus law true [] destination more rest sides begins = let b : ℕ = 42 in let star : b ≡ 43 = cc begins in omega (arith, star)
+no_plus law true [] destination more rest sides begins = let b : ℕ = 42 in let star : b ≡ 43 = cc in omega (arith, star)
 no_plus law true (b ∷ source) destination more rest sides begins =
     let plus : b ≡ 43 = cc begins in
     let is = below_begins (b ∷ source ++ codes "x") sides.0.name.below in
@@ -112,31 +112,35 @@ reads_same P Q there back (Err Memory) reads = (reads.0, there reads.0 reads.1)
 pub with_plus : NamesAreClean → (text rest : List ℕ) → text ≡ 43 ∷ rest → (result : Result Refspec SpecFault) → Reads (IsRest true rest) result → Reads (IsSpec text) result
 with_plus law text rest is result reads =
     reads_same (IsRest true rest) (IsSpec text) (there text rest is) (back text rest is) result reads
-    where
-      there : (text rest : List ℕ) → text ≡ 43 ∷ rest → (spec : Refspec) → IsRest true rest spec → IsSpec text spec
-      there text rest is spec read = record { written = is ∙ ap (λ (l : List ℕ). 43 ∷ l) read.written ∙ ap (λ (f : Bool). force_text f ++ sides_text spec) (sym read.force); sides = read.sides }
-      by_force : (forced : Bool) (text rest : List ℕ) → text ≡ 43 ∷ rest → (spec : Refspec) → text ≡ force_text forced ++ sides_text spec → IsRefspec spec → (forced ≡ true) × (rest ≡ sides_text spec)
-      by_force true text rest is spec written sides = (refl, (cc (sym is ∙ written)))
-      by_force false text rest is spec written sides = absurd (no_plus law spec.pattern spec.source spec.destination _ rest sides (sym written ∙ is))
-      back : (text rest : List ℕ) → text ≡ 43 ∷ rest → (spec : Refspec) → IsSpec text spec → IsRest true rest spec
-      back text rest is spec read =
-          let parts = by_force spec.forced text rest is spec read.written read.sides in
-          record { force = parts.0; written = parts.1; sides = read.sides }
+  where
+    there : (text rest : List ℕ) → text ≡ 43 ∷ rest → (spec : Refspec) → IsRest true rest spec → IsSpec text spec
+    there text rest is spec read = record { written = is ∙ ap (λ (l : List ℕ). 43 ∷ l) read.written ∙ ap (λ (f : Bool). force_text f ++ sides_text spec) (sym read.force); sides = read.sides }
+
+    by_force : (forced : Bool) (text rest : List ℕ) → text ≡ 43 ∷ rest → (spec : Refspec) → text ≡ force_text forced ++ sides_text spec → IsRefspec spec → (forced ≡ true) × (rest ≡ sides_text spec)
+    by_force true text rest is spec written sides = (refl, (cc (sym is ∙ written)))
+    by_force false text rest is spec written sides = absurd (no_plus law spec.pattern spec.source spec.destination _ rest sides (sym written ∙ is))
+
+    back : (text rest : List ℕ) → text ≡ 43 ∷ rest → (spec : Refspec) → IsSpec text spec → IsRest true rest spec
+    back text rest is spec read =
+        let parts = by_force spec.forced text rest is spec read.written read.sides in
+        record { force = parts.0; written = parts.1; sides = read.sides }
 
 -- and one without
 pub without_plus : NamesAreClean → (text : List ℕ) → ((rest : List ℕ) → text ≢ codes "+" ++ rest) → (result : Result Refspec SpecFault) → Reads (IsRest false text) result → Reads (IsSpec text) result
 without_plus law text none result reads =
     reads_same (IsRest false text) (IsSpec text) there back result reads
-    where
-      there : (spec : Refspec) → IsRest false text spec → IsSpec text spec
-      there spec read = record { written = read.written ∙ ap (λ (f : Bool). force_text f ++ sides_text spec) (sym read.force); sides = read.sides }
-      by_force : (forced : Bool) (spec : Refspec) → text ≡ force_text forced ++ sides_text spec → (forced ≡ false) × (text ≡ sides_text spec)
-      by_force true spec written = absurd (none (sides_text spec) written)
-      by_force false spec written = (refl, written)
-      back : (spec : Refspec) → IsSpec text spec → IsRest false text spec
-      back spec read =
-          let parts = by_force spec.forced spec read.written in
-          record { force = parts.0; written = parts.1; sides = read.sides }
+  where
+    there : (spec : Refspec) → IsRest false text spec → IsSpec text spec
+    there spec read = record { written = read.written ∙ ap (λ (f : Bool). force_text f ++ sides_text spec) (sym read.force); sides = read.sides }
+
+    by_force : (forced : Bool) (spec : Refspec) → text ≡ force_text forced ++ sides_text spec → (forced ≡ false) × (text ≡ sides_text spec)
+    by_force true spec written = absurd (none (sides_text spec) written)
+    by_force false spec written = (refl, written)
+
+    back : (spec : Refspec) → IsSpec text spec → IsRest false text spec
+    back spec read =
+        let parts = by_force spec.forced spec read.written in
+        record { force = parts.0; written = parts.1; sides = read.sides }
 
 -- the first colon of a refspec's sides is the one between them
 pub colon_at : NamesAreClean → (spec : Refspec) → IsRefspec spec → (text : List ℕ) → text ≡ sides_text spec → position is_colon text ≡ Some (length (side_text spec.pattern spec.source))
@@ -145,9 +149,9 @@ colon_at law spec sides text written =
     let back : List ℕ = side_text spec.pattern spec.destination in
     let clean = source_without_colon law spec.pattern spec.source spec.destination sides in
     let at : position_or_len is_colon (front ++ 58 ∷ back) ≡ length front =
-        position_or_len_is is_colon (front ++ 58 ∷ back) (length front) 0 (omega (arith, length-append front (58 ∷ back)))
-        (λ k below. subst (λ (b : ℕ). is_colon b ≡ false) (sym (get_or_append_left front (58 ∷ back) 0 k below)) (clean k 0 below))
-        (λ inside. ap is_colon (get_or_at front 58 back 0 (length front) refl)) in
+    position_or_len_is is_colon (front ++ 58 ∷ back) (length front) 0 (omega (arith, length-append front (58 ∷ back)))
+    (λ k below. subst (λ (b : ℕ). is_colon b ≡ false) (sym (get_or_append_left front (58 ∷ back) 0 k below)) (clean k 0 below))
+    (λ inside. ap is_colon (get_or_at front 58 back 0 (length front) refl)) in
     let inside : nat_lt (length front) (length (front ++ 58 ∷ back)) ≡ true = lt-ltb _ _ (omega (arith, length-append front (58 ∷ back))) in
     rw (written, at, inside) refl
 
@@ -162,25 +166,26 @@ pub with_colon : NamesAreClean → (forced : Bool) (text : List ℕ) (at : ℕ) 
     → Reads (HasTexts forced (take at text) (drop (at + 1) text)) result → Reads (IsRest forced text) result
 with_colon law forced text at is result reads =
     reads_same (HasTexts forced (take at text) (drop (at + 1) text)) (IsRest forced text) there back result reads
-    where
-      there : (spec : Refspec) → HasTexts forced (take at text) (drop (at + 1) text) spec → IsRest forced text spec
-      there spec read = record {
-        force = read.force;
-        written = split_at_colon text at is ∙ ap (λ (l : List ℕ). l ++ (codes ":" ++ drop (at + 1) text)) read.from ∙ ap (λ (l : List ℕ). side_text spec.pattern spec.source ++ (codes ":" ++ l)) read.to;
-        sides = read.sides;
-      }
-      back : (spec : Refspec) → IsRest forced text spec → HasTexts forced (take at text) (drop (at + 1) text) spec
-      back spec read =
-          let front : List ℕ = side_text spec.pattern spec.source in
-          let behind : List ℕ = side_text spec.pattern spec.destination in
-          let place : length front ≡ at = same_Some _ _ (sym (colon_at law spec read.sides text read.written) ∙ is) in
-          let written : text ≡ front ++ 58 ∷ behind = read.written in
-          record {
-            force = read.force;
-            from = ap (λ (l : List ℕ). take at l) written ∙ take_at front (58 ∷ behind) at place;
-            to = ap (λ (l : List ℕ). drop (at + 1) l) written ∙ after front behind 58 at place;
-            sides = read.sides;
-          }
+  where
+    there : (spec : Refspec) → HasTexts forced (take at text) (drop (at + 1) text) spec → IsRest forced text spec
+    there spec read = record {
+      force = read.force;
+      written = split_at_colon text at is ∙ ap (λ (l : List ℕ). l ++ (codes ":" ++ drop (at + 1) text)) read.from ∙ ap (λ (l : List ℕ). side_text spec.pattern spec.source ++ (codes ":" ++ l)) read.to;
+      sides = read.sides;
+    }
+
+    back : (spec : Refspec) → IsRest forced text spec → HasTexts forced (take at text) (drop (at + 1) text) spec
+    back spec read =
+        let front : List ℕ = side_text spec.pattern spec.source in
+        let behind : List ℕ = side_text spec.pattern spec.destination in
+        let place : length front ≡ at = same_Some _ _ (sym (colon_at law spec read.sides text read.written) ∙ is) in
+        let written : text ≡ front ++ 58 ∷ behind = read.written in
+        record {
+          force = read.force;
+          from = ap (λ (l : List ℕ). take at l) written ∙ take_at front (58 ∷ behind) at place;
+          to = ap (λ (l : List ℕ). drop (at + 1) l) written ∙ after front behind 58 at place;
+          sides = read.sides;
+        }
 
 pub without_colon : NamesAreClean → (forced : Bool) (text : List ℕ) → position is_colon text ≡ None → (spec : Refspec) → ¬ (IsRest forced text spec)
 without_colon law forced text none spec read = none-some _ (sym none ∙ colon_at law spec read.sides text read.written)
@@ -191,37 +196,41 @@ pub both_stars : NamesAreClean → (forced : Bool) (source destination stem othe
     → Reads (HasSides forced true stem other) result → Reads (HasTexts forced source destination) result
 both_stars law forced source destination stem other from to result reads =
     reads_same (HasSides forced true stem other) (HasTexts forced source destination) there back result reads
-    where
-      there : (spec : Refspec) → HasSides forced true stem other spec → HasTexts forced source destination spec
-      there spec read = subst (HasTexts forced source destination) (sym read.is) (record { force = refl; from = from; to = to; sides = read.sides })
-      by_pattern : (pattern : Bool) (a b : List ℕ) → source ≡ side_text pattern a → destination ≡ side_text pattern b → AreSides pattern a b
-          → (pattern ≡ true) × (a ≡ stem) × (b ≡ other) × AreSides true stem other
-      by_pattern true a b f t sides =
-          let s : a ≡ stem = append_cancel_right a stem (codes "*") (sym f ∙ from) in
-          let d : b ≡ other = append_cancel_right b other (codes "*") (sym t ∙ to) in
-          (refl, s, d, (subst IsStem s sides.0, subst IsStem d sides.1))
-      by_pattern false a b f t sides = absurd (no_star law a stem sides.0 (sym f ∙ from))
-      back : (spec : Refspec) → HasTexts forced source destination spec → HasSides forced true stem other spec
-      back spec read =
-          let parts = by_pattern spec.pattern spec.source spec.destination read.from read.to read.sides in
-          record { is = same_spec spec forced true stem other read.force parts.0 parts.1 parts.2; sides = parts.3 }
+  where
+    there : (spec : Refspec) → HasSides forced true stem other spec → HasTexts forced source destination spec
+    there spec read = subst (HasTexts forced source destination) (sym read.is) (record { force = refl; from = from; to = to; sides = read.sides })
+
+    by_pattern : (pattern : Bool) (a b : List ℕ) → source ≡ side_text pattern a → destination ≡ side_text pattern b → AreSides pattern a b
+        → (pattern ≡ true) × (a ≡ stem) × (b ≡ other) × AreSides true stem other
+    by_pattern true a b f t sides =
+        let s : a ≡ stem = append_cancel_right a stem (codes "*") (sym f ∙ from) in
+        let d : b ≡ other = append_cancel_right b other (codes "*") (sym t ∙ to) in
+        (refl, s, d, (subst IsStem s sides.0, subst IsStem d sides.1))
+    by_pattern false a b f t sides = absurd (no_star law a stem sides.0 (sym f ∙ from))
+
+    back : (spec : Refspec) → HasTexts forced source destination spec → HasSides forced true stem other spec
+    back spec read =
+        let parts = by_pattern spec.pattern spec.source spec.destination read.from read.to read.sides in
+        record { is = same_spec spec forced true stem other read.force parts.0 parts.1 parts.2; sides = parts.3 }
 
 -- the texts of two sides are no patterns
 pub not_both_stars : (forced : Bool) (source destination : List ℕ) → ((a b : List ℕ) → source ≡ a ++ codes "*" → destination ≡ b ++ codes "*" → ⊥) → (result : Result Refspec SpecFault)
     → Reads (HasSides forced false source destination) result → Reads (HasTexts forced source destination) result
 not_both_stars forced source destination none result reads =
     reads_same (HasSides forced false source destination) (HasTexts forced source destination) there back result reads
-    where
-      there : (spec : Refspec) → HasSides forced false source destination spec → HasTexts forced source destination spec
-      there spec read = subst (HasTexts forced source destination) (sym read.is) (record { force = refl; from = refl; to = refl; sides = read.sides })
-      by_pattern : (pattern : Bool) (a b : List ℕ) → source ≡ side_text pattern a → destination ≡ side_text pattern b → AreSides pattern a b
-          → (pattern ≡ false) × (a ≡ source) × (b ≡ destination) × AreSides false source destination
-      by_pattern true a b f t sides = absurd (none a b f t)
-      by_pattern false a b f t sides = (refl, sym f, sym t, (subst IsRefName (sym f) sides.0, subst IsBelowRefs (sym t) sides.1))
-      back : (spec : Refspec) → HasTexts forced source destination spec → HasSides forced false source destination spec
-      back spec read =
-          let parts = by_pattern spec.pattern spec.source spec.destination read.from read.to read.sides in
-          record { is = same_spec spec forced false source destination read.force parts.0 parts.1 parts.2; sides = parts.3 }
+  where
+    there : (spec : Refspec) → HasSides forced false source destination spec → HasTexts forced source destination spec
+    there spec read = subst (HasTexts forced source destination) (sym read.is) (record { force = refl; from = refl; to = refl; sides = read.sides })
+
+    by_pattern : (pattern : Bool) (a b : List ℕ) → source ≡ side_text pattern a → destination ≡ side_text pattern b → AreSides pattern a b
+        → (pattern ≡ false) × (a ≡ source) × (b ≡ destination) × AreSides false source destination
+    by_pattern true a b f t sides = absurd (none a b f t)
+    by_pattern false a b f t sides = (refl, sym f, sym t, (subst IsRefName (sym f) sides.0, subst IsBelowRefs (sym t) sides.1))
+
+    back : (spec : Refspec) → HasTexts forced source destination spec → HasSides forced false source destination spec
+    back spec read =
+        let parts = by_pattern spec.pattern spec.source spec.destination read.from read.to read.sides in
+        record { is = same_spec spec forced false source destination read.force parts.0 parts.1 parts.2; sides = parts.3 }
 
 -- ---- one reading
 
@@ -256,7 +265,7 @@ one_reading law text a b x y =
     let front : List ℕ = side_text a.pattern a.source in
     let other : List ℕ = side_text b.pattern b.source in
     let place : length front ≡ length other =
-        same_Some _ _ (sym (colon_at law a x.sides (sides_text a) refl) ∙ colon_at law b y.sides (sides_text a) force.1) in
+    same_Some _ _ (sym (colon_at law a x.sides (sides_text a) refl) ∙ colon_at law b y.sides (sides_text a) force.1) in
     let parts = same_parts front (side_text a.pattern a.destination) other (side_text b.pattern b.destination) place force.1 in
     let source = same_side law a.pattern b.pattern a.source b.source a.destination b.destination x.sides y.sides parts.0 in
     same_spec a b.forced b.pattern b.source b.destination force.0 source.0 source.1 (same_text a.pattern b.pattern a.destination b.destination source.0 parts.1)

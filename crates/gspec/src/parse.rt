@@ -23,11 +23,7 @@ pub(crate) fn read_spec<A: Allocator + Copy>(alloc: A, text: &[u8]) -> Result<Sp
 }
 
 // Reads what follows the `+`, where one may be: the sides with a `:` between them.
-fn read_rest<A: Allocator + Copy>(
-    alloc: A,
-    forced: bool,
-    text: &[u8],
-) -> Result<Spec<A>, SpecFault>
+fn read_rest<A: Allocator + Copy>(alloc: A, forced: bool, text: &[u8]) -> Result<Spec<A>, SpecFault>
     ensures { Reads (IsRest forced text.now) result }
 {
     names_are_clean();

@@ -1,14 +1,16 @@
 // Refspecs, and what they do with the names of refs.
 #![tactic(auto)]
 
-ghost use Rattle.std.specs.Prelude.{◌≡◌, ◌↔◌, IfOk, IsTrue, MatchResult};
+ghost use Rattle.std.specs.Prelude.{◌≡◌, ◌↔◌, IfOk, IfSome, IsTrue, MatchResult};
 ghost use Rattle.gname.specs.Names.{head_name};
+ghost use Rattle.grefs.specs.RefLists.{IsBelowRefs};
 ghost use Rattle.gspec.specs.declared.fault.SpecFault.TheVariants.{Memory};
 ghost use Rattle.gspec.specs.Refspecs.{AreSides, FindsDestination, IsRefspec, IsSpec, Reads, matches};
 
 use crate::fault::SpecFault;
 use crate::parse::read_spec;
 use crate::side::name_of;
+use gname::laws::names_are_clean;
 use gname::{NameFault, Prefix, RefName};
 use std::alloc::{AllocError, Allocator, Global};
 use std::marker::Model;
@@ -124,6 +126,7 @@ impl<A: Allocator + Copy> Spec<A> {
 
     /// Where a name goes: to the destination, or where the spec is a pattern, to the destination with the rest of
     /// the name in the place of the `*`. `None` where the source does not match the name.
+    /// A destination is below `refs/`.
     ///
     /// It fails with the destination's first fault as a ref name, and with `Memory` where it is one.
     pub fn destination<B: Allocator + Copy, C: Allocator + Copy>(
@@ -131,8 +134,10 @@ impl<A: Allocator + Copy> Spec<A> {
         alloc: C,
         name: &RefName<B>,
     ) -> Result<Option<RefName<C>>, NameFault>
-        ensures { FindsDestination self.now name.now result }
+        ensures finds { FindsDestination self.now name.now result }
+        ensures below { IfOk result (λ found. IfSome found IsBelowRefs) }
     {
+        names_are_clean();
         if !self.matches(name) {
             return Ok(None);
         }
