@@ -1,12 +1,12 @@
 -- Facts on whole repositories.
 use Rattle.std.proofs.Common.{◌≡◌, ◌≢◌, ◌⊎◌, inl, inr, ℕ, ◌+◌, ◌<◌, ◌≤◌, zero, suc, Bool, true, false, List, [], ◌∷◌, ◌++◌, length, take, drop, get_or, All, Contains, Option, None, Some, refl, sym, ap, ◌∙◌, subst, arith}
-use Rattle.std.specs.Option.{is_none}
+use Rattle.std.specs.Option.{is_some}
 use Rattle.std.specs.Map.{values_of}
 use Rattle.std.proofs.lemmas.Bool.{false≢true}
 use Rattle.std.proofs.lemmas.List.{drop_more, get_or-map, length-map, take-append-drop, take-map}
 use Rattle.std.proofs.lemmas.List.Elements.{All-contains, All-map, All-more, All-weaker}
 use Rattle.gobject.specs.declared.node.Entry.{Entry}
-use Rattle.gobject.specs.Objects.{IdsDiffer}
+use Rattle.gobject.specs.Objects.{IdsDiffer, node_at}
 use Rattle.ggraph.specs.SafeRefs.{IsSafe, SafeStays}
 use Rattle.ghistory.specs.Graphs.{History}
 use Rattle.ghistory.specs.Laws.{GrowingKeeps}
@@ -39,6 +39,17 @@ module _ {A : Type 0} where
     full = full g.entries h.entries known grows whole.full;
     covers = covers g.entries h.entries (values_of refs) known grows differ whole.safe whole.covers;
   }
+
+  -- where nothing is missing of some ids' ancestries they are held; else they are not all held
+  pub all_held : (g : List (Entry A)) (ids : List (List ℕ)) (missing : Option (List ℕ)) → Misses g ids missing → is_some missing ≡ false → All (IsFull g) ids
+  all_held g ids None misses is = misses
+  all_held g ids (Some b) misses is = absurd (false≢true (sym is))
+
+  pub not_all_held : (g : List (Entry A)) (ids : List (List ℕ)) (missing : Option (List ℕ)) → Misses g ids missing → is_some missing ≡ true → ¬ (All (IsFull g) ids)
+  not_all_held g ids None misses is = absurd (false≢true is)
+  not_all_held g ids (Some b) misses is = λ full.
+      let held : is_some (node_at g b) ≡ true = All-contains (IsFull g) ids misses.0.0 full misses.0.1 b misses.0.2 in
+      false≢true (sym (ap is_some misses.1) ∙ held)
 
   -- marks of all that the refs reach
   pub whole_opened : (g : History A) (refs : RefList) (known : List Bool) → All (IsFull g.entries) (values_of refs) → AreFull g.entries known

@@ -18,7 +18,7 @@ use Rattle.grepo.specs.declared.ask.RefUpdate.{RefUpdate}
 use Rattle.grepo.specs.declared.ask.RefUpdate.TheVariants.{Moved, Same, NotForward}
 use Rattle.grepo.specs.declared.fault.RepoFault.{RepoFault}
 use Rattle.grepo.specs.declared.fault.RepoFault.TheVariants.{UnsafeRef, NotHeld, NotConnected, MissingParent, Graph, Refs}
-use Rattle.grepo.specs.Changes.{SetsLocal}
+use Rattle.grepo.specs.Changes.{SetsLocal, SettlesAsks}
 use Rattle.grepo.specs.Repos.{ComeFrom, RepoState}
 use Rattle.grepo.specs.Settling.{CannotSettle, IsUpdate, MayMove, NamesDiffer, Settles, asked_ids, is_new}
 use Rattle.grepo.specs.SettlingSteps.{HasSettled, IsRefusal, Sets, TakesAsk}
@@ -162,15 +162,17 @@ module _ {A : Type 0} where
   refuses_ask g old asks ask before after (Refs refs.Refs) why takes = why takes
   refuses_ask g old asks ask before after (Refs refs.Memory) why takes = tt
   refuses_ask g old asks ask before after (Graph graph.Memory) why takes = tt
-  refuses_ask g old asks ask before after (Graph (graph.Conflict id)) why takes = absurd takes
-  refuses_ask g old asks ask before after (Graph graph.TooMany) why takes = absurd takes
-  refuses_ask g old asks ask before after (Graph graph.TooManyParents) why takes = absurd takes
-  refuses_ask g old asks ask before after (Graph graph.TagShape) why takes = absurd takes
-  refuses_ask g old asks ask before after (Graph (graph.OtherFormat id)) why takes = absurd takes
-  refuses_ask g old asks ask before after (MissingParent id) why takes = absurd takes
-  refuses_ask g old asks ask before after (UnsafeRef name) why takes = absurd takes
-  refuses_ask g old asks ask before after (NotHeld missing) why takes = absurd takes
-  refuses_ask g old asks ask before after (NotConnected missing) why takes = absurd takes
+  refuses_ask g old asks ask before after (Graph cause) why takes = absurd takes
+  refuses_ask g old asks ask before after fault why takes = absurd takes
+
+  -- and why the repository stays
+  pub refuses_asks : (old : RepoState A) (asks : List (Ask A)) (fault : RepoFault A) → All (IsFull old.graph.entries) (asked_ids asks)
+      → IsRefusal old.refs asks fault → SettlesAsks old asks old (Err fault)
+  refuses_asks old asks (Refs refs.Refs) full why = (refl, full, why)
+  refuses_asks old asks (Refs refs.Memory) full why = refl
+  refuses_asks old asks (Graph graph.Memory) full why = refl
+  refuses_asks old asks (Graph cause) full why = absurd why
+  refuses_asks old asks fault full why = absurd why
 
   -- where it is because of the refs
   pub cannot_set_local : (old : RepoState A) (name id : List ℕ) (cause : RefsFault) → IsFull old.graph.entries id → (cause ≡ refs.Refs → CannotSet old.refs name)

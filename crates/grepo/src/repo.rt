@@ -50,13 +50,14 @@ impl<A: Allocator + Copy> Repo<A> {
         ensures { Opens graph refs result }
     {
         let alloc = graph.allocator();
-        let ids = refs.ids(alloc)?;
-        if missing(&graph, ids.as_slice())?.is_some() {
-            let name = first_unsafe(&graph, &refs, ids.as_slice())?;
+        let targets = refs.ids(alloc)?;
+        let ids = targets.as_slice();
+        if missing(&graph, ids)?.is_some() {
+            let name = first_unsafe(&graph, &refs, ids)?;
             return Err(RepoFault::UnsafeRef { name });
         }
         let mut known = FullMarks::new(alloc);
-        mark_full(&graph, ids.as_slice(), &mut known)?;
+        mark_full(&graph, ids, &mut known)?;
         Ok(Repo { graph, refs, known })
     }
 
@@ -170,12 +171,13 @@ impl<A: Allocator + Copy> Repo<A> {
             (λ updates. SettlesAsks self.old asks.now self.new (Ok updates.items))
             (λ fault. SettlesAsks self.old asks.now self.new (Err fault)) }
     {
-        let ids = asked_ids(self.graph.allocator(), asks)?;
-        if let Some(missing) = self.missing(ids.as_slice())? {
+        let targets = asked_ids(self.graph.allocator(), asks)?;
+        let ids = targets.as_slice();
+        if let Some(missing) = self.missing(ids)? {
             return Err(RepoFault::NotConnected { missing });
         }
         let (refs, updates) = settled(&self.graph, &self.refs, asks)?;
-        self.install(refs, ids.as_slice())?;
+        self.install(refs, ids)?;
         Ok(updates)
     }
 
