@@ -1,19 +1,19 @@
 -- Facts on whole repositories.
-use Rattle.std.proofs.Common.{◌≡◌, ◌≢◌, ◌⊎◌, inl, inr, ℕ, ◌+◌, ◌<◌, ◌≤◌, zero, suc, Bool, true, false, List, [], ◌∷◌, ◌++◌, length, take, drop, get_or, All, Contains, Option, None, Some, refl, sym, ap, ◌∙◌, subst, arith}
+use Rattle.std.proofs.Common.{◌≡◌, ◌⊎◌, inl, inr, ℕ, ◌+◌, ◌<◌, Bool, true, false, List, [], ◌∷◌, ◌++◌, length, take, drop, get_or, All, Contains, Option, None, Some, refl, sym, ap, ◌∙◌, subst, arith}
 use Rattle.std.specs.Option.{is_some}
 use Rattle.std.specs.Map.{values_of}
 use Rattle.std.proofs.lemmas.Bool.{false≢true}
 use Rattle.std.proofs.lemmas.List.{drop_more, get_or-map, length-map, take-append-drop, take-map}
 use Rattle.std.proofs.lemmas.List.Elements.{All-contains, All-map, All-more, All-weaker}
 use Rattle.gobject.specs.declared.node.Entry.{Entry}
-use Rattle.gobject.specs.Objects.{IdsDiffer, node_at}
-use Rattle.ggraph.specs.SafeRefs.{IsSafe, SafeStays}
+use Rattle.gobject.specs.Objects.{node_at}
+use Rattle.ggraph.specs.SafeRefs.{SafeStays}
 use Rattle.ghistory.specs.Graphs.{History}
 use Rattle.ghistory.specs.Laws.{GrowingKeeps}
-use Rattle.ghistory.specs.Reach.{IsFull, SomeReaches}
+use Rattle.ghistory.specs.Reach.{IsFull}
 use Rattle.ghistory.specs.Walks.{Misses}
 use Rattle.grefs.specs.RefLists.{RefList, SetsRef}
-use Rattle.gwalk.specs.Marks.{AreFull, Covers, CoveringStays, MarksReached, MarksStayFull}
+use Rattle.gwalk.specs.Marks.{AreFull, CoveringStays, MarksReached, MarksStayFull}
 use Rattle.grepo.specs.Laws.{WholeStays}
 use Rattle.grepo.specs.Repos.{ComeFrom, IsFirstLost, IsFirstUnsafe, IsWhole}
 

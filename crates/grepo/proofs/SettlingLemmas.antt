@@ -1,9 +1,8 @@
 -- Settling ask by ask.
-use Rattle.std.proofs.Common.{◌≡◌, ◌≢◌, ◌⊎◌, inl, inr, ℕ, ◌+◌, ◌<◌, ◌≤◌, zero, suc, Bool, true, false, cond, List, [], ◌∷◌, ◌++◌, length, map, take, get_or, All, AllPairs, Contains, count_by, Option, None, Some, Result, Ok, Err, refl, sym, ap, ◌∙◌, subst, arith}
-use Rattle.std.specs.List.{AllZip, sum_by}
+use Rattle.std.proofs.Common.{◌≡◌, ◌≢◌, ◌⊎◌, inl, inr, ℕ, ◌+◌, ◌<◌, Bool, true, false, cond, List, [], ◌∷◌, ◌++◌, length, take, get_or, All, Contains, count_by, Option, None, Some, Err, refl, sym, ap, ◌∙◌, subst, arith}
+use Rattle.std.specs.List.{AllZip}
 use Rattle.std.specs.Option.{is_none}
-use Rattle.std.proofs.lemmas.Bool.{cases_lt}
-use Rattle.std.proofs.lemmas.List.{get_or_append_left, get_or_at, get_or_default, get_or-map, get_or-take, length-append, length-map, length-take, map_push, take_all}
+use Rattle.std.proofs.lemmas.List.{get_or_append_left, get_or_at, get_or_default, get_or-map, get_or-take, length-append, length-map, length-take, map_push}
 use Rattle.std.proofs.lemmas.List.Elements.{All-contains, All-nil, All-push, All-weaker, All-contains_itself, Contains-append_left, Contains-push}
 use Rattle.std.proofs.lemmas.List.Sums.{count_by_more_yes, sum_by_push, sum_by-take-le}
 use Rattle.gname.specs.Names.{head_name}
@@ -12,15 +11,15 @@ use Rattle.ghistory.specs.declared.fault.GraphFault.TheVariants as graph
 use Rattle.ghistory.specs.Reach.{IsFull}
 use Rattle.grefs.specs.declared.fault.RefsFault.{RefsFault}
 use Rattle.grefs.specs.declared.fault.RefsFault.TheVariants as refs
-use Rattle.grefs.specs.RefLists.{RefList, CannotSet, SetsRef, max_refs, ref_at}
+use Rattle.grefs.specs.RefLists.{RefList, CannotSet, SetsRef, ref_at}
 use Rattle.grepo.specs.declared.ask.Ask.{Ask}
 use Rattle.grepo.specs.declared.ask.RefUpdate.{RefUpdate}
 use Rattle.grepo.specs.declared.ask.RefUpdate.TheVariants.{Moved, Same, NotForward}
 use Rattle.grepo.specs.declared.fault.RepoFault.{RepoFault}
-use Rattle.grepo.specs.declared.fault.RepoFault.TheVariants.{UnsafeRef, NotHeld, NotConnected, MissingParent, Graph, Refs}
+use Rattle.grepo.specs.declared.fault.RepoFault.TheVariants.{Graph, Refs}
 use Rattle.grepo.specs.Changes.{SetsLocal, SettlesAsks}
-use Rattle.grepo.specs.Repos.{ComeFrom, RepoState}
-use Rattle.grepo.specs.Settling.{CannotSettle, IsUpdate, MayMove, NamesDiffer, Settles, asked_ids, is_new}
+use Rattle.grepo.specs.Repos.{RepoState}
+use Rattle.grepo.specs.Settling.{CannotSettle, IsUpdate, MayMove, NamesDiffer, asked_ids, is_new}
 use Rattle.grepo.specs.SettlingSteps.{HasSettled, IsRefusal, Sets, TakesAsk}
 
 -- what holds of each element of a list and of one more

@@ -2,7 +2,6 @@
 use Rattle.std.specs.Prelude.{◌≡◌, ⊤, Bool, List, [], ◌∷◌, ℕ, All, Some, Result, Ok, Err}
 use Rattle.std.specs.Map.{values_of}
 use Rattle.gobject.specs.declared.node.Entry.{Entry}
-use Rattle.ghistory.specs.declared.fault.GraphFault.{GraphFault}
 use Rattle.ghistory.specs.declared.fault.GraphFault.TheVariants as graph
 use Rattle.ghistory.specs.Graphs.{History, Holds, IsFirstAbsent}
 use Rattle.ghistory.specs.Insert.{AddsOne, IsCause}
@@ -48,7 +47,8 @@ pub record Marks {A : Type 0} (old : RepoState A) (ids : List (List ℕ)) (new :
 
 -- what setting a ref answers: it stands at the id, whose whole ancestry is held; or what of that is missing; or that
 -- such a ref can't be set; or that there is no memory
-abbrev pub SetsLocal : {A : Type 0} → RepoState A → List ℕ → List ℕ → RepoState A → Result (Unit {0}) (RepoFault A) → Type 0
+abbrev pub SetsLocal : {A : Type 0} → RepoState A → List ℕ → List ℕ → RepoState A
+    → Result (Unit {0}) (RepoFault A) → Type 0
 SetsLocal old name id new (Ok _) = Marks old (id ∷ []) new × SetsRef old.refs new.refs name id
 SetsLocal old name id new (Err (NotHeld missing)) = (new ≡ old) × Misses old.graph.entries (id ∷ []) (Some missing)
 SetsLocal old name id new (Err (Refs refs.Refs)) =
@@ -59,7 +59,8 @@ SetsLocal old name id new (Err _) = ⊥
 
 -- what settling asks answers: they are settled, and the whole ancestry of each asked id is held; or what of that is
 -- missing; or that the refs can't be set; or that there is no memory
-abbrev pub SettlesAsks : {A : Type 0} → RepoState A → List (Ask A) → RepoState A → Result (List RefUpdate) (RepoFault A) → Type 0
+abbrev pub SettlesAsks : {A : Type 0} → RepoState A → List (Ask A) → RepoState A
+    → Result (List RefUpdate) (RepoFault A) → Type 0
 SettlesAsks old asks new (Ok updates) =
     Marks old (asked_ids asks) new × Settles old.graph.entries old.refs asks updates new.refs
 SettlesAsks old asks new (Err (NotConnected missing)) =

@@ -1,7 +1,6 @@
-use Rattle.std.proofs.Common.{◌≡◌, ◌≢◌, true, get_or, subst, sym, ap, ◌∙◌}
+use Rattle.std.proofs.Common.{◌≢◌, subst, sym, ◌∙◌}
 use Rattle.std.proofs.lemmas.Bool.{false≢true}
 use Rattle.std.proofs.lemmas.List.Elements.{All-more}
-use Rattle.std.proofs.lemmas.List.{take_all}
 use Rattle.std.proofs.lemmas.Slice.Eq.{bytes_eq-Decides}
 use Rattle.grepo.specs.declared.ask.Ask.{Ask}
 use Rattle.grepo.proofs.ask.are_for_others.Goals as goal

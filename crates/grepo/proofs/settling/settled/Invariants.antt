@@ -1,6 +1,5 @@
 use Rattle.std.proofs.Common.{take}
 use Rattle.grepo.specs.SettlingSteps.{HasSettled}
-use Rattle.grefs.specs.RefLists.{IsRefs}
 use Rattle.grepo.proofs.settling.settled.Given as goal
 
 abbrev pub invariant-loop-ask : goal.invariant-loop-ask
