@@ -19,7 +19,8 @@
 //! - Each fault has the number and the name of its row.
 //! - No call panics, overflows or reads out of bounds, and each returns.
 //!
-//! [`laws`] say that a repository stays whole where objects come to its graph.
+//! [`laws`] say that a repository stays whole where objects come to its graph, and that there is one settling of
+//! some asks.
 //!
 //! # Only tested
 //!
