@@ -22,23 +22,28 @@ module _ {A : Type 0} (g : List (Entry A)) where
   Ends : List ℕ → Type 0
   Ends a = ((c : List ℕ) × PeelsTo g a c) ⊎ ((c : List ℕ) → ¬ (PeelsTo g a c))
 
-  -- after some tags: what is left to follow is no more than the graph has entries
+  -- after some tags, at an id: it is a commit, or leads on to another id, or the chain ends there
+  module _ (i : ℕ) (a b : List ℕ) (here : Tags g i a b) (go_on : (next : List ℕ) → Tags g (suc i) a next → Ends a) where
+    by_parent : (node : Node A) → node_at g b ≡ Some node → node.kind ≡ Tag → (o : Option (List ℕ)) → slice_get node.parents 0 ≡ o → Ends a
+    unfolding Ends
+    by_parent node held tag None none = inr (λ c. peel_nameless g a b c i node here held tag none)
+    by_parent node held tag (Some next) names = go_on next (one_tag_more g i a b next node here held tag names)
+
+    by_kind : (node : Node A) → node_at g b ≡ Some node → (k : Kind) → node.kind ≡ k → Ends a
+    unfolding Ends
+    by_kind node held Commit commit = inl (b, (i, here, record { node = node; held = held; commit = commit }))
+    by_kind node held Tag tag = by_parent node held tag (slice_get node.parents 0) refl
+
+    by_node : (o : Option (Node A)) → node_at g b ≡ o → Ends a
+    unfolding Ends
+    by_node None missing = inr (λ c. peel_stuck g a b c i here (λ node held. none-some node (sym missing ∙ held)))
+    by_node (Some node) held = by_kind node held node.kind refl
+
+  -- what is left to follow is no more than the graph has entries
   follow : (fuel i : ℕ) (a b : List ℕ) → length g ≤ i + fuel → Tags g i a b → Ends a
   unfolding Ends
   follow zero i a b long here = inr (λ c. peel_long g i a b c (omega (arith, long)) here)
-  follow (suc fuel) i a b long here = by_node (node_at g b) refl
-    where
-      by_parent : (node : Node A) → node_at g b ≡ Some node → node.kind ≡ Tag → (o : Option (List ℕ)) → slice_get node.parents 0 ≡ o → Ends a
-      by_parent node held tag None none = inr (λ c. peel_nameless g a b c i node here held tag none)
-      by_parent node held tag (Some next) names = follow fuel (suc i) a next (omega (arith, long)) (one_tag_more g i a b next node here held tag names)
-
-      by_kind : (node : Node A) → node_at g b ≡ Some node → (k : Kind) → node.kind ≡ k → Ends a
-      by_kind node held Commit commit = inl (b, (i, here, record { node = node; held = held; commit = commit }))
-      by_kind node held Tag tag = by_parent node held tag (slice_get node.parents 0) refl
-
-      by_node : (o : Option (Node A)) → node_at g b ≡ o → Ends a
-      by_node None missing = inr (λ c. peel_stuck g a b c i here (λ node held. none-some node (sym missing ∙ held)))
-      by_node (Some node) held = by_kind node held node.kind refl
+  follow (suc fuel) i a b long here = by_node i a b here (λ next more. follow fuel (suc i) a next (omega (arith, long)) more) (node_at g b) refl
 
   ends_or_not : (a : List ℕ) → Ends a
   unfolding Ends

@@ -27,6 +27,10 @@ new_short earlier (a ∷ ids) =
     (λ e. let long = ap (λ v. length (cond v (new_ids earlier ids) (a ∷ new_ids (earlier ++ a ∷ []) ids))) e in omega (arith, old, long))
     (λ e. let long = ap (λ v. length (cond v (new_ids earlier ids) (a ∷ new_ids (earlier ++ a ∷ []) ids))) e in omega (arith, new, long))
 
+no_fault : (format : Format) (ids : List (List ℕ)) → list_all (has_format format) ids ≡ true → length ids ≤ max_acks → acks_fault format ids ≡ None
+no_fault format ids all few =
+    ap₂ (λ (u v : Bool). if u then (if v then None else Some Limit) else Some BadText) all (le-leb (length ids) max_acks few)
+
 module _ {A : Type 0} where
   pub commons_short : (g : List (Entry A)) (haves : List (List ℕ)) → length (common_of g haves) ≤ length haves
   commons_short g haves =
@@ -44,10 +48,6 @@ module _ {A : Type 0} where
       either_way (is_some (node_at g.entries a))
       (λ e. ap by e ∙ ap₂ (λ (u v : Bool). u && v) (eq-eqb (length a) (id_length g.format) (held_format law g graph a e).long) more)
       (λ e. ap by e ∙ more)
-
-  no_fault : (format : Format) (ids : List (List ℕ)) → list_all (has_format format) ids ≡ true → length ids ≤ max_acks → acks_fault format ids ≡ None
-  no_fault format ids all few =
-      ap₂ (λ (u v : Bool). if u then (if v then None else Some Limit) else Some BadText) all (le-leb (length ids) max_acks few)
 
   pub commons_fit : PlacesAreNodes A → (g : History A) → IsGraph g → (haves : List (List ℕ)) → length haves ≤ max_haves → acks_fault g.format (common_of g.entries haves) ≡ None
   commons_fit law g graph haves few =

@@ -31,14 +31,14 @@ use Rattle.ganswer.specs.LsBuilding.{IsAnswering, IsNextRef}
 use Rattle.ganswer.specs.Servers.{Server, HoldsHead, HoldsRefs, IsServer}
 use Rattle.ganswer.proofs.LsLemmas.{either_way}
 
-some_is : {X : Type 0} (o : Option X) → IsSome o → (x : X) × (o ≡ Some x)
+pub some_is : {X : Type 0} (o : Option X) → IsSome o → (x : X) × (o ≡ Some x)
 some_is None h = absurd (false≢true h)
 some_is (Some x) h = (x, refl)
 
 all_at : {X : Type 0} (P : X → Type 0) (xs : List X) (k : ℕ) (x : X) → slice_get xs k ≡ Some x → All P xs → P x
 all_at P xs k x at all = subst P (get_or_from_slice_get xs k x x at) (all k x (slice_get_within xs k x at))
 
-unmap : {X Y : Type 0} (P : Y → Type 0) (f : X → Y) (xs : List X) → All P (map f xs) → All (λ x. P (f x)) xs
+pub unmap : {X Y : Type 0} (P : Y → Type 0) (f : X → Y) (xs : List X) → All P (map f xs) → All (λ x. P (f x)) xs
 unmap P f [] all = All-nil (λ x. P (f x))
 unmap P f (x ∷ xs) all = All-cons (λ x. P (f x)) x xs (All-head P (f x) (map f xs) all) (unmap P f xs (All-tail P (f x) (map f xs) all))
 
@@ -55,6 +55,41 @@ same_format : (format : Format) → is_format format format ≡ true
 same_format Sha1 = refl
 same_format Sha256 = refl
 
+-- ---- formats of lines
+
+module _ (law : IdsHaveOneFormat) (format : Format) where
+  goes_with : (line : RefLine) (id : List ℕ) → IsIdOf format line.id → IsIdOf format id → has_format_of line id ≡ true
+  goes_with line id a b = ap₂ is_format (law format id b).1 (law format line.id a).1 ∙ same_format format
+
+  goes_with_peeled : (line : RefLine) (peeled : Option (List ℕ)) → IsIdOf format line.id → IfSome peeled (IsIdOf format) → option_map_or (has_format_of line) peeled true ≡ true
+  goes_with_peeled line None a b = refl
+  goes_with_peeled line (Some id) a b = goes_with line id a b
+
+  goes_with_first : (line : RefLine) (lines : List RefLine) → IsIdOf format line.id → All (λ l. IsIdOf format l.id) lines → first_has_format_of line lines ≡ true
+  goes_with_first line [] a all = refl
+  goes_with_first line (first ∷ lines) a all = goes_with line first.id a (All-head (λ (l : RefLine). IsIdOf format l.id) first lines all)
+
+  one_format : (lines : List RefLine) (line : RefLine) → IsIdOf format line.id → IfSome line.peeled (IsIdOf format) → All (λ l. IsIdOf format l.id) lines → has_one_format lines line ≡ true
+  one_format lines line a b all = ap₂ (λ (u v : Bool). u && v) (goes_with_first line lines a all) (goes_with_peeled line line.peeled a b)
+
+-- ---- room
+
+head_short : (o : Option (List ℕ)) → length (head_ref o) ≤ 1
+head_short None = omega arith
+head_short (Some id) = omega arith
+
+target_or_ref : (o : Option (List ℕ)) (target : List ℕ) → length (unborn_packets (if is_none o then Some target else None)) + length (head_ref o) ≤ 1
+target_or_ref None target = omega arith
+target_or_ref (Some id) target = omega arith
+
+ref_held : (P : List ℕ → Type 0) (refs : RefList) (name id : List ℕ) → ref_at refs name ≡ Some id → All P (values_of refs) → P id
+ref_held P [] name id at all = absurd (none-some id at)
+ref_held P (ref ∷ refs) name id at all =
+    let by : Bool → Option (List ℕ) = λ v. option_map (λ (r : List ℕ × List ℕ). r.1) (cond v (Some ref) (find (has_name name) refs)) in
+    either_way (has_name name ref)
+    (λ e. subst P (same_Some ref.1 id (sym (ap by e) ∙ at)) (All-head P ref.1 (values_of refs) all))
+    (λ e. ref_held P refs name id (sym (ap by e) ∙ at) (All-tail P ref.1 (values_of refs) all))
+
 module _ {A : Type 0} where
   -- an id that is held is of the graph's format
   pub held_format : PlacesAreNodes A → (g : History A) → IsGraph g → (a : List ℕ) → Holds g.entries a → IsIdOf g.format a
@@ -68,17 +103,6 @@ module _ {A : Type 0} where
   peeled_held g id commit (m, tags, is) = subst (λ (o : Option (Node A)). IsSome o) (sym is.held) refl
 
   -- ---- refs stand at ids that are held
-
-  H : List (Entry A) → List ℕ × List ℕ → Type 0
-  H g ref = Holds g ref.1
-
-  ref_held : (P : List ℕ → Type 0) (refs : RefList) (name id : List ℕ) → ref_at refs name ≡ Some id → All P (values_of refs) → P id
-  ref_held P [] name id at all = absurd (none-some id at)
-  ref_held P (ref ∷ refs) name id at all =
-      let by : Bool → Option (List ℕ) = λ v. option_map (λ (r : List ℕ × List ℕ). r.1) (cond v (Some ref) (find (has_name name) refs)) in
-      either_way (has_name name ref)
-      (λ e. subst P (same_Some ref.1 id (sym (ap by e) ∙ at)) (All-head P ref.1 (values_of refs) all))
-      (λ e. ref_held P refs name id (sym (ap by e) ∙ at) (All-tail P ref.1 (values_of refs) all))
 
   symref_held : (g : List (Entry A)) (o : Option (List ℕ)) → ((id : List ℕ) → o ≡ Some id → Holds g id) → All (λ ref. Holds g ref.1) (head_ref o)
   symref_held g None held = All-nil (λ ref. Holds g ref.1)
@@ -101,42 +125,15 @@ module _ {A : Type 0} where
       let P : List ℕ × List ℕ → Type 0 = λ ref. Holds server.graph.entries ref.1 in
       unmap P name_and_id lines (subst (All P) (sym shows.shown) (All-filter (is_shown asked.prefixes) P refs held))
 
-  -- ---- formats of lines
-
-  module _ (law : IdsHaveOneFormat) (format : Format) where
-    goes_with : (line : RefLine) (id : List ℕ) → IsIdOf format line.id → IsIdOf format id → has_format_of line id ≡ true
-    goes_with line id a b = ap₂ is_format (law format id b).1 (law format line.id a).1 ∙ same_format format
-
-    goes_with_peeled : (line : RefLine) (peeled : Option (List ℕ)) → IsIdOf format line.id → IfSome peeled (IsIdOf format) → option_map_or (has_format_of line) peeled true ≡ true
-    goes_with_peeled line None a b = refl
-    goes_with_peeled line (Some id) a b = goes_with line id a b
-
-    goes_with_first : (line : RefLine) (lines : List RefLine) → IsIdOf format line.id → All (λ l. IsIdOf format l.id) lines → first_has_format_of line lines ≡ true
-    goes_with_first line [] a all = refl
-    goes_with_first line (first ∷ lines) a all = goes_with line first.id a (All-head (λ (l : RefLine). IsIdOf format l.id) first lines all)
-
-    one_format : (lines : List RefLine) (line : RefLine) → IsIdOf format line.id → IfSome line.peeled (IsIdOf format) → All (λ l. IsIdOf format l.id) lines → has_one_format lines line ≡ true
-    one_format lines line a b all = ap₂ (λ (u v : Bool). u && v) (goes_with_first line lines a all) (goes_with_peeled line line.peeled a b)
-
   peeled_format : PlacesAreNodes A → (g : History A) → IsGraph g → (is_asked : Bool) (id : List ℕ) (peeled : Option (List ℕ)) → IsPeeledIf is_asked g.entries id peeled → IfSome peeled (IsIdOf g.format)
   peeled_format law g graph false id None is = tt
   peeled_format law g graph false id (Some commit) is = absurd (none-some commit (sym is))
   peeled_format law g graph true id None is = tt
   peeled_format law g graph true id (Some commit) is = held_format law g graph commit (peeled_held g.entries id commit is.peels)
 
-  -- ---- room
-
-  head_short : (o : Option (List ℕ)) → length (head_ref o) ≤ 1
-  head_short None = omega arith
-  head_short (Some id) = omega arith
-
-  target_or_ref : (o : Option (List ℕ)) (target : List ℕ) → length (unborn_packets (if is_none o then Some target else None)) + length (head_ref o) ≤ 1
-  target_or_ref None target = omega arith
-  target_or_ref (Some id) target = omega arith
-
   -- an unborn HEAD is not shown as a ref
   unborn_or_shown : (is_asked : Bool) (head : Head A) (refs : RefList) → length (unborn_packets (if is_asked then missing_target head refs else None)) + length (head_ref (head_id head refs)) ≤ 1
-  unborn_or_shown false head refs = head_short (head_id head refs)
+  unborn_or_shown false head refs = let short = head_short (head_id head refs) in omega (arith, short)
   unborn_or_shown true heads.None refs = omega arith
   unborn_or_shown true (heads.Id id) refs = omega arith
   unborn_or_shown true (heads.Symref target) refs = target_or_ref (ref_at refs target) target
@@ -144,9 +141,6 @@ module _ {A : Type 0} where
   module _ (places : PlacesAreNodes A) (ids : IdsHaveOneFormat) (server : Server A) (is : IsServer server) (asked : LsRefsAsked)
       (ref : List ℕ × List ℕ) (reply : LsReply) (next : IsNextRef server asked ref reply)
     where
-      Held : List ℕ × List ℕ → Type 0
-      Held r = Holds server.graph.entries r.1
-
       parts_held : All (λ r. Holds server.graph.entries r.1) (next.front ++ ref ∷ next.back)
       parts_held = subst (All (λ (r : List ℕ × List ℕ). Holds server.graph.entries r.1)) next.parts (all_held server is)
 

@@ -1,6 +1,10 @@
+pub mod AdvertLemmas
 pub mod AnswerLemmas
+pub mod ChangeLemmas
 pub mod FetchAnswers
 pub mod FetchLemmas
 pub mod FormatLemmas
+pub mod LsBuilding
 pub mod LsLemmas
+pub mod LsWriting
 pub mod ServerLemmas

@@ -63,11 +63,11 @@ module _ {A : Type 0} where
         front = front ++ first.front;
         rest = first.rest ++ rest;
         parts =
-          ap parents_in split
-          ∙ flat_map-append (λ (entry : Entry A). entry.node.parents) (take p g) (e.0 ∷ drop (p + 1) g)
-          ∙ ap (λ (l : List (List ℕ)). front ++ (l ++ rest)) (e.2 ∙ first.parts)
-          ∙ ap (λ (l : List (List ℕ)). front ++ l) (append_assoc first.front (id ∷ first.rest) rest)
-          ∙ sym (append_assoc front first.front (id ∷ (first.rest ++ rest)));
+            ap parents_in split
+            ∙ flat_map-append (λ (entry : Entry A). entry.node.parents) (take p g) (e.0 ∷ drop (p + 1) g)
+            ∙ ap (λ (l : List (List ℕ)). front ++ (l ++ rest)) (e.2 ∙ first.parts)
+            ∙ ap (λ (l : List (List ℕ)). front ++ l) (append_assoc first.front (id ∷ first.rest) rest)
+            ∙ sym (append_assoc front first.front (id ∷ (first.rest ++ rest)));
         held = All-append (Holds g) front first.front before first.held;
         absent = first.absent;
       }

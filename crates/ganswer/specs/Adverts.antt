@@ -10,7 +10,7 @@ key name = record { key = name; value = None }
 abbrev pub key_with : List ℕ → List ℕ → Capability
 key_with name value = record { key = name; value = Some value }
 
--- its name, that it lists refs and tells an unborn HEAD, that it sends packs, and the format of its ids
+-- its name; that it lists refs, and an unborn HEAD, and sends packs; and the format of its ids
 abbrev pub advertised : Format → List Capability
 advertised format =
     key_with (codes "agent") (codes "gitv2/1")

@@ -2,9 +2,8 @@
 use Rattle.std.specs.Prelude.{◌≡◌, ℕ, List, None, Result, Ok, Err}
 use Rattle.gobject.specs.declared.node.Entry.{Entry}
 use Rattle.gobject.specs.Objects.{node_at}
-use Rattle.ghistory.specs.Graphs.{Holds, IsFirstAbsent}
+use Rattle.ghistory.specs.Graphs.{Holds, HoldsParents, IsFirstAbsent}
 use Rattle.ghistory.specs.Insert.{ComesIn, IsCause}
-use Rattle.ghistory.specs.Reach.{HoldsParents}
 use Rattle.grefs.specs.RefLists.{CannotSet, RefList, SetsRef, ref_at}
 use Rattle.grefs.specs.declared.fault.RefsFault.{RefsFault}
 use Rattle.grefs.specs.declared.fault.RefsFault.TheVariants as refs

@@ -1,4 +1,4 @@
--- The tables of faults: the number and the name of each, and what a client is told of one.
+-- The tables of faults: the number and the name of each, and the words for a client.
 use Rattle.std.specs.Prelude.{codes}
 use Rattle.gname.specs.Faults.{FaultRow}
 use Rattle.gpkt.specs.Faults.{line_fault_row}

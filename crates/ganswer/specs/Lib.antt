@@ -4,6 +4,7 @@ pub mod Changes
 pub mod FaultViews
 pub mod Faults
 pub mod FetchAnswers
+pub mod Laws
 pub mod LsAnswers
 pub mod LsBuilding
 pub mod Servers
@@ -20,4 +21,4 @@ pub use Rattle.grequest.specs.Asked
 pub use Rattle.grequest.specs.RequestValues
 pub use Rattle.glsreply.specs.LsReplies
 pub use Rattle.gfetchreply.specs.FetchReplies
-pub use Rattle.ghello.specs.Adverts
+pub use Rattle.ghello.specs.Adverts as Capabilities

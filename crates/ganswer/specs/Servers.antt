@@ -54,8 +54,8 @@ pub record IsFirstDangling {A : Type 0} (g : List (Entry A)) (refs : RefList) (n
   pub held : HoldsRefs g front
   pub absent : node_at g id ≡ None
 
--- why there is no such server: a missing parent comes first, then a ref, then HEAD; of several the first is told. For the
--- name of a ref, and for that of HEAD, there may be no memory.
+-- why there is no such server: a missing parent comes first, then a ref, then HEAD; of several the first. For the name
+-- of a ref, and for that of HEAD, there may be no memory.
 abbrev pub IsUnserved : {A : Type 0} → Server A → BuildFault A → Type 0
 IsUnserved server (fault.NotClosed id) = IsFirstAbsent server.graph.entries (parents_in server.graph.entries) id
 IsUnserved server (fault.RefMissing name) =

@@ -24,7 +24,11 @@ impl<A: Allocator + Copy> Server<A> {
         add(&mut advert, b"agent", Some(b"gitv2/1"))?;
         add(&mut advert, b"ls-refs", Some(b"unborn"))?;
         add(&mut advert, b"fetch", None)?;
-        add(&mut advert, b"object-format", Some(self.graph().format().name().as_bytes()))?;
+        add(
+            &mut advert,
+            b"object-format",
+            Some(self.graph().format().name().as_bytes()),
+        )?;
         Ok(advert)
     }
 }

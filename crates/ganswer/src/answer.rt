@@ -28,7 +28,7 @@ impl<A: Allocator + Copy> Server<A> {
     ///
     /// Refs: HEAD first, then the names in byte order; those that begin with one of the prefixes, or all where there
     /// is none. With `symrefs` a HEAD that points at a ref has its target, and with `peel` the id of a tag the commit to
-    /// which it leads. With `unborn` a HEAD that points at a ref which is not there is told, where HEAD is asked for.
+    /// which it leads. With `unborn` comes the name of a ref that HEAD points at and that is not there, where HEAD is asked for.
     ///
     /// Objects: with `done`, or without haves, the pack of those that a want reaches and no common id does; the common
     /// ids are the distinct haves that are here. Else, where each want reaches a common id, the common ids and that

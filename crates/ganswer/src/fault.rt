@@ -80,22 +80,6 @@ impl<A: Allocator + Copy> From<AllocError> for BuildFault<A> {
     }
 }
 
-impl<A: Allocator + Copy> From<GraphFault> for BuildFault<A> {
-    ghost from_gives = { λ cause fault. fault ≡ build.Graph cause };
-
-    fn from(cause: GraphFault) -> BuildFault<A> {
-        BuildFault::Graph(cause)
-    }
-}
-
-impl<A: Allocator + Copy> From<RefsFault> for BuildFault<A> {
-    ghost from_gives = { λ cause fault. fault ≡ build.Refs cause };
-
-    fn from(cause: RefsFault) -> BuildFault<A> {
-        BuildFault::Refs(cause)
-    }
-}
-
 /// Why a request was not answered.
 #[derive(Debug, Drop, Error)]
 pub enum ServeFault {
@@ -119,7 +103,7 @@ pub enum ServeFault {
     Memory,
 }
 
-// The number and the name of a fault, and what a client is told of it.
+// The number and the name of a fault, and the words for a client.
 #[derive(Clone, Copy)]
 struct ServeRow {
     code: u32,
@@ -156,8 +140,8 @@ impl ServeFault {
         self.row().name
     }
 
-    /// What a client is told of the fault, as in `ERR upload-pack: no wants`. Of a wanted object that is missing
-    /// the digits of its id come after it.
+    /// The words for a client, as in `ERR upload-pack: no wants`. For a wanted object that is missing the digits of
+    /// its id come after them.
     pub fn phrase(&self) -> &'static str
         ensures { result.now ≡ (serve_fault_row self.now).phrase }
     {

@@ -10,6 +10,7 @@ ghost use Rattle.ganswer.specs.declared.fault.ServeFault.TheVariants.{Memory};
 use crate::fault::ServeFault;
 use crate::server::Server;
 use gfetchreply::{Acks, FetchReply, PackBytes};
+use ggraph::graph_laws::places_are_nodes;
 use ggraph::{Entry, GraphFault, Packer, common_ids, ready, send_list, send_list_tags};
 use gname::Oid;
 use grequest::FetchRequest;
@@ -53,15 +54,26 @@ impl<A: Allocator + Copy> Server<A> {
         }
     }
 
-    // The ids that both ends have.
+    // The ids that both ends have, to be acknowledged.
     fn commons(&self, asked: &FetchRequest<A>) -> Result<Acks<A>, ServeFault>
         ensures commons { IfOk result (λ commons. commons ≡ record {
-            format = self.now.graph.format; ids = commons_of self.now asked.now.asked }) }
+          format = self.now.graph.format;
+          ids = commons_of self.now asked.now.asked;
+        }) }
         ensures fault { IfErr result (λ fault. fault ≡ Memory) }
     {
-        let graph = self.graph();
-        let ids = common_ids(graph, asked.haves()).map_err(no_memory)?;
-        Ok(Acks::from_ids(graph.format(), ids).unwrap())
+        places_are_nodes::<A>();
+        let _haves = asked.haves();
+        let ids = self.common_ids(asked)?;
+        Ok(Acks::from_ids(self.graph().format(), ids).unwrap())
+    }
+
+    // The ids that both ends have.
+    fn common_ids(&self, asked: &FetchRequest<A>) -> Result<Vec<Oid, A>, ServeFault>
+        ensures ids { IfOk result (λ ids. ids.items ≡ commons_of self.now asked.now.asked) }
+        ensures fault { IfErr result (λ fault. fault ≡ Memory) }
+    {
+        common_ids(self.graph(), asked.haves()).map_err(no_memory)
     }
 
     // Whether each want reaches one of the common ids.
@@ -100,15 +112,14 @@ impl<A: Allocator + Copy> Server<A> {
     {
         let graph = self.graph();
         if asked.include_tag() {
-            send_list_tags(graph, asked.wants(), commons, self.refs())
-                .map_err(no_memory)
+            send_list_tags(graph, asked.wants(), commons, self.refs()).map_err(no_memory)
         } else {
             send_list(graph, asked.wants(), commons).map_err(no_memory)
         }
     }
 }
 
-// The fault of a walk, which fails for want of memory alone.
+// The fault of a walk, which fails only when out of memory.
 fn no_memory(fault: GraphFault) -> ServeFault
     requires { fault ≡ OutOfMemory }
     ensures { result ≡ Memory }

@@ -43,9 +43,9 @@ impl<A: Allocator + Copy> Model for Server<A> {
 impl<A: Allocator + Copy> Server<A> {
     /// A server of these parts.
     ///
-    /// It fails with `NotClosed` where the parent of an object is not there, and tells the first in the order of the
-    /// objects and of their parents; else with `RefMissing` where the object of a ref is not there, and tells the first
-    /// by name; else with `HeadMissing` where HEAD stands at the id of no object; and with `Memory` where there is none
+    /// It fails with `NotClosed` where the parent of an object is not there, and reports the first in the order of
+    /// the objects and of their parents; else with `RefMissing` where the object of a ref is not there, and reports the
+    /// first by name; else with `HeadMissing` where HEAD stands at the id of no object; and with `Memory` where there is none
     /// for that name, or for the name HEAD.
     pub fn new(graph: Graph<A>, refs: Refs<A>, head: Head<A>) -> Result<Server<A>, BuildFault<A>>
         ensures { Makes (served graph refs head) result }
@@ -86,7 +86,7 @@ impl<A: Allocator + Copy> Server<A> {
 
     /// Adds an object at the end of the store order. Where it is there with the same node nothing changes.
     ///
-    /// It fails with `MissingParent` where a parent of it is not there, and tells the first; else with `Graph` as
+    /// It fails with `MissingParent` where a parent of it is not there, and reports the first; else with `Graph` as
     /// `Graph::insert` does. Nothing changes then.
     pub fn add(&mut self, entry: Entry<A>) -> Result<(), BuildFault<A>>
         ensures adds { Adds self.old entry self.new result }
@@ -97,8 +97,10 @@ impl<A: Allocator + Copy> Server<A> {
         if let Some(id) = self.graph.first_absent(entry.node.parents.as_slice()) {
             return Err(BuildFault::MissingParent { id });
         }
-        self.graph.insert(entry)?;
-        Ok(())
+        match self.graph.insert(entry) {
+            Ok(_) => Ok(()),
+            Err(cause) => Err(BuildFault::Graph(cause)),
+        }
     }
 
     /// Puts a name at an id.
@@ -112,8 +114,10 @@ impl<A: Allocator + Copy> Server<A> {
         if !self.graph.contains(&id) {
             return Err(BuildFault::RefMissing { name });
         }
-        self.refs.set(name, id)?;
-        Ok(())
+        match self.refs.set(name, id) {
+            Ok(()) => Ok(()),
+            Err(cause) => Err(BuildFault::Refs(cause)),
+        }
     }
 
     /// Puts HEAD where it is to stand. It takes no memory.

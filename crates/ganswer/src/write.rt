@@ -47,7 +47,7 @@ impl<A: Allocator + Copy> Server<A> {
     ) -> Result<(), WriteFault>
         ensures { (lines : List RefLine) → ShowsLines self.now asked.now (all_refs self.now) lines
             → WritesLines W.contents W.passed_on W.is_down W.loans writer.old writer.new result
-                (map ref_packet lines ++ Flush ∷ ends_with ends) }
+            (map ref_packet lines ++ Flush ∷ ends_with ends) }
     {
         writes_lines::<W>();
         let mut text = RefText::new();

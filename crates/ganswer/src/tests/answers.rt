@@ -1,6 +1,7 @@
 //! Requests and their answers, byte by byte (gitprotocol-v2(5), "ls-refs" and "fetch").
 use super::samples::{
-    DETACHED, EMPTY, HEAD_AT_TAG, SERVER, SHA256, TAGGED, TAGGED_TWICE, answer, id, request, server, spelled,
+    DETACHED, EMPTY, HEAD_AT_TAG, SERVER, SHA256, TAGGED, TAGGED_TWICE, answer, id, request,
+    server, spelled,
 };
 use crate::ServeFault;
 use ggrammar::Ends;
@@ -74,7 +75,7 @@ const LS_ANSWERS: &[Sample] = &[
         b"0014command=ls-refs\n00010009peel\n0000",
         b"0062{1} HEAD peeled:{a}\n0000",
     ),
-    // An unborn HEAD is told where it and HEAD are asked for.
+    // An unborn HEAD comes where it and HEAD are asked for.
     (
         EMPTY,
         b"0014command=ls-refs\n0001000bunborn\n0000",
@@ -90,7 +91,11 @@ const LS_ANSWERS: &[Sample] = &[
         b"0014command=ls-refs\n0001000bunborn\n001bref-prefix refs/heads/\n0000",
         b"0000",
     ),
-    (EMPTY, b"0014command=ls-refs\n0001000csymrefs\n0000", b"0000"),
+    (
+        EMPTY,
+        b"0014command=ls-refs\n0001000csymrefs\n0000",
+        b"0000",
+    ),
     (
         SERVER,
         b"0014command=ls-refs\n0001000bunborn\n0000",
@@ -129,7 +134,7 @@ const FETCH_ANSWERS: &[Sample] = &[
     ),
     (
         SERVER,
-        b"0012command=fetch\n0001000fthin-pack\n000eofs-delta\n0032want {c}\n0032have {a}\n0009done\n0000",
+        b"0012command=fetch\n0001000ethin-pack\n000eofs-delta\n0032want {c}\n0032have {a}\n0009done\n0000",
         b"000dpackfile\n00b8\x01GPK1\nc {b} {a}\nc {c} {b}\nend 2\n0000",
     ),
     // Common ids come once, in the order in which they first came.
@@ -228,7 +233,10 @@ fn refs_are_written(rt: HostRuntime) -> Result<(), Fail> {
         if let Request::Ls(asked) = request(alloc, alloc, &server, bytes)? {
             server.write_ls_answer(&asked, Ends::Plain, &mut writer)?;
         }
-        assert_eq!(rt; writer.into_inner().into_written().as_slice(), wanted.as_slice());
+        assert_eq!(rt;
+            writer.into_inner().into_written().as_slice(),
+            wanted.as_slice()
+        );
     }
     Ok(())
 }
@@ -264,13 +272,14 @@ fn refusal(answer: Result<Vec<u8>, ServeFault>) -> Option<u32> {
     }
 }
 
-// Nothing is wanted, or something that is not here: the first such id is told.
+// Nothing is wanted, or something that is not here: the first such id is reported.
 #[test]
 fn wants_are_judged_first(rt: HostRuntime) -> Result<(), Fail> {
     let alloc = rt.alloc();
     let none = answer(alloc, SERVER, b"0012command=fetch\n0000")?;
     assert_eq!(rt; refusal(none), Some(73));
-    let bytes: &[u8] = b"0012command=fetch\n00010032want {c}\n0032want {d}\n0032want {e}\n0032have {a}\n0000";
+    let bytes: &[u8] =
+        b"0012command=fetch\n00010032want {c}\n0032want {d}\n0032want {e}\n0032have {a}\n0000";
     match answer(alloc, SERVER, bytes)? {
         Err(ServeFault::NotOurs { id: missing }) => assert_eq!(rt; missing, id(b'd')?),
         other => assert_eq!(rt; refusal(other), Some(74)),

@@ -6,7 +6,7 @@ use std::alloc::Global;
 use std::process::Abort;
 use std::test::Fail;
 
-// Repositories that can't be served: the number of the fault, and the digit of the id or the name that is told.
+// Repositories that can't be served: the number of the fault, and the id or the name that it reports.
 const UNSERVED: [(&[u8], u32, &[u8]); 6] = [
     // A missing parent, the first in the order of the objects and their parents, before a ref and HEAD.
     (
@@ -23,12 +23,16 @@ const UNSERVED: [(&[u8], u32, &[u8]); 6] = [
     ),
     (b"gitv2 1\nr {b} refs/x\nh none\nend\n", 71, b"refs/x"),
     // The object of HEAD.
-    (b"gitv2 1\nc {a}\nr {a} refs/x\nh id {b}\nend\n", 71, b"HEAD"),
+    (
+        b"gitv2 1\nc {a}\nr {a} refs/x\nh id {b}\nend\n",
+        71,
+        b"HEAD",
+    ),
     (b"gitv2 2 sha256\nc [a]\nh id [b]\nend\n", 71, b"HEAD"),
 ];
 
-// What the fault tells.
-fn told(alloc: Global, fault: &BuildFault) -> Result<Vec<u8>, Fail> {
+// The id or the name that the fault reports.
+fn reported(alloc: Global, fault: &BuildFault) -> Result<Vec<u8>, Fail> {
     let mut digits = [0; 64];
     match fault {
         BuildFault::NotClosed { id } | BuildFault::MissingParent { id } => {
@@ -42,7 +46,7 @@ fn told(alloc: Global, fault: &BuildFault) -> Result<Vec<u8>, Fail> {
 }
 
 #[test]
-fn what_is_missing_is_told(rt: HostRuntime) -> Result<(), Fail> {
+fn what_is_missing_is_reported(rt: HostRuntime) -> Result<(), Fail> {
     let alloc = rt.alloc();
     for (text, code, wanted) in UNSERVED {
         let text = spelled(alloc, text)?;
@@ -52,7 +56,7 @@ fn what_is_missing_is_told(rt: HostRuntime) -> Result<(), Fail> {
             Err(fault) => {
                 assert_eq!(rt; fault.code(), code);
                 let wanted = spelled(alloc, wanted)?;
-                assert_eq!(rt; told(alloc, &fault)?.as_slice(), wanted.as_slice());
+                assert_eq!(rt; reported(alloc, &fault)?.as_slice(), wanted.as_slice());
             }
         }
     }
@@ -119,7 +123,8 @@ fn refused_changes_change_nothing(rt: HostRuntime) -> Result<(), Fail> {
 }
 
 // An object, refs at it, and HEAD on one of these, come to an empty server.
-const GROWN: &[u8] = b"gitv2 1\nc {a}\nc {b} {a}\nr {b} refs/heads/main\nr {a} refs/heads/old\nh ref refs/heads/old\nend\n";
+const GROWN: &[u8] =
+    b"gitv2 1\nc {a}\nc {b} {a}\nr {b} refs/heads/main\nr {a} refs/heads/old\nh ref refs/heads/old\nend\n";
 
 #[test]
 fn a_server_grows(rt: HostRuntime) -> Result<(), Fail> {

@@ -1,17 +1,41 @@
-//! The number, the name and the text of each fault, and what a client is told of it.
+//! The number, the name and the text of each fault, and the words for a client.
 use super::samples::{id, name};
 use crate::{BuildFault, ServeFault};
 use ggrammar::{MessageFault, Why};
 use ggraph::{GraphFault, PackFault, RefsFault};
 use gpkt::LineFault;
+use std::process::Abort;
 use std::test::Fail;
 
+// A fault, its number, its name and its text.
+type BuildRow = (BuildFault, u32, &'static str, &'static str);
+
+// A fault, its number, its name, the words for a client, and its text.
+type ServeRow = (ServeFault, u32, &'static str, &'static str, &'static str);
+
+fn check_build_rows(rt: &(impl Abort + AllocGlobal), rows: &[BuildRow]) -> Result<(), Fail> {
+    for (fault, code, name, text) in rows {
+        assert_eq!(rt; (fault.code(), fault.name()), (*code, *name));
+        assert_eq!(rt; format!(in rt.alloc(); "{fault}")?.as_str(), *text);
+    }
+    Ok(())
+}
+
+fn check_serve_rows(rt: &(impl Abort + AllocGlobal), rows: &[ServeRow]) -> Result<(), Fail> {
+    for (fault, code, name, phrase, text) in rows {
+        assert_eq!(rt;
+            (fault.code(), fault.name(), fault.phrase()),
+            (*code, *name, *phrase)
+        );
+        assert_eq!(rt; format!(in rt.alloc(); "{fault}")?.as_str(), *text);
+    }
+    Ok(())
+}
+
 #[test]
-fn faults_of_building(rt: HostRuntime) -> Result<(), Fail> {
-    let alloc = rt.alloc();
+fn faults_of_the_parts_of_a_server(rt: HostRuntime) -> Result<(), Fail> {
     let id = id(b'a')?;
-    let name = name(alloc, "refs/x")?;
-    let table: [(BuildFault, u32, &str, &str); 8] = [
+    let rows: [BuildRow; 4] = [
         (
             BuildFault::Graph(GraphFault::TooMany),
             61,
@@ -30,6 +54,16 @@ fn faults_of_building(rt: HostRuntime) -> Result<(), Fail> {
             "Refs",
             "the ref can't be set",
         ),
+        (BuildFault::Memory, 64, "Memory", "out of memory"),
+    ];
+    check_build_rows(&rt, &rows)
+}
+
+#[test]
+fn faults_of_missing_objects(rt: HostRuntime) -> Result<(), Fail> {
+    let id = id(b'a')?;
+    let name = name(rt.alloc(), "refs/x")?;
+    let rows: [BuildRow; 4] = [
         (
             BuildFault::NotClosed { id },
             70,
@@ -54,24 +88,17 @@ fn faults_of_building(rt: HostRuntime) -> Result<(), Fail> {
             "MissingParent",
             "a parent of the new object is missing",
         ),
-        (BuildFault::Memory, 64, "Memory", "out of memory"),
     ];
-    for (fault, code, name, text) in &table {
-        assert_eq!(rt; (fault.code(), fault.name()), (*code, *name));
-        assert_eq!(rt; format!(in alloc; "{fault}")?.as_str(), *text);
-    }
-    Ok(())
+    check_build_rows(&rt, &rows)
 }
 
 #[test]
-fn faults_of_answering(rt: HostRuntime) -> Result<(), Fail> {
-    let alloc = rt.alloc();
-    let id = id(b'a')?;
+fn faults_of_reading(rt: HostRuntime) -> Result<(), Fail> {
     let refused = MessageFault {
         frame: 2,
         why: Why::UnknownArgument,
     };
-    let table: [(ServeFault, u32, &str, &str, &str); 6] = [
+    let rows: [ServeRow; 2] = [
         (
             ServeFault::Reader(LineFault::Memory),
             28,
@@ -86,6 +113,14 @@ fn faults_of_answering(rt: HostRuntime) -> Result<(), Fail> {
             "unknown argument",
             "packet 2: unknown argument",
         ),
+    ];
+    check_serve_rows(&rt, &rows)
+}
+
+#[test]
+fn faults_of_answering(rt: HostRuntime) -> Result<(), Fail> {
+    let id = id(b'a')?;
+    let rows: [ServeRow; 4] = [
         (
             ServeFault::NoWants,
             73,
@@ -115,9 +150,5 @@ fn faults_of_answering(rt: HostRuntime) -> Result<(), Fail> {
             "out of memory",
         ),
     ];
-    for (fault, code, name, phrase, text) in &table {
-        assert_eq!(rt; (fault.code(), fault.name(), fault.phrase()), (*code, *name, *phrase));
-        assert_eq!(rt; format!(in alloc; "{fault}")?.as_str(), *text);
-    }
-    Ok(())
+    check_serve_rows(&rt, &rows)
 }

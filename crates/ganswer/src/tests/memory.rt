@@ -14,26 +14,27 @@ use std::test::Fail;
 
 const REFS: &[u8] = b"0014command=ls-refs\n00010009peel\n000csymrefs\n0000";
 
-const OBJECTS: &[u8] =
-    b"0012command=fetch\n00010010include-tag\n0032want {c}\n0032have {a}\n0000";
+const OBJECTS: &[u8] = b"0012command=fetch\n00010010include-tag\n0032want {c}\n0032have {a}\n0000";
 
-const REFS_ANSWER: &[u8] = b"0050{c} HEAD symref-target:refs/heads/main\n003d{c} refs/heads/main\n006a{1} refs/tags/v1 peeled:{c}\n0000";
+const REFS_ANSWER: &[u8] =
+    b"0050{c} HEAD symref-target:refs/heads/main\n003d{c} refs/heads/main\n006a{1} refs/tags/v1 peeled:{c}\n0000";
 
-const OBJECTS_ANSWER: &[u8] = b"0014acknowledgments\n0031ACK {a}\n000aready\n0001000dpackfile\n010c\x01GPK1\nc {b} {a}\nc {c} {b}\nt {1} {c}\nend 3\n0000";
+const OBJECTS_ANSWER: &[u8] =
+    b"0014acknowledgments\n0031ACK {a}\n000aready\n0001000dpackfile\n010c\x01GPK1\nc {b} {a}\nc {c} {b}\nt {1} {c}\nend 3\n0000";
 
-// The most room that is tried, in steps of sixteen bytes.
-const STEPS: usize = 600;
+// The most room that is tried, in steps of sixty-four bytes.
+const STEPS: usize = 120;
 
-// Leaves room for so many times sixteen bytes more.
+// Leaves room for so many times sixty-four bytes more.
 fn fill(alloc: Global, arena: &Bump, steps: usize) -> Result<(), Fail> {
-    let room = steps.saturating_mul(16);
+    let room = steps.saturating_mul(64);
     arena.set_allocation_limit(Some(arena.allocated_bytes()));
     let filler = vec![in alloc; 0u8; arena.chunk_capacity().saturating_sub(room)]?;
     arena.try_alloc_slice_copy(filler.as_slice())?;
     Ok(())
 }
 
-// Whether the answer to the request was refused for want of memory; else it is the wanted one.
+// Whether the answer to the request ran out of memory; else it is the wanted one.
 fn is_refused(
     rt: &(impl Abort + AllocGlobal),
     bytes: &[u8],
@@ -91,6 +92,9 @@ fn refs_are_written_without_memory(rt: HostRuntime) -> Result<(), Fail> {
         server.write_ls_answer(asked, Ends::Plain, &mut writer)?;
     }
     let wanted = spelled(alloc, REFS_ANSWER)?;
-    assert_eq!(rt; writer.into_inner().into_written().as_slice(), wanted.as_slice());
+    assert_eq!(rt;
+        writer.into_inner().into_written().as_slice(),
+        wanted.as_slice()
+    );
     Ok(())
 }

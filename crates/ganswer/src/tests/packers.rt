@@ -46,7 +46,11 @@ fn a_pack_is_sent_as_it_is(rt: HostRuntime) -> Result<(), Fail> {
     for (text, bytes, wanted) in [
         (SERVER, CLONE, b"000dpackfile\n0006\x0130000".as_slice()),
         (TAGGED, CLONE, b"000dpackfile\n0006\x0130000".as_slice()),
-        (TAGGED, CLONE_WITH_TAGS, b"000dpackfile\n0006\x01?0000".as_slice()),
+        (
+            TAGGED,
+            CLONE_WITH_TAGS,
+            b"000dpackfile\n0006\x01?0000".as_slice(),
+        ),
     ] {
         let server = server(alloc, text)?;
         let request = request(alloc, alloc, &server, bytes)?;
@@ -69,6 +73,9 @@ fn a_packer_that_fails(rt: HostRuntime) -> Result<(), Fail> {
     let bytes = b"0012command=fetch\n00010032want {c}\n0032have {d}\n0000";
     let more = request(alloc, alloc, &server, bytes)?;
     let reply = server.answer(&more, &Broken)?;
-    assert_eq!(rt; written(alloc, &reply)?.as_slice(), b"0014acknowledgments\n0008NAK\n0000".as_slice());
+    assert_eq!(rt;
+        written(alloc, &reply)?.as_slice(),
+        b"0014acknowledgments\n0008NAK\n0000".as_slice()
+    );
     Ok(())
 }

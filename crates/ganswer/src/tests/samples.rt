@@ -1,8 +1,8 @@
 //! Repositories, requests and answers as texts. `{x}` stands for an id of forty digits x, `[x]` for one of sixty-four.
 use crate::{Reply, ServeFault, Server};
+use gfetchreply::write_fetch_reply;
 use ggrammar::Ends;
 use ggraph::{Order, PlainPack, load};
-use gfetchreply::write_fetch_reply;
 use glsreply::write_ls_reply;
 use gname::{Oid, RefName};
 use gpkt::memory::{SliceSource, VecSink};
@@ -12,13 +12,16 @@ use std::alloc::{Allocator, Global};
 use std::test::Fail;
 
 /// Three commits, a branch at the last, and HEAD on it.
-pub(super) const SERVER: &[u8] = b"gitv2 1\nc {a}\nc {b} {a}\nc {c} {b}\nr {c} refs/heads/main\nh ref refs/heads/main\nend\n";
+pub(super) const SERVER: &[u8] =
+    b"gitv2 1\nc {a}\nc {b} {a}\nc {c} {b}\nr {c} refs/heads/main\nh ref refs/heads/main\nend\n";
 
 /// The same with a tag of the last commit, and a ref at it.
-pub(super) const TAGGED: &[u8] = b"gitv2 1\nc {a}\nc {b} {a}\nc {c} {b}\nt {1} {c}\nr {c} refs/heads/main\nr {1} refs/tags/v1\nh ref refs/heads/main\nend\n";
+pub(super) const TAGGED: &[u8] =
+    b"gitv2 1\nc {a}\nc {b} {a}\nc {c} {b}\nt {1} {c}\nr {c} refs/heads/main\nr {1} refs/tags/v1\nh ref refs/heads/main\nend\n";
 
 /// The same with a tag of that tag, and a ref at it, too.
-pub(super) const TAGGED_TWICE: &[u8] = b"gitv2 1\nc {a}\nc {b} {a}\nc {c} {b}\nt {1} {c}\nt {2} {1}\nr {c} refs/heads/main\nr {1} refs/tags/v1\nr {2} refs/tags/v2\nh ref refs/heads/main\nend\n";
+pub(super) const TAGGED_TWICE: &[u8] =
+    b"gitv2 1\nc {a}\nc {b} {a}\nc {c} {b}\nt {1} {c}\nt {2} {1}\nr {c} refs/heads/main\nr {1} refs/tags/v1\nr {2} refs/tags/v2\nh ref refs/heads/main\nend\n";
 
 /// The three commits, and HEAD at the second by its id.
 pub(super) const DETACHED: &[u8] =
@@ -31,7 +34,8 @@ pub(super) const HEAD_AT_TAG: &[u8] = b"gitv2 1\nc {a}\nt {1} {a}\nh id {1}\nend
 pub(super) const EMPTY: &[u8] = b"gitv2 1\nh ref refs/heads/main\nend\n";
 
 /// The three commits with SHA-256 ids.
-pub(super) const SHA256: &[u8] = b"gitv2 2 sha256\nc [a]\nc [b] [a]\nc [c] [b]\nr [c] refs/heads/main\nh ref refs/heads/main\nend\n";
+pub(super) const SHA256: &[u8] =
+    b"gitv2 2 sha256\nc [a]\nc [b] [a]\nc [c] [b]\nr [c] refs/heads/main\nh ref refs/heads/main\nend\n";
 
 /// The text with each id written out.
 pub(super) fn spelled(alloc: Global, text: &[u8]) -> Result<Vec<u8>, Fail> {
@@ -70,7 +74,10 @@ pub(super) fn server_in<A: Allocator + Copy>(
 ) -> Result<Server<A>, Fail> {
     let text = spelled(alloc, text)?;
     let repository = load(memory, text.as_slice(), Order::Any)?;
-    Ok(Server::new(repository.graph, repository.refs, repository.head)?)
+    match Server::new(repository.graph, repository.refs, repository.head) {
+        Ok(server) => Ok(server),
+        Err(fault) => Err(Fail::new(fault)),
+    }
 }
 
 /// The request that these bytes spell.
