@@ -1,0 +1,16 @@
+-- Each request so far was answered, and both the reader and the writer go on.
+use Rattle.std.proofs.Common.{◌≡◌, false}
+use Rattle.gpkt.specs.Sending.{input_of, output_of}
+use Rattle.gserve.specs.Steps.{HasAnswered}
+use Rattle.gserve.proofs.connection.converse.Given as goal
+
+abbrev pub invariant-loop-requests : goal.invariant-loop-requests
+invariant-loop-requests g l = record {
+  answered : HasAnswered l.server (g.K.Packer.packs l.packer) (g.K.Packer.pack_fails l.packer) l.ends
+      (input_of g.S.Source.remaining g.S.Source.is_down l.initial.reader.source l.reader.source)
+      (output_of g.W.Sink.contents g.W.Sink.passed_on g.W.Sink.is_down l.fn.writer.sink l.writer.sink) l.requests;
+  reader : l.reader.failed ≡ false;
+  writer : l.writer.failed ≡ false;
+  source_loans : g.S.Source.loans l.reader.source ≡ g.S.Source.loans l.initial.reader.source;
+  sink_loans : g.W.Sink.loans l.writer.sink ≡ g.W.Sink.loans l.fn.writer.sink;
+}
