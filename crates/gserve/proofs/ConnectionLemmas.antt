@@ -41,10 +41,10 @@ unfolding talk
 talk_more joins format ends turns turn =
     let replies : Turn → List Packet = λ t. reply_packets ends t.answer in
     let last : flat_map replies (turns ++ turn ∷ []) ≡ flat_map replies turns ++ replies turn =
-        flat_map-append replies turns (turn ∷ []) ∙ ap (λ (xs : List Packet). flat_map replies turns ++ xs) (append-nil (replies turn)) in
+    flat_map-append replies turns (turn ∷ []) ∙ ap (λ (xs : List Packet). flat_map replies turns ++ xs) (append-nil (replies turn)) in
     sym (joins (talk format ends turns) (replies turn))
     ∙ ap canonical_all (append_assoc (advert_packets format) (flat_map replies turns) (replies turn)
-      ∙ ap (λ (xs : List Packet). advert_packets format ++ xs) (sym last))
+    ∙ ap (λ (xs : List Packet). advert_packets format ++ xs) (sym last))
 
 -- ---- what is read
 
@@ -58,7 +58,7 @@ module _ {A : Type 0} (server : Server A) (packs : Packs A) where
   turns_more join old mid new turns turn before lines is =
       let requests : Turn → List Packet = λ t. t.request in
       let last : flat_map requests turns ++ turn.request ≡ flat_map requests (turns ++ turn ∷ []) =
-          sym (flat_map-append requests turns (turn ∷ []) ∙ ap (λ (xs : List Packet). flat_map requests turns ++ xs) (append-nil turn.request)) in
+      sym (flat_map-append requests turns (turn ∷ []) ∙ ap (λ (xs : List Packet). flat_map requests turns ++ xs) (append-nil turn.request)) in
       record {
         lines = subst (λ (xs : List Packet). ReadsLines (record { old = old; new = new }) xs) last
             (join old mid new (flat_map requests turns) turn.request before.lines lines);
@@ -96,6 +96,13 @@ module _ {A : Type 0} (server : Server A) (packs : Packs A) (fails : PackFails A
 
 -- ---- from request to request
 
+pub none_is_answered : (ended : ExchangeEnd) → end_after ended ≡ None → ended ≡ exchange.Answered
+none_is_answered exchange.Answered is = refl
+none_is_answered exchange.Closed is = cc
+none_is_answered exchange.Ended is = cc
+none_is_answered (exchange.Refused cause) is = cc
+none_is_answered exchange.WriteFailed is = cc
+
 none_is_some : {x : End} → None ≡ Some x → ⊥
 none_is_some is = cc
 
@@ -105,7 +112,6 @@ some_is is = cc
 module _ {A S W : Type 0} (server : Server A) (packs : Packs A) (fails : PackFails A) (ends : Ends)
     (remaining : S → Option (List ℕ)) (source_down : S → Bool)
     (contents passed_on : W → Option (List ℕ)) (sink_down : W → Bool) where
-
   -- the advertisement is passed on, and nothing is read
   pub answered_none : ReadsNone → (s : S) (a b : W)
       → Passes (output_of contents passed_on sink_down a b) (canonical_all (advert_packets server.graph.format))
@@ -159,28 +165,35 @@ module _ {A S W : Type 0} (server : Server A) (packs : Packs A) (fails : PackFai
       → Serves server packs fails ends (input_of remaining source_down r t) (output_of contents passed_on sink_down a c) requests last
   ended_by r s t a b c requests exchange.Answered before h last is = absurd (none_is_some is)
   ended_by r s t a b c requests exchange.Closed before h last is =
-      let served : Serves server packs fails ends (input_of remaining source_down r t) (output_of contents passed_on sink_down a c) requests end.Closed =
-          (before.turns,
-            conversed r s t a b requests (ReadsEmpty server.graph.format) before (moved_empty server packs fails ends _ _ _ _ h.0),
-            passes_still contents passed_on sink_down a b c _ before.passed h.1) in
+      let served : Serves server packs fails ends (input_of remaining source_down r t) (output_of contents passed_on sink_down a c) requests end.Closed = (
+        before.turns,
+        conversed r s t a b requests (ReadsEmpty server.graph.format) before (moved_empty server packs fails ends _ _ _ _ h.0),
+        passes_still contents passed_on sink_down a b c _ before.passed h.1,
+      ) in
       subst (λ (e : End). Serves server packs fails ends (input_of remaining source_down r t) (output_of contents passed_on sink_down a c) requests e) (some_is is) served
   ended_by r s t a b c requests exchange.Ended before h last is =
-      let served : Serves server packs fails ends (input_of remaining source_down r t) (output_of contents passed_on sink_down a c) requests end.Ended =
-          (before.turns,
-            conversed r s t a b requests (HasEnded requests) before (inl (moved_end server packs fails ends _ _ _ _ h.0)),
-            passes_still contents passed_on sink_down a b c _ before.passed h.1) in
+      let served : Serves server packs fails ends (input_of remaining source_down r t) (output_of contents passed_on sink_down a c) requests end.Ended = (
+        before.turns,
+        conversed r s t a b requests (HasEnded requests) before (inl (moved_end server packs fails ends _ _ _ _ h.0)),
+        passes_still contents passed_on sink_down a b c _ before.passed h.1,
+      ) in
       subst (λ (e : End). Serves server packs fails ends (input_of remaining source_down r t) (output_of contents passed_on sink_down a c) requests e) (some_is is) served
   ended_by r s t a b c requests (exchange.Refused cause) before h last is =
       let served : Serves server packs fails ends (input_of remaining source_down r t) (output_of contents passed_on sink_down a c) requests (end.Refused cause) =
-          inl (before.turns,
-            conversed r s t a b requests (λ rest. IsRefused server fails rest cause) before (moved_refused server packs fails ends _ _ _ _ cause h.0),
-            passes_join contents passed_on sink_down a b c _ _ before.passed h.1) in
+      inl (
+        before.turns,
+        conversed r s t a b requests (λ rest. IsRefused server fails rest cause) before (moved_refused server packs fails ends _ _ _ _ cause h.0),
+        passes_join contents passed_on sink_down a b c _ _ before.passed h.1,
+      ) in
       subst (λ (e : End). Serves server packs fails ends (input_of remaining source_down r t) (output_of contents passed_on sink_down a c) requests e) (some_is is) served
   ended_by r s t a b c requests exchange.WriteFailed before h last is =
       let served : Serves server packs fails ends (input_of remaining source_down r t) (output_of contents passed_on sink_down a c) requests end.WriteFailed =
-          inl (before.turns, h.0,
-            conversed r s t a b requests (λ rest. IsDue server packs fails ends rest h.0) before (moved_due server packs fails ends _ _ _ _ h.0 h.1),
-            fails_after contents passed_on sink_down a b c _ _ before.passed h.2 h.3) in
+      inl (
+        before.turns,
+        h.0,
+        conversed r s t a b requests (λ rest. IsDue server packs fails ends rest h.0) before (moved_due server packs fails ends _ _ _ _ h.0 h.1),
+        fails_after contents passed_on sink_down a b c _ _ before.passed h.2 h.3,
+      ) in
       subst (λ (e : End). Serves server packs fails ends (input_of remaining source_down r t) (output_of contents passed_on sink_down a c) requests e) (some_is is) served
 
   -- ---- before the first request

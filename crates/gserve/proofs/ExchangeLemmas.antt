@@ -5,6 +5,8 @@ use Rattle.gpkt.specs.Packets.{Packet, canonical_all}
 use Rattle.gpkt.specs.Sending.{Input, Output, IsUp, IsUnread, IsUnwritten, Passes, SendsSome}
 use Rattle.gpkt.specs.LineReading.{ReadsLines}
 use Rattle.gpkt.specs.Devices.{KeepsPassed}
+use Rattle.gpkt.specs.declared.fault.LineFault.{LineFault}
+use Rattle.gpkt.specs.declared.fault.LineFault.TheVariants.{Memory as NoBuffer}
 use Rattle.ggrammar.specs.declared.ends.Ends.{Ends}
 use Rattle.ggrammar.specs.declared.fault.MessageFault.{MessageFault}
 use Rattle.ggrammar.specs.declared.fault.Why.TheVariants.{Ended as EndedEarly}
@@ -19,7 +21,7 @@ use Rattle.ganswer.specs.Servers.{Server}
 use Rattle.ganswer.specs.declared.fault.ServeFault.{ServeFault}
 use Rattle.ganswer.specs.declared.fault.ServeFault.TheVariants as fault
 use Rattle.gserve.specs.Refusals.{err_packets}
-use Rattle.gserve.specs.Exchanges.{Turn, Exchanges, IsDue, reply as due_reply, refusal as due_refusal, IsRefused, IsTurn, ReadsTurn, RefusesToAnswer, RefusesToRead, reply_packets}
+use Rattle.gserve.specs.Exchanges.{Turn, Exchanges, LacksBuffer, RefusesAtOnce, IsDue, reply as due_reply, refusal as due_refusal, IsRefused, IsTurn, ReadsTurn, RefusesToAnswer, RefusesToRead, reply_packets}
 use Rattle.gserve.specs.Steps.{HasPassed, IsDueFor, reply, refusal, Replies, ReportsRefusal, end_of_reply}
 use Rattle.gserve.specs.declared.exchange.ExchangeEnd.{ExchangeEnd}
 use Rattle.gserve.specs.declared.exchange.ExchangeEnd.TheVariants as end
@@ -134,13 +136,15 @@ module _ {A : Type 0} (server : Server A) (packs : Packs A) (fails : PackFails A
       → Exchanges server packs fails ends input output ended
   exchanged_by asked end.Answered took h =
       (turn_of asked took h.0, takes_turn asked took h.0 h.1 h.2, h.3)
-  exchanged_by asked end.Closed took h =
-      (record {
-        packets = took.packets;
-        lines = took.lines;
-        says = subst (λ (a : Asked). Says server.graph.format took.packets a) h.0 took.says;
-        up = took.up;
-      }, h.1)
+  exchanged_by asked end.Closed took h = (
+    record {
+      packets = took.packets;
+      lines = took.lines;
+      says = subst (λ (a : Asked). Says server.graph.format took.packets a) h.0 took.says;
+      up = took.up;
+    },
+    h.1,
+  )
   exchanged_by asked end.Ended took h = absurd h
   exchanged_by asked (end.Refused cause) took h = (refuses_it asked took cause h.0, h.1)
   exchanged_by asked end.WriteFailed took h = (h.0, due_of asked took h.0 h.1, h.2, h.3)
@@ -189,3 +193,17 @@ refused_to_read format own same input cause failed ready refused source begun = 
   source = subst (λ (f : Bool). IsReadFailure f input.is_down cause.why) ready source;
   begun = λ is zero. let more : 0 < cause.frame = begun is in omega arith;
 }
+
+-- ---- without a buffer
+
+pub refused_at_once : (input : Input) (output : Output) (cause : LineFault) (ended : ExchangeEnd) → cause ≡ NoBuffer → IsUnread input
+    → ReportsRefusal (fault.Reader cause) output ended → RefusesAtOnce input output ended
+refused_at_once input output cause end.Answered is unread h = absurd h
+refused_at_once input output cause end.Closed is unread h = absurd h
+refused_at_once input output cause end.Ended is unread h = absurd h
+refused_at_once input output cause (end.Refused reported) is unread h =
+    let P : ServeFault → Type 0 = λ f. LacksBuffer input f × Passes output (canonical_all (err_packets f)) in
+    let lacks : LacksBuffer input (fault.Reader cause) = subst (λ (f : LineFault). LacksBuffer input (fault.Reader f)) (sym is) unread in
+    subst P (sym h.0) (lacks, h.1)
+refused_at_once input output cause end.WriteFailed is unread h =
+    (fault.Reader cause, subst (λ (f : LineFault). LacksBuffer input (fault.Reader f)) (sym is) unread, h.0, h.1)

@@ -1,4 +1,4 @@
--- What a client is told of a fault is short.
+-- What a client reads of a fault is short.
 use Rattle.std.proofs.Common.{ℕ, ◌≤◌, length, arith}
 use Rattle.gpkt.specs.declared.fault.LineFault.{LineFault}
 use Rattle.gpkt.specs.declared.fault.LineFault.TheVariants as line

@@ -82,14 +82,16 @@ module _ {W : Type 0} (contents passed_on : W → Option (List ℕ)) (is_down : 
   passed_pushed pushes a b c packets (Ok done) wrote pushed =
       let all = pushes a b c (canonical_all packets) (Ok done) wrote.written pushed in
       record { written = all.0; passed_on = λ known. all.1; up = pushed.outcome.0.2 }
-  passed_pushed pushes a b c packets (Err Io) wrote pushed =
-      (record {
-        front = canonical_all packets;
-        rest = [];
-        parts = sym (append-nil (canonical_all packets));
-        written = (pushes a b c (canonical_all packets) (Err Io) wrote.written pushed).0;
-        down = pushed.outcome.0.2;
-      }, keeps_on (passed_on a.sink) (passed_on b.sink) (passed_on c.sink) wrote.written.passed_on pushed.outcome.1)
+  passed_pushed pushes a b c packets (Err Io) wrote pushed = (
+    record {
+      front = canonical_all packets;
+      rest = [];
+      parts = sym (append-nil (canonical_all packets));
+      written = (pushes a b c (canonical_all packets) (Err Io) wrote.written pushed).0;
+      down = pushed.outcome.0.2;
+    },
+    keeps_on (passed_on a.sink) (passed_on b.sink) (passed_on c.sink) wrote.written.passed_on pushed.outcome.1,
+  )
   passed_pushed pushes a b c packets (Err Payload) wrote pushed = absurd pushed.outcome
   passed_pushed pushes a b c packets (Err Failed) wrote pushed =
       absurd (false≢true (sym wrote.written.outcome.0.1 ∙ pushed.outcome.0))
@@ -98,14 +100,16 @@ module _ {W : Type 0} (contents passed_on : W → Option (List ℕ)) (is_down : 
   pub passed_failed : (a b : Writer W) (packets : List Packet) (fault : WriteFault) → a.failed ≡ false
       → WritesLines contents passed_on is_down loans a b (Err fault) packets
       → HasPassed {E = WriteFault} (output_of contents passed_on is_down a.sink b.sink) (Err fault) packets
-  passed_failed a b packets Io ready wrote =
-      (record {
-        front = wrote.written.outcome.1.0;
-        rest = wrote.written.outcome.1.1;
-        parts = wrote.written.outcome.1.2;
-        written = wrote.written.outcome.1.4;
-        down = wrote.written.outcome.0.2;
-      }, keeps_still (passed_on a.sink) (passed_on b.sink) wrote.written.passed_on)
+  passed_failed a b packets Io ready wrote = (
+    record {
+      front = wrote.written.outcome.1.0;
+      rest = wrote.written.outcome.1.1;
+      parts = wrote.written.outcome.1.2;
+      written = wrote.written.outcome.1.4;
+      down = wrote.written.outcome.0.2;
+    },
+    keeps_still (passed_on a.sink) (passed_on b.sink) wrote.written.passed_on,
+  )
   passed_failed a b packets Payload ready wrote = absurd (wrote.fits refl)
   passed_failed a b packets Failed ready wrote = absurd (false≢true (sym ready ∙ wrote.written.outcome.0))
 
@@ -139,7 +143,7 @@ module _ {W : Type 0} (contents passed_on : W → Option (List ℕ)) (is_down : 
     passed_on = λ old is passed.
         let known : IsSome (contents a) = is_some (contents a) (Some old) is refl in
         let mid : passed_on b ≡ Some (old ++ xs) =
-            first.passed_on known passed ∙ appends_to old xs (contents a) (contents b) is first.written in
+        first.passed_on known passed ∙ appends_to old xs (contents a) (contents b) is first.written in
         let last = passes_on_from (old ++ xs) (passed_on b) (passed_on c) mid kept in
         (last.0, last.1 ∙ ap (λ (bytes : List ℕ). Some bytes) (append_assoc old xs last.0));
     down = next.down;

@@ -82,11 +82,11 @@ module _ {A : Type 0} (server : Server A) (packs : Packs A) (fails : PackFails A
       × Passes output (talk_bytes server.graph.format ends turns)
   Serves input output requests (end.Refused fault) =
       ((turns : List Turn) × Converses server packs input requests turns (λ rest. IsRefused server fails rest fault)
-        × Passes output (talk_bytes server.graph.format ends turns ++ canonical_all (err_packets fault)))
+      × Passes output (talk_bytes server.graph.format ends turns ++ canonical_all (err_packets fault)))
       ⊎ ((requests ≡ 0) × CannotBegin input fault × Passes output (canonical_all (err_packets fault)))
   Serves input output requests end.WriteFailed =
       ((turns : List Turn) × (due : List Packet)
-        × Converses server packs input requests turns (λ rest. IsDue server packs fails ends rest due)
-        × SendsAndFails output (talk_bytes server.graph.format ends turns) (canonical_all due))
+      × Converses server packs input requests turns (λ rest. IsDue server packs fails ends rest due)
+      × SendsAndFails output (talk_bytes server.graph.format ends turns) (canonical_all due))
       ⊎ ((due : List Packet) × (requests ≡ 0) × IsDueFirst server.graph.format input due
-        × SendsSome output (canonical_all due) × KeepsPassed output.passed_on)
+      × SendsSome output (canonical_all due) × KeepsPassed output.passed_on)

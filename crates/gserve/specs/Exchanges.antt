@@ -124,16 +124,15 @@ abbrev pub LacksBuffer : Input → ServeFault → Type 0
 LacksBuffer input (fault.Reader NoBuffer) = IsUnread input
 LacksBuffer input _ = ⊥
 
-module _ {A : Type 0} (server : Server A) (packs : Packs A) (fails : PackFails A) (ends : Ends) where
-  -- a refusal for want of a buffer is written, or a beginning of it stands
-  abbrev pub RefusesAtOnce : Input → Output → ExchangeEnd → Type 0
-  RefusesAtOnce input output (end.Refused fault) =
-      LacksBuffer input fault × Passes output (canonical_all (err_packets fault))
-  RefusesAtOnce input output end.WriteFailed = (fault : ServeFault) × LacksBuffer input fault
-      × SendsSome output (canonical_all (err_packets fault)) × KeepsPassed output.passed_on
-  RefusesAtOnce input output _ = ⊥
+-- there is none, and the refusal is written, or a beginning of it stands
+abbrev pub RefusesAtOnce : Input → Output → ExchangeEnd → Type 0
+RefusesAtOnce input output (end.Refused fault) =
+    LacksBuffer input fault × Passes output (canonical_all (err_packets fault))
+RefusesAtOnce input output end.WriteFailed = (fault : ServeFault) × LacksBuffer input fault
+    × SendsSome output (canonical_all (err_packets fault)) × KeepsPassed output.passed_on
+RefusesAtOnce input output _ = ⊥
 
-  -- one request is read and answered, or there is no memory to begin
-  abbrev pub ServesOne : Input → Output → ExchangeEnd → Type 0
-  ServesOne input output ended =
-      Exchanges server packs fails ends input output ended ⊎ RefusesAtOnce input output ended
+-- one request is read and answered, or there is no memory to begin
+abbrev pub ServesOne : {A : Type 0} → Server A → Packs A → PackFails A → Ends → Input → Output → ExchangeEnd → Type 0
+ServesOne server packs fails ends input output ended =
+    Exchanges server packs fails ends input output ended ⊎ RefusesAtOnce input output ended

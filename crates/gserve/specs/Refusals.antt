@@ -1,4 +1,4 @@
--- What a client is told of a refusal (gitprotocol-pack(5), "error-line").
+-- What a client reads of a refusal (gitprotocol-pack(5), "error-line").
 use Rattle.std.specs.Prelude.{ℕ, List, [], ◌∷◌, ◌++◌, codes}
 use Rattle.gname.specs.Ids.{id_text}
 use Rattle.gpkt.specs.Packets.{Packet}
@@ -21,15 +21,15 @@ max_id_text = 64
 abbrev pub max_detail : ℕ
 max_detail = 65
 
--- of a want that is not held the id is told
+-- a want that is not held is named by its id
 abbrev pub detail_of : ServeFault → List ℕ
 detail_of (fault.NotOurs id) = codes " " ++ id_text id
 detail_of _ = []
 
--- what is told
+-- the text of a refusal
 unfoldable pub err_text : ServeFault → List ℕ
 err_text fault = codes "upload-pack: " ++ (serve_fault_row fault).phrase ++ detail_of fault
 
--- the line that tells it
+-- its line
 unfoldable pub err_packets : ServeFault → List Packet
 err_packets fault = text_packet (codes "ERR " ++ err_text fault) ∷ []

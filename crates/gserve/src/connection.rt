@@ -1,8 +1,9 @@
 //! A connection, from the advertisement to its end.
 
 ghost use Rattle.std.specs.Prelude.{◌≡◌, false, OnOk};
-ghost use Rattle.gpkt.specs.Sending.{input_of, output_of};
-ghost use Rattle.gserve.specs.Conversations.{Serves};
+ghost use Rattle.gpkt.specs.Packets.{canonical_all};
+ghost use Rattle.gpkt.specs.Sending.{input_of, output_of, Passes};
+ghost use Rattle.gserve.specs.Conversations.{Serves, advert_packets};
 ghost use Rattle.gserve.specs.Steps.{Advertises, RefusesFirst, end_after};
 
 use crate::exchange::{ExchangeEnd, exchange};
@@ -59,23 +60,39 @@ pub fn serve<S: Source, W: Sink, A: Allocator + Copy, K: Packer<A>>(
     ensures sink_loans { W.loans sink.new ≡ W.loans sink.old }
 {
     let mut writer = LineWriter::new(sink);
-    let served = match LineBuffer::new(server.graph().allocator()) {
-        Ok(buffer) => {
-            let mut reader = LineReader::with_buffer(buffer, source);
-            let served = converse(server, packer, ends, &mut reader, &mut writer);
-            let _source = reader.into_inner();
-            served
-        }
-        Err(fault) => Served {
-            requests: 0,
-            end: refuse_at_once(ServeFault::Reader(fault), &mut writer),
-        },
-    };
+    let served = serve_to(server, packer, ends, source, &mut writer);
     let _sink = writer.into_inner();
     served
 }
 
-// Advertises, and answers one request after the other.
+fn serve_to<S: Source, W: Sink, A: Allocator + Copy, K: Packer<A>>(
+    server: &Server<A>,
+    packer: &K,
+    ends: Ends,
+    source: &mut S,
+    writer: &mut LineWriter<W>,
+) -> Served
+    requires { writer.old.failed ≡ false }
+    ensures serves { Serves server.now (K.packs packer.now) (K.pack_fails packer.now) ends
+        (input_of S.remaining S.is_down source.old source.new)
+        (output_of W.contents W.passed_on W.is_down writer.old.sink writer.new.sink) result.requests result.end }
+    ensures source_loans { S.loans source.new ≡ S.loans source.old }
+    ensures sink_loans { W.loans writer.new.sink ≡ W.loans writer.old.sink }
+{
+    let buffer = match LineBuffer::new(server.graph().allocator()) {
+        Ok(buffer) => buffer,
+        Err(fault) => {
+            let end = refuse_first(ServeFault::Reader(fault), writer);
+            return Served { requests: 0, end };
+        }
+    };
+    let mut reader = LineReader::with_buffer(buffer, source);
+    let served = converse(server, packer, ends, &mut reader, writer);
+    let _source = reader.into_inner();
+    served
+}
+
+// Advertises, and answers all requests.
 fn converse<S: Source, W: Sink, A: Allocator + Copy, K: Packer<A>>(
     server: &Server<A>,
     packer: &K,
@@ -91,15 +108,37 @@ fn converse<S: Source, W: Sink, A: Allocator + Copy, K: Packer<A>>(
     ensures source_loans { S.loans reader.new.source ≡ S.loans reader.old.source }
     ensures sink_loans { W.loans writer.new.sink ≡ W.loans writer.old.sink }
 {
+    match advertise(server, writer) {
+        Ok(()) => answer_each(server, packer, ends, reader, writer),
+        Err(end) => Served { requests: 0, end },
+    }
+}
+
+// Answers one request after the other: what is then written from the start of the connection, where the advertisement
+// was passed on.
+fn answer_each<S: Source, W: Sink, A: Allocator + Copy, K: Packer<A>>(
+    server: &Server<A>,
+    packer: &K,
+    ends: Ends,
+    reader: &mut LineReader<S, A>,
+    writer: &mut LineWriter<W>,
+) -> Served
+    requires reader { reader.old.failed ≡ false }
+    requires writer { writer.old.failed ≡ false }
+    ensures serves { (start : W)
+        → Passes (output_of W.contents W.passed_on W.is_down start writer.old.sink) (canonical_all (advert_packets server.now.graph.format))
+        → Serves server.now (K.packs packer.now) (K.pack_fails packer.now) ends
+        (input_of S.remaining S.is_down reader.old.source reader.new.source)
+        (output_of W.contents W.passed_on W.is_down start writer.new.sink) result.requests result.end }
+    ensures source_loans { S.loans reader.new.source ≡ S.loans reader.old.source }
+    ensures sink_loans { W.loans writer.new.sink ≡ W.loans writer.old.sink }
+{
     canonical_spells();
     reads_join();
-    if let Err(end) = advertise(server, writer) {
-        return Served { requests: 0, end };
-    }
     for requests in 0..MAX_REQUESTS {
-        let ended = exchange(server, packer, ends, reader, writer);
-        if let Some(end) = end_after(ended) {
-            return Served { requests, end };
+        match end_after(exchange(server, packer, ends, reader, writer)) {
+            Some(end) => return Served { requests, end },
+            None => {}
         }
     }
     Served {
@@ -134,7 +173,7 @@ fn advertise<W: Sink, A: Allocator + Copy>(
 {
     let advert = match server.advert() {
         Ok(advert) => advert,
-        Err(fault) => return Err(refuse_at_once(fault, writer)),
+        Err(fault) => return Err(refuse_first(fault, writer)),
     };
     match send_advert(&advert, writer) {
         Ok(()) => Ok(()),
@@ -143,7 +182,7 @@ fn advertise<W: Sink, A: Allocator + Copy>(
 }
 
 // Reports that there is no memory to begin with.
-fn refuse_at_once<W: Sink>(fault: ServeFault, writer: &mut LineWriter<W>) -> End
+fn refuse_first<W: Sink>(fault: ServeFault, writer: &mut LineWriter<W>) -> End
     requires { writer.old.failed ≡ false }
     ensures refused { RefusesFirst fault (output_of W.contents W.passed_on W.is_down writer.old.sink writer.new.sink) result }
     ensures loans { W.loans writer.new.sink ≡ W.loans writer.old.sink }

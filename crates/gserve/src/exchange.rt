@@ -47,16 +47,32 @@ pub fn serve_one<S: Source, W: Sink, A: Allocator + Copy, K: Packer<A>>(
     ensures sink_loans { W.loans sink.new ≡ W.loans sink.old }
 {
     let mut writer = LineWriter::new(sink);
-    let ended = match LineBuffer::new(server.graph().allocator()) {
-        Ok(buffer) => {
-            let mut reader = LineReader::with_buffer(buffer, source);
-            let ended = exchange(server, packer, ends, &mut reader, &mut writer);
-            let _source = reader.into_inner();
-            ended
-        }
-        Err(fault) => refuse(ServeFault::Reader(fault), &mut writer),
-    };
+    let ended = serve_one_to(server, packer, ends, source, &mut writer);
     let _sink = writer.into_inner();
+    ended
+}
+
+fn serve_one_to<S: Source, W: Sink, A: Allocator + Copy, K: Packer<A>>(
+    server: &Server<A>,
+    packer: &K,
+    ends: Ends,
+    source: &mut S,
+    writer: &mut LineWriter<W>,
+) -> ExchangeEnd
+    requires { writer.old.failed ≡ false }
+    ensures exchange { ServesOne server.now (K.packs packer.now) (K.pack_fails packer.now) ends
+        (input_of S.remaining S.is_down source.old source.new)
+        (output_of W.contents W.passed_on W.is_down writer.old.sink writer.new.sink) result }
+    ensures source_loans { S.loans source.new ≡ S.loans source.old }
+    ensures sink_loans { W.loans writer.new.sink ≡ W.loans writer.old.sink }
+{
+    let buffer = match LineBuffer::new(server.graph().allocator()) {
+        Ok(buffer) => buffer,
+        Err(fault) => return refuse(ServeFault::Reader(fault), writer),
+    };
+    let mut reader = LineReader::with_buffer(buffer, source);
+    let ended = exchange(server, packer, ends, &mut reader, writer);
+    let _source = reader.into_inner();
     ended
 }
 

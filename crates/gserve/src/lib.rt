@@ -9,14 +9,14 @@
 //!   all of it is passed on. [`Served::requests`](Served) counts the replies.
 //! - It ends with the client's lone flush; where the input ends before a request, or there were [`MAX_REQUESTS`]; at the
 //!   first request that is refused, whose line is then the last thing written, and is passed on; or where the sink
-//!   fails. The fault told is the one of the request's grammar, of the server's answer, or the source's.
+//!   fails. The fault is the one of the request's grammar, of the server's answer, or the source's.
 //! - Where there is no memory for the buffer or for the advertisement, the line that says so stands in the
 //!   advertisement's place, and nothing is read.
 //! - Where the sink fails a beginning of what was due stands written: of the advertisement, of a reply, or of the line of a
 //!   refusal that was due. Each reply that counts was passed on, and stays so.
 //! - At each end it is known whether the source and the sink have failed.
 //! - [`serve_one`] does the same for one request, with no advertisement (`specs/Exchanges.antt`).
-//! - [`err_text`] writes what a client is told of a fault, at most 128 bytes.
+//! - [`err_text`] writes the text of a fault, at most 128 bytes.
 //! - No call panics, overflows or reads out of bounds, and each returns where each call of its devices does.
 //!
 //! # Only tested

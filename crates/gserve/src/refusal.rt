@@ -1,4 +1,4 @@
-//! What a client is told of a refusal (gitprotocol-pack(5), "error-line").
+//! What a client reads of a refusal (gitprotocol-pack(5), "error-line").
 
 ghost use Rattle.std.specs.Prelude.{◌≡◌, ◌≤◌, ◌+◌, ◌++◌, length, take};
 ghost use Rattle.gname.specs.Ids.{id_text};
@@ -15,7 +15,7 @@ use gpkt::{LineWriter, Sink, WriteFault};
 /// The most bytes of a refusal's text.
 pub const MAX_ERR_TEXT: usize = 128;
 
-/// Writes what a client is told of a refusal into the front of the buffer, and answers how many bytes that are. It
+/// Writes the text of a refusal into the front of the buffer, and answers how many bytes that are. It
 /// takes no memory.
 pub fn err_text(fault: &ServeFault, out: &mut [u8; MAX_ERR_TEXT]) -> usize
     ensures few { result ≤ max_err_text }
@@ -50,7 +50,7 @@ fn add_phrase(fault: &ServeFault, text: &mut ArrayVec<u8, MAX_ERR_TEXT>)
     add(fault.phrase().as_bytes(), text);
 }
 
-// Of a want that is not held the id is told.
+// A want that is not held is named by its id.
 fn add_detail(fault: &ServeFault, text: &mut ArrayVec<u8, MAX_ERR_TEXT>)
     requires { length text.old.items + max_detail ≤ max_err_text }
     ensures text { text.new.items ≡ text.old.items ++ detail_of fault.now }

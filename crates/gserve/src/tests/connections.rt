@@ -1,7 +1,8 @@
 //! Whole connections, byte by byte (gitprotocol-v2(5)).
 use super::samples::{
-    ADVERT, ADVERT_SHA256, CLONE, CLONE_REPLY, EMPTY, ENDED_EARLY, FETCH, FETCH_REPLY, REFS, REFS_REPLY, SERVER, SHA256,
-    TAGGED, TAGGED_TWICE, Told, check, joined, serve_bytes, server, spelled, told_one,
+    ADVERT, ADVERT_SHA256, CLONE, CLONE_REPLY, EMPTY, ENDED_EARLY, Ending, FETCH, FETCH_REPLY,
+    REFS, REFS_REPLY, SERVER, SHA256, TAGGED, TAGGED_TWICE, check, ending_of_one, joined,
+    serve_bytes, server, spelled,
 };
 use crate::serve_one;
 use ggrammar::Ends;
@@ -83,7 +84,7 @@ const ANSWERED: &[Sample] = &[
         b"0012command=fetch\n00010010no-progress\n0010include-tag\n0032want {c}\n0009done\n0000",
         b"000dpackfile\n018b\x01GPK1\nc {a}\nc {b} {a}\nc {c} {b}\nt {1} {c}\nt {2} {1}\nend 5\n0000",
     ),
-    // A HEAD on a branch that is not there is told where it is asked for.
+    // A HEAD on a branch that is not there is shown where it is asked for.
     (
         EMPTY,
         b"0014command=ls-refs\n0001000bunborn\n0000",
@@ -97,7 +98,7 @@ const ANSWERED: &[Sample] = &[
     (EMPTY, b"0014command=ls-refs\n0000", b"0000"),
 ];
 
-// A connection of one request: its reply stands behind the advertisement.
+// A connection of one request: its reply stands after the advertisement.
 #[test]
 fn a_request_is_answered(rt: HostRuntime) -> Result<(), Fail> {
     let alloc = rt.alloc();
@@ -105,7 +106,7 @@ fn a_request_is_answered(rt: HostRuntime) -> Result<(), Fail> {
         let input = spelled(alloc, request)?;
         let written = joined(alloc, &[ADVERT, reply])?;
         let served = serve_bytes(alloc, text, Ends::Plain, input.as_slice())?;
-        check(&rt, &served, (1, Told::Ended), written.as_slice());
+        check(&rt, &served, (1, Ending::Ended), written.as_slice());
     }
     Ok(())
 }
@@ -120,7 +121,7 @@ fn one_request_is_answered(rt: HostRuntime) -> Result<(), Fail> {
         let mut source = SliceSource::new(input.as_slice());
         let mut sink = VecSink::new(alloc);
         let end = serve_one(&server, &PlainPack, Ends::Plain, &mut source, &mut sink);
-        assert_eq!(rt; told_one(&end), Told::Answered);
+        assert_eq!(rt; ending_of_one(&end), Ending::Answered);
         assert_eq!(rt; source.rest(), REFS);
         assert_eq!(rt; sink.passed_on(), spelled(alloc, reply)?.as_slice());
     }
@@ -131,14 +132,14 @@ fn one_request_is_answered(rt: HostRuntime) -> Result<(), Fail> {
 fn one_request_may_be_missing(rt: HostRuntime) -> Result<(), Fail> {
     let alloc = rt.alloc();
     for (input, wanted) in [
-        (b"0000".as_slice(), Told::Closed),
-        (b"".as_slice(), Told::Ended),
+        (b"0000".as_slice(), Ending::Closed),
+        (b"".as_slice(), Ending::Ended),
     ] {
         let server = server(alloc, SERVER)?;
         let mut source = SliceSource::new(input);
         let mut sink = VecSink::new(alloc);
         let end = serve_one(&server, &PlainPack, Ends::Plain, &mut source, &mut sink);
-        assert_eq!(rt; told_one(&end), wanted);
+        assert_eq!(rt; ending_of_one(&end), wanted);
         assert!(rt; sink.written().is_empty() && sink.flushes() == 0);
     }
     Ok(())
@@ -150,9 +151,9 @@ fn nothing_is_asked(rt: HostRuntime) -> Result<(), Fail> {
     let alloc = rt.alloc();
     for (text, advert) in [(SERVER, ADVERT), (SHA256, ADVERT_SHA256)] {
         let closed = serve_bytes(alloc, text, Ends::Plain, b"0000")?;
-        check(&rt, &closed, (0, Told::Closed), advert);
+        check(&rt, &closed, (0, Ending::Closed), advert);
         let gone = serve_bytes(alloc, text, Ends::Plain, b"")?;
-        check(&rt, &gone, (0, Told::Ended), advert);
+        check(&rt, &gone, (0, Ending::Ended), advert);
     }
     Ok(())
 }
@@ -170,21 +171,33 @@ fn requests_follow_each_other(rt: HostRuntime) -> Result<(), Fail> {
     assert_eq!(rt; source.rest(), REFS);
     assert_eq!(rt; sink.flushes(), 4);
     assert_eq!(rt; sink.passed_on(), written.as_slice());
-    check(&rt, &(served, sink.into_written()), (3, Told::Closed), written.as_slice());
+    check(
+        &rt,
+        &(served, sink.into_written()),
+        (3, Ending::Closed),
+        written.as_slice(),
+    );
     Ok(())
 }
 
-// Each reply ends with a response-end where that is told, and the line of a refusal does not.
+// Each reply ends with a response-end where it is to, and the line of a refusal does not.
 #[test]
 fn replies_end_with_response_end(rt: HostRuntime) -> Result<(), Fail> {
     let alloc = rt.alloc();
     let input = joined(alloc, &[REFS, FETCH, b"0014command=ls-refs\n0001"])?;
     let written = joined(
         alloc,
-        &[ADVERT, REFS_REPLY, b"0002", FETCH_REPLY, b"0002", ENDED_EARLY],
+        &[
+            ADVERT,
+            REFS_REPLY,
+            b"0002",
+            FETCH_REPLY,
+            b"0002",
+            ENDED_EARLY,
+        ],
     )?;
     let served = serve_bytes(alloc, SERVER, Ends::Response, input.as_slice())?;
-    check(&rt, &served, (2, Told::At(54, 2)), written.as_slice());
+    check(&rt, &served, (2, Ending::At(54, 2)), written.as_slice());
     Ok(())
 }
 
@@ -204,7 +217,7 @@ fn sha256_is_served(rt: HostRuntime) -> Result<(), Fail> {
         ],
     )?;
     let served = serve_bytes(alloc, SHA256, Ends::Plain, input.as_slice())?;
-    check(&rt, &served, (1, Told::Ended), written.as_slice());
+    check(&rt, &served, (1, Ending::Ended), written.as_slice());
     Ok(())
 }
 
@@ -223,11 +236,11 @@ fn wants_have_a_limit(rt: HostRuntime) -> Result<(), Fail> {
     input.extend_from_slice(b"0000")?;
     let written = joined(alloc, &[ADVERT, CLONE_REPLY])?;
     let served = serve_bytes(alloc, SERVER, Ends::Plain, input.as_slice())?;
-    check(&rt, &served, (1, Told::Ended), written.as_slice());
+    check(&rt, &served, (1, Ending::Ended), written.as_slice());
     input.truncate(end);
     input.extend_from_slice(want.as_slice())?;
     let refused = joined(alloc, &[ADVERT, b"0024ERR upload-pack: limit exceeded\n"])?;
     let served = serve_bytes(alloc, SERVER, Ends::Plain, input.as_slice())?;
-    check(&rt, &served, (0, Told::At(48, 1027)), refused.as_slice());
+    check(&rt, &served, (0, Ending::At(48, 1027)), refused.as_slice());
     Ok(())
 }

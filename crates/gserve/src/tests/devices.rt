@@ -2,7 +2,8 @@
 ghost use Rattle.std.specs.Prelude.{◌≡◌, None, [], false};
 
 use super::samples::{
-    ADVERT, FETCH, FETCH_REPLY, READ_FAILED, REFS, REFS_REPLY, SERVER, Told, joined, server, told,
+    ADVERT, Ending, FETCH, FETCH_REPLY, READ_FAILED, REFS, REFS_REPLY, SERVER, ending_of, joined,
+    server,
 };
 use crate::{Served, serve};
 use ggrammar::Ends;
@@ -39,7 +40,10 @@ fn bytes_come_and_go_one_by_one(rt: HostRuntime) -> Result<(), Fail> {
     let mut source = Limited::new(SliceSource::new(input.as_slice())).with_most(1);
     let mut sink = Limited::new(VecSink::new(alloc)).with_most(1);
     let served = serve_over(alloc, &mut source, &mut sink)?;
-    assert_eq!(rt; (served.requests, told(&served.end)), (2, Told::Ended));
+    assert_eq!(rt;
+        (served.requests, ending_of(&served.end)),
+        (2, Ending::Ended)
+    );
     assert_eq!(rt; sink.into_inner().passed_on(), output.as_slice());
     Ok(())
 }
@@ -64,14 +68,14 @@ fn reads_fail(rt: HostRuntime) -> Result<(), Fail> {
         let mut sink = VecSink::new(alloc);
         let served = serve_over(alloc, &mut source, &mut sink)?;
         let count = served.requests as usize;
-        match told(&served.end) {
-            Told::At(code, _) => {
+        match ending_of(&served.end) {
+            Ending::At(code, _) => {
                 assert_eq!(rt; code, 24);
                 assert_eq!(rt; sink.passed_on(), replies[count].as_slice());
                 seen[count] += 1;
             }
             other => {
-                assert_eq!(rt; (served.requests, other), (2, Told::Ended));
+                assert_eq!(rt; (served.requests, other), (2, Ending::Ended));
                 assert_eq!(rt; sink.passed_on(), output.as_slice());
             }
         }
@@ -99,14 +103,14 @@ fn writes_fail(rt: HostRuntime) -> Result<(), Fail> {
         let sink = sink.into_inner();
         let count = served.requests as usize;
         assert!(rt; output.as_slice().starts_with(sink.written()));
-        match told(&served.end) {
-            Told::WriteFailed => {
+        match ending_of(&served.end) {
+            Ending::WriteFailed => {
                 let is_begun = count == 0 && sink.passed_on().is_empty();
                 assert!(rt; is_begun || sink.passed_on() == passed[count].as_slice());
                 seen[count] += 1;
             }
             other => {
-                assert_eq!(rt; (served.requests, other), (2, Told::Ended));
+                assert_eq!(rt; (served.requests, other), (2, Ending::Ended));
                 assert_eq!(rt; sink.passed_on(), output.as_slice());
                 seen[2] += 1;
             }
@@ -155,10 +159,10 @@ fn flushes_fail(rt: HostRuntime) -> Result<(), Fail> {
     let alloc = rt.alloc();
     let input = input(alloc)?;
     for (flushes_left, requests, end) in [
-        (0, 0, Told::WriteFailed),
-        (1, 0, Told::WriteFailed),
-        (2, 1, Told::WriteFailed),
-        (3, 2, Told::Ended),
+        (0, 0, Ending::WriteFailed),
+        (1, 0, Ending::WriteFailed),
+        (2, 1, Ending::WriteFailed),
+        (3, 2, Ending::Ended),
     ] {
         let mut source = SliceSource::new(input.as_slice());
         let mut sink = Unflushed {
@@ -166,7 +170,7 @@ fn flushes_fail(rt: HostRuntime) -> Result<(), Fail> {
             is_down: false,
         };
         let served = serve_over(alloc, &mut source, &mut sink)?;
-        assert_eq!(rt; (served.requests, told(&served.end)), (requests, end));
+        assert_eq!(rt; (served.requests, ending_of(&served.end)), (requests, end));
     }
     Ok(())
 }

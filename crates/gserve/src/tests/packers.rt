@@ -2,7 +2,7 @@
 ghost use Rattle.std.specs.Prelude.{⊤};
 
 use super::samples::{
-    ADVERT, CLONE, FETCH, PACK_FAILED, REFS, REFS_REPLY, SERVER, Told, check, joined, serve_with,
+    ADVERT, CLONE, Ending, FETCH, PACK_FAILED, REFS, REFS_REPLY, SERVER, check, joined, serve_with,
 };
 use ggrammar::Ends;
 use ggraph::{Entry, PackFault, Packer};
@@ -50,7 +50,7 @@ fn a_packer_fails(rt: HostRuntime) -> Result<(), Fail> {
     for fault in [PackFault::Memory, PackFault::TooLarge, PackFault::Other] {
         let packer = Broken { fault };
         let served = serve_with(alloc, SERVER, &packer, Ends::Plain, input.as_slice())?;
-        check(&rt, &served, (1, Told::Fault(65)), written.as_slice());
+        check(&rt, &served, (1, Ending::Fault(65)), written.as_slice());
     }
     Ok(())
 }
@@ -72,7 +72,7 @@ fn a_packer_lies(rt: HostRuntime) -> Result<(), Fail> {
         let input = joined(alloc, &[FETCH])?;
         let written = joined(alloc, &[ADVERT, reply])?;
         let served = serve_with(alloc, SERVER, &Same { pack }, Ends::Plain, input.as_slice())?;
-        check(&rt, &served, (1, Told::Ended), written.as_slice());
+        check(&rt, &served, (1, Ending::Ended), written.as_slice());
     }
     Ok(())
 }

@@ -9,25 +9,31 @@ use std::process::Abort;
 use std::test::Fail;
 
 /// Three commits, a branch at the last, and HEAD on it.
-pub(super) const SERVER: &[u8] = b"gitv2 1\nc {a}\nc {b} {a}\nc {c} {b}\nr {c} refs/heads/main\nh ref refs/heads/main\nend\n";
+pub(super) const SERVER: &[u8] =
+    b"gitv2 1\nc {a}\nc {b} {a}\nc {c} {b}\nr {c} refs/heads/main\nh ref refs/heads/main\nend\n";
 
 /// The same with a tag of the last commit, and a ref at it.
-pub(super) const TAGGED: &[u8] = b"gitv2 1\nc {a}\nc {b} {a}\nc {c} {b}\nt {1} {c}\nr {c} refs/heads/main\nr {1} refs/tags/v1\nh ref refs/heads/main\nend\n";
+pub(super) const TAGGED: &[u8] =
+    b"gitv2 1\nc {a}\nc {b} {a}\nc {c} {b}\nt {1} {c}\nr {c} refs/heads/main\nr {1} refs/tags/v1\nh ref refs/heads/main\nend\n";
 
 /// The same with a tag of that tag, and a ref at it, too.
-pub(super) const TAGGED_TWICE: &[u8] = b"gitv2 1\nc {a}\nc {b} {a}\nc {c} {b}\nt {1} {c}\nt {2} {1}\nr {c} refs/heads/main\nr {1} refs/tags/v1\nr {2} refs/tags/v2\nh ref refs/heads/main\nend\n";
+pub(super) const TAGGED_TWICE: &[u8] =
+    b"gitv2 1\nc {a}\nc {b} {a}\nc {c} {b}\nt {1} {c}\nt {2} {1}\nr {c} refs/heads/main\nr {1} refs/tags/v1\nr {2} refs/tags/v2\nh ref refs/heads/main\nend\n";
 
 /// Nothing, and HEAD on a branch that is not there.
 pub(super) const EMPTY: &[u8] = b"gitv2 1\nh ref refs/heads/main\nend\n";
 
 /// The three commits with SHA-256 ids.
-pub(super) const SHA256: &[u8] = b"gitv2 2 sha256\nc [a]\nc [b] [a]\nc [c] [b]\nr [c] refs/heads/main\nh ref refs/heads/main\nend\n";
+pub(super) const SHA256: &[u8] =
+    b"gitv2 2 sha256\nc [a]\nc [b] [a]\nc [c] [b]\nr [c] refs/heads/main\nh ref refs/heads/main\nend\n";
 
 /// What a server of SHA-1 ids advertises.
-pub(super) const ADVERT: &[u8] = b"000eversion 2\n0012agent=gitv2/1\n0013ls-refs=unborn\n000afetch\n0017object-format=sha1\n0000";
+pub(super) const ADVERT: &[u8] =
+    b"000eversion 2\n0012agent=gitv2/1\n0013ls-refs=unborn\n000afetch\n0017object-format=sha1\n0000";
 
 /// What a server of SHA-256 ids advertises.
-pub(super) const ADVERT_SHA256: &[u8] = b"000eversion 2\n0012agent=gitv2/1\n0013ls-refs=unborn\n000afetch\n0019object-format=sha256\n0000";
+pub(super) const ADVERT_SHA256: &[u8] =
+    b"000eversion 2\n0012agent=gitv2/1\n0013ls-refs=unborn\n000afetch\n0019object-format=sha256\n0000";
 
 /// A request for refs, and its reply.
 pub(super) const REFS: &[u8] =
@@ -36,7 +42,8 @@ pub(super) const REFS: &[u8] =
 pub(super) const REFS_REPLY: &[u8] = b"003d{c} refs/heads/main\n0000";
 
 /// A clone, and its reply.
-pub(super) const CLONE: &[u8] = b"0012command=fetch\n00010010no-progress\n0032want {c}\n0009done\n0000";
+pub(super) const CLONE: &[u8] =
+    b"0012command=fetch\n00010010no-progress\n0032want {c}\n0009done\n0000";
 
 pub(super) const CLONE_REPLY: &[u8] =
     b"000dpackfile\n00e3\x01GPK1\nc {a}\nc {b} {a}\nc {c} {b}\nend 3\n0000";
@@ -45,7 +52,8 @@ pub(super) const CLONE_REPLY: &[u8] =
 pub(super) const FETCH: &[u8] =
     b"0012command=fetch\n00010010no-progress\n0032want {c}\n0032have {a}\n0000";
 
-pub(super) const FETCH_REPLY: &[u8] = b"0014acknowledgments\n0031ACK {a}\n000aready\n0001000dpackfile\n00b8\x01GPK1\nc {b} {a}\nc {c} {b}\nend 2\n0000";
+pub(super) const FETCH_REPLY: &[u8] =
+    b"0014acknowledgments\n0031ACK {a}\n000aready\n0001000dpackfile\n00b8\x01GPK1\nc {b} {a}\nc {c} {b}\nend 2\n0000";
 
 /// The lines of refusals.
 pub(super) const ENDED_EARLY: &[u8] = b"0024ERR upload-pack: unexpected end\n";
@@ -58,7 +66,7 @@ pub(super) const NO_MEMORY: &[u8] = b"0023ERR upload-pack: out of memory\n";
 
 /// How a connection or an exchange ended, by the number of its fault, and the frame where it has one.
 #[derive(Clone, Copy, Debug, PartialEq, Eq)]
-pub(super) enum Told {
+pub(super) enum Ending {
     Answered,
     Closed,
     Ended,
@@ -67,29 +75,29 @@ pub(super) enum Told {
     At(u32, u64),
 }
 
-fn told_fault(fault: &ServeFault) -> Told {
+fn ending_of_fault(fault: &ServeFault) -> Ending {
     match fault {
-        ServeFault::Request(cause) => Told::At(cause.code(), cause.frame),
-        other => Told::Fault(other.code()),
+        ServeFault::Request(cause) => Ending::At(cause.code(), cause.frame),
+        other => Ending::Fault(other.code()),
     }
 }
 
-pub(super) fn told(end: &End) -> Told {
+pub(super) fn ending_of(end: &End) -> Ending {
     match end {
-        End::Closed => Told::Closed,
-        End::Ended => Told::Ended,
-        End::WriteFailed => Told::WriteFailed,
-        End::Refused(fault) => told_fault(fault),
+        End::Closed => Ending::Closed,
+        End::Ended => Ending::Ended,
+        End::WriteFailed => Ending::WriteFailed,
+        End::Refused(fault) => ending_of_fault(fault),
     }
 }
 
-pub(super) fn told_one(end: &ExchangeEnd) -> Told {
+pub(super) fn ending_of_one(end: &ExchangeEnd) -> Ending {
     match end {
-        ExchangeEnd::Answered => Told::Answered,
-        ExchangeEnd::Closed => Told::Closed,
-        ExchangeEnd::Ended => Told::Ended,
-        ExchangeEnd::WriteFailed => Told::WriteFailed,
-        ExchangeEnd::Refused(fault) => told_fault(fault),
+        ExchangeEnd::Answered => Ending::Answered,
+        ExchangeEnd::Closed => Ending::Closed,
+        ExchangeEnd::Ended => Ending::Ended,
+        ExchangeEnd::WriteFailed => Ending::WriteFailed,
+        ExchangeEnd::Refused(fault) => ending_of_fault(fault),
     }
 }
 
@@ -175,10 +183,10 @@ pub(super) fn serve_bytes(
 pub(super) fn check(
     rt: &impl Abort,
     served: &(Served, Vec<u8>),
-    wanted: (u32, Told),
+    wanted: (u32, Ending),
     written: &[u8],
 ) {
     assert_eq!(rt; served.1.as_slice(), written);
     assert_eq!(rt; served.0.requests, wanted.0);
-    assert_eq!(rt; told(&served.0.end), wanted.1);
+    assert_eq!(rt; ending_of(&served.0.end), wanted.1);
 }

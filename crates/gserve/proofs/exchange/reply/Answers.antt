@@ -10,10 +10,11 @@ pub returns-in-Ok-Nothing-clause-replies : goal.returns-in-Ok-Nothing-clause-rep
 returns-in-Ok-Nothing-clause-replies g c =
     let server = c.args.server.now in
     let packs = g.K.Packer.packs c.args.packer.now in
-    let asked = asked_by_request c.args.request.now in
-    (nothing_to_empty server packs asked
-      (subst (λ (reply : Reply g.row.A.Denot). Answers server packs asked (reply_of reply)) c.in-Ok-Nothing.field-0-is c.in-Ok-Nothing.ensures.answer),
-      record { written = refl; passed_on = refl; down = refl })
+    let asked = asked_by_request c.args.request.now in (
+      nothing_to_empty server packs asked
+          (subst (λ (reply : Reply g.row.A.Denot). Answers server packs asked (reply_of reply)) c.in-Ok-Nothing.field-0-is c.in-Ok-Nothing.ensures.answer),
+      record { written = refl; passed_on = refl; down = refl },
+    )
 
 pub returns-in-Ok-Ls-clause-replies : goal.returns-in-Ok-Ls-clause-replies
 returns-in-Ok-Ls-clause-replies g c =
