@@ -132,7 +132,7 @@ module _ {A S W : Type 0} (server : Server A) (packs : Packs A) (fails : PackFai
   answered_more joins join r s t a b c requests before (turn, read, passed) = record {
     turns = before.turns ++ turn ∷ [];
     read = turns_more server packs join (remaining r) (remaining s) (remaining t) before.turns turn before.read read.lines read.is_turn;
-    count = ap (λ n. n + 1) before.count ∙ sym (length-append before.turns (turn ∷ []));
+    count = ap (λ (n : ℕ). n + 1) before.count ∙ sym (length-append before.turns (turn ∷ []));
     passed = subst (λ (bytes : List ℕ). Passes (output_of contents passed_on sink_down a c) bytes) (talk_more joins server.graph.format ends before.turns turn)
         (passes_join contents passed_on sink_down a b c _ _ before.passed passed);
     up = λ more. read.up;

@@ -119,8 +119,10 @@ module _ {W : Type 0} (contents passed_on : W → Option (List ℕ)) (is_down : 
   push_goes_on b c (Ok done) pushed = pushed.outcome.0.1
   push_goes_on b c (Err fault) pushed = tt
 
-  -- ---- one after the other
+-- ---- one after the other
 
+module _ {W : Type 0} (contents passed_on : W → Option (List ℕ)) (is_down : W → Bool) where
+  -- what is written next, and passed on
   pub passes_join : (a b c : W) (xs ys : List ℕ) → Passes (output_of contents passed_on is_down a b) xs
       → Passes (output_of contents passed_on is_down b c) ys → Passes (output_of contents passed_on is_down a c) (xs ++ ys)
   passes_join a b c xs ys first next = record {
@@ -131,6 +133,7 @@ module _ {W : Type 0} (contents passed_on : W → Option (List ℕ)) (is_down : 
     up = next.up;
   }
 
+  -- what is due next, of which a beginning is written
   pub fails_after : (a b c : W) (xs due : List ℕ) → Passes (output_of contents passed_on is_down a b) xs
       → SendsSome (output_of contents passed_on is_down b c) due
       → KeepsPassed (output_of contents passed_on is_down b c).passed_on

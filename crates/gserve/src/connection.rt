@@ -114,8 +114,8 @@ fn converse<S: Source, W: Sink, A: Allocator + Copy, K: Packer<A>>(
     }
 }
 
-// Answers one request after the other: what is then written from the start of the connection, where the advertisement
-// was passed on.
+// Answers one request after the other, of a connection that began at another state of the sink, from which the
+// advertisement was passed on.
 fn answer_each<S: Source, W: Sink, A: Allocator + Copy, K: Packer<A>>(
     server: &Server<A>,
     packer: &K,

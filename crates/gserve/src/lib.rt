@@ -1,5 +1,5 @@
-//! Served connections of Git's fetch service, protocol version 2 (gitprotocol-v2(5)): the advertisement, and then the answer
-//! to each request; or one request alone.
+//! Served connections of Git's fetch service, protocol version 2 (gitprotocol-v2(5)): the advertisement, and then the
+//! answer to each request; or one request alone.
 //!
 //! # Proved
 //!
@@ -12,8 +12,8 @@
 //!   fails. The fault is the one of the request's grammar, of the server's answer, or the source's.
 //! - Where there is no memory for the buffer or for the advertisement, the line that says so stands in the
 //!   advertisement's place, and nothing is read.
-//! - Where the sink fails a beginning of what was due stands written: of the advertisement, of a reply, or of the line of a
-//!   refusal that was due. Each reply that counts was passed on, and stays so.
+//! - Where the sink fails a beginning of what was due stands written: of the advertisement, of a reply, or of the line
+//!   of a refusal that was due. Each reply that counts was passed on, and stays so.
 //! - At each end it is known whether the source and the sink have failed.
 //! - [`serve_one`] does the same for one request, with no advertisement (`specs/Exchanges.antt`).
 //! - [`err_text`] writes the text of a fault, at most 128 bytes.
@@ -32,9 +32,9 @@
 //!
 //! # Stands on
 //!
-//! `ganswer` for the server and its answers; `grequest`, `glsreply`, `gfetchreply` and `ghello` for the messages, `ggrammar`
-//! and `gpkt` for what these share, `ggraph` for packers, `gname` for the digits of an id, `arrayvec` for a text of
-//! bounded length; in tests `bumpalo`, for memory that ends.
+//! `ganswer` for the server and its answers; `grequest`, `glsreply`, `gfetchreply` and `ghello` for the messages,
+//! `ggrammar` and `gpkt` for what these share, `ggraph` for packers, `gname` for the digits of an id, `arrayvec` for a
+//! text of bounded length; in tests `bumpalo`, for memory that ends.
 #![tactic(auto)]
 
 mod connection;
