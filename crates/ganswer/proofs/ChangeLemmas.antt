@@ -1,5 +1,5 @@
 -- A server to which an object came, or of which a ref was set, is one.
-use Rattle.std.proofs.Common.{◌≡◌, ◌⊎◌, inl, inr, ℕ, List, [], ◌∷◌, All, Bool, Contains, Some, None, IsSome, Result, Ok, Err, refl, sym, subst}
+use Rattle.std.proofs.Common.{◌≡◌, ◌⊎◌, inl, inr, ℕ, List, [], ◌∷◌, All, Bool, Contains, IsSome, Result, Ok, Err, refl, sym, subst}
 use Rattle.std.specs.Prelude.{OnErr, OnOk}
 use Rattle.std.specs.Map.{values_of}
 use Rattle.std.proofs.lemmas.List.Elements.{All-contains, All-cons, All-head, All-nil, All-tail, All-weaker}
@@ -14,7 +14,7 @@ use Rattle.ghistory.specs.Reach.{Keeps}
 use Rattle.grefs.specs.RefLists.{IsRefs, RefList, SetsRef}
 use Rattle.grefs.specs.declared.head.Head.{Head}
 use Rattle.grefs.specs.declared.head.Head.TheVariants as heads
-use Rattle.ganswer.specs.Servers.{Server, HoldsHead, HoldsRefs, IsServer, served}
+use Rattle.ganswer.specs.Servers.{HoldsHead, HoldsRefs, IsServer, served}
 use Rattle.ganswer.proofs.FormatLemmas.{some_is, unmap}
 
 module _ {A : Type 0} where
@@ -36,6 +36,7 @@ module _ {A : Type 0} where
     closed = law old.format old.entries entry new.entries is.closed parents comes;
     held = All-weaker (Holds old.entries) (Holds new.entries) (still_held old.entries new.entries keeps) (values_of refs) is.held;
     head = head_stays old.entries new.entries keeps head is.head;
+    target = is.target;
   }
 
   from_each : (g : List (Entry A)) (old : RefList) (name id : List ℕ) → HoldsRefs g old → Holds g id → (new : RefList)
@@ -59,6 +60,7 @@ module _ {A : Type 0} where
     closed = is.closed;
     held = from_each graph.entries old name id is.held held new sets.each;
     head = is.head;
+    target = is.target;
   }
 
   -- ---- by what the calls answer

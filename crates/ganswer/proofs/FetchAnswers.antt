@@ -1,5 +1,5 @@
 -- Why a request for objects is refused, and when a pack is due.
-use Rattle.std.proofs.Common.{◌≡◌, ℕ, true, false, List, Err, Ok, sym, subst}
+use Rattle.std.proofs.Common.{◌≡◌, true, false, Err, Ok, sym, subst}
 use Rattle.gobject.specs.Packs.{PackFails, Packs}
 use Rattle.grequest.specs.Asked.{FetchAsked, is_direct}
 use Rattle.ganswer.specs.Answers.{ChecksWants, FetchRefuses, PacksFor}

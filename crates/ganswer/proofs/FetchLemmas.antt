@@ -1,5 +1,5 @@
 -- The common ids have the format of the graph, and are not too many to be acknowledged.
-use Rattle.std.proofs.Common.{◌≡◌, ℕ, ◌+◌, ◌≤◌, Bool, true, false, cond, List, [], ◌∷◌, ◌++◌, length, All, Option, Some, None, IsSome, refl, sym, ap, ap₂, ◌∙◌, ◌&&◌, subst, arith}
+use Rattle.std.proofs.Common.{◌≡◌, ℕ, ◌≤◌, Bool, true, cond, List, [], ◌∷◌, ◌++◌, length, Some, None, refl, ap, ap₂, ◌∙◌, ◌&&◌, arith}
 use Rattle.std.specs.Prelude.{filter, is_some, if◌then◌else◌}
 use Rattle.std.specs.List.{list_all}
 use Rattle.std.proofs.lemmas.Bool.{eq-eqb, le-leb}
@@ -11,7 +11,7 @@ use Rattle.grequest.specs.Asked.{max_haves}
 use Rattle.gname.specs.declared.formats.Format.{Format}
 use Rattle.gobject.specs.declared.node.Entry.{Entry}
 use Rattle.gobject.specs.Objects.{node_at}
-use Rattle.ghistory.specs.Graphs.{Holds, IsGraph, History}
+use Rattle.ghistory.specs.Graphs.{IsGraph, History}
 use Rattle.ghistory.specs.Laws.{PlacesAreNodes}
 use Rattle.ghistory.specs.Levels.{is_in, new_ids}
 use Rattle.ghistory.specs.Walks.{common_of}

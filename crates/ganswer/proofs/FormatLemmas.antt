@@ -1,5 +1,5 @@
 -- The ids of a server's objects have the format of its graph, and an answer has room for its lines.
-use Rattle.std.proofs.Common.{◌≡◌, ℕ, ◌+◌, ◌≤◌, ◌<◌, zero, suc, Bool, true, false, cond, ◌&&◌, List, [], ◌∷◌, ◌++◌, length, map, take, All, Option, Some, None, IsSome, refl, sym, ap, ap₂, ◌∙◌, subst, arith}
+use Rattle.std.proofs.Common.{◌≡◌, ℕ, ◌+◌, ◌≤◌, Bool, true, false, cond, ◌&&◌, List, [], ◌∷◌, ◌++◌, length, map, All, Option, Some, None, IsSome, refl, sym, ap, ap₂, ◌∙◌, subst, arith}
 use Rattle.std.specs.Prelude.{filter, find, is_none, if◌then◌else◌}
 use Rattle.std.specs.List.{slice_get}
 use Rattle.std.specs.Map.{values_of}
@@ -8,7 +8,7 @@ use Rattle.std.proofs.lemmas.Bool.{false≢true, lt-ltb}
 use Rattle.std.proofs.lemmas.List.{length-append, length-map}
 use Rattle.std.proofs.lemmas.List.Elements.{All-append, All-cons, All-filter, All-head, All-nil, All-tail}
 use Rattle.std.proofs.lemmas.Option.{none-some, same_Some, slice_get_within, get_or_from_slice_get}
-use Rattle.gname.specs.Ids.{IsIdOf, format_of}
+use Rattle.gname.specs.Ids.{IsIdOf}
 use Rattle.gname.specs.Laws.{IdsHaveOneFormat}
 use Rattle.gname.specs.Names.{head_name}
 use Rattle.gname.specs.declared.formats.Format.{Format}
@@ -26,8 +26,8 @@ use Rattle.grequest.specs.Asked.{LsRefsAsked}
 use Rattle.glsreply.specs.LsReplies.{LsReply, max_lines, unborn_packets}
 use Rattle.glsreply.specs.RefTexts.{RefLine}
 use Rattle.glsreply.specs.WellFormed.{first_has_format_of, has_format_of, has_one_format, has_room, is_format, line_count}
-use Rattle.ganswer.specs.LsAnswers.{HasAttributes, IsPeeled, IsPeeledIf, ShowsLines, all_refs, head_id, head_ref, is_asked, is_shown, missing_target, name_and_id, unborn_of}
-use Rattle.ganswer.specs.LsBuilding.{IsAnswering, IsNextRef}
+use Rattle.ganswer.specs.LsAnswers.{HasAttributes, IsPeeledIf, ShowsLines, all_refs, head_id, head_ref, is_asked, is_shown, missing_target, name_and_id}
+use Rattle.ganswer.specs.LsBuilding.{IsNextRef}
 use Rattle.ganswer.specs.Servers.{Server, HoldsHead, HoldsRefs, IsServer}
 use Rattle.ganswer.proofs.LsLemmas.{either_way}
 
@@ -113,26 +113,26 @@ module _ {A : Type 0} where
   head_held g refs (heads.Id id) held all = All-cons (λ ref. Holds g ref.1) _ [] held (All-nil (λ ref. Holds g ref.1))
   head_held g refs (heads.Symref target) held all = symref_held g (ref_at refs target) (λ id at. ref_held (Holds g) refs target id at all)
 
-  all_held : (server : Server A) → IsServer server → All (λ ref. Holds server.graph.entries ref.1) (all_refs server)
+  pub all_held : (server : Server A) → IsServer server → All (λ ref. Holds server.graph.entries ref.1) (all_refs server)
   all_held server is =
       let g = server.graph.entries in
       All-append (λ ref. Holds g ref.1) (head_ref (head_id server.head server.refs)) server.refs
       (head_held g server.refs server.head is.head is.held) (unmap (Holds g) (λ (ref : List ℕ × List ℕ). ref.1) server.refs is.held)
 
-  lines_held : (server : Server A) (asked : LsRefsAsked) (refs : RefList) (lines : List RefLine) → ShowsLines server asked refs lines
+  pub lines_held : (server : Server A) (asked : LsRefsAsked) (refs : RefList) (lines : List RefLine) → ShowsLines server asked refs lines
       → All (λ ref. Holds server.graph.entries ref.1) refs → All (λ line. Holds server.graph.entries line.id) lines
   lines_held server asked refs lines shows held =
       let P : List ℕ × List ℕ → Type 0 = λ ref. Holds server.graph.entries ref.1 in
       unmap P name_and_id lines (subst (All P) (sym shows.shown) (All-filter (is_shown asked.prefixes) P refs held))
 
-  peeled_format : PlacesAreNodes A → (g : History A) → IsGraph g → (is_asked : Bool) (id : List ℕ) (peeled : Option (List ℕ)) → IsPeeledIf is_asked g.entries id peeled → IfSome peeled (IsIdOf g.format)
+  pub peeled_format : PlacesAreNodes A → (g : History A) → IsGraph g → (is_asked : Bool) (id : List ℕ) (peeled : Option (List ℕ)) → IsPeeledIf is_asked g.entries id peeled → IfSome peeled (IsIdOf g.format)
   peeled_format law g graph false id None is = tt
   peeled_format law g graph false id (Some commit) is = absurd (none-some commit (sym is))
   peeled_format law g graph true id None is = tt
   peeled_format law g graph true id (Some commit) is = held_format law g graph commit (peeled_held g.entries id commit is.peels)
 
   -- an unborn HEAD is not shown as a ref
-  unborn_or_shown : (is_asked : Bool) (head : Head A) (refs : RefList) → length (unborn_packets (if is_asked then missing_target head refs else None)) + length (head_ref (head_id head refs)) ≤ 1
+  pub unborn_or_shown : (is_asked : Bool) (head : Head A) (refs : RefList) → length (unborn_packets (if is_asked then missing_target head refs else None)) + length (head_ref (head_id head refs)) ≤ 1
   unborn_or_shown false head refs = let short = head_short (head_id head refs) in omega (arith, short)
   unborn_or_shown true heads.None refs = omega arith
   unborn_or_shown true (heads.Id id) refs = omega arith

@@ -3,6 +3,7 @@ pub mod AnswerLemmas
 pub mod ChangeLemmas
 pub mod FetchAnswers
 pub mod FetchLemmas
+pub mod FitLemmas
 pub mod FormatLemmas
 pub mod LsBuilding
 pub mod LsLemmas

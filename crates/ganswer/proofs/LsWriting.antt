@@ -1,5 +1,5 @@
 -- Writing the lines of refs one after the other.
-use Rattle.std.proofs.Common.{◌≡◌, ℕ, ◌+◌, ◌<◌, List, [], ◌∷◌, ◌++◌, length, map, get_or, take, drop, suc, add-one, drop-cons, Option, Some, None, refl, sym, ap, ◌∙◌, subst, append_assoc}
+use Rattle.std.proofs.Common.{◌≡◌, ℕ, ◌+◌, ◌<◌, List, [], ◌∷◌, ◌++◌, length, map, get_or, drop, suc, add-one, drop-cons, Option, sym, ap, ◌∙◌, subst, append_assoc}
 use Rattle.std.proofs.lemmas.List.{map-append}
 use Rattle.gpkt.specs.Packets.{Packet, Flush}
 use Rattle.ggrammar.specs.Endings.{ends_with}
@@ -8,7 +8,7 @@ use Rattle.grefs.specs.RefLists.{RefList}
 use Rattle.grequest.specs.Asked.{LsRefsAsked}
 use Rattle.glsreply.specs.LsReplies.{LsReply, canonical_reply, ref_packet, unborn_packets}
 use Rattle.glsreply.specs.RefTexts.{RefLine}
-use Rattle.ganswer.specs.LsAnswers.{LsAnswer, ShowsLines, unborn_of}
+use Rattle.ganswer.specs.LsAnswers.{ShowsLines}
 use Rattle.ganswer.specs.Servers.{Server}
 use Rattle.ganswer.proofs.LsLemmas.{Splits, split}
 

@@ -1,19 +1,18 @@
 -- What is missing of a server's parts.
-use Rattle.std.proofs.Common.{◌≡◌, ℕ, ◌+◌, ◌<◌, zero, suc, List, [], ◌∷◌, ◌++◌, length, get_or, take, drop, flat_map, map, refl, sym, ap, ◌∙◌, subst, append_assoc, append-nil, add-one, drop-cons, Option, Some, None, Err, IsSome, All, Contains, arith}
+use Rattle.std.proofs.Common.{◌≡◌, inl, ℕ, ◌+◌, ◌<◌, zero, suc, List, [], ◌∷◌, ◌++◌, length, get_or, take, drop, refl, sym, ap, ◌∙◌, subst, append_assoc, append-nil, add-one, drop-cons, Option, Some, None, Err, IsSome, All, Contains}
 use Rattle.std.specs.List.{slice_get}
 use Rattle.std.specs.Option.{option_map}
 use Rattle.std.proofs.lemmas.List.{take_more, take-append-drop}
 use Rattle.std.proofs.lemmas.List.Concat.{flat_map-append}
 use Rattle.std.proofs.lemmas.List.Elements.{All-append, All-contains, All-map, Contains-append_left, Contains-append_right}
 use Rattle.std.proofs.lemmas.Option.{none-some, same_Some, slice_get_within, get_or_from_slice_get}
-use Rattle.gobject.specs.declared.node.Node.{Node}
 use Rattle.gobject.specs.declared.node.Entry.{Entry}
 use Rattle.gobject.specs.Objects.{node_at, entry_of, IdsDiffer}
 use Rattle.ghistory.specs.Graphs.{Holds, IsFirstAbsent}
 use Rattle.ghistory.specs.Laws.{PlacesAreNodes}
 use Rattle.ghistory.specs.Reach.{IsClosed}
 use Rattle.grefs.specs.RefLists.{RefList}
-use Rattle.ganswer.specs.Servers.{Server, HoldsRefs, IsFirstDangling, IsUnserved, ChecksRefs, parents_in}
+use Rattle.ganswer.specs.Servers.{Server, HoldsRefs, IsFirstDangling, IsUnserved, ChecksRefs, ReportsRef, parents_in}
 use Rattle.ganswer.specs.declared.fault.BuildFault.{BuildFault}
 use Rattle.ganswer.specs.declared.fault.BuildFault.TheVariants as fault
 
@@ -100,10 +99,19 @@ module _ {A : Type 0} where
     absent = none_is (node_at g ref.1) missing;
   }
 
+  pub dangling : (g : List (Entry A)) (refs : RefList) (name : List ℕ) (cause : BuildFault A) → IsFirstDangling g refs name → ReportsRef name cause → ChecksRefs g refs (Err cause)
+  dangling g refs name (fault.RefMissing missing) first is = subst (IsFirstDangling g refs) (sym is) first
+  dangling g refs name fault.Memory first is = (name, first)
+  dangling g refs name (fault.Graph other) first is = absurd is
+  dangling g refs name (fault.Refs other) first is = absurd is
+  dangling g refs name (fault.NotClosed id) first is = absurd is
+  dangling g refs name fault.HeadMissing first is = absurd is
+  dangling g refs name (fault.MissingParent id) first is = absurd is
+
   -- why refs can't be served is why a server can't be made of them
   pub unserved : (server : Server A) (cause : BuildFault A) → IsClosed server.graph.entries → ChecksRefs server.graph.entries server.refs (Err cause) → IsUnserved server cause
   unserved server (fault.RefMissing name) closed first = (closed, first)
-  unserved server fault.Memory closed first = closed
+  unserved server fault.Memory closed first = (closed, inl first)
   unserved server (fault.Graph other) closed first = absurd first
   unserved server (fault.Refs other) closed first = absurd first
   unserved server (fault.NotClosed id) closed first = absurd first

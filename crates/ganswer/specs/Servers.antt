@@ -1,12 +1,12 @@
 -- What a server has: a graph, refs and HEAD, none of which leads to an object that is not there.
-use Rattle.std.specs.Prelude.{◌≡◌, ⊤, ℕ, List, ◌∷◌, ◌++◌, All, None, Result, Ok, Err}
+use Rattle.std.specs.Prelude.{◌≡◌, ◌⊎◌, ⊤, ℕ, List, ◌∷◌, ◌++◌, All, None, Result, Ok, Err}
 use Rattle.std.specs.List.{flat_map}
 use Rattle.std.specs.Map.{values_of}
 use Rattle.gobject.specs.declared.node.Entry.{Entry}
 use Rattle.gobject.specs.Objects.{node_at}
 use Rattle.ghistory.specs.Graphs.{History, Holds, IsFirstAbsent, IsGraph}
 use Rattle.ghistory.specs.Reach.{IsClosed}
-use Rattle.grefs.specs.RefLists.{RefList, IsRefs}
+use Rattle.grefs.specs.RefLists.{RefList, IsBelowRefs, IsRefs}
 use Rattle.grefs.specs.declared.head.Head.{Head}
 use Rattle.grefs.specs.declared.head.Head.TheVariants as heads
 use Rattle.ganswer.specs.declared.fault.BuildFault.{BuildFault}
@@ -31,6 +31,12 @@ HoldsHead g heads.None = ⊤
 HoldsHead g (heads.Id id) = Holds g id
 HoldsHead g (heads.Symref target) = ⊤
 
+-- a ref that HEAD points at has a name below refs/
+abbrev pub PointsBelowRefs : {A : Type 0} → Head A → Type 0
+PointsBelowRefs heads.None = ⊤
+PointsBelowRefs (heads.Id id) = ⊤
+PointsBelowRefs (heads.Symref target) = IsBelowRefs target
+
 -- nothing is missing
 pub record IsServer {A : Type 0} (server : Server A) : Type 0 where
   pub graph : IsGraph server.graph
@@ -38,6 +44,7 @@ pub record IsServer {A : Type 0} (server : Server A) : Type 0 where
   pub closed : IsClosed server.graph.entries
   pub held : HoldsRefs server.graph.entries server.refs
   pub head : HoldsHead server.graph.entries server.head
+  pub target : PointsBelowRefs server.head
 
 -- ---- making one
 
@@ -63,15 +70,24 @@ IsUnserved server (fault.RefMissing name) =
 IsUnserved server fault.HeadMissing =
     IsClosed server.graph.entries × HoldsRefs server.graph.entries server.refs
     × ¬ (HoldsHead server.graph.entries server.head)
-IsUnserved server fault.Memory = IsClosed server.graph.entries
+IsUnserved server fault.Memory =
+    IsClosed server.graph.entries
+    × (((name : List ℕ) × IsFirstDangling server.graph.entries server.refs name)
+    ⊎ (HoldsRefs server.graph.entries server.refs × HoldsHead server.graph.entries server.head))
 IsUnserved server _ = ⊥
 
 -- what looking the refs up answers: the object of each is held, or why there is no such server
 abbrev pub ChecksRefs : {A : Type 0} → List (Entry A) → RefList → Result (Unit {0}) (BuildFault A) → Type 0
 ChecksRefs g refs (Ok _) = HoldsRefs g refs
 ChecksRefs g refs (Err (fault.RefMissing name)) = IsFirstDangling g refs name
-ChecksRefs g refs (Err fault.Memory) = ⊤
+ChecksRefs g refs (Err fault.Memory) = (name : List ℕ) × IsFirstDangling g refs name
 ChecksRefs g refs (Err _) = ⊥
+
+-- the fault of a ref that stands at no object, for whose name there may be no memory
+abbrev pub ReportsRef : {A : Type 0} → List ℕ → BuildFault A → Type 0
+ReportsRef name (fault.RefMissing missing) = missing ≡ name
+ReportsRef name fault.Memory = ⊤
+ReportsRef name _ = ⊥
 
 -- what making a server of some parts answers: one of exactly these, or why there is none
 abbrev pub Makes : {A : Type 0} → Server A → Result (Server A) (BuildFault A) → Type 0

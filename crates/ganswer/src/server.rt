@@ -6,7 +6,7 @@ ghost use Rattle.ghistory.specs.Graphs.{Holds, IsFirstAbsent};
 ghost use Rattle.ghistory.specs.Reach.{Grows, IsClosed};
 ghost use Rattle.grefs.specs.RefLists.{IsRefs};
 ghost use Rattle.ganswer.specs.Changes.{Adds, Sets, SetsHead};
-ghost use Rattle.ganswer.specs.Servers.{ChecksRefs, HoldsHead, IsServer, IsUnserved, Makes, parents_in, served};
+ghost use Rattle.ganswer.specs.Servers.{ChecksRefs, HoldsHead, IsServer, IsUnserved, Makes, PointsBelowRefs, ReportsRef, parents_in, served};
 ghost use Rattle.gname.specs.Names.{head_name};
 ghost use Rattle.ganswer.specs.declared.fault.BuildFault.TheVariants as fault;
 
@@ -130,6 +130,7 @@ impl<A: Allocator + Copy> Server<A> {
         if !holds_head(&self.graph, &head) {
             return Err(BuildFault::HeadMissing);
         }
+        keeps_rules(&head);
         self.head = head;
         Ok(())
     }
@@ -151,6 +152,7 @@ fn check_parts<A: Allocator + Copy>(
     ensures { let parts = served graph.now refs.now head.now in MatchResult result (λ _. IsServer parts) (IsUnserved parts) }
 {
     let _objects = graph.len();
+    keeps_rules(head);
     if let Some(id) = missing_parent(graph) {
         return Err(BuildFault::NotClosed { id });
     }
@@ -197,11 +199,29 @@ fn check_refs<A: Allocator + Copy>(
 {
     for reference in refs {
         if !graph.contains(&reference.1) {
-            let name = reference.0.clone()?;
-            return Err(BuildFault::RefMissing { name });
+            return Err(ref_missing(&reference.0));
         }
     }
     Ok(())
+}
+
+// The fault of a ref of this name, or that there is no memory for the name.
+fn ref_missing<A: Allocator + Copy>(name: &RefName<A>) -> BuildFault<A>
+    ensures { ReportsRef name.now result }
+{
+    match name.clone() {
+        Ok(name) => BuildFault::RefMissing { name },
+        Err(_) => BuildFault::Memory,
+    }
+}
+
+// What the type of a head says of it; the call has no effect.
+fn keeps_rules<A: Allocator + Copy>(head: &Head<A>)
+    ensures { PointsBelowRefs head.now }
+{
+    if let Head::Symref(target) = head {
+        let _name = target.name();
+    }
 }
 
 // Whether the object is there at which HEAD stands by its id.

@@ -3,13 +3,15 @@ use Rattle.std.proofs.lemmas.Bool.{false≢true}
 use Rattle.std.proofs.lemmas.List.{take_all}
 use Rattle.std.proofs.lemmas.List.Elements.{All-more}
 use Rattle.ghistory.specs.Graphs.{Holds}
-use Rattle.ganswer.proofs.ServerLemmas.{first_dangling, holds_refs}
+use Rattle.ganswer.proofs.ServerLemmas.{dangling, first_dangling, holds_refs}
 use Rattle.ganswer.proofs.server.check_refs.Goals as goal
 
 pub returns-then-not-contains : goal.returns-then-not-contains
 returns-then-not-contains g c =
-    rw c.in_ok-name.ensures.cases (first_dangling c.args.graph.now.entries c.args.refs.now c.loop-reference.reference-index c.reference-item.result c.loop-reference-test.true c.reference-item.is
+    dangling c.args.graph.now.entries c.args.refs.now c.reference-item.result.0 c.ref_missing.result
+    (first_dangling c.args.graph.now.entries c.args.refs.now c.loop-reference.reference-index c.reference-item.result c.loop-reference-test.true c.reference-item.is
     c.loop-reference.invariant (λ h. false≢true (sym c.if-not-contains.true ∙ c.contains.ensures.1 h)))
+    c.ref_missing.ensures
 
 pub loop-reference-preserved : goal.loop-reference-preserved
 loop-reference-preserved g c =

@@ -1,4 +1,4 @@
-use Rattle.std.proofs.Common.{◌≡◌, ℕ, List, [], ◌∷◌, map, Option, sym, ap, ◌∙◌, subst}
+use Rattle.std.proofs.Common.{ℕ, List, [], ◌∷◌, map, sym, ap, ◌∙◌, subst}
 use Rattle.ggrammar.specs.Writing.{IsWriting}
 use Rattle.grefs.specs.RefLists.{RefList}
 use Rattle.glsreply.specs.LsReplies.{ref_packet}

@@ -1,4 +1,4 @@
-use Rattle.std.proofs.Common.{◌≡◌, List, map, refl, sym, ◌∙◌, subst}
+use Rattle.std.proofs.Common.{map, refl, sym, ◌∙◌, subst}
 use Rattle.grefs.specs.RefLists.{RefList}
 use Rattle.glsreply.specs.LsReplies.{ref_packet}
 use Rattle.ganswer.specs.LsAnswers.{ShowsLines, head_id, head_ref}

@@ -1,4 +1,4 @@
-use Rattle.std.proofs.Common.{◌≡◌, List, [], map, drop, sym, subst}
+use Rattle.std.proofs.Common.{List, [], map, subst}
 use Rattle.std.proofs.lemmas.List.{drop_all}
 use Rattle.ggrammar.specs.Writing.{IsWriting}
 use Rattle.grefs.specs.RefLists.{RefList}
