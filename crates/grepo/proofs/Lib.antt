@@ -1,0 +1,2 @@
+pub mod RepoLemmas
+pub mod SettlingLemmas
