@@ -1,0 +1,2 @@
+// Laws of sessions. A call does nothing, and gives its caller's proof the law.
+#![tactic(auto)]
