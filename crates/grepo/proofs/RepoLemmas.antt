@@ -19,9 +19,11 @@ use Rattle.grepo.specs.Repos.{ComeFrom, IsFirstLost, IsFirstUnsafe, IsWhole}
 
 value_there : (refs : RefList) (ref : List ℕ × List ℕ) → Contains refs ref → Contains (values_of refs) ref.1
 value_there refs ref there =
-    let place = there.0 in
-    (place, omega (arith, there.1, length-map refs (λ (r : List ℕ × List ℕ). r.1)),
-    get_or-map (λ (r : List ℕ × List ℕ). r.1) refs place ref ref.1 there.1 ∙ ap (λ (r : List ℕ × List ℕ). r.1) there.2)
+    let place = there.0 in (
+      place,
+      omega (arith, there.1, length-map refs (λ (r : List ℕ × List ℕ). r.1)),
+      get_or-map (λ (r : List ℕ × List ℕ). r.1) refs place ref ref.1 there.1 ∙ ap (λ (r : List ℕ × List ℕ). r.1) there.2,
+    )
 
 -- the ids of refs that come from others are theirs, or among the ids
 values_from : (others : RefList) (ids : List (List ℕ)) (refs : RefList) → ComeFrom others ids refs

@@ -6,8 +6,8 @@ ghost use Rattle.ghistory.specs.declared.fault.GraphFault.TheVariants.{Memory};
 ghost use Rattle.grepo.specs.Faults.{repo_fault_row};
 ghost use Rattle.grepo.specs.declared.fault.RepoFault.TheVariants as repo;
 
-use gname::{Oid, RefName};
 use ghistory::GraphFault;
+use gname::{Oid, RefName};
 use grefs::RefsFault;
 use std::alloc::{AllocError, AllocFailed, Allocator, Global};
 use thiserror::Error;

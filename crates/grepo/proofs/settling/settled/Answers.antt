@@ -14,7 +14,7 @@ loop-ask-preserved g c =
     let ask = c.ask-item.result in
     let place = c.loop-ask.ask-index in
     let next : take (place + 1) asks ≡ take place asks ++ ask ∷ [] =
-        take_more asks place ask c.loop-ask-test.true ∙ ap (λ (a : Ask g.row.A.Denot). take place asks ++ a ∷ []) (sym c.ask-item.is) in
+    take_more asks place ask c.loop-ask-test.true ∙ ap (λ (a : Ask g.row.A.Denot). take place asks ++ a ∷ []) (sym c.ask-item.is) in
     rw (next, c.in_ok-push.ensures.items)
     (settles_more c.args.graph.now.entries c.args.refs.now (take place asks) c.loop-ask.updates.items c.loop-ask.new c.take_ask.new.refs ask c.in_ok-update.update
     c.loop-ask.invariant (differ_before asks place ask c.requires c.loop-ask-test.true (sym c.ask-item.is)) c.in_ok-update.ensures.0 c.in_ok-update.ensures.1)
