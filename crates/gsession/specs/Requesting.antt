@@ -1,7 +1,7 @@
 -- The next request of a session. gitprotocol-v2(5), "ls-refs" and "fetch", says what a request has; which ids are offered
 -- as haves, and when the client is done, is our own rule: batches of 16, 32, 64, 128 and then 256 ids.
-use Rattle.std.specs.Prelude.{◌≡◌, ℕ, zero, suc, ◌+◌, Bool, true, false, List, [], ◌∷◌, ◌++◌, length, map, nat_le}
-use Rattle.std.specs.Prelude.{cond, if◌then◌else◌, is_nil, Option, Some, None, Result, Ok, Err}
+use Rattle.std.specs.Prelude.{◌≡◌, ℕ, zero, suc, ◌+◌, Bool, true, false, List, [], ◌∷◌, ◌++◌, length, map, nat_le, ◌==◌}
+use Rattle.std.specs.Prelude.{cond, if◌then◌else◌, Option, Some, None, Result, Ok, Err}
 use Rattle.gobject.specs.declared.node.Entry.{Entry}
 use Rattle.ghistory.specs.Levels.{distinct_of, is_in}
 use Rattle.ghistory.specs.Offer.{IsOffer}
@@ -32,11 +32,11 @@ with_prefix prefixes prefix = cond (is_in prefixes prefix) prefixes (prefixes ++
 
 -- how many ids are offered after so many rounds
 abbrev pub batch_size : ℕ → ℕ
-batch_size 0 = 16
-batch_size 1 = 32
-batch_size 2 = 64
-batch_size 3 = 128
-batch_size _ = 256
+batch_size zero = 16
+batch_size (suc zero) = 32
+batch_size (suc (suc zero)) = 64
+batch_size (suc (suc (suc zero))) = 128
+batch_size (suc (suc (suc (suc more)))) = 256
 
 -- the batch: what is to be offered, unless a request has no room for it beside the common ids
 abbrev pub batch_of : List (List ℕ) → List (List ℕ) → List (List ℕ)
@@ -54,7 +54,7 @@ fetch_request wants commons batch = record {
   agent = None;
   wants = wants;
   haves = commons ++ batch;
-  done = is_nil batch;
+  done = length batch == 0;
   thin_pack = false;
   no_progress = true;
   include_tag = true;

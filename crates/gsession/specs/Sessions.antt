@@ -5,7 +5,7 @@ use Rattle.std.specs.Map.{values_of}
 use Rattle.std.specs.Str.{bytes_eq}
 use Rattle.gname.specs.declared.formats.Format.{Format}
 use Rattle.ggrammar.specs.declared.ends.Ends.{Ends}
-use Rattle.ghello.specs.Adverts.{Capability}
+use Rattle.ggrammar.specs.Capabilities.{Capability}
 use Rattle.ghello.specs.Offers.{has_feature}
 use Rattle.ghistory.specs.Levels.{distinct_of}
 use Rattle.ghistory.specs.declared.fault.GraphFault.TheVariants as graph

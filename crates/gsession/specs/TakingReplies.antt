@@ -136,7 +136,7 @@ RefusesFetch old reading repo_old change new repo_new _ = ⊥
 -- acknowledgments alone answer a request that is not direct
 abbrev pub FitsHead : Option Asked → FetchHead → Type 0
 FitsHead (Some (Fetches asked)) (head.Acks ids) = is_direct asked ≡ false
-FitsHead pending head = Unit {0}
+FitsHead _ _ = Unit {0}
 
 -- a request for objects waits for its reply
 abbrev pub AwaitsObjects : {A : Type 0} → SessionState A → Type 0

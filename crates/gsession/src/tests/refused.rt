@@ -1,6 +1,6 @@
 //! Replies that are refused, and the state after them.
 use super::makers::{
-    MAIN, asked, begun, check_ref, client_a, commit, repo_of, settled, spelt, take, take_bytes,
+    MAIN, asked, begun, check_ref, client_a, repo_of, settled, spelt, take, take_bytes,
     take_ls, take_ls_bytes, waiting,
 };
 use crate::{ClientFault, Session};

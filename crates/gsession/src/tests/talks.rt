@@ -4,8 +4,8 @@ use super::makers::{
     take_ls, take_ls_bytes, waiting,
 };
 use crate::Taken;
-use ggrammar::MessageFault;
-use ghello::{Advert, Capability};
+use ggrammar::{Capability, MessageFault};
+use ghello::Advert;
 use grepo::RefUpdate;
 
 const READY: &[u8] = b"0014acknowledgments\n0031ACK A\n000aready\n0001000dpackfile\n00b8\x01GPK1\nc B A\nc C B\nend 2\n0000";
