@@ -1,8 +1,9 @@
 -- Lists of ids and of asks, with one more at the end.
-use Rattle.std.proofs.Common.{◌≡◌, ℕ, Bool, true, false, cond, List, [], ◌∷◌, ◌++◌, refl, sym, ap, ◌∙◌, append_assoc}
-use Rattle.std.proofs.lemmas.List.{append-nil}
+use Rattle.std.proofs.Common.{◌≡◌, ℕ, Bool, true, false, cond, List, [], ◌∷◌, ◌++◌, ◌+◌, ◌<◌, length, map, take, get_or, refl, sym, ap, ◌∙◌, append_assoc}
+use Rattle.std.proofs.lemmas.List.{append-nil, map-append, take_more}
 use Rattle.ghistory.specs.Levels.{distinct_of, is_in, new_ids}
 use Rattle.ghistory.specs.Selecting.{Selects, none, keep, skip}
+use Rattle.gspec.specs.Refspecs.{Refspec}
 use Rattle.grepo.specs.declared.ask.Ask.{Ask}
 use Rattle.gsession.specs.Asking.{with_ask, with_asks}
 use Rattle.gsession.specs.Requesting.{with_prefix}
@@ -28,6 +29,14 @@ new_more earlier (x ∷ xs) a =
 
 pub distinct_more : (xs : List (List ℕ)) (a : List ℕ) → distinct_of (xs ++ a ∷ []) ≡ with_prefix (distinct_of xs) a
 distinct_more xs a = new_more [] xs a
+
+-- the distinct prefixes of the refspecs up to a place, and of the one at it
+pub prefixes_more : (specs : List Refspec) (i : ℕ) (spec : Refspec) → i < length specs → get_or specs i spec ≡ spec
+    → distinct_of (map (λ s. s.source) (take (i + 1) specs)) ≡ with_prefix (distinct_of (map (λ s. s.source) (take i specs))) spec.source
+prefixes_more specs i spec low at =
+    ap (λ (l : List Refspec). distinct_of (map (λ s. s.source) l)) (take_more specs i spec low ∙ ap (λ (s : Refspec). take i specs ++ s ∷ []) at)
+    ∙ ap distinct_of (map-append (λ (s : Refspec). s.source) (take i specs) (spec ∷ []))
+    ∙ distinct_more (map (λ s. s.source) (take i specs)) spec.source
 
 pub with_asks-append : {A : Type 0} (asks xs ys : List (Ask A)) → with_asks asks (xs ++ ys) ≡ with_asks (with_asks asks xs) ys
 with_asks-append asks [] ys = refl

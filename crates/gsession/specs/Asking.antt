@@ -1,7 +1,8 @@
--- What a session asks for: which refs here are to stand at which ids, and which objects are wanted for that. The refs of
--- a reply are matched refspec by refspec, and of each in the order of the reply; the first ask for a ref counts. This is
--- our own rule: git-fetch(1) leaves the order open.
-use Rattle.std.specs.Prelude.{◌≡◌, ⊤, ℕ, Bool, true, List, [], ◌∷◌, ◌++◌, map, filter, All, if◌then◌else◌, Option, None, Result, Ok, Err}
+-- What a session asks for: which refs here are to stand at which ids, and which objects are wanted for that. The refs
+-- of a reply are matched refspec by refspec, and of each in the order of the reply; the first ask for a ref counts.
+-- Both are our own rules.
+use Rattle.std.specs.Prelude.{◌≡◌, ⊤, ℕ, Bool, true, List, [], ◌∷◌, ◌++◌, map, filter, All, if◌then◌else◌, Option}
+use Rattle.std.specs.Prelude.{None, Result, Ok, Err}
 use Rattle.std.specs.List.{flat_map, list_any}
 use Rattle.std.specs.Str.{bytes_eq}
 use Rattle.gname.specs.Names.{IsRefName, head_name}

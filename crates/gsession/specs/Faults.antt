@@ -5,7 +5,8 @@ use Rattle.ggrammar.specs.Faults.{why_row}
 use Rattle.gobject.specs.Faults.{index_fault_row}
 use Rattle.grepo.specs.Faults.{repo_fault_row}
 use Rattle.gsession.specs.declared.fault.ClientFault.{ClientFault}
-use Rattle.gsession.specs.declared.fault.ClientFault.TheVariants.{Index, Message, NoOpenRequest, Repo, StrangeAck, TooManySpecs, TooManyWants}
+use Rattle.gsession.specs.declared.fault.ClientFault.TheVariants.{Index, Message, NoOpenRequest, Repo, StrangeAck}
+use Rattle.gsession.specs.declared.fault.ClientFault.TheVariants.{TooManySpecs, TooManyWants}
 
 -- why a call of a session was refused; a fault of a message, of the indexer or of the repository has its own row
 abbrev pub client_fault_row : {A : Type 0} → ClientFault A → FaultRow

@@ -1,6 +1,6 @@
--- The next request of a session. gitprotocol-v2(5), "ls-refs" and "fetch", says what a request has; which ids are offered
--- as haves, and when the client is done, is our own rule: batches of 16, 32, 64, 128 and then 256 ids.
-use Rattle.std.specs.Prelude.{◌≡◌, ℕ, zero, suc, ◌+◌, Bool, true, false, List, [], ◌∷◌, ◌++◌, length, map, nat_le, ◌==◌}
+-- The next request of a session. gitprotocol-v2(5), "ls-refs" and "fetch", says what a request has; which ids are
+-- offered as haves, and when the client is done, is our own rule: batches of 16, 32, 64, 128 and then 256 ids.
+use Rattle.std.specs.Prelude.{◌≡◌, ℕ, ◌+◌, Bool, true, false, List, [], ◌∷◌, ◌++◌, length, map, nat_le, ◌==◌}
 use Rattle.std.specs.Prelude.{cond, if◌then◌else◌, Option, Some, None, Result, Ok, Err}
 use Rattle.gobject.specs.declared.node.Entry.{Entry}
 use Rattle.ghistory.specs.Levels.{distinct_of, is_in}
@@ -32,11 +32,12 @@ with_prefix prefixes prefix = cond (is_in prefixes prefix) prefixes (prefixes ++
 
 -- how many ids are offered after so many rounds
 abbrev pub batch_size : ℕ → ℕ
-batch_size zero = 16
-batch_size (suc zero) = 32
-batch_size (suc (suc zero)) = 64
-batch_size (suc (suc (suc zero))) = 128
-batch_size (suc (suc (suc (suc more)))) = 256
+batch_size rounds =
+    if rounds == 0 then 16
+    else if rounds == 1 then 32
+    else if rounds == 2 then 64
+    else if rounds == 3 then 128
+    else 256
 
 -- the batch: what is to be offered, unless a request has no room for it beside the common ids
 abbrev pub batch_of : List (List ℕ) → List (List ℕ) → List (List ℕ)
@@ -48,7 +49,8 @@ pub record IsBatch {A : Type 0} (s : SessionState A) (g : List (Entry A)) (batch
   pub offered : IsOffer g s.tips s.commons s.sent (batch_size s.rounds) offer
   pub is : batch ≡ batch_of s.commons offer
 
--- the request for the wanted objects: the client has the common ids and those of the batch, and is done without a batch
+-- the request for the wanted objects: the client has the common ids and those of the batch, and is done without a
+-- batch
 abbrev pub fetch_request : List (List ℕ) → List (List ℕ) → List (List ℕ) → FetchAsked
 fetch_request wants commons batch = record {
   agent = None;
@@ -86,7 +88,8 @@ is_due _ _ = false
 
 -- what asking for the next request answers: it, and it waits for its reply; or that none is due; or that there is no
 -- memory, and the session is over
-abbrev pub Requests : {A : Type 0} → SessionState A → List (Entry A) → SessionState A → Result Asked (ClientFault A) → Type 0
+abbrev pub Requests : {A : Type 0} → SessionState A → List (Entry A) → SessionState A
+    → Result Asked (ClientFault A) → Type 0
 Requests old g new (Ok asked) = (old.pending ≡ None) × MakesNext old g new asked
 Requests old g new (Err NoOpenRequest) = (is_due old.stage old.pending ≡ false) × (new ≡ old)
 Requests old g new (Err (Repo (repo.Graph graph.Memory))) = (is_due old.stage old.pending ≡ true) × (new ≡ over old)

@@ -20,10 +20,10 @@ use Rattle.gsession.specs.declared.stage.Stage.TheVariants.{Listing, Fetching, S
 use Rattle.gsession.specs.declared.fault.ClientFault.{ClientFault}
 use Rattle.gsession.specs.declared.fault.ClientFault.TheVariants.{NoOpenRequest, TooManySpecs, Repo}
 
--- what a session knows: what it fetches and how; the tips, which are the distinct ids of the refs when it began; whether
--- the server offers to tell of an unborn HEAD; how far it is, and the request that waits for its reply; what is asked
--- for, and which objects are wanted for it; the ids that the server has acknowledged, those that were offered to it, and
--- how many times objects were asked for
+-- what a session knows: what it fetches and how; the tips, which are the distinct ids of the refs when it began;
+-- whether the server offers to tell of an unborn HEAD; how far it is, and the request that waits for its reply; what
+-- is asked for, and which objects are wanted for it; the ids that the server has acknowledged, those that were
+-- offered to it, and how many times objects were asked for
 pub record SessionState (A : Type 0) : Type 0 where
   pub format : Format
   pub refspecs : List Refspec
@@ -92,7 +92,8 @@ new_session format refspecs limit ends tips = record {
 }
 
 -- what beginning answers: a session; or that there are too many refspecs; or that there is no memory
-abbrev pub Begins : {A : Type 0} → RepoState A → List Refspec → ℕ → Ends → Result (SessionState A) (ClientFault A) → Type 0
+abbrev pub Begins : {A : Type 0} → RepoState A → List Refspec → ℕ → Ends
+    → Result (SessionState A) (ClientFault A) → Type 0
 Begins r refspecs limit ends (Ok session) =
     (length refspecs ≤ max_specs)
     × (session ≡ new_session r.graph.format refspecs limit ends (distinct_of (values_of r.refs)))

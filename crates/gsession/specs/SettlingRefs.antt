@@ -9,8 +9,8 @@ use Rattle.gsession.specs.declared.stage.Stage.TheVariants.{Settling}
 use Rattle.gsession.specs.declared.fault.ClientFault.{ClientFault}
 use Rattle.gsession.specs.declared.fault.ClientFault.TheVariants.{NoOpenRequest, Repo}
 
--- what settling answers: the asks, and what became of them, and the session is over and holds them no more; or why they
--- are not settled, and the session is over; or that it is not time for it, and the session goes on
+-- what settling answers: the asks, and what became of them, and the session is over and holds them no more; or why
+-- they are not settled, and the session is over; or that it is not time for it, and the session goes on
 abbrev pub SettlesSession : {A : Type 0} → SessionState A → RepoState A → SessionState A → RepoState A
     → Result (List (Ask A) × List RefUpdate) (ClientFault A) → Type 0
 SettlesSession old repo_old new repo_new (Ok settled) =

@@ -73,7 +73,8 @@ TakesRefs old g reply new (Ok taken) = TakesLines old g reply new taken
 TakesRefs old g reply new (Err fault) = IsRefsFault old g reply fault × (new ≡ over old)
 
 -- the reply is refused before its end
-abbrev pub RefusesRefs : {A : Type 0} → SessionState A → Change → SessionState A → Result (LsTaken A) (ClientFault A) → Type 0
+abbrev pub RefusesRefs : {A : Type 0} → SessionState A → Change → SessionState A
+    → Result (LsTaken A) (ClientFault A) → Type 0
 RefusesRefs old change new (Err (Message fault)) =
     ((front : List Packet) × ReadsRefused (judge old.format old.ends) brings front change fault) × (new ≡ over old)
 RefusesRefs old change new _ = ⊥
@@ -82,11 +83,12 @@ RefusesRefs old change new _ = ⊥
 abbrev pub ReadsRefs : {A : Type 0} → SessionState A → Change → LsReply → Type 0
 ReadsRefs s change reply = ReadsMessage (judge s.format s.ends) (Says s.format s.ends) change reply
 
--- what taking a reply answers: a whole one is read, and its refs are taken; or it is refused; or none is due, nothing is
--- read, and the session goes on
+-- what taking a reply answers: a whole one is read, and its refs are taken; or it is refused; or none is due, nothing
+-- is read, and the session goes on
 abbrev pub TakesLs : {A : Type 0} → SessionState A → List (Entry A) → Change → SessionState A
     → Result (LsTaken A) (ClientFault A) → Type 0
 TakesLs old g change new (Err NoOpenRequest) = ¬ (AwaitsRefs old) × (new ≡ old) × (change.new ≡ change.old)
 TakesLs old g change new result =
     AwaitsRefs old
-    × (((reply : LsReply) × ReadsRefs old change reply × TakesRefs old g reply new result) ⊎ RefusesRefs old change new result)
+    × (((reply : LsReply) × ReadsRefs old change reply × TakesRefs old g reply new result)
+        ⊎ RefusesRefs old change new result)

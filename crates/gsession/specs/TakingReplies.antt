@@ -1,6 +1,7 @@
--- Taking the reply to fetch. A pack is indexed as it comes, and its objects come to the graph once the reply was read to
--- its end.
-use Rattle.std.specs.Prelude.{◌≡◌, false, ◌⊎◌, ⊤, ℕ, List, [], ◌∷◌, ◌++◌, length, All, Contains, Option, Some, None, Result, Ok, Err}
+-- Taking the reply to fetch. A pack is indexed as it comes, and its objects come to the graph once the reply was read
+-- to its end.
+use Rattle.std.specs.Prelude.{◌≡◌, false, ◌⊎◌, ⊤, ℕ, List, [], ◌∷◌, ◌++◌, length, All, Contains, Option, Some, None}
+use Rattle.std.specs.Prelude.{Result, Ok, Err}
 use Rattle.gpkt.specs.Change.{Change}
 use Rattle.gpkt.specs.Packets.{Packet}
 use Rattle.ggrammar.specs.Kinds.{ReadsMessage}
@@ -95,12 +96,14 @@ module _ {A : Type 0} (indexes : Indexes A) (index_fails : IndexFails) where
   -- only acknowledgments come; or a pack, too
   abbrev pub TakesHead : SessionState A → RepoState A → FetchReply → SessionState A → RepoState A → Taken → Type 0
   TakesHead old repo_old reply new repo_new (Round common) =
-      ¬ (HasPack reply) × (new ≡ with_acks old Fetching (acks_of reply)) × (common ≡ length new.commons) × (repo_new ≡ repo_old)
+      ¬ (HasPack reply) × (new ≡ with_acks old Fetching (acks_of reply))
+      × (common ≡ length new.commons) × (repo_new ≡ repo_old)
   TakesHead old repo_old reply new repo_new (PackTaken added) =
-      HasPack reply × (new ≡ with_acks old Settling (acks_of reply)) × InsertsPack repo_old (pack_of reply) repo_new added
+      HasPack reply × (new ≡ with_acks old Settling (acks_of reply))
+      × InsertsPack repo_old (pack_of reply) repo_new added
 
-  -- why a reply is not taken: an id is acknowledged that the request did not name; else the indexer refuses the pack, or
-  -- the graph its objects
+  -- why a reply is not taken: an id is acknowledged that the request did not name; else the indexer refuses the pack,
+  -- or the graph its objects
   abbrev pub IsReplyFault : FetchAsked → RepoState A → FetchReply → ClientFault A → Type 0
   IsReplyFault asked old reply (StrangeAck id) = IsFirstStrange asked.haves (acks_of reply) id
   IsReplyFault asked old reply (Index fault) =
@@ -143,8 +146,8 @@ abbrev pub AwaitsObjects : {A : Type 0} → SessionState A → Type 0
 AwaitsObjects s = (asked : FetchAsked) × (s.pending ≡ Some (Fetches asked))
 
 module _ {A : Type 0} (indexes : Indexes A) (index_fails : IndexFails) where
-  -- what taking a reply answers: a whole one is read and taken; or it is refused; or none is due, nothing is read, and
-  -- the session goes on
+  -- what taking a reply answers: a whole one is read and taken; or it is refused; or none is due, nothing is read,
+  -- and the session goes on
   abbrev pub TakesReply : SessionState A → RepoState A → Change → SessionState A → RepoState A
       → Result Taken (ClientFault A) → Type 0
   TakesReply old repo_old change new repo_new (Err NoOpenRequest) =

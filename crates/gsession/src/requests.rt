@@ -16,12 +16,16 @@ use std::alloc::{AllocError, Allocator};
 pub(crate) fn batch_size(rounds: usize) -> usize
     ensures { result ≡ batch_size rounds }
 {
-    match rounds {
-        0 => 16,
-        1 => 32,
-        2 => 64,
-        3 => 128,
-        _ => 256,
+    if rounds == 0 {
+        16
+    } else if rounds == 1 {
+        32
+    } else if rounds == 2 {
+        64
+    } else if rounds == 3 {
+        128
+    } else {
+        256
     }
 }
 
