@@ -30,8 +30,8 @@
 //!
 //! # What a body can still get away with
 //!
-//! It may give a sink any pieces of a packet's data, and report out of memory at any id and at any packet with data. A
-//! writing or building call may take memory and let it go. It may take as long as it likes.
+//! It may give a sink an empty piece at any time, and a piece again that the sink refused, and report out of memory at any
+//! id and at any packet with data. Any call may take memory. It may take as long as it likes.
 //!
 //! # Stands on
 //!

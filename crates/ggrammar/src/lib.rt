@@ -25,10 +25,10 @@
 //!
 //! # What a body can still get away with
 //!
-//! It may take as long as it likes. Where a packet brings something to keep, a message may be refused for
-//! want of memory that was there. Where the bytes of a source are not known, nothing is said of the lines that
-//! were read; what a device has done is said all the same. What is kept of a message after a refusal is for
-//! its kind to say.
+//! It may take as long as it likes, and show anything of a peer's text by `{:?}`. Where a packet brings something
+//! to keep, a message may be refused as if there were no memory. Where the bytes of a source are not known,
+//! nothing is said of the lines that were read; what a device has done is said all the same. What is kept of a
+//! message after a refusal is for its kind to say.
 //!
 //! # Stands on
 //!

@@ -24,12 +24,14 @@
 //!
 //! # Only tested
 //!
-//! That a value is kept where there is memory for it, and that look-ups and writers take none. Where a sink
-//! fails, that all it had taken stands written.
+//! That a value is kept where there is memory for it, and that look-ups and writers answer where there is none. Where a
+//! sink fails, that all it had taken stands written.
 //!
 //! # What a body can still get away with
 //!
-//! It may take as long as it likes, and answer that it is out of memory wherever something is to be kept.
+//! It may take as long as it likes, and answer that it is out of memory wherever something is to be kept. A value may keep
+//! more memory than it needs, and a look-up or a writer may take some and let it go. That the numbers of the limits that
+//! callers see are those of the definitions is not said by a contract.
 //! Where a sink fails, a shorter beginning may stand written. Where the bytes of a source or of a sink are not
 //! known, nothing is said of those that were read or written; what a device has done is said all the same.
 //!

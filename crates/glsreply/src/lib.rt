@@ -28,9 +28,9 @@
 //!
 //! # What a body can still get away with
 //!
-//! It may report out of memory at any line that is accepted, and at any `push`; the rest takes memory only to give
-//! it back. It may take as long as it likes. Who writes line by line may write lines in any order and of ids of two
-//! formats; that is for the caller to prove.
+//! It may report out of memory at any line that is accepted, and at any `push`; a value may keep more memory than it
+//! needs, and any other call may take some and let it go. It may take as long as it likes. Who writes line by line may
+//! write lines in any order and of ids of two formats; that is for the caller to prove.
 //!
 //! # Stands on
 //!

@@ -7,6 +7,7 @@ ghost use Rattle.ggrammar.specs.Endings.{ends_with};
 ghost use Rattle.ggrammar.specs.Writing.{WritesLines, WritesPart};
 ghost use Rattle.glsreply.specs.LentViews.{lent_view};
 ghost use Rattle.glsreply.specs.LsReplies.{canonical_reply, ref_packet, unborn_packets};
+ghost use Rattle.glsreply.specs.RefTexts.{ref_text};
 ghost use Rattle.glsreply.specs.TextLengths.{max_ref_text};
 
 use crate::lent::{LentLine, RefText};
@@ -79,8 +80,9 @@ pub fn write_ref<A: Allocator + Copy, W: Sink>(
     text: &mut RefText,
     writer: &mut LineWriter<W>,
 ) -> Result<(), WriteFault>
-    ensures { WritesLines W.contents W.passed_on W.is_down W.loans writer.old writer.new result
+    ensures lines { WritesLines W.contents W.passed_on W.is_down W.loans writer.old writer.new result
         (ref_packet (lent_view line.now) ∷ []) }
+    ensures text { text.new ≡ ref_text (lent_view line.now) }
 {
     writes_lines::<W>();
     text.set(line);
