@@ -100,7 +100,11 @@ where
     cmd_lines(rt.alloc(), &mut input, &mut output, errors)
 }
 
+// The bytes of a reply that go out in one write.
+const REPLY_BUFFER: usize = 65_536;
+
 // What is served on standard input and standard output.
+#[derive(Drop)]
 enum Service {
     // One request, with no advertisement before it.
     Request,
@@ -121,7 +125,7 @@ where
     let Ok(mut stdin) = BufReader::new(alloc, rt.reader()) else {
         return fail(ProgramFault::Memory, errors);
     };
-    let Ok(mut stdout) = BufWriter::new(alloc, io::writer(rt)) else {
+    let Ok(mut stdout) = BufWriter::with_capacity(alloc, REPLY_BUFFER, io::writer(rt)) else {
         return fail(ProgramFault::Memory, errors);
     };
     let mut input = FromRead::new(&mut stdin);
