@@ -3,7 +3,7 @@ use Rattle.gobject.specs.declared.node.Entry.{Entry}
 use Rattle.gobject.specs.Objects.{node_at}
 use Rattle.ghistory.specs.Graphs.{History, IsOrdered, Holds, HasIdsOf, entries_of, max_nodes}
 use Rattle.ghistory.proofs.Storing.{pushed_pairs, pushed}
-use Rattle.ghistory.proofs.graph.Graph.push.Goals as goal
+use Rattle.ghistory.proofs.graph.Graph.push_after.Goals as goal
 
 pub invariant_of-self-2 : goal.invariant_of-self-2
 invariant_of-self-2 g c =
@@ -13,7 +13,8 @@ invariant_of-self-2 g c =
     let Ids : History g.row.A.Denot → Type 0 = λ h. HasIdsOf h.format c.args.entry in
     let Room : History g.row.A.Denot → Type 0 = λ h. length h.entries < max_nodes in
     let Flag : History g.row.A.Denot → Type 0 = λ h. IsTrue c.stays_ordered-ordered.result ↔ (IsOrdered h.entries × All (Holds h.entries) c.args.entry.node.parents) in
-    let flag : Flag c.args.self.now = rw (← c.as_slice.ensures) c.stays_ordered-ordered.ensures in
+    let stays = c.stays_ordered-ordered.ensures in
+    let flag : Flag c.args.self.now = (λ t. ((stays.0 t).0, c.requires.parents.0 (stays.0 t).1), λ both. stays.1 (both.0, c.requires.parents.1 both.1)) in
     let is = pushed_pairs c.self.inside.nodes c.insert.new.self.entries c.args.entry absent c.in_ok-insert.ensures.entries in
     pushed c.self.inside.format old (entries_of c.insert.new.self.entries) c.args.entry c.stays_ordered-ordered.result is c.self.invariant.0 absent (subst Ids (sym v) c.requires.ids) c.requires.shaped (subst Room (sym v) c.requires.room) (subst Flag (sym v) flag)
 
