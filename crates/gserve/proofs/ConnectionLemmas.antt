@@ -1,5 +1,5 @@
 -- A connection, request by request.
-use Rattle.std.proofs.Common.{◌≡◌, ℕ, ◌+◌, ◌++◌, List, [], ◌∷◌, Bool, Option, Some, None, Result, Err, refl, sym, ap, subst, ◌∙◌, inl, inr, append_assoc, append-nil, length-append, arith}
+use Rattle.std.proofs.Common.{◌≡◌, ℕ, ◌<◌, ◌+◌, ◌++◌, List, [], ◌∷◌, Bool, Option, Some, None, Result, Err, refl, sym, ap, subst, ◌∙◌, inl, inr, append_assoc, append-nil, length-append, arith}
 use Rattle.std.proofs.lemmas.List.Elements.{All-nil, All-push}
 use Rattle.std.proofs.lemmas.Grind.{flat_map-append}
 use Rattle.std.specs.List.{flat_map}
@@ -169,36 +169,39 @@ module _ {A S W : Type 0} (server : Server A) (packs : Packs A) (fails : PackFai
   pub ended_by : (r s t : S) (a b c : W) (requests : ℕ) (ended : ExchangeEnd)
       → HasAnswered server packs fails ends (input_of remaining source_down r s) (output_of contents passed_on sink_down a b) requests
       → Exchanges server packs fails ends (input_of remaining source_down s t) (output_of contents passed_on sink_down b c) ended
-      → (last : End) → end_after ended ≡ Some last
+      → (requests < max_requests) → (last : End) → end_after ended ≡ Some last
       → Serves server packs fails ends (input_of remaining source_down r t) (output_of contents passed_on sink_down a c) requests last
-  ended_by r s t a b c requests exchange.Answered before h last is = absurd (none_is_some is)
-  ended_by r s t a b c requests exchange.Closed before h last is =
+  ended_by r s t a b c requests exchange.Answered before h room last is = absurd (none_is_some is)
+  ended_by r s t a b c requests exchange.Closed before h room last is =
       let served : Serves server packs fails ends (input_of remaining source_down r t) (output_of contents passed_on sink_down a c) requests end.Closed = (
         before.turns,
+        room,
         conversed r s t a b requests (ReadsEmpty server.graph.format) before (moved_empty server packs fails ends _ _ _ _ h.0),
         passes_still contents passed_on sink_down a b c _ before.passed h.1,
       ) in
       subst (λ (e : End). Serves server packs fails ends (input_of remaining source_down r t) (output_of contents passed_on sink_down a c) requests e) (some_is is) served
-  ended_by r s t a b c requests exchange.Ended before h last is =
+  ended_by r s t a b c requests exchange.Ended before h room last is =
       let served : Serves server packs fails ends (input_of remaining source_down r t) (output_of contents passed_on sink_down a c) requests end.Ended = (
         before.turns,
-        conversed r s t a b requests (HasEnded requests) before (inl (moved_end server packs fails ends _ _ _ _ h.0)),
+        conversed r s t a b requests (HasEnded requests) before (inl (room, moved_end server packs fails ends _ _ _ _ h.0)),
         passes_still contents passed_on sink_down a b c _ before.passed h.1,
       ) in
       subst (λ (e : End). Serves server packs fails ends (input_of remaining source_down r t) (output_of contents passed_on sink_down a c) requests e) (some_is is) served
-  ended_by r s t a b c requests (exchange.Refused cause) before h last is =
+  ended_by r s t a b c requests (exchange.Refused cause) before h room last is =
       let served : Serves server packs fails ends (input_of remaining source_down r t) (output_of contents passed_on sink_down a c) requests (end.Refused cause) =
       inl (
         before.turns,
+        room,
         conversed r s t a b requests (λ rest. IsRefused server fails rest cause) before (moved_refused server packs fails ends _ _ _ _ cause h.0),
         passes_join contents passed_on sink_down a b c _ _ before.passed h.1,
       ) in
       subst (λ (e : End). Serves server packs fails ends (input_of remaining source_down r t) (output_of contents passed_on sink_down a c) requests e) (some_is is) served
-  ended_by r s t a b c requests exchange.WriteFailed before h last is =
+  ended_by r s t a b c requests exchange.WriteFailed before h room last is =
       let served : Serves server packs fails ends (input_of remaining source_down r t) (output_of contents passed_on sink_down a c) requests end.WriteFailed =
       inl (
         before.turns,
         h.0,
+        room,
         conversed r s t a b requests (λ rest. IsDue server packs fails ends rest h.0) before (moved_due server packs fails ends _ _ _ _ h.0 h.1),
         fails_after contents passed_on sink_down a b c _ _ before.passed h.2 h.3,
       ) in

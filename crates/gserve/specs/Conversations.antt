@@ -1,6 +1,6 @@
 -- A served connection: what is written for the bytes that are read (gitprotocol-v2(5), "Capability Advertisement"
 -- and "Command Request").
-use Rattle.std.specs.Prelude.{◌≡◌, ◌⊎◌, ℕ, List, ◌++◌, length, Option}
+use Rattle.std.specs.Prelude.{◌≡◌, ◌<◌, ◌⊎◌, ℕ, List, ◌++◌, length, Option}
 use Rattle.std.specs.List.{flat_map}
 use Rattle.gname.specs.declared.formats.Format.{Format}
 use Rattle.gpkt.specs.Packets.{Packet, canonical_all}
@@ -66,26 +66,30 @@ pub record Converses {A : Type 0} (server : Server A) (packs : Packs A) (input :
 -- the input ends; or as many requests were answered as may be, and nothing more is read
 abbrev pub HasEnded : ℕ → Input → Type 0
 HasEnded requests rest =
-    ReadsEnd rest ⊎ ((requests ≡ max_requests) × (rest.read.new ≡ rest.read.old) × IsUp rest)
+    ((requests < max_requests) × ReadsEnd rest)
+    ⊎ ((requests ≡ max_requests) × (rest.read.new ≡ rest.read.old) × IsUp rest)
 
 -- ---- the whole
 
 module _ {A : Type 0} (server : Server A) (packs : Packs A) (fails : PackFails A) (ends : Ends) where
-  -- What was read and written on a connection, how many requests were answered, and how it ended. All that was due
-  -- is written and passed on. Or the sink failed: a beginning of it stands, and each reply that counts was passed on.
+  -- What was read and written on a connection, how many requests were answered, and how it ended. One more was read
+  -- only where there may be one more. All that was due is written and passed on. Or the sink failed: a beginning of it
+  -- stands, and each reply that counts was passed on.
   abbrev pub Serves : Input → Output → ℕ → End → Type 0
   Serves input output requests end.Closed =
-      (turns : List Turn) × Converses server packs input requests turns (ReadsEmpty server.graph.format)
+      (turns : List Turn) × (requests < max_requests)
+      × Converses server packs input requests turns (ReadsEmpty server.graph.format)
       × Passes output (talk_bytes server.graph.format ends turns)
   Serves input output requests end.Ended =
       (turns : List Turn) × Converses server packs input requests turns (HasEnded requests)
       × Passes output (talk_bytes server.graph.format ends turns)
   Serves input output requests (end.Refused fault) =
-      ((turns : List Turn) × Converses server packs input requests turns (λ rest. IsRefused server fails rest fault)
+      ((turns : List Turn) × (requests < max_requests)
+      × Converses server packs input requests turns (λ rest. IsRefused server fails rest fault)
       × Passes output (talk_bytes server.graph.format ends turns ++ canonical_all (err_packets fault)))
       ⊎ ((requests ≡ 0) × CannotBegin input fault × Passes output (canonical_all (err_packets fault)))
   Serves input output requests end.WriteFailed =
-      ((turns : List Turn) × (due : List Packet)
+      ((turns : List Turn) × (due : List Packet) × (requests < max_requests)
       × Converses server packs input requests turns (λ rest. IsDue server packs fails ends rest due)
       × SendsAndFails output (talk_bytes server.graph.format ends turns) (canonical_all due))
       ⊎ ((due : List Packet) × (requests ≡ 0) × IsDueFirst server.graph.format input due

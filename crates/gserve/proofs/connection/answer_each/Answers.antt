@@ -43,7 +43,7 @@ returns-in-Some-clause-serves g c = λ start passed.
     ended_by c.args.server.now (g.K.Packer.packs c.args.packer.now) (g.K.Packer.pack_fails c.args.packer.now) c.args.ends
     g.S.Source.remaining g.S.Source.is_down g.W.Sink.contents g.W.Sink.passed_on g.W.Sink.is_down
     _ _ _ _ _ _ c.loop-requests.requests c.exchange.result (c.loop-requests.invariant.answered start passed) c.exchange.ensures.exchange
-    c.in-Some.end (sym c.end_after.ensures ∙ c.in-Some.is)
+    (omega arith) c.in-Some.end (sym c.end_after.ensures ∙ c.in-Some.is)
 
 pub returns-clause-serves : goal.returns-clause-serves
 returns-clause-serves g c = λ start passed.
