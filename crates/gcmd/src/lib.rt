@@ -11,8 +11,8 @@
 //!   does so for the fault that it is given.
 //! - [`cmd_upload`] serves one connection as `gserve` says, from the repository that its file names, with plain packs,
 //!   and [`cmd_ls`] one request (`specs/Serving.antt`). The work is done where the client ended the connection, the request
-//!   was answered or was a lone flush, or the input ended before a request; else the fault is that of the refusal, or of the
-//!   output. Of a file that is no text of a repository in which each parent comes before its children, and each ref, and HEAD by
+//!   was answered or was a lone flush, the input ended before a request, or the connection had as many requests as may be;
+//!   else the fault is that of the refusal, or of the output. Of a file that is no text of a repository in which each parent comes before its children, and each ref, and HEAD by
 //!   its id, stands at an object that is there, nothing is read or written; the fault is that of the text, of the ref or of HEAD.
 //! - [`cmd_check`] writes its one line, with the counts, and whether the graph is closed and the refs are
 //!   safe, and passes it on; where the sink fails, a beginning of it stands. Of a file that is no repository

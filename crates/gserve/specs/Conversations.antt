@@ -1,5 +1,5 @@
--- A served connection: what is written for the bytes that are read (gitprotocol-v2(5), "Initial Client Request" and
--- "Command Request").
+-- A served connection: what is written for the bytes that are read (gitprotocol-v2(5), "Capability Advertisement"
+-- and "Command Request").
 use Rattle.std.specs.Prelude.{◌≡◌, ◌⊎◌, ℕ, List, ◌++◌, length, Option}
 use Rattle.std.specs.List.{flat_map}
 use Rattle.gname.specs.declared.formats.Format.{Format}

@@ -40,7 +40,7 @@ pub struct Served {
 }
 
 /// Serves one connection: writes the advertisement, and then reads and answers one request after the other
-/// (gitprotocol-v2(5), "Initial Client Request", "Command Request"). What is written is passed on after the
+/// (gitprotocol-v2(5), "Capability Advertisement", "Command Request"). What is written is passed on after the
 /// advertisement, after each reply and after the line of a refusal. The server stays as it is.
 ///
 /// It ends where the client ends it, where the input ends before a request, at the first refusal, whose line is
