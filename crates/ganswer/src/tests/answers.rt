@@ -1,0 +1,282 @@
+//! Requests and their answers, byte by byte (gitprotocol-v2(5), "ls-refs" and "fetch").
+use super::samples::{
+    DETACHED, EMPTY, HEAD_AT_TAG, SERVER, SHA256, TAGGED, TAGGED_TWICE, answer, id, request,
+    server, spelled,
+};
+use crate::ServeFault;
+use ggrammar::Ends;
+use ghello::write_advert;
+use gpkt::LineWriter;
+use gpkt::memory::VecSink;
+use grequest::Request;
+use std::test::Fail;
+
+// A repository, a request, and the answer.
+type Sample = (&'static [u8], &'static [u8], &'static [u8]);
+
+const LS_ANSWERS: &[Sample] = &[
+    // The names below a prefix, by lines with and without line feeds.
+    (
+        SERVER,
+        b"0014command=ls-refs\n00010009peel\n000csymrefs\n001bref-prefix refs/heads/\n0000",
+        b"003d{c} refs/heads/main\n0000",
+    ),
+    (
+        SERVER,
+        b"0013command=ls-refs00010008peel000bsymrefs001aref-prefix refs/heads/0000",
+        b"003d{c} refs/heads/main\n0000",
+    ),
+    // HEAD comes first, with its target where that is asked for.
+    (
+        SERVER,
+        b"0014command=ls-refs\n0001000csymrefs\n0000",
+        b"0050{c} HEAD symref-target:refs/heads/main\n003d{c} refs/heads/main\n0000",
+    ),
+    (
+        SERVER,
+        b"0014command=ls-refs\n0000",
+        b"0032{c} HEAD\n003d{c} refs/heads/main\n0000",
+    ),
+    // One of two prefixes, and a prefix that no name has.
+    (
+        SERVER,
+        b"0014command=ls-refs\n00010012ref-prefix no\n0014ref-prefix HEAD\n0000",
+        b"0032{c} HEAD\n0000",
+    ),
+    (
+        SERVER,
+        b"0014command=ls-refs\n00010012ref-prefix no\n0000",
+        b"0000",
+    ),
+    // HEAD by its id has no target.
+    (
+        DETACHED,
+        b"0014command=ls-refs\n0001000csymrefs\n000bunborn\n0000",
+        b"0032{b} HEAD\n003d{c} refs/heads/main\n0000",
+    ),
+    // What tags lead to, where it is asked for.
+    (
+        TAGGED,
+        b"0014command=ls-refs\n00010009peel\n0019ref-prefix refs/tags\n0000",
+        b"006a{1} refs/tags/v1 peeled:{c}\n0000",
+    ),
+    (
+        TAGGED,
+        b"0014command=ls-refs\n00010019ref-prefix refs/tags\n0000",
+        b"003a{1} refs/tags/v1\n0000",
+    ),
+    (
+        TAGGED_TWICE,
+        b"0014command=ls-refs\n00010009peel\n0019ref-prefix refs/tags\n0000",
+        b"006a{1} refs/tags/v1 peeled:{c}\n006a{2} refs/tags/v2 peeled:{c}\n0000",
+    ),
+    (
+        HEAD_AT_TAG,
+        b"0014command=ls-refs\n00010009peel\n0000",
+        b"0062{1} HEAD peeled:{a}\n0000",
+    ),
+    // An unborn HEAD comes where it and HEAD are asked for.
+    (
+        EMPTY,
+        b"0014command=ls-refs\n0001000bunborn\n0000",
+        b"002eunborn HEAD symref-target:refs/heads/main\n0000",
+    ),
+    (
+        EMPTY,
+        b"0014command=ls-refs\n0001000bunborn\n0014ref-prefix HEAD\n0000",
+        b"002eunborn HEAD symref-target:refs/heads/main\n0000",
+    ),
+    (
+        EMPTY,
+        b"0014command=ls-refs\n0001000bunborn\n001bref-prefix refs/heads/\n0000",
+        b"0000",
+    ),
+    (
+        EMPTY,
+        b"0014command=ls-refs\n0001000csymrefs\n0000",
+        b"0000",
+    ),
+    (
+        SERVER,
+        b"0014command=ls-refs\n0001000bunborn\n0000",
+        b"0032{c} HEAD\n003d{c} refs/heads/main\n0000",
+    ),
+    (
+        SHA256,
+        b"0014command=ls-refs\n0019object-format=sha256\n00010014ref-prefix HEAD\n0000",
+        b"004a[c] HEAD\n0000",
+    ),
+];
+
+const FETCH_ANSWERS: &[Sample] = &[
+    (SERVER, b"0000", b""),
+    // A clone, with `done` and without haves.
+    (
+        SERVER,
+        b"0012command=fetch\n00010010no-progress\n0032want {c}\n0009done\n0000",
+        b"000dpackfile\n00e3\x01GPK1\nc {a}\nc {b} {a}\nc {c} {b}\nend 3\n0000",
+    ),
+    (
+        SERVER,
+        b"0012command=fetch\n00010010no-progress\n0032want {c}\n0000",
+        b"000dpackfile\n00e3\x01GPK1\nc {a}\nc {b} {a}\nc {c} {b}\nend 3\n0000",
+    ),
+    // What the client has is not sent again; ids are read in either case.
+    (
+        SERVER,
+        b"0012command=fetch\n00010010no-progress\n0032want {c}\n0032have {a}\n0000",
+        b"0014acknowledgments\n0031ACK {a}\n000aready\n0001000dpackfile\n00b8\x01GPK1\nc {b} {a}\nc {c} {b}\nend 2\n0000",
+    ),
+    (
+        SERVER,
+        b"0012command=fetch\n00010010no-progress\n0032want {c}\n0032have {A}\n0000",
+        b"0014acknowledgments\n0031ACK {a}\n000aready\n0001000dpackfile\n00b8\x01GPK1\nc {b} {a}\nc {c} {b}\nend 2\n0000",
+    ),
+    (
+        SERVER,
+        b"0012command=fetch\n0001000ethin-pack\n000eofs-delta\n0032want {c}\n0032have {a}\n0009done\n0000",
+        b"000dpackfile\n00b8\x01GPK1\nc {b} {a}\nc {c} {b}\nend 2\n0000",
+    ),
+    // Common ids come once, in the order in which they first came.
+    (
+        SERVER,
+        b"0012command=fetch\n00010032want {c}\n0032have {b}\n0032have {a}\n0032have {b}\n0000",
+        b"0014acknowledgments\n0031ACK {b}\n0031ACK {a}\n000aready\n0001000dpackfile\n0064\x01GPK1\nc {c} {b}\nend 1\n0000",
+    ),
+    // An id that is not here is not common, and shrinks nothing.
+    (
+        SERVER,
+        b"0012command=fetch\n00010010no-progress\n0032want {c}\n0032have {d}\n0000",
+        b"0014acknowledgments\n0008NAK\n0000",
+    ),
+    (
+        SERVER,
+        b"0012command=fetch\n00010010no-progress\n0032want {c}\n0032have {d}\n0009done\n0000",
+        b"000dpackfile\n00e3\x01GPK1\nc {a}\nc {b} {a}\nc {c} {b}\nend 3\n0000",
+    ),
+    // One of two wants reaches no common id: more haves are to come.
+    (
+        SERVER,
+        b"0012command=fetch\n00010032want {c}\n0032want {a}\n0032have {b}\n0000",
+        b"0014acknowledgments\n0031ACK {b}\n0000",
+    ),
+    // Tags that lead to what is sent.
+    (
+        TAGGED,
+        b"0012command=fetch\n00010010no-progress\n0010include-tag\n0032want {c}\n0009done\n0000",
+        b"000dpackfile\n0137\x01GPK1\nc {a}\nc {b} {a}\nc {c} {b}\nt {1} {c}\nend 4\n0000",
+    ),
+    (
+        TAGGED,
+        b"0012command=fetch\n00010010no-progress\n0032want {c}\n0009done\n0000",
+        b"000dpackfile\n00e3\x01GPK1\nc {a}\nc {b} {a}\nc {c} {b}\nend 3\n0000",
+    ),
+    (
+        TAGGED,
+        b"0012command=fetch\n00010010no-progress\n0010include-tag\n0032want {c}\n0032have {a}\n0000",
+        b"0014acknowledgments\n0031ACK {a}\n000aready\n0001000dpackfile\n010c\x01GPK1\nc {b} {a}\nc {c} {b}\nt {1} {c}\nend 3\n0000",
+    ),
+    (
+        TAGGED,
+        b"0012command=fetch\n00010010include-tag\n0032want {c}\n0032have {c}\n0000",
+        b"0014acknowledgments\n0031ACK {c}\n000aready\n0001000dpackfile\n0010\x01GPK1\nend 0\n0000",
+    ),
+    (
+        TAGGED_TWICE,
+        b"0012command=fetch\n00010010no-progress\n0010include-tag\n0032want {c}\n0009done\n0000",
+        b"000dpackfile\n018b\x01GPK1\nc {a}\nc {b} {a}\nc {c} {b}\nt {1} {c}\nt {2} {1}\nend 5\n0000",
+    ),
+    // HEAD at a tag by its id adds none.
+    (
+        HEAD_AT_TAG,
+        b"0012command=fetch\n00010010include-tag\n0032want {a}\n0009done\n0000",
+        b"000dpackfile\n003b\x01GPK1\nc {a}\nend 1\n0000",
+    ),
+    (
+        SHA256,
+        b"0012command=fetch\n0019object-format=sha256\n00010010no-progress\n004awant [c]\n0009done\n0000",
+        b"000dpackfile\n015b\x01GPK1\nc [a]\nc [b] [a]\nc [c] [b]\nend 3\n0000",
+    ),
+];
+
+// What is advertised of SHA-1 ids, and of SHA-256 ids.
+const ADVERTS: [(&[u8], &[u8]); 2] = [
+    (
+        SERVER,
+        b"000eversion 2\n0012agent=gitv2/1\n0013ls-refs=unborn\n000afetch\n0017object-format=sha1\n0000",
+    ),
+    (
+        SHA256,
+        b"000eversion 2\n0012agent=gitv2/1\n0013ls-refs=unborn\n000afetch\n0019object-format=sha256\n0000",
+    ),
+];
+
+#[test]
+fn refs_are_answered(rt: HostRuntime) -> Result<(), Fail> {
+    let alloc = rt.alloc();
+    for (repository, request, wanted) in LS_ANSWERS {
+        let wanted = spelled(alloc, wanted)?;
+        let answered = answer(alloc, repository, request)?.unwrap_or(Vec::new(alloc));
+        assert_eq!(rt; answered.as_slice(), wanted.as_slice());
+    }
+    Ok(())
+}
+
+// The answer that is written line by line is the same.
+#[test]
+fn refs_are_written(rt: HostRuntime) -> Result<(), Fail> {
+    let alloc = rt.alloc();
+    for (repository, bytes, wanted) in LS_ANSWERS {
+        let server = server(alloc, repository)?;
+        let wanted = spelled(alloc, wanted)?;
+        let mut writer = LineWriter::new(VecSink::new(alloc));
+        if let Request::Ls(asked) = request(alloc, alloc, &server, bytes)? {
+            server.write_ls_answer(&asked, Ends::Plain, &mut writer)?;
+        }
+        assert_eq!(rt;
+            writer.into_inner().into_written().as_slice(),
+            wanted.as_slice()
+        );
+    }
+    Ok(())
+}
+
+#[test]
+fn objects_are_answered(rt: HostRuntime) -> Result<(), Fail> {
+    let alloc = rt.alloc();
+    for (repository, request, wanted) in FETCH_ANSWERS {
+        let wanted = spelled(alloc, wanted)?;
+        let answered = answer(alloc, repository, request)?.unwrap_or(Vec::new(alloc));
+        assert_eq!(rt; answered.as_slice(), wanted.as_slice());
+    }
+    Ok(())
+}
+
+#[test]
+fn capabilities_are_advertised(rt: HostRuntime) -> Result<(), Fail> {
+    let alloc = rt.alloc();
+    for (repository, wanted) in ADVERTS {
+        let advert = server(alloc, repository)?.advert()?;
+        let mut writer = LineWriter::new(VecSink::new(alloc));
+        write_advert(&advert, &mut writer)?;
+        assert_eq!(rt; writer.into_inner().into_written().as_slice(), wanted);
+    }
+    Ok(())
+}
+
+// Nothing is wanted, or something that is not here: the first such id is reported.
+#[test]
+fn wants_are_judged_first(rt: HostRuntime) -> Result<(), Fail> {
+    let alloc = rt.alloc();
+    match answer(alloc, SERVER, b"0012command=fetch\n0000")? {
+        Err(fault) => assert_eq!(rt; fault.code(), 73),
+        Ok(_) => assert!(rt; false, "an answer without a want"),
+    }
+    let bytes: &[u8] =
+        b"0012command=fetch\n00010032want {c}\n0032want {d}\n0032want {e}\n0032have {a}\n0000";
+    match answer(alloc, SERVER, bytes)? {
+        Err(ServeFault::NotOurs { id: missing }) => assert_eq!(rt; missing, id(b'd')?),
+        _ => assert!(rt; false, "an answer to a want that is not here"),
+    }
+    Ok(())
+}

@@ -1,0 +1,3 @@
+pub mod OneSettling
+pub mod RepoLemmas
+pub mod SettlingLemmas

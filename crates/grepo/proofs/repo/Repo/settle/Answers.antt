@@ -1,0 +1,21 @@
+use Rattle.std.proofs.Common.{◌≡◌, ap, ◌∙◌}
+use Rattle.std.proofs.lemmas.Result.{err_from_is_err_and}
+use Rattle.grepo.specs.Repos.{RepoState}
+use Rattle.grepo.specs.Settling.{asked_ids}
+use Rattle.grepo.proofs.SettlingLemmas.{refuses_asks}
+use Rattle.grepo.proofs.repo.Repo.settle.Goals as goal
+
+pub returns-in_err-refs : goal.returns-in_err-refs
+returns-in_err-refs g c =
+    let p = err_from_is_err_and c.from_residual-in_err-refs.result c.from_residual-in_err-refs.ensures.1 in
+    let ids : c.as_slice-ids.result.now ≡ asked_ids c.args.asks.now = c.as_slice-ids.ensures.value ∙ c.in_ok-targets.ensures in
+    let refs : c.self.inside.refs ≡ c.args.self.now.refs = ap (λ (s : RepoState g.row.A.Denot). s.refs) c.self.view_is in
+    rw (p.1, p.2)
+    (refuses_asks c.args.self.now c.args.asks.now c.in_err-refs.field-0.0
+    (rw (c.in_default.is, ids) at c.in_ok-missing.ensures.answer) (rw refs at c.in_err-refs.ensures))
+
+pub install-requires-clause-from : goal.install-requires-clause-from
+install-requires-clause-from g c =
+    let ids : c.as_slice-ids.result.now ≡ asked_ids c.args.asks.now = c.as_slice-ids.ensures.value ∙ c.in_ok-targets.ensures in
+    let refs : c.self.inside.refs ≡ c.args.self.now.refs = ap (λ (s : RepoState g.row.A.Denot). s.refs) c.self.view_is in
+    rw (ids, ← refs) c.in_ok-refs.ensures.from

@@ -1,0 +1,5 @@
+//! Tests.
+mod bounds;
+mod makers;
+mod refused;
+mod talks;
