@@ -22,7 +22,8 @@
 //!   thing; neither its packets nor its bytes begin another; each beginning of one can be ended, and a packet
 //!   that is refused is the first that does not fit; the lines that are written ask what was asked, and fit
 //!   packets. A request is read exactly where the bytes begin with one, and is missing exactly where there are
-//!   none; what is written of it reads back, whatever follows.
+//!   none; all bytes begin with one or are refused for a reason in them; what is written of it reads back,
+//!   whatever follows. The constants are the limits of the definitions.
 //!
 //! # Only tested
 //!
