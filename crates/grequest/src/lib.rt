@@ -32,9 +32,9 @@
 //! # What a body can still get away with
 //!
 //! A call that keeps or copies something may report out of memory, whatever there is. It may take as long as
-//! it likes, and more memory than it needs. Where a sink fails, a shorter beginning may stand written. Where
-//! the bytes of a source are not known, nothing is said of the lines that were read; what a device has done is
-//! said all the same.
+//! it likes, and more memory than it needs; a new request may take some, too. Where a sink fails, a shorter
+//! beginning may stand written. Where the bytes of a source are not known, nothing is said of the lines that
+//! were read; what a device has done is said all the same.
 //!
 //! # Stands on
 //!
