@@ -27,8 +27,7 @@
 //!
 //! # Only tested
 //!
-//! That a walk does not go on from marked objects; that as many refs as there may be are settled at once; that memory
-//! which is there is used; the texts of the faults.
+//! That a walk does not go on from marked objects; that memory which is there is used; the texts of the faults.
 //!
 //! # What a body can still get away with
 //!
