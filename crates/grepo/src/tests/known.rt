@@ -70,7 +70,8 @@ fn a_taken_pack_is_not_marked(rt: HostRuntime) {
     assert_eq!(rt; repo.insert_all(pack.as_slice()), Ok(1));
     check_marks(&rt, &repo, &[true, false]);
     assert_eq!(rt; repo.missing(&[id(&rt, b'c')]), Ok(Some(id(&rt, b'b'))));
-    match repo.settle(&asks_of(&rt, &[(MAIN, b'c', true)])) {
+    let asks = asks_of(&rt, &[(MAIN, b'c', true)]);
+    match repo.settle(&asks) {
         Err(RepoFault::NotConnected { missing }) => assert_eq!(rt; missing, id(&rt, b'b')),
         _ => panic!(rt; "nothing was missing"),
     }
