@@ -13,7 +13,7 @@ use Rattle.ghistory.specs.declared.fault.GraphFault.TheVariants as graph
 use Rattle.grepo.specs.declared.fault.RepoFault.TheVariants as repo
 use Rattle.grequest.specs.Asked.{Asked, Ls, LsRefsAsked, max_wants}
 use Rattle.gsession.specs.Asking.{AreNamed, AreWants, asked_of, asks_by_all, unborn_told}
-use Rattle.gsession.specs.Sessions.{SessionState, over}
+use Rattle.gsession.specs.Sessions.{SessionState, after_fault}
 use Rattle.gsession.specs.declared.stage.Stage.{Stage}
 use Rattle.gsession.specs.declared.stage.Stage.TheVariants.{Fetching, Settling}
 use Rattle.gsession.specs.declared.fault.ClientFault.{ClientFault}
@@ -61,34 +61,48 @@ pub record WantsTooMuch {A : Type 0} (s : SessionState A) (g : List (Entry A)) (
 
 -- why the refs of a reply are not taken: a ref can't have its name; or too much is wanted; or there is no memory
 abbrev pub IsRefsFault : {A : Type 0} → SessionState A → List (Entry A) → LsReply → ClientFault A → Type 0
-IsRefsFault old g reply (Message fault) = IsMisnamed old reply fault
-IsRefsFault old g reply TooManyWants = WantsTooMuch old g reply
-IsRefsFault old g reply (Repo (repo.Graph graph.Memory)) = Unit {0}
-IsRefsFault old g reply _ = ⊥
-
--- what taking the refs of a reply answers
-abbrev pub TakesRefs : {A : Type 0} → SessionState A → List (Entry A) → LsReply → SessionState A
-    → Result (LsTaken A) (ClientFault A) → Type 0
-TakesRefs old g reply new (Ok taken) = TakesLines old g reply new taken
-TakesRefs old g reply new (Err fault) = IsRefsFault old g reply fault × (new ≡ over old)
-
--- the reply is refused before its end
-abbrev pub RefusesRefs : {A : Type 0} → SessionState A → Change → SessionState A
-    → Result (LsTaken A) (ClientFault A) → Type 0
-RefusesRefs old change new (Err (Message fault)) =
-    ((front : List Packet) × ReadsRefused (judge old.format old.ends) brings front change fault) × (new ≡ over old)
-RefusesRefs old change new _ = ⊥
+IsRefsFault s g reply (Message fault) = IsMisnamed s reply fault
+IsRefsFault s g reply TooManyWants = WantsTooMuch s g reply
+IsRefsFault s g reply (Repo (repo.Graph graph.Memory)) = Unit {0}
+IsRefsFault s g reply _ = ⊥
 
 -- a whole reply is read
 abbrev pub ReadsRefs : {A : Type 0} → SessionState A → Change → LsReply → Type 0
 ReadsRefs s change reply = ReadsMessage (judge s.format s.ends) (Says s.format s.ends) change reply
 
--- what taking a reply answers: a whole one is read, and its refs are taken; or it is refused; or none is due, nothing
--- is read, and the session goes on
+-- the reply is refused before its end
+abbrev pub RefusesRefs : {A : Type 0} → SessionState A → Change → MessageFault → Type 0
+RefusesRefs s change fault =
+    (front : List Packet) × ReadsRefused (judge s.format s.ends) brings front change fault
+
+-- a whole reply is read, and its refs are not taken
+abbrev pub ReadsUntaken : {A : Type 0} → SessionState A → List (Entry A) → Change → ClientFault A → Type 0
+ReadsUntaken s g change fault = (reply : LsReply) × ReadsRefs s change reply × IsRefsFault s g reply fault
+
+-- why no reply to ls-refs is taken: none is due, and nothing is read; or it is refused; or a whole one is read, and its
+-- refs are not taken
+abbrev pub IsLsFault : {A : Type 0} → SessionState A → List (Entry A) → Change → ClientFault A → Type 0
+IsLsFault s g change NoOpenRequest = ¬ (AwaitsRefs s) × (change.new ≡ change.old)
+IsLsFault s g change (Message fault) =
+    AwaitsRefs s × (RefusesRefs s change fault ⊎ ReadsUntaken s g change (Message fault))
+IsLsFault s g change fault = AwaitsRefs s × ReadsUntaken s g change fault
+
+-- what taking the refs of a reply answers
+abbrev pub AnswersRefs : {A : Type 0} → SessionState A → List (Entry A) → LsReply → SessionState A
+    → Result (LsTaken A) (ClientFault A) → Type 0
+AnswersRefs old g reply new (Ok taken) = TakesLines old g reply new taken
+AnswersRefs old g reply new (Err fault) = IsRefsFault old g reply fault × (new ≡ old)
+
+-- what taking a reply answers, before a fault ends the session
+abbrev pub AnswersLs : {A : Type 0} → SessionState A → List (Entry A) → Change → SessionState A
+    → Result (LsTaken A) (ClientFault A) → Type 0
+AnswersLs old g change new (Ok taken) =
+    AwaitsRefs old × ((reply : LsReply) × ReadsRefs old change reply × TakesLines old g reply new taken)
+AnswersLs old g change new (Err fault) = IsLsFault old g change fault × (new ≡ old)
+
+-- what taking a reply answers: a whole one is read, and its refs are taken; or why not
 abbrev pub TakesLs : {A : Type 0} → SessionState A → List (Entry A) → Change → SessionState A
     → Result (LsTaken A) (ClientFault A) → Type 0
-TakesLs old g change new (Err NoOpenRequest) = ¬ (AwaitsRefs old) × (new ≡ old) × (change.new ≡ change.old)
-TakesLs old g change new result =
-    AwaitsRefs old
-    × (((reply : LsReply) × ReadsRefs old change reply × TakesRefs old g reply new result)
-        ⊎ RefusesRefs old change new result)
+TakesLs old g change new (Ok taken) =
+    AwaitsRefs old × ((reply : LsReply) × ReadsRefs old change reply × TakesLines old g reply new taken)
+TakesLs old g change new (Err fault) = IsLsFault old g change fault × (new ≡ after_fault old fault)

@@ -4,19 +4,42 @@
 //!
 //! # Proved
 //!
-//! The crate is not proved as a whole yet. What the calls of [`Session`] promise stands in their contracts
-//! (`specs/Sessions.antt`, `Requesting.antt`, `TakingRefs.antt`, `TakingReplies.antt`, `SettlingRefs.antt`); of what they
-//! stand on these are proved:
+//! - [`Session::begin`] keeps the refspecs and the distinct ids of the refs, in the order of their names, unless there
+//!   are more than 16 refspecs. [`Session::hear`] keeps whether the server tells of an unborn `HEAD`.
+//! - [`Session::request`] makes the one request that is due. For refs it has the sources of the refspecs, each once,
+//!   and asks for an unborn `HEAD` exactly where the server offers to tell of it. For objects it has the wants, the
+//!   common ids, and a batch of ids that were not offered before; without a batch the client is done.
+//! - [`Session::take_ls`] reads one reply to its end, and nothing after it. It answers what is asked for, the first ask
+//!   for a ref alone; wanted is each asked id whose whole ancestry is not held. A ref that can't have its name is
+//!   reported at the reply's last packet, and before too many wants are.
+//! - [`Session::take_reply`] reads one reply to its end, whatever its bytes are, and nothing after it. Each id that is
+//!   common from then on was a have of the request. What comes to the repository is a list that the indexer may answer
+//!   for the pack, all of it or none. A reply that is refused is reported first, then an id that the request did not
+//!   name, then the indexer's fault, then the graph's; out of memory may come at any time.
+//! - [`Session::settle`] moves the refs as `Repo::settle` does, once a pack was taken or nothing is wanted.
+//! - A call that does not fit what the session waits for changes nothing, and reads nothing. Every other fault ends the
+//!   session, and leaves objects and refs as they were; every later call is then refused.
+//! - A reader of replies goes on after a reply that was read to its end, and is as reading left it where one was
+//!   refused.
+//! - A session asks for objects at most once more than there are ids that its tips reach ([`laws`]).
+//! - Each fault has the number and the name of its row. No call panics, overflows or reads out of bounds, and each
+//!   returns where the reader's calls return.
 //!
-//! - A pack goes to the indexer piece by piece: it was fed all pieces in order, or has refused, as it may each pack that
-//!   begins with them.
-//! - Wants and haves come to a request in their order, and a prefix once.
-//! - The common ids with those that are acknowledged are the distinct ids of both, in order.
+//! # Only tested
+//!
+//! Whole conversations with the bytes of a peer; that a pack goes to the indexer as it comes; that memory which is there
+//! is used; the texts of the faults.
+//!
+//! # What a body can still get away with
+//!
+//! It may report out of memory as often as it likes. It may keep all of a pack and feed it once, take as long as it
+//! likes, and more memory than it needs.
 //!
 //! # Stands on
 //!
 //! `gspec` for refspecs, `grepo` for the repository, `grequest`, `glsreply`, `gfetchreply` and `ghello` for messages,
-//! `ggraph` and `gwalk` for what is offered, `gobject` for indexers.
+//! `ggraph` and `gwalk` for what is offered, `gobject` for indexers, `indexmap` for sets of ids, `thiserror` for the
+//! texts of faults; in tests `bumpalo`, for memory that ends.
 #![tactic(auto)]
 
 mod acks;

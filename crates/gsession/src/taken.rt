@@ -2,7 +2,7 @@
 #![tactic(auto)]
 
 use gname::RefName;
-use grepo::{Ask, RefUpdate};
+use grepo::{Asks, RefUpdate};
 use std::alloc::{Allocator, Global};
 
 /// What came of a reply to ls-refs.
@@ -28,6 +28,6 @@ pub enum Taken {
 /// What was asked for, and in the same order what became of it.
 #[derive(Debug, Drop)]
 pub struct Settled<A: Allocator + Copy = Global> {
-    pub asks: Vec<Ask<A>, A>,
+    pub asks: Asks<A>,
     pub updates: Vec<RefUpdate, A>,
 }
