@@ -1,8 +1,8 @@
 -- What refspecs ask for, refspec by refspec and line by line.
-use Rattle.std.proofs.Common.{◌≡◌, ◌≢◌, ℕ, ◌+◌, ◌<◌, if◌then◌else◌, true, false, inl, inr, List, [], ◌∷◌, ◌++◌, length, map, filter, take, drop, get_or, All, Contains, Err, refl, sym, ap, subst, ◌∙◌}
+use Rattle.std.proofs.Common.{◌≡◌, ◌≢◌, ℕ, ◌+◌, ◌<◌, if◌then◌else◌, true, false, inl, inr, List, [], ◌∷◌, ◌++◌, length, map, filter, take, drop, get_or, All, Err, refl, sym, ap, subst, ◌∙◌}
 use Rattle.std.proofs.lemmas.Option.{none-some}
-use Rattle.std.proofs.lemmas.List.{append-nil, map-append, take-append-drop, take_more}
-use Rattle.std.proofs.lemmas.List.Elements.{All-append, All-cons, All-contains, All-contains_itself, All-filter, All-head, All-map, All-nil, All-push, All-tail, All-weaker, Contains-append_left, Contains-append_right, filter-append}
+use Rattle.std.proofs.lemmas.List.{append-nil, map-append, take_more}
+use Rattle.std.proofs.lemmas.List.Elements.{All-append, All-cons, All-filter, All-head, All-map, All-nil, All-push, All-tail, All-weaker, filter-append}
 use Rattle.std.proofs.lemmas.Grind.{flat_map-append}
 use Rattle.gname.specs.Ids.{IsIdOf}
 use Rattle.gname.specs.Names.{IsRefName, Owns, name_fault}

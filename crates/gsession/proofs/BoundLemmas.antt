@@ -1,16 +1,15 @@
 -- How often a session asks for objects.
-use Rattle.std.proofs.Common.{◌≡◌, ℕ, ◌+◌, ◌≤◌, Bool, true, false, List, [], ◌++◌, length, All, Contains, nat_le, if◌then◌else◌, refl, sym, subst, arith}
+use Rattle.std.proofs.Common.{ℕ, ◌+◌, ◌≤◌, true, false, List, [], length, All, Contains, nat_le, if◌then◌else◌, sym, subst, arith}
 use Rattle.std.proofs.lemmas.List.Elements.{All-append, All-contains, All-contains_itself, All-nil, All-weaker}
 use Rattle.gobject.specs.declared.node.Entry.{Entry}
 use Rattle.ghistory.specs.Graphs.{Holds}
 use Rattle.ghistory.specs.Laws.{FullStaysFull, GrowingKeeps, OffersAreExact, ReachedAreCounted}
 use Rattle.ghistory.specs.Offer.{IsOffer}
 use Rattle.ghistory.specs.Reach.{Grows, IsFull, Reaches, SomeReaches}
-use Rattle.ghistory.specs.Walks.{CountsReached}
 use Rattle.grequest.specs.Asked.{Asked, Empty, Ls, Fetches, max_haves}
 use Rattle.gsession.specs.Bounds.{BeganOn, BeganStays, RoundsAreFew}
-use Rattle.gsession.specs.Requesting.{IsNext, MakesNext, batch_of, batch_size, waiting_for}
-use Rattle.gsession.specs.Sessions.{SessionState, IsSession}
+use Rattle.gsession.specs.Requesting.{IsNext, batch_of, batch_size, waiting_for}
+use Rattle.gsession.specs.Sessions.{SessionState}
 
 in_batch : (P : List ℕ → Type 0) (commons offer : List (List ℕ)) → All P offer → All P (batch_of commons offer)
 in_batch P commons offer all =

@@ -1,4 +1,4 @@
-use Rattle.std.proofs.Common.{◌≡◌, ◌↔◌, [], ◌∷◌, Bool, subst}
+use Rattle.std.proofs.Common.{◌↔◌, [], ◌∷◌, Bool, subst}
 use Rattle.std.specs.Bool.{IsTrue}
 use Rattle.ghistory.specs.Reach.{IsFull}
 use Rattle.ghistory.specs.Walks.{Misses}

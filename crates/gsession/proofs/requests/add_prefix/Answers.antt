@@ -1,4 +1,4 @@
-use Rattle.std.proofs.Common.{◌≡◌, ◌∙◌, ℕ, List, ap, length}
+use Rattle.std.proofs.Common.{◌∙◌, ℕ, List, ap, length}
 use Rattle.std.specs.Option.{is_none}
 use Rattle.std.proofs.lemmas.Bool.{lt-ltb}
 use Rattle.gname.specs.Names.{prefix_fault}

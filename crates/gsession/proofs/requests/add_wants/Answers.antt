@@ -1,4 +1,4 @@
-use Rattle.std.proofs.Common.{◌≡◌, ap}
+use Rattle.std.proofs.Common.{ap}
 use Rattle.grequest.specs.Asked.{max_wants}
 use Rattle.grequest.specs.Building.{FormattedFetch}
 use Rattle.gsession.proofs.BuildLemmas.{fits, has_room, only_memory}

@@ -1,4 +1,4 @@
-use Rattle.std.proofs.Common.{◌≡◌, ◌≤◌, ℕ, List, None, false, length, sym, ap, ap₂, ◌∙◌, arith}
+use Rattle.std.proofs.Common.{ℕ, List, None, false, length, sym, ap, ap₂, ◌∙◌, arith}
 use Rattle.grequest.specs.Asked.{LsRefsAsked}
 use Rattle.gsession.specs.Requesting.{with_prefix}
 use Rattle.gsession.proofs.ListLemmas.{prefixes_more, with_prefix_few}
