@@ -23,10 +23,10 @@ module _ {A : Type 0} where
   offered exact keeps full g h tips commons sent n list grows are offer =
       All-weaker (Contains list) (λ a. Holds g a × SomeReaches g tips a)
       (λ a there.
-        let reached : SomeReaches h tips a = ((exact h tips commons sent n).each list a offer there).1 in
-        let is_full : IsFull g reached.0 = All-contains (IsFull g) tips reached.0 are reached.1 in
-        let back : Reaches g reached.0 a = (full g h reached.0 (keeps g h grows) is_full).1 a reached.2 in
-        (is_full a back, (reached.0, reached.1, back)))
+      let reached : SomeReaches h tips a = ((exact h tips commons sent n).each list a offer there).1 in
+      let is_full : IsFull g reached.0 = All-contains (IsFull g) tips reached.0 are reached.1 in
+      let back : Reaches g reached.0 a = (full g h reached.0 (keeps g h grows) is_full).1 a reached.2 in
+      (is_full a back, (reached.0, reached.1, back)))
       list (All-contains_itself list)
 
   began_next : OffersAreExact A → GrowingKeeps A → FullStaysFull A → (g h : List (Entry A)) (old : SessionState A) (asked : Asked) (batch : List (List ℕ))

@@ -15,7 +15,7 @@ use Rattle.ghistory.specs.Reach.{IsFull}
 use Rattle.ghistory.specs.Selecting.{Selects}
 use Rattle.gspec.specs.Refspecs.{Refspec, destination_of, matches}
 use Rattle.grepo.specs.declared.ask.Ask.{Ask}
-use Rattle.grepo.specs.Settling.{asked_ids}
+use Rattle.grepo.specs.Asks.{asked_ids, with_ask}
 
 -- the ref to which a refspec takes the name is to stand at the line's id
 abbrev pub ask_of : {A : Type 0} → Refspec → RefLine → Ask A
@@ -31,14 +31,6 @@ asks_by spec lines = map (ask_of spec) (filter (line_matches spec) lines)
 -- what all refspecs ask for, one after the other
 abbrev pub asks_by_all : {A : Type 0} → List Refspec → List RefLine → List (Ask A)
 asks_by_all specs lines = flat_map (λ spec. asks_by spec lines) specs
-
--- whether one of the asks is for the ref
-abbrev pub is_asked : {A : Type 0} → List (Ask A) → List ℕ → Bool
-is_asked asks name = list_any (λ ask. bytes_eq ask.name name) asks
-
--- an ask more, unless one is for the same ref
-abbrev pub with_ask : {A : Type 0} → List (Ask A) → Ask A → List (Ask A)
-with_ask asks ask = if is_asked asks ask.name then asks else asks ++ ask ∷ []
 
 -- more asks, one after the other
 abbrev pub with_asks : {A : Type 0} → List (Ask A) → List (Ask A) → List (Ask A)
@@ -60,10 +52,10 @@ AddsAsks old more new (Err Memory) = ⊤
 AddsAsks old more new (Err _) = ¬ (AreNamed more)
 
 -- what asking answers: the asks; or that one is for no ref name; or that there is no memory
-abbrev pub Asks : {A : Type 0} → List Refspec → List RefLine → Result (List (Ask A)) NameFault → Type 0
-Asks {A} specs lines (Ok asks) = (asks ≡ asked_of specs lines) × AreNamed {A = A} (asks_by_all specs lines)
-Asks specs lines (Err Memory) = ⊤
-Asks {A} specs lines (Err _) = ¬ (AreNamed {A = A} (asks_by_all specs lines))
+abbrev pub FindsAsks : {A : Type 0} → List Refspec → List RefLine → Result (List (Ask A)) NameFault → Type 0
+FindsAsks {A} specs lines (Ok asks) = (asks ≡ asked_of specs lines) × AreNamed {A = A} (asks_by_all specs lines)
+FindsAsks specs lines (Err Memory) = ⊤
+FindsAsks {A} specs lines (Err _) = ¬ (AreNamed {A = A} (asks_by_all specs lines))
 
 -- the wants: the distinct asked ids whose whole ancestry is not held, in order
 abbrev pub AreWants : {A : Type 0} → List (Entry A) → List (Ask A) → List (List ℕ) → Type 0

@@ -1,24 +1,42 @@
 // Ids that a server acknowledges.
 #![tactic(auto)]
 
-ghost use Rattle.std.specs.Prelude.{◌≡◌, ◌++◌, All, Contains, IfOk, MatchOption};
+ghost use Rattle.std.specs.Prelude.{◌≡◌, ◌↔◌, ◌++◌, ℕ, List, true, All, Contains, IfOk, MatchOption};
+ghost use Rattle.std.specs.Str.{bytes_eq};
 ghost use Rattle.ghistory.specs.Levels.{distinct_of};
+ghost use Rattle.indexmap.specs.IndexSet.{contains};
 ghost use Rattle.gsession.specs.TakingReplies.{IsFirstStrange};
 
-use ggraph::distinct_ids;
+use ggraph::{IdHasher, distinct_ids};
 use gname::Oid;
+use indexmap::IndexSet;
 use std::alloc::{AllocError, Allocator};
 
-/// The first acknowledged id that is none of the haves.
-pub(crate) fn first_strange(haves: &[Oid], acks: &[Oid]) -> Option<Oid>
-    ensures { MatchOption result (All (Contains haves.now) acks.now) (IsFirstStrange haves.now acks.now) }
+/// The first acknowledged id that is none of the haves. It fails where there is no memory.
+pub(crate) fn first_strange<A: Allocator + Copy>(
+    alloc: A,
+    haves: &[Oid],
+    acks: &[Oid],
+) -> Result<Option<Oid>, AllocError>
+    ensures { IfOk result (λ found. MatchOption found (All (Contains haves.now) acks.now) (IsFirstStrange haves.now acks.now)) }
 {
+    let offered = set_of(alloc, haves)?;
     for id in acks {
-        if !haves.contains(id) {
-            return Some(*id);
+        if !offered.contains(id) {
+            return Ok(Some(*id));
         }
     }
-    None
+    Ok(None)
+}
+
+// The ids as a set.
+fn set_of<A: Allocator + Copy>(
+    alloc: A,
+    ids: &[Oid],
+) -> Result<IndexSet<Oid, IdHasher, A>, AllocError>
+    ensures { IfOk result (λ set. (id : List ℕ) → (contains bytes_eq set id ≡ true) ↔ Contains ids.now id) }
+{
+    ids.iter().copied().collect(alloc)
 }
 
 /// The common ids with those that are acknowledged, each once, in the order in which each came first.

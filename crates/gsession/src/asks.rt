@@ -1,16 +1,19 @@
 // What a session asks for.
 #![tactic(auto)]
 
-ghost use Rattle.std.specs.Prelude.{◌≡◌, ◌∷◌, [], IfOk, IfErr, MatchResult, Ok, Err};
-ghost use Rattle.std.specs.Option.{option_copied};
+ghost use Rattle.std.specs.Prelude.{◌≡◌, ◌↔◌, ◌∷◌, [], true, All, IfErr, IfOk, IsTrue};
+ghost use Rattle.gname.specs.Ids.{IsIdOf};
+ghost use Rattle.gname.specs.declared.formats.Format.{Format};
+ghost use Rattle.glsreply.specs.WellFormed.{IsRefLine};
+ghost use Rattle.ghistory.specs.Reach.{IsFull};
 ghost use Rattle.ghistory.specs.declared.fault.GraphFault.TheVariants.{Memory};
-ghost use Rattle.grepo.specs.Settling.{asked_ids};
-ghost use Rattle.gsession.specs.Asking.{AddsAsks, AreWants, Asks, asks_by, is_asked, takes_head, unborn_told};
+ghost use Rattle.gsession.specs.Asking.{AddsAsks, AreWants, FindsAsks, asks_by, takes_head, unborn_told};
 
-use ggraph::{GraphFault, distinct_ids};
+use ggraph::graph_laws::{distinct_are_once, places_are_nodes};
+use ggraph::{GraphFault, distinct_ids, missing};
 use glsreply::{LsReply, RefLine};
 use gname::{NameFault, Oid, RefName};
-use grepo::{Ask, Repo};
+use grepo::{Ask, Asks, Repo};
 use gspec::Spec;
 use std::alloc::{AllocError, Allocator};
 
@@ -19,12 +22,11 @@ pub(crate) fn asks_of<A: Allocator + Copy>(
     alloc: A,
     specs: &[Spec<A>],
     reply: &LsReply<A>,
-) -> Result<Vec<Ask<A>, A>, NameFault>
-    ensures { MatchResult result
-        (λ asks. Asks specs.now reply.now.lines (Ok asks.items))
-        (λ fault. Asks {A = A} specs.now reply.now.lines (Err fault)) }
+) -> Result<Asks<A>, NameFault>
+    ensures asks { FindsAsks specs.now reply.now.lines result }
+    ensures ids { IfOk result (λ asks. (format : Format) → All (IsRefLine format) reply.now.lines → All (λ ask. IsIdOf format ask.id) asks) }
 {
-    let mut asks = Vec::new(alloc);
+    let mut asks = Asks::new(alloc);
     for spec in specs {
         add_asks(spec, reply, &mut asks)?;
     }
@@ -35,9 +37,9 @@ pub(crate) fn asks_of<A: Allocator + Copy>(
 fn add_asks<A: Allocator + Copy>(
     spec: &Spec<A>,
     reply: &LsReply<A>,
-    asks: &mut Vec<Ask<A>, A>,
+    asks: &mut Asks<A>,
 ) -> Result<(), NameFault>
-    ensures { AddsAsks asks.old.items (asks_by spec.now reply.now.lines) asks.new.items result }
+    ensures { AddsAsks asks.old (asks_by spec.now reply.now.lines) asks.new result }
 {
     for place in 0..reply.len() {
         if let Some(line) = reply.at(place) {
@@ -47,77 +49,69 @@ fn add_asks<A: Allocator + Copy>(
     Ok(())
 }
 
-// Adds what a refspec asks for of one line.
+// Adds what a refspec asks for of one line, unless something is asked of that ref.
 fn add_line<A: Allocator + Copy>(
     spec: &Spec<A>,
     line: &RefLine<A>,
-    asks: &mut Vec<Ask<A>, A>,
+    asks: &mut Asks<A>,
 ) -> Result<(), NameFault>
-    ensures { AddsAsks asks.old.items (asks_by spec.now (line.now ∷ [])) asks.new.items result }
+    ensures { AddsAsks asks.old (asks_by spec.now (line.now ∷ [])) asks.new result }
 {
-    let alloc = *asks.allocator();
-    match spec.destination(alloc, &line.name)? {
-        Some(name) => add_ask(
-            Ask {
-                name,
-                id: line.id,
-                forced: spec.is_forced(),
-            },
-            asks,
-        ),
-        None => Ok(()),
-    }
-}
-
-// Adds an ask, unless one is for the same ref.
-fn add_ask<A: Allocator + Copy>(
-    ask: Ask<A>,
-    asks: &mut Vec<Ask<A>, A>,
-) -> Result<(), NameFault>
-    ensures { AddsAsks asks.old.items (ask ∷ []) asks.new.items result }
-{
-    if is_asked(asks.as_slice(), &ask.name) {
+    let Some(name) = spec.destination(asks.allocator(), &line.name)? else {
         return Ok(());
-    }
-    match asks.push(ask) {
-        Ok(()) => Ok(()),
-        Err(_) => Err(NameFault::Memory),
-    }
-}
-
-// Whether one of the asks is for the ref.
-fn is_asked<A: Allocator + Copy>(asks: &[Ask<A>], name: &RefName<A>) -> bool
-    ensures { result ≡ is_asked asks.now name.now }
-{
-    asks.iter()
-        .any(|ask| ask.name.as_bytes() == name.as_bytes())
+    };
+    let ask = Ask {
+        name,
+        id: line.id,
+        forced: spec.is_forced(),
+    };
+    asks.add(ask)?;
+    Ok(())
 }
 
 /// The distinct asked ids whose whole ancestry is not held, in order. It fails with `Memory` alone.
 pub(crate) fn wants_of<A: Allocator + Copy>(
     repo: &Repo<A>,
-    asks: &[Ask<A>],
+    asks: &Asks<A>,
 ) -> Result<Vec<Oid, A>, GraphFault>
     ensures wants { IfOk result (λ wants. AreWants repo.now.graph.entries asks.now wants.items) }
+    ensures ids { IfOk result (λ wants. (format : Format) → All (λ ask. IsIdOf format ask.id) asks.now → All (IsIdOf format) wants.items) }
     ensures fault { IfErr result (λ fault. fault ≡ Memory) }
 {
+    distinct_are_once();
     let alloc = repo.graph().allocator();
-    let ids = asked_ids(alloc, asks)?;
-    let ids = distinct_ids(alloc, ids.as_slice())?;
+    let asked = asks.ids(alloc)?;
+    let ids = distinct_ids(alloc, asked.as_slice())?;
     let mut wants = Vec::new(alloc);
     for id in ids.as_slice() {
-        if repo.missing(&[*id])?.is_some() {
+        if !is_full(repo, id)? {
             wants.push(*id)?;
         }
     }
     Ok(wants)
 }
 
-// The ids that are asked for.
-fn asked_ids<A: Allocator + Copy>(alloc: A, asks: &[Ask<A>]) -> Result<Vec<Oid, A>, AllocError>
-    ensures { IfOk result (λ ids. ids.items ≡ asked_ids asks.now) }
+// Whether the whole ancestry of an id is held. What the refs here reach is marked, and needs no walk.
+fn is_full<A: Allocator + Copy>(repo: &Repo<A>, id: &Oid) -> Result<bool, GraphFault>
+    ensures full { IfOk result (λ full. IsTrue full ↔ IsFull repo.now.graph.entries id.now) }
+    ensures fault { IfErr result (λ fault. fault ≡ Memory) }
 {
-    asks.iter().map(|ask| ask.id).collect(alloc)
+    if is_known(repo, id) {
+        return Ok(true);
+    }
+    Ok(missing(repo.graph(), &[*id])?.is_none())
+}
+
+// Whether the id is marked as one whose whole ancestry is held.
+fn is_known<A: Allocator + Copy>(repo: &Repo<A>, id: &Oid) -> bool
+    ensures { result ≡ true → IsFull repo.now.graph.entries id.now }
+{
+    places_are_nodes::<A>();
+    let _format = repo.format();
+    match repo.graph().number(id) {
+        Some(number) => repo.known().marked(number),
+        None => false,
+    }
 }
 
 /// The target of an unborn HEAD, where a refspec fetches HEAD.

@@ -34,9 +34,9 @@ impl<'k, K: Indexer<A>, A: Allocator + Copy> PackFeed<'k, K, A> {
     pub(crate) fn finish(self) -> Result<Vec<Entry<A>, A>, IndexFault>
         ensures { MatchResult result
             (λ entries. ((bytes : List ℕ) → MayHaveFed (K.fed self.entry.indexer.now) (K.index_fails self.entry.indexer.now) self.entry.feed bytes
-                → K.indexes self.entry.indexer.now bytes entries.items))
+            → K.indexes self.entry.indexer.now bytes entries.items))
             (λ fault. ((bytes : List ℕ) → MayHaveFed (K.fed self.entry.indexer.now) (K.index_fails self.entry.indexer.now) self.entry.feed bytes
-                → K.index_fails self.entry.indexer.now bytes fault)) }
+            → K.index_fails self.entry.indexer.now bytes fault)) }
     {
         let PackFeed {
             indexer,
@@ -54,9 +54,9 @@ impl<'k, K: Indexer<A>, A: Allocator + Copy> PackFeed<'k, K, A> {
         ensures indexer { self.new.indexer.now ≡ self.old.indexer.now }
         ensures fed { MatchResult result
             (λ _. ((before : List ℕ) → MayHaveFed (K.fed self.old.indexer.now) (K.index_fails self.old.indexer.now) self.old.feed before
-                → MayHaveFed (K.fed self.old.indexer.now) (K.index_fails self.old.indexer.now) self.new.feed (before ++ bytes.now)))
+            → MayHaveFed (K.fed self.old.indexer.now) (K.index_fails self.old.indexer.now) self.new.feed (before ++ bytes.now)))
             (λ fault. ((before more : List ℕ) → MayHaveFed (K.fed self.old.indexer.now) (K.index_fails self.old.indexer.now) self.old.feed before
-                → K.index_fails self.old.indexer.now ((before ++ bytes.now) ++ more) fault)) }
+            → K.index_fails self.old.indexer.now ((before ++ bytes.now) ++ more) fault)) }
     {
         match &mut self.feed {
             Ok(feed) => self.indexer.feed(feed, bytes),

@@ -1,12 +1,16 @@
 // The requests that a session makes.
 #![tactic(auto)]
 
-ghost use Rattle.std.specs.Prelude.{◌≡◌, ◌++◌, IfOk, OnOk, Some, None};
-ghost use Rattle.grequest.specs.Asked.{Ls, Fetches};
+ghost use Rattle.std.specs.Prelude.{◌≡◌, ◌+◌, ◌<◌, ◌≤◌, ◌++◌, All, length, IfOk, OnOk, Some, None};
+ghost use Rattle.gname.specs.Ids.{IsIdOf};
+ghost use Rattle.ggrammar.specs.declared.fault.Why.TheVariants.{Memory};
+ghost use Rattle.grequest.specs.Asked.{Ls, Fetches, max_haves, max_prefixes, max_wants};
 ghost use Rattle.grequest.specs.RequestValues.{asked_by_request, ids_format};
 ghost use Rattle.ghistory.specs.Levels.{is_in};
 ghost use Rattle.gsession.specs.Requesting.{batch_size, fetch_request, ls_request, with_prefix};
+ghost use Rattle.gsession.specs.Sessions.{max_specs};
 
+use ggrammar::MessageFault;
 use gname::{Format, Oid, Prefix};
 use grequest::{FetchRequest, LsRefsRequest, Request};
 use gspec::Spec;
@@ -35,6 +39,7 @@ pub(crate) fn refs_request<A: Allocator + Copy>(
     specs: &[Spec<A>],
     unborn: bool,
 ) -> Result<Request<A>, AllocError>
+    requires { length specs.now ≤ max_specs }
     ensures asked { IfOk result (λ request. asked_by_request request ≡ Ls (ls_request specs.now unborn)) }
     ensures format { IfOk result (λ request. ids_format request ≡ None) }
 {
@@ -51,6 +56,7 @@ fn add_prefix<A: Allocator + Copy>(
     prefix: &Prefix<A>,
     request: &mut LsRefsRequest<A>,
 ) -> Result<(), AllocError>
+    requires { length request.old.prefixes < max_prefixes }
     ensures { OnOk result (request.new ≡ record request.old { prefixes = with_prefix request.old.prefixes prefix.now }) }
 {
     if has_prefix(request.prefixes(), prefix) {
@@ -58,7 +64,7 @@ fn add_prefix<A: Allocator + Copy>(
     }
     match request.push_prefix(prefix.as_bytes()) {
         Ok(()) => Ok(()),
-        Err(_) => Err(AllocError),
+        Err(fault) => Err(no_memory(fault)),
     }
 }
 
@@ -80,6 +86,11 @@ pub(crate) fn objects_request<A: Allocator + Copy>(
     commons: &[Oid],
     batch: &[Oid],
 ) -> Result<Request<A>, AllocError>
+    requires wants { All (IsIdOf format) wants.now }
+    requires few_wants { length wants.now ≤ max_wants }
+    requires commons { All (IsIdOf format) commons.now }
+    requires batch { All (IsIdOf format) batch.now }
+    requires room { length commons.now + length batch.now ≤ max_haves }
     ensures asked { IfOk result (λ request. asked_by_request request ≡ Fetches (fetch_request wants.now commons.now batch.now)) }
     ensures format { IfOk result (λ request. ids_format request ≡ Some format) }
 {
@@ -97,12 +108,14 @@ fn add_wants<A: Allocator + Copy>(
     wants: &[Oid],
     request: &mut FetchRequest<A>,
 ) -> Result<(), AllocError>
+    requires ids { All (IsIdOf request.old.format) wants.now }
+    requires room { length request.old.asked.wants + length wants.now ≤ max_wants }
     ensures { OnOk result (request.new ≡ record request.old { asked = record request.old.asked { wants = request.old.asked.wants ++ wants.now } }) }
 {
     for id in wants {
         match request.push_want(*id) {
             Ok(()) => {}
-            Err(_) => return Err(AllocError),
+            Err(fault) => return Err(no_memory(fault)),
         }
     }
     Ok(())
@@ -112,13 +125,23 @@ fn add_haves<A: Allocator + Copy>(
     haves: &[Oid],
     request: &mut FetchRequest<A>,
 ) -> Result<(), AllocError>
+    requires ids { All (IsIdOf request.old.format) haves.now }
+    requires room { length request.old.asked.haves + length haves.now ≤ max_haves }
     ensures { OnOk result (request.new ≡ record request.old { asked = record request.old.asked { haves = request.old.asked.haves ++ haves.now } }) }
 {
     for id in haves {
         match request.push_have(*id) {
             Ok(()) => {}
-            Err(_) => return Err(AllocError),
+            Err(fault) => return Err(no_memory(fault)),
         }
     }
     Ok(())
+}
+
+// The fault of what fits a request, and for which there is no memory.
+fn no_memory(fault: MessageFault) -> AllocError
+    requires { fault.why ≡ Memory }
+{
+    let _ = fault;
+    AllocError
 }

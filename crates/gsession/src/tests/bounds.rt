@@ -1,12 +1,14 @@
 //! How often a session asks for objects.
-use super::makers::{asked, begun, commit, name, take, take_ls};
+use super::makers::{asked, begun, commit, name, spelt, take, take_bytes, take_ls};
 use crate::{Session, Taken};
 use ggraph::{Graph, Refs};
-use gname::Oid;
+use gname::{Oid, RefName};
 use grepo::Repo;
+use grequest::Request;
 use std::process::Abort;
 
 const E_ALONE: &[u8] = b"000dpackfile\n003b\x01GPK1\nc E\nend 1\n0000";
+
 const NOTHING: &[u8] = b"0014acknowledgments\n0008NAK\n0000";
 
 fn number_id(rt: &impl Abort, number: usize) -> Oid {
@@ -26,13 +28,18 @@ fn chain(rt: &(impl Abort + AllocGlobal), count: usize) -> Repo {
     let mut entries = Vec::new(rt.alloc());
     for number in 0..count {
         let parent = [number_id(rt, number.saturating_sub(1))];
-        let parents = if number == 0 { [].as_slice() } else { parent.as_slice() };
+        let parents = if number == 0 {
+            [].as_slice()
+        } else {
+            parent.as_slice()
+        };
         let entry = commit(rt, number_id(rt, number), parents);
         entries.push(entry).expect(rt, "memory");
     }
     graph.insert_all(entries.as_slice()).expect(rt, "a graph");
     if count > 0 {
-        refs.set(name(rt, "refs/heads/end"), number_id(rt, count - 1)).expect(rt, "a ref");
+        refs.set(name(rt, "refs/heads/end"), number_id(rt, count - 1))
+            .expect(rt, "a ref");
     }
     Repo::new(graph, refs).expect(rt, "a repository")
 }
@@ -46,7 +53,10 @@ fn rounds(rt: &(impl Abort + AllocGlobal), session: &mut Session, repo: &mut Rep
             assert_eq!(rt; taken, Ok(Taken::PackTaken { added: 1 }));
             return round;
         }
-        assert_eq!(rt; take(rt, session, repo, NOTHING), Ok(Taken::Round { common: 0 }));
+        assert_eq!(rt;
+            take(rt, session, repo, NOTHING),
+            Ok(Taken::Round { common: 0 })
+        );
     }
     0
 }
@@ -62,5 +72,74 @@ fn rounds_go_with_the_length_of_a_chain(rt: HostRuntime) {
         let reply = b"003dE refs/heads/main\n0000";
         assert_eq!(rt; take_ls(&rt, &mut session, &repo, reply), Ok((1, 1)));
         assert_eq!(rt; rounds(&rt, &mut session, &mut repo), due, "{count}");
+    }
+}
+
+// So many commits without parents, with a ref at each.
+fn refs_only(rt: &(impl Abort + AllocGlobal), count: usize) -> Repo {
+    let mut graph = Graph::new(rt.alloc());
+    let mut refs = Refs::new(rt.alloc());
+    let mut entries = Vec::new(rt.alloc());
+    for number in 0..count {
+        let id = number_id(rt, number);
+        entries.push(commit(rt, id, &[])).expect(rt, "memory");
+        let mut digits = [0; 64];
+        let long = id.to_hex(&mut digits);
+        let mut text = b"refs/heads/".to_vec(rt.alloc()).expect(rt, "memory");
+        text.extend_from_slice(&digits[..long]).expect(rt, "memory");
+        let name = RefName::new(rt.alloc(), text.as_slice()).expect(rt, "a name");
+        refs.set(name, id).expect(rt, "a ref");
+    }
+    graph.insert_all(entries.as_slice()).expect(rt, "a graph");
+    Repo::new(graph, refs).expect(rt, "a repository")
+}
+
+// A reply that acknowledges each have, or a pack where the client is done.
+fn acknowledged(rt: &(impl Abort + AllocGlobal), session: &Session) -> Vec<u8> {
+    let mut reply = Vec::new(rt.alloc());
+    if let Some(Request::Fetch(asked)) = session.pending() {
+        if asked.done() {
+            return spelt(rt, E_ALONE);
+        }
+        reply
+            .extend_from_slice(b"0014acknowledgments\n")
+            .expect(rt, "memory");
+        for have in asked.haves() {
+            let mut digits = [0; 64];
+            let long = have.to_hex(&mut digits);
+            reply.extend_from_slice(b"0030ACK ").expect(rt, "memory");
+            reply
+                .extend_from_slice(&digits[..long])
+                .expect(rt, "memory");
+        }
+        reply.extend_from_slice(b"0000").expect(rt, "memory");
+    }
+    reply
+}
+
+const MANY_REFS: [(usize, usize, usize); 2] = [(4_096, 21, 4_096), (4_097, 20, 4_080)];
+
+#[test]
+fn rounds_end_where_a_request_is_full(rt: HostRuntime) {
+    for (count, due, common) in MANY_REFS {
+        let mut repo = refs_only(&rt, count);
+        let mut session = begun(&rt, &repo, &[b"refs/heads/main:refs/remotes/origin/main"]);
+        asked(&rt, &mut session, &repo).expect(&rt, "a request");
+        let reply = b"003dE refs/heads/main\n0000";
+        assert_eq!(rt; take_ls(&rt, &mut session, &repo, reply), Ok((1, 1)));
+        let mut rounds = 0;
+        for round in 1..64 {
+            asked(&rt, &mut session, &repo).expect(&rt, "a request");
+            let reply = acknowledged(&rt, &session);
+            match take_bytes(&rt, &mut session, &mut repo, reply.as_slice()) {
+                Ok(Taken::Round { .. }) => {}
+                Ok(Taken::PackTaken { .. }) => rounds = round,
+                Err(_) => {}
+            }
+            if rounds > 0 {
+                break;
+            }
+        }
+        assert_eq!(rt; (rounds, session.common().len()), (due, common));
     }
 }
