@@ -4,3 +4,7 @@ pub mod CommonLemmas
 pub mod AskLemmas
 pub mod WantLemmas
 pub mod BuildLemmas
+pub mod SessionLemmas
+pub mod BatchLemmas
+pub mod ReplyLemmas
+pub mod LsLemmas
