@@ -85,7 +85,7 @@ are_commons s asked acks list law opened named is = subst (AreCommons s.format) 
 })
 
 module _ {A : Type 0} where
-  -- the session with those common ids, told by what it was before
+  -- the session with those common ids, made of what it was before
   pub acked : (stage : Stage) (was s : SessionState A) (acks list : List (List ℕ)) → was ≡ s → list ≡ distinct_of (s.commons ++ acks)
       → record was { stage = stage; pending = None; commons = list } ≡ with_acks s stage acks
   acked stage was s acks list same is =

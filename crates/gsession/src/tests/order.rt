@@ -21,9 +21,7 @@ fn a_reply_is_read_to_its_end_and_no_further(rt: HostRuntime) {
     asked(&rt, &mut session, &repo).expect(&rt, "a request");
     let source = SliceSource::new(bytes.as_slice());
     let mut reader = LineReader::new(rt.alloc(), source).expect(&rt, "a reader");
-    let taken = session
-        .take_ls(&repo, &mut reader)
-        .expect(&rt, "taken");
+    let taken = session.take_ls(&repo, &mut reader).expect(&rt, "taken");
     assert_eq!(rt; (taken.asks, taken.wants), (1, 1));
     asked(&rt, &mut session, &repo).expect(&rt, "a request");
     let taken = session
@@ -67,8 +65,9 @@ fn a_pack_may_come_in_any_pieces(rt: HostRuntime) {
         reply.extend_from_slice(b"0000").expect(&rt, "memory");
         let mut repo = client_a(&rt);
         let mut session = waiting(&rt, &repo);
-        let taken = take_bytes(&rt, &mut session, &mut repo, reply.as_slice())
-            .map_err(|fault| fault.code());
+        let taken = take_bytes(&rt, &mut session, &mut repo, reply.as_slice()).map_err(
+            |fault| fault.code(),
+        );
         assert_eq!(rt; taken, Ok(Taken::PackTaken { added: 2 }));
         assert!(rt; settled(&mut session, &mut repo).is_ok());
         check_ref(&rt, &repo, MAIN, b'c');

@@ -29,10 +29,10 @@ returns-else-len-le-MAX_HAVES-clause-batch g c =
     let commons = c.self.inside.commons.items in
     let offer = c.in_ok-offer.offer.items in
     let over : max_haves < length commons + length offer =
-        elim c.else-len-le-MAX_HAVES.branch [
-          | else-len-le-MAX_HAVES-via-then-len-le-MAX_HAVES+else-len w ↦ omega arith
-          | else-len-le-MAX_HAVES-via-else-len-le-MAX_HAVES w ↦ omega arith
-        ] in
+    elim c.else-len-le-MAX_HAVES.branch [
+      | else-len-le-MAX_HAVES-via-then-len-le-MAX_HAVES+else-len w ↦ omega arith
+      | else-len-le-MAX_HAVES-via-else-len-le-MAX_HAVES w ↦ omega arith
+    ] in
     rw (← c.self.view_is) (record {
       offer = offer;
       offered = rw (c.graph.ensures, c.as_slice.ensures.value, c.as_slice-2.ensures.value, c.as_slice-3.ensures.value, c.batch_size.ensures) at c.in_ok-offer.ensures.answer;
