@@ -4,7 +4,7 @@ use Rattle.std.specs.List.{AllPairs, IsDistinct}
 use Rattle.std.specs.Map.{values_of}
 use Rattle.std.proofs.lemmas.List.{append-nil}
 use Rattle.std.proofs.lemmas.List.Elements.{All-append, All-contains_itself, All-nil, All-weaker, Contains-append_left}
-use Rattle.std.proofs.lemmas.Bool.Decides.{nat_tests}
+use Rattle.std.proofs.lemmas.Bool.{ne_eqb}
 use Rattle.gname.specs.Ids.{IsIdOf}
 use Rattle.gname.specs.declared.formats.Format.{Format}
 use Rattle.ggrammar.specs.declared.ends.Ends.{Ends}
@@ -118,7 +118,7 @@ more_sent n sent (id ∷ batch) some few = omega (arith, few, length-append sent
 -- a request that is not direct has a batch
 has_batch : (wants commons batch : List (List ℕ)) → is_direct (fetch_request wants commons batch) ≡ false → length batch == 0 ≡ false
 has_batch wants commons [] direct = direct
-has_batch wants commons (id ∷ batch) direct = grind (arith, nat_tests)
+has_batch wants commons (id ∷ batch) direct = ne_eqb (length (id ∷ batch)) 0 (λ same. omega arith)
 
 asked_for : {A : Type 0} (s : SessionState A) (batch : List (List ℕ)) (p : Option Asked) → IsSession s → s.stage ≡ Fetching → s.pending ≡ None
     → FitsBatch s batch → p ≡ Some (Fetches (fetch_request s.wants s.commons batch))
