@@ -36,5 +36,5 @@ returns-else-len-le-MAX_HAVES-clause-batch g c =
     rw (← c.self.view_is) (record {
       offer = offer;
       offered = rw (c.graph.ensures, c.as_slice.ensures.value, c.as_slice-2.ensures.value, c.as_slice-3.ensures.value, c.batch_size.ensures) at c.in_ok-offer.ensures.answer;
-      is = c.new.ensures ∙ batch_none commons offer over;
+      is = c.new.ensures.items ∙ batch_none commons offer over;
     })

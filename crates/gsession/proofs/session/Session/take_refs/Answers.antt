@@ -1,8 +1,8 @@
-use Rattle.std.proofs.Common.{◌≡◌, List, None, length, refl, ap, subst, arith, ◌∙◌}
+use Rattle.std.proofs.Common.{◌≡◌, List, None, Err, length, refl, ap, subst, arith, ◌∙◌}
 use Rattle.glsreply.specs.LsReplies.{LsReply}
 use Rattle.grepo.specs.declared.ask.Ask.{Ask}
 use Rattle.gspec.specs.Refspecs.{Refspec}
-use Rattle.gsession.specs.Asking.{AreWants, unborn_told}
+use Rattle.gsession.specs.Asking.{AreWants, FindsAsks, unborn_told}
 use Rattle.gsession.specs.Sessions.{SessionState}
 use Rattle.gsession.specs.TakingRefs.{stage_for}
 use Rattle.gsession.proofs.session.Session.take_refs.Goals as goal
@@ -10,7 +10,7 @@ use Rattle.gsession.proofs.session.Session.take_refs.Goals as goal
 pub unnamed-requires : goal.unnamed-requires
 unnamed-requires g c =
     let specs : c.as_slice.result.now ≡ c.args.self.now.refspecs = c.as_slice.ensures.value ∙ ap (λ (s : SessionState g.row.A.Denot). s.refspecs) c.self.view_is in
-    rw specs at c.in-Err.ensures.asks
+    subst (λ (l : List Refspec). FindsAsks {A = g.row.A.Denot} l c.args.reply.now.lines (Err c.in-Err.fault)) specs c.in-Err.ensures.asks
 
 pub returns-in-Err : goal.returns-in-Err
 returns-in-Err g c = (c.unnamed.ensures c.args.repo.now.graph.entries, refl)
