@@ -133,7 +133,10 @@ fn too_many_wants_are_refused(rt: HostRuntime) {
             reply.extend_from_slice(&digits[..4]).expect(&rt, "memory");
         }
         reply.extend_from_slice(b"0000").expect(&rt, "memory");
-        assert_eq!(rt; take_ls(&rt, &mut session, &repo, reply.as_slice()), answer);
+        let taken = take_ls_bytes(&rt, &mut session, &repo, reply.as_slice())
+            .map(|taken| (taken.asks, taken.wants))
+            .map_err(|fault| fault.code());
+        assert_eq!(rt; taken, answer);
     }
 }
 
