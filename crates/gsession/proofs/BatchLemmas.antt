@@ -3,7 +3,7 @@ use Rattle.std.proofs.Common.{◌≡◌, ℕ, ◌+◌, ◌-◌, ◌≤◌, ◌<�
 use Rattle.std.specs.List.{IsDistinct, list_any}
 use Rattle.std.specs.Map.{values_of}
 use Rattle.std.specs.Option.{is_some, option_map}
-use Rattle.std.proofs.lemmas.Bool.{false≢true}
+use Rattle.std.proofs.lemmas.Bool.{false≢true, le-leb, lt-leb}
 use Rattle.std.proofs.lemmas.Cmp.{nat_list_eq_equiv}
 use Rattle.std.proofs.lemmas.Slice.Eq.{bytes_eq-Decides}
 use Rattle.std.proofs.lemmas.List.{append-nil}
@@ -56,6 +56,14 @@ joined_once xs (y ∷ ys) once also apart =
 
 -- ---- the batch
 
+-- it is the whole offer where there is room for that
+pub batch_room : (commons offer : List (List ℕ)) → length commons + length offer ≤ max_haves → offer ≡ batch_of commons offer
+batch_room commons offer room = ap (λ (b : Bool). if b then offer else []) (sym (le-leb (length commons + length offer) max_haves room))
+
+-- and else it is empty
+pub batch_none : (commons offer : List (List ℕ)) → max_haves < length commons + length offer → [] ≡ batch_of commons offer
+batch_none commons offer over = ap (λ (b : Bool). if b then offer else []) (sym (lt-leb (length commons + length offer) max_haves over))
+
 module _ {A : Type 0} where
   pub offer_fits : OffersAreExact A → PlacesAreNodes A → IdsHaveOneFormat → (s : SessionState A) (g : History A) (n : ℕ) (offer : List (List ℕ)) → IsSession s → IsGraph g
       → IsOffer g.entries s.tips s.commons s.sent n offer → length s.commons + length offer ≤ max_haves → FitsBatch s offer
@@ -69,7 +77,7 @@ module _ {A : Type 0} where
   pub none_fits : (s : SessionState A) → IsSession s → FitsBatch s []
   none_fits s is = record {
     ids = All-nil (IsIdOf s.format);
-    room = is.commons.few;
+    room = omega (arith, is.commons.few);
     fresh = subst (IsDistinct bytes_eq) (sym (append-nil s.sent)) is.sent;
   }
 
@@ -96,6 +104,10 @@ module _ {A : Type 0} where
   due_none Fetching (Some request) some = refl
   due_none Settling (Some request) some = refl
   due_none Over (Some request) some = refl
+
+  pub none_waits : (p : Option (Request A)) → is_some p ≡ false → option_map asked_by_request p ≡ None
+  none_waits None none = refl
+  none_waits (Some request) none = absurd (false≢true (sym none))
 
   -- the request that was made is the one that was due; or there was no memory for it
   pub made_next : (old new : SessionState A) (g : List (Entry A)) (result : Result (Request A) (ClientFault A)) → old.pending ≡ None → is_due old.stage old.pending ≡ true

@@ -20,6 +20,15 @@ use Rattle.gsession.specs.declared.fault.ClientFault.{ClientFault}
 use Rattle.gsession.specs.declared.fault.ClientFault.TheVariants.{Index, Message, NoOpenRequest, Repo, StrangeAck, TooManySpecs, TooManyWants}
 use Rattle.gsession.specs.declared.taken.LsTaken.{LsTaken}
 
+-- a reader that goes on after a reply whose refs are refused
+misnamed_leaves : {S : Type 0} (is_down : S → Bool) (was now : Reader S) (fault : MessageFault) → fault.why ≡ BadName → LeavesReader {M = Unit {0}} is_down was now (Ok tt)
+    → LeavesReader {M = Unit {0}} is_down was now (Err fault)
+misnamed_leaves is_down was now fault why leaves = (
+  subst (λ (w : Why). IsReadFailure was.failed (is_down now.source) w) (sym why) (leaves.0, leaves.2),
+  subst (λ (w : Why). IsFailedBy w now.failed) (sym why) leaves.1,
+  λ failed. absurd (false≢true (sym leaves.0 ∙ failed)),
+)
+
 module _ {A : Type 0} where
   -- a fault that is not out of memory is that of a name
   pub misnamed : (specs : List Refspec) (lines : List RefLine) (fault : NameFault) → ¬ (fault ≡ Memory) → FindsAsks {A = A} specs lines (Err fault)
@@ -43,14 +52,6 @@ module _ {A : Type 0} where
   refs_answer old g change reply new (Err fault) waits reads answers = (refs_fault old g change reply fault waits reads answers.0, answers.1)
 
   -- ---- the reader goes on
-
-  misnamed_leaves : {S : Type 0} (is_down : S → Bool) (was now : Reader S) (fault : MessageFault) → fault.why ≡ BadName → LeavesReader {M = Unit {0}} is_down was now (Ok tt)
-      → LeavesReader {M = Unit {0}} is_down was now (Err fault)
-  misnamed_leaves is_down was now fault why leaves = (
-    subst (λ (w : Why). IsReadFailure was.failed (is_down now.source) w) (sym why) (leaves.0, leaves.2),
-    subst (λ (w : Why). IsFailedBy w now.failed) (sym why) leaves.1,
-    λ failed. absurd (false≢true (sym leaves.0 ∙ failed)),
-  )
 
   refs_leave : {S : Type 0} (is_down : S → Bool) (was now : Reader S) (s : SessionState A) (g : List (Entry A)) (reply : LsReply) (fault : ClientFault A)
       → LeavesReader {M = Unit {0}} is_down was now (Ok tt) → IsRefsFault s g reply fault → LeavesReplies {T = LsTaken A} is_down was now (Err fault)

@@ -29,6 +29,7 @@ use Rattle.gsession.specs.Sessions.{SessionState, AreCommons, IsOpenFetch, Leave
 use Rattle.gsession.specs.TakingReplies.{AnswersRead, AnswersReply, Awaits, FitsHead, HasPack, IsAcksFault, IsFirstStrange, IsReplyFault, IsTakeFault, ReadsFetch, RefusesPack, TakesHead, TakesReply, acks_of, reading_for, with_acks}
 use Rattle.gsession.specs.declared.fault.ClientFault.{ClientFault}
 use Rattle.gsession.specs.declared.fault.ClientFault.TheVariants.{Index, Message, NoOpenRequest, Repo, StrangeAck, TooManySpecs, TooManyWants}
+use Rattle.gsession.specs.declared.stage.Stage.{Stage}
 use Rattle.gsession.specs.declared.stage.Stage.TheVariants.{Fetching}
 use Rattle.gsession.specs.declared.taken.Taken.{Taken}
 use Rattle.gsession.specs.declared.taken.Taken.TheVariants.{Round, PackTaken}
@@ -84,6 +85,13 @@ are_commons s asked acks list law opened named is = subst (AreCommons s.format) 
 })
 
 module _ {A : Type 0} where
+  -- the session with those common ids, made of what it was before
+  pub acked : (stage : Stage) (was s : SessionState A) (acks list : List (List ℕ)) → was ≡ s → list ≡ distinct_of (s.commons ++ acks)
+      → record was { stage = stage; pending = None; commons = list } ≡ with_acks s stage acks
+  acked stage was s acks list same is =
+      ap (λ (o : SessionState A). record o { stage = stage; pending = None; commons = list }) same
+      ∙ ap (λ (l : List (List ℕ)). record s { stage = stage; pending = None; commons = l }) is
+
   -- ---- the repository
 
   pub same_repo : (new old : RepoState A) → new.graph ≡ old.graph → new.refs ≡ old.refs → new.known ≡ old.known → new ≡ old
@@ -93,7 +101,7 @@ module _ {A : Type 0} where
       ∙ ap (λ (k : List Bool). record old { known = k }) known
 
   grows_on : (f g h : List (Entry A)) → Grows f g → Grows g h → Grows f h
-  grows_on f g h first then = (first.0 ++ then.0, then.1 ∙ ap (λ (l : List (Entry A)). l ++ then.0) first.1 ∙ append_assoc f first.0 then.0)
+  grows_on f g h first next = (first.0 ++ next.0, next.1 ∙ ap (λ (l : List (Entry A)). l ++ next.0) first.1 ∙ append_assoc f first.0 next.0)
 
   grows_to : (g h : List (Entry A)) → h ≡ g → Grows g h
   grows_to g h same = ([], same ∙ sym (append-nil g))

@@ -4,6 +4,7 @@ use Rattle.std.specs.List.{AllPairs, IsDistinct}
 use Rattle.std.specs.Map.{values_of}
 use Rattle.std.proofs.lemmas.List.{append-nil}
 use Rattle.std.proofs.lemmas.List.Elements.{All-append, All-contains_itself, All-nil, All-weaker, Contains-append_left}
+use Rattle.std.proofs.lemmas.Bool.{ne_eqb}
 use Rattle.gname.specs.Ids.{IsIdOf}
 use Rattle.gname.specs.declared.formats.Format.{Format}
 use Rattle.ggrammar.specs.declared.ends.Ends.{Ends}
@@ -11,7 +12,7 @@ use Rattle.gspec.specs.Refspecs.{Refspec}
 use Rattle.grepo.specs.declared.ask.Ask.{Ask}
 use Rattle.grequest.specs.Asked.{Asked, Empty, Ls, Fetches, FetchAsked, LsRefsAsked, is_direct, max_haves, max_wants}
 use Rattle.gsession.specs.Requesting.{fetch_request}
-use Rattle.gsession.specs.Sessions.{SessionState, AreCommons, FitsBatch, FitsStage, IsOpenFetch, IsSession, max_specs, new_session, over}
+use Rattle.gsession.specs.Sessions.{SessionState, AreCommons, FitsBatch, FitsStage, IsOpenFetch, IsSession, max_specs, over}
 use Rattle.gsession.specs.TakingRefs.{AwaitsRefs, stage_for}
 use Rattle.gsession.specs.declared.stage.Stage.{Stage}
 use Rattle.gsession.specs.declared.stage.Stage.TheVariants.{Listing, Fetching, Settling, Over}
@@ -41,18 +42,19 @@ open_fetch s asked is waits = fetch_waits s s.stage asked (fits_as s s.stage s.s
 
 -- ---- beginning and ending
 
-pub begun : {A : Type 0} (format : Format) (refspecs : List Refspec) (limit : ℕ) (ends : Ends) (tips : List (List ℕ))
-    → length refspecs ≤ max_specs → All (IsIdOf format) tips → IsSession (new_session {A = A} format refspecs limit ends tips)
+-- with empty lists
+pub begun : {A : Type 0} (s : SessionState A) → length s.refspecs ≤ max_specs → All (IsIdOf s.format) s.tips → s.wants ≡ [] → s.commons ≡ [] → s.sent ≡ []
+    → s.stage ≡ Listing → s.pending ≡ None → s.rounds ≡ 0 → IsSession s
 unfolding IsDistinct
-begun format refspecs limit ends tips few ids = record {
+begun s few ids wants commons sent stage pending rounds = record {
   few_specs = few;
   tips = ids;
-  wants = All-nil (IsIdOf format);
-  few_wants = omega arith;
-  commons = record { ids = All-nil (IsIdOf format); few = omega arith; once = tt };
-  sent = tt;
-  rounds = omega arith;
-  stage = refl;
+  wants = subst (All (IsIdOf s.format)) (sym wants) (All-nil (IsIdOf s.format));
+  few_wants = omega (arith, ap length wants);
+  commons = subst (AreCommons s.format) (sym commons) (record { ids = All-nil (IsIdOf s.format); few = omega arith; once = tt });
+  sent = subst (IsDistinct bytes_eq) (sym sent) tt;
+  rounds = omega (arith, rounds);
+  stage = fits_as s Listing s.stage None s.pending (sym stage) (sym pending) rounds;
 }
 
 pub heard : {A : Type 0} (s : SessionState A) (offers : Bool) → IsSession s → s.stage ≡ Listing → s.pending ≡ None → IsSession (record s { offers_unborn = offers })
@@ -116,12 +118,12 @@ more_sent n sent (id ∷ batch) some few = omega (arith, few, length-append sent
 -- a request that is not direct has a batch
 has_batch : (wants commons batch : List (List ℕ)) → is_direct (fetch_request wants commons batch) ≡ false → length batch == 0 ≡ false
 has_batch wants commons [] direct = direct
-has_batch wants commons (id ∷ batch) direct = refl
+has_batch wants commons (id ∷ batch) direct = ne_eqb (length (id ∷ batch)) 0 (λ same. omega arith)
 
-pub objects_asked : {A : Type 0} (s : SessionState A) (batch : List (List ℕ)) (p : Option Asked) → IsSession s → s.stage ≡ Fetching → s.pending ≡ None
+asked_for : {A : Type 0} (s : SessionState A) (batch : List (List ℕ)) (p : Option Asked) → IsSession s → s.stage ≡ Fetching → s.pending ≡ None
     → FitsBatch s batch → p ≡ Some (Fetches (fetch_request s.wants s.commons batch))
     → IsSession (record s { pending = p; sent = s.sent ++ batch; rounds = s.rounds + 1 })
-objects_asked s batch p is stage pending fits waits =
+asked_for s batch p is stage pending fits waits =
     let few : s.rounds ≤ length s.sent = fits_as s s.stage Fetching s.pending None stage pending is.stage in
     let long = length-append s.sent batch in
     let haves = length-append s.commons batch in
@@ -143,6 +145,12 @@ objects_asked s batch p is stage pending fits waits =
             goes_on = λ direct. more_sent s.rounds s.sent batch (has_batch s.wants s.commons batch direct) few;
           });
     }
+
+pub objects_asked : {A : Type 0} (s : SessionState A) (batch sent : List (List ℕ)) (p : Option Asked) → IsSession s → s.stage ≡ Fetching → s.pending ≡ None
+    → FitsBatch s batch → p ≡ Some (Fetches (fetch_request s.wants s.commons batch)) → sent ≡ s.sent ++ batch
+    → IsSession (record s { pending = p; sent = sent; rounds = s.rounds + 1 })
+objects_asked s batch sent p is stage pending fits waits more =
+    subst (λ (l : List (List ℕ)). IsSession (record s { pending = p; sent = l; rounds = s.rounds + 1 })) (sym more) (asked_for s batch p is stage pending fits waits)
 
 -- ---- replies
 

@@ -104,7 +104,7 @@ after_fault s fault = if ends_session fault then over s else s
 abbrev pub LeavesReplies : {A S T : Type 0} → (S → Bool) → Reader S → Reader S → Result T (ClientFault A) → Type 0
 LeavesReplies is_down old new (Err NoOpenRequest) = new ≡ old
 LeavesReplies is_down old new (Err (Message fault)) = LeavesReader {M = Unit {0}} is_down old new (Err fault)
-LeavesReplies is_down old new _ = LeavesReader is_down old new (Ok tt)
+LeavesReplies is_down old new _ = LeavesReader {M = Unit {0}} is_down old new (Ok tt)
 
 -- out of memory
 abbrev pub no_memory : {A : Type 0} → ClientFault A

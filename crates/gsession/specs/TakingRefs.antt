@@ -46,7 +46,7 @@ pub record TakesLines {A : Type 0} (old : SessionState A) (g : List (Entry A)) (
   pub count : taken.wants ≡ length wants
   pub unborn : taken.unborn ≡ unborn_told old.refspecs reply.unborn
 
--- a ref that is asked for can't have its name; the reply's last packet is told, since it was read to its end
+-- a ref that is asked for can't have its name; the reply's last packet is reported, since it was read to its end
 pub record IsMisnamed {A : Type 0} (s : SessionState A) (reply : LsReply) (fault : MessageFault) : Type 0 where
   pub unnamed : ¬ (AreNamed {A = A} (asks_by_all s.refspecs reply.lines))
   pub frame : fault.frame ≡ last_frame s.ends reply

@@ -6,6 +6,7 @@ use Rattle.gpkt.specs.Change.{Change}
 use Rattle.gpkt.specs.Packets.{Packet}
 use Rattle.ggrammar.specs.Kinds.{ReadsMessage}
 use Rattle.ggrammar.specs.MessageReading.{ReadsRefused}
+use Rattle.ggrammar.specs.declared.fault.MessageFault.{MessageFault}
 use Rattle.gfetchreply.specs.FetchReplies.{Reading, FetchReply, Acks, Ready, Pack, Says, brings, judge}
 use Rattle.gfetchreply.specs.FetchHeads.{FetchHead, pack_of}
 use Rattle.gfetchreply.specs.FetchHeads as head

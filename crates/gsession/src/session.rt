@@ -98,7 +98,7 @@ impl<A: Allocator + Copy> Session<A> {
     ghost use Rattle.gsession.specs.Sessions.{Begins, Hears, IsBegun, IsSession, after_fault, over};
     ghost use Rattle.gsession.specs.SettlingRefs.{SettlesSession};
 
-    /// A session that fetches by these refspecs from a server, which it has told nothing yet. It keeps the distinct ids
+    /// A session that fetches by these refspecs from a server; nothing was sent to it yet. It keeps the distinct ids
     /// of the refs, in the order of their names: from them it goes on to what it offers. A session without refspecs
     /// asks for nothing.
     ///

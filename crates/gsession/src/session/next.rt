@@ -1,7 +1,8 @@
 // The requests of a session.
 #![tactic(auto)]
 
-ghost use Rattle.std.specs.Prelude.{◌≡◌, None, MatchResult, Ok, Err, IfOk};
+ghost use Rattle.std.specs.Prelude.{◌≡◌, List, None, MatchResult, Ok, Err, IfOk};
+ghost use Rattle.gobject.specs.declared.node.Entry.{Entry};
 ghost use Rattle.grequest.specs.Asked.{Fetches};
 
 use crate::fault::ClientFault;
@@ -50,18 +51,18 @@ impl<A: Allocator + Copy> Session<A> {
             return Err(ClientFault::NoOpenRequest);
         }
         match self.stage {
-            Stage::Listing => self.ask_for_refs(repo),
+            Stage::Listing => self.ask_for_refs(),
             Stage::Fetching => self.ask_for_objects(repo),
             Stage::Settling | Stage::Over => Err(ClientFault::NoOpenRequest),
         }
     }
 
     // Asks for refs.
-    fn ask_for_refs(&mut self, repo: &Repo<A>) -> Result<Request<A>, ClientFault<A>>
+    fn ask_for_refs(&mut self) -> Result<Request<A>, ClientFault<A>>
         requires stage { self.old.stage ≡ Stage.Listing }
         requires pending { self.old.pending ≡ None }
-        ensures made { MatchResult result
-            (λ request. MakesNext self.old repo.now.graph.entries self.new (asked_by_request request))
+        ensures made { (g : List (Entry A)) → MatchResult result
+            (λ request. MakesNext self.old g self.new (asked_by_request request))
             (λ fault. (self.new ≡ self.old) × (fault ≡ no_memory)) }
         ensures format { IfOk result (IsOfFormat self.old.format) }
     {

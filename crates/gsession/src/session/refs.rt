@@ -4,6 +4,7 @@
 ghost use Rattle.std.specs.Prelude.{◌≡◌, ◌≤◌, List, All, MatchBool, None, Err, length};
 ghost use Rattle.gobject.specs.declared.node.Entry.{Entry};
 ghost use Rattle.gpkt.specs.Change.{change_of};
+ghost use Rattle.gsession.specs.TakingRefs.{stage_for};
 
 use crate::asks::{asks_of, unborn_of, wants_of};
 use crate::fault::ClientFault;
@@ -24,7 +25,7 @@ impl<A: Allocator + Copy> Session<A> {
     ghost use Rattle.grequest.specs.Asked.{max_wants};
     ghost use Rattle.gsession.specs.Asking.{FindsAsks};
     ghost use Rattle.gsession.specs.Sessions.{LeavesReplies};
-    ghost use Rattle.gsession.specs.TakingRefs.{AnswersLs, AnswersRefs, AwaitsRefs, IsRefsFault, TakesLs, stage_for};
+    ghost use Rattle.gsession.specs.TakingRefs.{AnswersLs, AnswersRefs, AwaitsRefs, IsRefsFault, TakesLs};
 
     /// Takes the reply to ls-refs, and nothing after it: what is asked for, which of its objects are wanted, and the
     /// target of an unborn `HEAD`. An ask is for the ref to which a refspec takes a name; of several asks for one ref

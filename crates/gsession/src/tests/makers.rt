@@ -15,7 +15,9 @@ use std::process::Abort;
 pub(super) type Row = (u8, &'static [u8]);
 
 pub(super) const MAIN: &str = "refs/remotes/origin/main";
+
 pub(super) const SPEC: &[u8] = b"refs/heads/main:refs/remotes/origin/main";
+
 pub(super) const MAIN_AT_C: &[u8] = b"003dC refs/heads/main\n0000";
 
 pub(super) fn id(rt: &impl Abort, digit: u8) -> Oid {
@@ -46,9 +48,7 @@ pub(super) fn repo_of(rt: &(impl Abort + AllocGlobal), rows: &[Row], refs: &[(&s
         entries.push(entry).expect(rt, "memory");
     }
     let mut graph = Graph::new(rt.alloc());
-    graph
-        .insert_all(entries.as_slice())
-        .expect(rt, "a graph");
+    graph.insert_all(entries.as_slice()).expect(rt, "a graph");
     let mut all = Refs::new(rt.alloc());
     for (text, digit) in refs {
         all.set(name(rt, text), id(rt, *digit)).expect(rt, "a ref");
@@ -162,10 +162,7 @@ pub(super) fn take(
 }
 
 // What becomes of the asks, or the number of the fault.
-pub(super) fn settled(
-    session: &mut Session,
-    repo: &mut Repo,
-) -> Result<Vec<RefUpdate>, u32> {
+pub(super) fn settled(session: &mut Session, repo: &mut Repo) -> Result<Vec<RefUpdate>, u32> {
     match session.settle(repo) {
         Ok(settled) => Ok(settled.updates),
         Err(fault) => Err(fault.code()),
@@ -173,7 +170,11 @@ pub(super) fn settled(
 }
 
 pub(super) fn check_ref(rt: &(impl Abort + AllocGlobal), repo: &Repo, text: &str, digit: u8) {
-    assert_eq!(rt; repo.refs().get(&name(rt, text)), Some(id(rt, digit)), "{text}");
+    assert_eq!(rt;
+        repo.refs().get(&name(rt, text)),
+        Some(id(rt, digit)),
+        "{text}"
+    );
 }
 
 // The client A, whose request for C waits for its reply.

@@ -1,7 +1,7 @@
 //! Replies that are refused, and the state after them.
 use super::makers::{
-    MAIN, asked, begun, check_ref, client_a, repo_of, settled, spelt, take, take_bytes,
-    take_ls, take_ls_bytes, waiting,
+    MAIN, asked, begun, check_ref, client_a, repo_of, settled, spelt, take, take_bytes, take_ls,
+    take_ls_bytes, waiting,
 };
 use crate::{ClientFault, Session};
 use gfetchreply::PackLimit;
@@ -11,7 +11,8 @@ use grepo::Repo;
 use gspec::Spec;
 use std::process::Abort;
 
-const READY: &[u8] = b"0014acknowledgments\n0031ACK A\n000aready\n0001000dpackfile\n00b8\x01GPK1\nc B A\nc C B\nend 2\n0000";
+const READY: &[u8] =
+    b"0014acknowledgments\n0031ACK A\n000aready\n0001000dpackfile\n00b8\x01GPK1\nc B A\nc C B\nend 2\n0000";
 
 // Where its packets begin.
 const BEGINNINGS: [usize; 7] = [0, 20, 69, 79, 83, 96, 280];
@@ -32,17 +33,33 @@ fn cut_replies_are_refused(rt: HostRuntime) {
         let mut session = waiting(&rt, &repo);
         let code = if BEGINNINGS.contains(&cut) { 54 } else { 23 };
         let taken = take_bytes(&rt, &mut session, &mut repo, &bytes[..cut]);
-        assert_eq!(rt; taken.err().map(|fault| fault.code()), Some(code), "at {cut}");
+        assert_eq!(rt;
+            taken.err().map(|fault| fault.code()),
+            Some(code),
+            "at {cut}"
+        );
         check_unchanged(&rt, &mut session, &mut repo);
     }
 }
 
 const REFUSED: [(&[u8], u32); 6] = [
-    (b"0014acknowledgments\n000aready\n0001000dpackfile\n0064\x01GPK1\nc A D\nend 1\n0000", 60),
+    (
+        b"0014acknowledgments\n000aready\n0001000dpackfile\n0064\x01GPK1\nc A D\nend 1\n0000",
+        60,
+    ),
     (b"0014acknowledgments\n0031ACK D\n0000", 84),
-    (b"0014acknowledgments\n000aready\n0001000dpackfile\n0064\x01GPK1xc C B\nend 1\n0000", 66),
-    (b"0014acknowledgments\n0031ACK D\n000aready\n0001000dpackfile\n0064\x01GPK1xc C B\nend 1\n0000", 84),
-    (b"0014acknowledgments\n000aready\n0001000dpackfile\n0064\x01GPK1xc C B\nend 1\n", 54),
+    (
+        b"0014acknowledgments\n000aready\n0001000dpackfile\n0064\x01GPK1xc C B\nend 1\n0000",
+        66,
+    ),
+    (
+        b"0014acknowledgments\n0031ACK D\n000aready\n0001000dpackfile\n0064\x01GPK1xc C B\nend 1\n0000",
+        84,
+    ),
+    (
+        b"0014acknowledgments\n000aready\n0001000dpackfile\n0064\x01GPK1xc C B\nend 1\n",
+        54,
+    ),
     (b"000dpackfile\n", 51),
 ];
 
@@ -107,12 +124,19 @@ fn too_many_wants_are_refused(rt: HostRuntime) {
             let mut digits = [0; 64];
             let long = number_id(&rt, number).to_hex(&mut digits);
             reply.extend_from_slice(b"003c").expect(&rt, "memory");
-            reply.extend_from_slice(&digits[..long]).expect(&rt, "memory");
-            reply.extend_from_slice(b" refs/heads/").expect(&rt, "memory");
+            reply
+                .extend_from_slice(&digits[..long])
+                .expect(&rt, "memory");
+            reply
+                .extend_from_slice(b" refs/heads/")
+                .expect(&rt, "memory");
             reply.extend_from_slice(&digits[..4]).expect(&rt, "memory");
         }
         reply.extend_from_slice(b"0000").expect(&rt, "memory");
-        assert_eq!(rt; take_ls(&rt, &mut session, &repo, reply.as_slice()), answer);
+        let taken = take_ls_bytes(&rt, &mut session, &repo, reply.as_slice())
+            .map(|taken| (taken.asks, taken.wants))
+            .map_err(|fault| fault.code());
+        assert_eq!(rt; taken, answer);
     }
 }
 
@@ -125,7 +149,13 @@ fn too_many_refspecs_are_refused(rt: HostRuntime) {
             let spec = Spec::parse(rt.alloc(), b"refs/heads/main:refs/x").expect(&rt, "a refspec");
             specs.push(spec).expect(&rt, "memory");
         }
-        let begun = Session::begin(rt.alloc(), &repo, specs.as_slice(), PackLimit::default(), Ends::Plain);
+        let begun = Session::begin(
+            rt.alloc(),
+            &repo,
+            specs.as_slice(),
+            PackLimit::default(),
+            Ends::Plain,
+        );
         assert_eq!(rt; begun.err().map(|fault| fault.code()), refused);
     }
 }
