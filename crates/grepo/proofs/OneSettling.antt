@@ -1,8 +1,8 @@
 -- There is one settling of some asks.
-use Rattle.std.proofs.Common.{◌≡◌, ◌≢◌, ◌⊎◌, inl, inr, ℕ, Bool, true, false, List, [], ◌∷◌, All, Contains, Some, refl, sym, ap, ◌∙◌, subst, zero, suc, arith, ◌+◌}
+use Rattle.std.proofs.Common.{◌≡◌, ◌≢◌, ◌⊎◌, inl, inr, ℕ, Bool, true, false, List, [], ◌∷◌, All, Contains, Some, refl, sym, ap, ◌∙◌, subst, suc, arith}
 use Rattle.std.specs.List.{AllZip}
 use Rattle.std.specs.Str.{bytes_eq}
-use Rattle.std.proofs.lemmas.Bool.{cases_Bool, false≢true}
+use Rattle.std.proofs.lemmas.Bool.{false≢true}
 use Rattle.std.proofs.lemmas.List.Elements.{All-contains, All-cons, All-nil}
 use Rattle.std.proofs.lemmas.Slice.Eq.{bytes_eq-Decides}
 use Rattle.gobject.specs.declared.node.Entry.{Entry}
@@ -43,10 +43,10 @@ module _ {A : Type 0} where
   may_or_not g old ask NotForward is = inr is.1
 
   -- an ask that may move the ref with the name
-  abbrev Mover : List (Entry A) → RefList → List (Ask A) → List ℕ → Type 0
+  abbrev pub Mover : List (Entry A) → RefList → List (Ask A) → List ℕ → Type 0
   Mover g old asks name = (ask : Ask A) × Contains asks ask × (ask.name ≡ name) × MayMove g old ask
 
-  abbrev Stays : List (Entry A) → RefList → List ℕ → Ask A → Type 0
+  abbrev pub Stays : List (Entry A) → RefList → List ℕ → Ask A → Type 0
   Stays g old name ask = MayMove g old ask → ask.name ≢ name
 
   head_mover : (g : List (Entry A)) (old : RefList) (ask : Ask A) (asks : List (Ask A)) (name : List ℕ) (same : Bool) → bytes_eq ask.name name ≡ same
@@ -60,7 +60,7 @@ module _ {A : Type 0} where
       let low = mover.1.1 in
       (mover.0, (suc mover.1.0, omega (arith, low), mover.1.2), mover.2, mover.3)
 
-  some_mover : (g : List (Entry A)) (old : RefList) (asks : List (Ask A)) (us : List RefUpdate) (name : List ℕ) → AllZip (IsUpdate g old) asks us
+  pub some_mover : (g : List (Entry A)) (old : RefList) (asks : List (Ask A)) (us : List RefUpdate) (name : List ℕ) → AllZip (IsUpdate g old) asks us
       → (Mover g old asks name) ⊎ All (Stays g old name) asks
   some_mover g old [] us name each = inr (All-nil (Stays g old name))
   some_mover g old (ask ∷ asks) [] name each = absurd each
@@ -68,13 +68,13 @@ module _ {A : Type 0} where
       elim (head_mover g old ask asks name (bytes_eq ask.name name) refl (may_or_not g old ask u each.0)) [
         | inl mover ↦ inl mover
         | inr stays ↦ elim (some_mover g old asks us name each.1) [
-            | inl mover ↦ inl (tail_mover g old ask asks name mover)
-            | inr others ↦ inr (All-cons (Stays g old name) ask asks stays others)
-          ]
+          | inl mover ↦ inl (tail_mover g old ask asks name mover)
+          | inr others ↦ inr (All-cons (Stays g old name) ask asks stays others)
+        ]
       ]
 
-  -- where a name stands once the asks are settled
-  stands : (g : List (Entry A)) (old : RefList) (asks : List (Ask A)) (us : List RefUpdate) (new : RefList) (name : List ℕ) → Settles g old asks us new
+  -- where the name of an ask that may move its ref stands once the asks are settled
+  pub stands : (g : List (Entry A)) (old : RefList) (asks : List (Ask A)) (us : List RefUpdate) (new : RefList) (name : List ℕ) → Settles g old asks us new
       → (mover : Mover g old asks name) → ref_at new name ≡ Some (mover.0).id
   stands g old asks us new name settles mover =
       let Asked : Ask A → Type 0 = λ ask. MayMove g old ask → ref_at new ask.name ≡ Some ask.id in
@@ -83,8 +83,8 @@ module _ {A : Type 0} where
   pub one_settling : RefsAreTheirLookUps → OneSettling A
   one_settling law g old asks us vs new other here_refs there_refs a b =
       let alike : (name : List ℕ) → ref_at new name ≡ ref_at other name = λ name.
-          elim (some_mover g old asks us name a.each) [
-            | inl mover ↦ stands g old asks us new name a mover ∙ sym (stands g old asks vs other name b mover)
-            | inr stays ↦ a.others name stays ∙ sym (b.others name stays)
-          ] in
+      elim (some_mover g old asks us name a.each) [
+        | inl mover ↦ stands g old asks us new name a mover ∙ sym (stands g old asks vs other name b mover)
+        | inr stays ↦ a.others name stays ∙ sym (b.others name stays)
+      ] in
       (one_list g old asks us vs a.each b.each, law new other here_refs there_refs alike)

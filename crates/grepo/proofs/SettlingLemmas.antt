@@ -1,9 +1,9 @@
 -- Settling ask by ask.
-use Rattle.std.proofs.Common.{◌≡◌, ◌≢◌, ◌⊎◌, inl, inr, ℕ, ◌+◌, ◌<◌, Bool, true, false, cond, List, [], ◌∷◌, ◌++◌, length, take, get_or, All, Contains, count_by, Option, None, Some, Err, refl, sym, ap, ◌∙◌, subst, arith}
+use Rattle.std.proofs.Common.{◌≡◌, ◌≢◌, inl, inr, ℕ, ◌+◌, ◌<◌, Bool, true, false, cond, List, [], ◌∷◌, ◌++◌, length, take, get_or, All, count_by, Option, None, Some, Err, refl, sym, ap, ◌∙◌, subst, arith}
 use Rattle.std.specs.List.{AllZip}
 use Rattle.std.specs.Option.{is_none}
-use Rattle.std.proofs.lemmas.List.{get_or_append_left, get_or_at, get_or_default, get_or-map, get_or-take, length-append, length-map, length-take, map_push}
-use Rattle.std.proofs.lemmas.List.Elements.{All-contains, All-nil, All-push, All-weaker, All-contains_itself, Contains-append_left, Contains-push}
+use Rattle.std.proofs.lemmas.List.{get_or_append_left, get_or_at, get_or_default, get_or-map, get_or-take, length-append, length-map, length-take}
+use Rattle.std.proofs.lemmas.List.Elements.{All-nil, All-push}
 use Rattle.std.proofs.lemmas.List.Sums.{count_by_more_yes, sum_by_push, sum_by-take-le}
 use Rattle.gname.specs.Names.{head_name}
 use Rattle.gobject.specs.declared.node.Entry.{Entry}
@@ -46,7 +46,6 @@ module _ {A : Type 0} where
   pub settles_none : (g : List (Entry A)) (old : RefList) → HasSettled g old [] [] old
   settles_none g old = record {
     settles = record { each = tt; asked = All-nil (λ (ask : Ask A). MayMove g old ask → ref_at old ask.name ≡ Some ask.id); others = λ name all. refl };
-    from = All-weaker (Contains old) (λ ref. Contains old ref ⊎ Contains [] ref.1) (λ ref there. inl there) old (All-contains_itself old);
     count = omega arith;
   }
 
@@ -63,16 +62,6 @@ module _ {A : Type 0} where
   count_next : (old : RefList) (front : List (Ask A)) (ask : Ask A) (b : Bool) → is_new old ask ≡ b
       → count_by (is_new old) (front ++ ask ∷ []) ≡ count_by (is_new old) front + cond b 1 0
   count_next old front ask b is = sum_by_push (λ (a : Ask A). cond (is_new old a) 1 0) front ask ∙ ap (λ (c : Bool). count_by (is_new old) front + cond c 1 0) is
-
-  -- refs that came from the old ones and the asked ids still do
-  from_more : (old : RefList) (front : List (Ask A)) (ask : Ask A) (ref : List ℕ × List ℕ) → Contains old ref ⊎ Contains (asked_ids front) ref.1
-      → Contains old ref ⊎ Contains (asked_ids (front ++ ask ∷ [])) ref.1
-  from_more old front ask ref (inl there) = inl there
-  from_more old front ask ref (inr there) =
-      inr (subst (λ (ids : List (List ℕ)). Contains ids ref.1) (sym (map_push (λ (a : Ask A). a.id) front ask)) (Contains-append_left (asked_ids front) (ask.id ∷ []) ref.1 there))
-
-  asked_last : (front : List (Ask A)) (ask : Ask A) → Contains (asked_ids (front ++ ask ∷ [])) ask.id
-  asked_last front ask = subst (λ (ids : List (List ℕ)). Contains ids ask.id) (sym (map_push (λ (a : Ask A). a.id) front ask)) (Contains-push (asked_ids front) ask.id)
 
   -- whether the name was there decides by how many the refs grew
   count_set : (old before after : RefList) (front : List (Ask A)) (ask : Ask A) (there : Option (List ℕ)) → ref_at old ask.name ≡ there → ref_at before ask.name ≡ there
@@ -92,7 +81,6 @@ module _ {A : Type 0} where
       → HasSettled g old (front ++ ask ∷ []) (updates ++ Moved ∷ []) after
   settles_move g old front updates before after ask settled differ update sets =
       let Stands : Ask A → Type 0 = λ a. MayMove g old a → ref_at after a.name ≡ Some a.id in
-      let From : List ℕ × List ℕ → Type 0 = λ ref. Contains old ref ⊎ Contains (asked_ids front) ref.1 in
       record {
         settles = record {
           each = zip_push (IsUpdate g old) front updates ask Moved settled.settles.each update;
@@ -101,11 +89,6 @@ module _ {A : Type 0} where
               let parts = all_parts (λ (a : Ask A). MayMove g old a → a.name ≢ name) front ask stay in
               sets.others name (λ same. parts.1 update.1 (sym same)) ∙ settled.settles.others name parts.0;
         };
-        from = All-weaker (λ ref. (ref ≡ (ask.name, ask.id)) ⊎ Contains before ref) (λ ref. Contains old ref ⊎ Contains (asked_ids (front ++ ask ∷ [])) ref.1)
-            (λ ref there. elim there [
-              | inl same ↦ inr (subst (λ (r : List ℕ × List ℕ). Contains (asked_ids (front ++ ask ∷ [])) r.1) (sym same) (asked_last front ask))
-              | inr held ↦ from_more old front ask ref (All-contains From before ref settled.from held)
-            ]) after sets.each;
         count = count_set old before after front ask (ref_at old ask.name) refl (unmoved g old front updates before ask settled differ) sets settled.count;
       }
 
@@ -119,8 +102,6 @@ module _ {A : Type 0} where
       asked = All-push (λ (a : Ask A). MayMove g old a → ref_at before a.name ≡ Some a.id) front ask settled.settles.asked stands;
       others = λ name stay. settled.settles.others name (all_parts (λ (a : Ask A). MayMove g old a → a.name ≢ name) front ask stay).0;
     };
-    from = All-weaker (λ ref. Contains old ref ⊎ Contains (asked_ids front) ref.1) (λ ref. Contains old ref ⊎ Contains (asked_ids (front ++ ask ∷ [])) ref.1)
-        (λ ref there. from_more old front ask ref there) before settled.from;
     count = (let next = count_next old front ask false known in let count = settled.count in omega (arith, next, count));
   }
 

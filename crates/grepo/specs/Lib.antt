@@ -1,3 +1,4 @@
+pub mod Asks
 pub mod Changes
 pub mod Faults
 pub mod Laws

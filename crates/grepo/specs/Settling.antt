@@ -1,5 +1,6 @@
 -- Settling: the refs that are asked for move, all at once (git-fetch(1), "<refspec>"; gitglossary(7), "fast-forward").
-use Rattle.std.specs.Prelude.{◌≡◌, ◌≢◌, ◌⊎◌, ℕ, ◌+◌, ◌<◌, Bool, List, length, map, count_by, All, AllPairs, Contains}
+pub use Rattle.grepo.specs.Asks.{NamesDiffer, asked_ids}
+use Rattle.std.specs.Prelude.{◌≡◌, ◌≢◌, ◌⊎◌, ℕ, ◌+◌, ◌<◌, Bool, List, length, map, count_by, All, Contains}
 use Rattle.std.specs.Prelude.{IsTrue, None, Some, is_none}
 use Rattle.std.specs.List.{AllZip}
 use Rattle.gname.specs.Names.{head_name}
@@ -9,14 +10,6 @@ use Rattle.grefs.specs.RefLists.{RefList, max_refs, ref_at}
 use Rattle.grepo.specs.declared.ask.Ask.{Ask}
 use Rattle.grepo.specs.declared.ask.RefUpdate.{RefUpdate}
 use Rattle.grepo.specs.declared.ask.RefUpdate.TheVariants.{Moved, Same, NotForward}
-
--- no two asks are for one ref
-abbrev pub NamesDiffer : {A : Type 0} → List (Ask A) → Type 0
-NamesDiffer asks = AllPairs (λ ask other. ask.name ≢ other.name) asks
-
--- the ids that are asked for
-abbrev pub asked_ids : {A : Type 0} → List (Ask A) → List (List ℕ)
-asked_ids asks = map (λ ask. ask.id) asks
 
 -- a ref may come to stand at the id: it is new, or is moved by force, or the id reaches the one at which it stands
 abbrev pub MayMove : {A : Type 0} → List (Entry A) → RefList → Ask A → Type 0

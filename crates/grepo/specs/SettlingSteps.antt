@@ -1,7 +1,8 @@
 -- Settling ask by ask.
-use Rattle.std.specs.Prelude.{◌≡◌, ⊤, ◌+◌, List, length, count_by, Result, Ok, Err}
+use Rattle.std.specs.Prelude.{◌≡◌, ⊤, ℕ, ◌+◌, List, length, count_by, Result, Ok, Err}
 use Rattle.gobject.specs.declared.node.Entry.{Entry}
 use Rattle.ghistory.specs.declared.fault.GraphFault.TheVariants as graph
+use Rattle.grefs.specs.declared.fault.RefsFault.{RefsFault}
 use Rattle.grefs.specs.declared.fault.RefsFault.TheVariants as refs
 use Rattle.grefs.specs.RefLists.{RefList, CannotSet, SetsRef}
 use Rattle.grepo.specs.declared.ask.Ask.{Ask}
@@ -9,14 +10,18 @@ use Rattle.grepo.specs.declared.ask.RefUpdate.{RefUpdate}
 use Rattle.grepo.specs.declared.ask.RefUpdate.TheVariants.{Moved, Same, NotForward}
 use Rattle.grepo.specs.declared.fault.RepoFault.{RepoFault}
 use Rattle.grepo.specs.declared.fault.RepoFault.TheVariants.{Graph, Refs}
-use Rattle.grepo.specs.Repos.{ComeFrom}
-use Rattle.grepo.specs.Settling.{CannotSettle, IsUpdate, Settles, asked_ids, is_new}
+use Rattle.grepo.specs.Settling.{CannotSettle, IsUpdate, Settles, is_new}
 
--- some asks are settled; the refs come from the old ones and the asked ids, and as many came as were new
+-- what setting a ref answers: the name stands at the id; or it can't be set; or there is no memory
+abbrev pub SetsOne : RefList → List ℕ → List ℕ → RefList → Result (Unit {0}) RefsFault → Type 0
+SetsOne old name id new (Ok _) = SetsRef old new name id
+SetsOne old name id new (Err refs.Refs) = CannotSet old name
+SetsOne old name id new (Err refs.Memory) = ⊤
+
+-- some asks are settled, and as many refs came as were new
 pub record HasSettled {A : Type 0} (g : List (Entry A)) (old : RefList) (asks : List (Ask A))
     (updates : List RefUpdate) (new : RefList) : Type 0 where
   pub settles : Settles g old asks updates new
-  pub from : ComeFrom old (asked_ids asks) new
   pub count : length new ≡ length old + count_by (is_new old) asks
 
 -- why asks are not settled: the refs can't be set, or there is no memory

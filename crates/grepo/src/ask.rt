@@ -1,8 +1,5 @@
-// What is asked of refs, and what becomes of it.
+// What is asked of a ref, and what becomes of it.
 #![tactic(auto)]
-
-ghost use Rattle.std.specs.Prelude.{◌≢◌, ◌↔◌, All, IsTrue};
-ghost use Rattle.grepo.specs.Settling.{NamesDiffer};
 
 use gname::{Oid, RefName};
 use std::alloc::{Allocator, Global};
@@ -25,28 +22,4 @@ pub enum RefUpdate {
     Same,
     /// The ref stays, as the id does not reach the one at which it stands.
     NotForward,
-}
-
-/// Whether no two asks are for one ref. It compares each name with those before it, and takes no memory.
-pub fn names_differ<A: Allocator + Copy>(asks: &[Ask<A>]) -> bool
-    ensures { IsTrue result ↔ NamesDiffer asks.now }
-{
-    for place in 0..asks.len() {
-        if !are_for_others(&asks[..place], &asks[place].name) {
-            return false;
-        }
-    }
-    true
-}
-
-// Whether no ask is for the ref with the name.
-fn are_for_others<A: Allocator + Copy>(asks: &[Ask<A>], name: &RefName<A>) -> bool
-    ensures { IsTrue result ↔ All (λ ask. ask.name ≢ name.now) asks.now }
-{
-    for ask in asks {
-        if ask.name == *name {
-            return false;
-        }
-    }
-    true
 }

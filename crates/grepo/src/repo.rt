@@ -10,15 +10,16 @@ ghost use Rattle.ghistory.specs.Walks.{Misses};
 ghost use Rattle.grefs.specs.RefLists.{IsRefs};
 ghost use Rattle.grepo.specs.Changes.{AddsLocal, Marks, Opens, SetsLocal, SettlesAsks};
 ghost use Rattle.grepo.specs.Repos.{ComeFrom, IsWhole};
-ghost use Rattle.grepo.specs.Settling.{NamesDiffer};
 
-use crate::ask::{Ask, RefUpdate};
+use crate::ask::RefUpdate;
+use crate::asks::Asks;
 use crate::fault::RepoFault;
 use crate::laws::whole_stays;
 use crate::opening::first_unsafe;
-use crate::settling::{asked_ids, settled};
+use crate::settling::settled;
 use ggraph::{Entry, FullMarks, Graph, GraphFault, Refs, mark_full, missing, missing_known};
 use gname::{Format, Oid, RefName};
+use grefs::laws::refs_come_in_order;
 use std::alloc::{Allocator, Global};
 use std::marker::Model;
 
@@ -47,7 +48,8 @@ impl<A: Allocator + Copy> Repo<A> {
     /// It fails with `UnsafeRef` and the first ref, in the order of the names, whose whole ancestry is not held, and
     /// where there is no memory.
     pub fn new(graph: Graph<A>, refs: Refs<A>) -> Result<Repo<A>, RepoFault<A>>
-        ensures { Opens graph refs result }
+        ensures opens { Opens graph refs result }
+        ensures whole { IfOk result IsWhole }
     {
         let alloc = graph.allocator();
         let targets = refs.ids(alloc)?;
@@ -113,6 +115,7 @@ impl<A: Allocator + Copy> Repo<A> {
     pub fn add_local(&mut self, entry: Entry<A>) -> Result<bool, RepoFault<A>>
         ensures adds { AddsLocal self.old entry self.new result }
         ensures grows { Grows self.old.graph.entries self.new.graph.entries }
+        ensures whole { IsWhole self.new }
     {
         whole_stays::<A>();
         if let Some(id) = self.graph.first_absent(entry.node.parents.as_slice()) {
@@ -135,6 +138,7 @@ impl<A: Allocator + Copy> Repo<A> {
         ensures full { (a : List ℕ) → IsFull self.old.graph.entries a → IsFull self.new.graph.entries a }
         ensures refs { self.new.refs ≡ self.old.refs }
         ensures known { self.new.known ≡ self.old.known }
+        ensures whole { IsWhole self.new }
     {
         whole_stays::<A>();
         self.graph.insert_all(entries)
@@ -145,7 +149,8 @@ impl<A: Allocator + Copy> Repo<A> {
     /// It fails with `NotHeld` and an id that is missing of the ancestry, then with the fault of `Refs::set` for a
     /// ref that can't be set, and where there is no memory. The repository is then as it was.
     pub fn set_local_ref(&mut self, name: RefName<A>, id: Oid) -> Result<(), RepoFault<A>>
-        ensures { SetsLocal self.old name id self.new result }
+        ensures sets { SetsLocal self.old name id self.new result }
+        ensures whole { IsWhole self.new }
     {
         let ids = [id];
         if let Some(missing) = self.missing(&ids)? {
@@ -157,7 +162,7 @@ impl<A: Allocator + Copy> Repo<A> {
         Ok(())
     }
 
-    /// Settles asks, of which no two are for one ref: each ref that is new, or is moved by force, or stands at an id
+    /// Settles asks: each ref that is new, or is moved by force, or stands at an id
     /// that the asked id reaches, comes to stand at the asked id, all at once, and each other ref stays. Answers what
     /// became of each ask, in their order. All is judged by the refs as they were. What the ids reach is marked before
     /// a ref moves.
@@ -165,13 +170,14 @@ impl<A: Allocator + Copy> Repo<A> {
     /// It fails with `NotConnected` and an id that is missing of the ancestries of the asked ids, then with `Refs`
     /// where an ask is for HEAD or there would be too many refs, and where there is no memory. The repository is then
     /// as it was.
-    pub fn settle(&mut self, asks: &[Ask<A>]) -> Result<Vec<RefUpdate, A>, RepoFault<A>>
-        requires { NamesDiffer asks.now }
-        ensures { MatchResult result
+    pub fn settle(&mut self, asks: &Asks<A>) -> Result<Vec<RefUpdate, A>, RepoFault<A>>
+        ensures settles { MatchResult result
             (λ updates. SettlesAsks self.old asks.now self.new (Ok updates.items))
             (λ fault. SettlesAsks self.old asks.now self.new (Err fault)) }
+        ensures whole { IsWhole self.new }
     {
-        let targets = asked_ids(self.graph.allocator(), asks)?;
+        refs_come_in_order();
+        let targets = asks.ids(self.graph.allocator())?;
         let ids = targets.as_slice();
         if let Some(missing) = self.missing(ids)? {
             return Err(RepoFault::NotConnected { missing });
@@ -186,9 +192,10 @@ impl<A: Allocator + Copy> Repo<A> {
     fn install(&mut self, refs: Refs<A>, ids: &[Oid]) -> Result<(), GraphFault>
         requires full { All (IsFull self.old.graph.entries) ids.now }
         requires from { ComeFrom self.old.refs ids.now refs }
-        ensures { MatchResult result
+        ensures installs { MatchResult result
             (λ _. Marks self.old ids.now self.new × (self.new.refs ≡ refs))
             (λ fault. (self.new ≡ self.old) × (fault ≡ Memory)) }
+        ensures whole { IsWhole self.new }
     {
         mark_full(&self.graph, ids, &mut self.known)?;
         self.refs = refs;

@@ -3,6 +3,7 @@ mod faults;
 mod known;
 mod local;
 mod makers;
+mod many;
 mod memory;
 mod opening;
 mod settling;

@@ -1,6 +1,6 @@
 //! Marks of objects whose whole ancestry is known to be held.
-use super::makers::{A_ALONE, MAIN, ask, check_marks, check_refs, commits, id, name, repo_of};
-use crate::{RefUpdate, Repo, RepoFault, names_differ};
+use super::makers::{A_ALONE, MAIN, asks_of, check_marks, check_refs, commits, id, name, repo_of};
+use crate::{RefUpdate, Repo, RepoFault};
 use ggraph::{Count, Entry, Graph, Kind, Node, Parents, Refs, missing_counted, missing_known};
 use gname::Oid;
 use std::process::Abort;
@@ -70,9 +70,7 @@ fn a_taken_pack_is_not_marked(rt: HostRuntime) {
     assert_eq!(rt; repo.insert_all(pack.as_slice()), Ok(1));
     check_marks(&rt, &repo, &[true, false]);
     assert_eq!(rt; repo.missing(&[id(&rt, b'c')]), Ok(Some(id(&rt, b'b'))));
-    let asks = [ask(&rt, MAIN, b'c', true)];
-    assert!(rt; names_differ(&asks));
-    match repo.settle(&asks) {
+    match repo.settle(&asks_of(&rt, &[(MAIN, b'c', true)])) {
         Err(RepoFault::NotConnected { missing }) => assert_eq!(rt; missing, id(&rt, b'b')),
         _ => panic!(rt; "nothing was missing"),
     }
@@ -105,8 +103,7 @@ fn a_cycle_is_whole(rt: HostRuntime) {
         (false, RefUpdate::NotForward, b'a'),
         (true, RefUpdate::Moved, b'e'),
     ] {
-        let asks = [ask(&rt, MAIN, b'e', forced)];
-        assert!(rt; names_differ(&asks));
+        let asks = asks_of(&rt, &[(MAIN, b'e', forced)]);
         let updates = repo.settle(&asks).expect(&rt, "settled");
         assert_eq!(rt; updates.as_slice(), [update].as_slice());
         check_refs(&rt, &repo, &[(MAIN, end)]);

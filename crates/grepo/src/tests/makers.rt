@@ -1,5 +1,5 @@
 //! Repositories for tests. An id is one hexadecimal digit, as often as its format says.
-use crate::{Ask, Repo};
+use crate::{Ask, Asks, Repo};
 use ggraph::{Entry, Graph, Kind, Node, Parents, Refs};
 use gname::{Format, MAX_ID_TEXT, Oid, RefName};
 use std::process::Abort;
@@ -71,12 +71,20 @@ pub(super) fn repo_of(rt: &(impl Abort + AllocGlobal), rows: &[Row], refs: &[(&s
     Repo::new(graph_of(rt, rows), refs_of(rt, refs)).expect(rt, "a repository")
 }
 
-pub(super) fn ask(rt: &(impl Abort + AllocGlobal), text: &str, digit: u8, forced: bool) -> Ask {
-    Ask {
-        name: name(rt, text),
-        id: id(rt, digit),
-        forced,
+// A ref, the id at which it is to stand, and whether it is to move by force.
+pub(super) type Asked = (&'static str, u8, bool);
+
+pub(super) fn asks_of(rt: &(impl Abort + AllocGlobal), asked: &[Asked]) -> Asks {
+    let mut asks = Asks::new(rt.alloc());
+    for (text, digit, forced) in asked {
+        asks.add(Ask {
+            name: name(rt, text),
+            id: id(rt, *digit),
+            forced: *forced,
+        })
+        .expect(rt, "memory");
     }
+    asks
 }
 
 // The repository has these refs alone.

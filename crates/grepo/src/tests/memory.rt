@@ -1,5 +1,5 @@
 //! Memory that ends.
-use crate::{Ask, Repo, names_differ};
+use crate::{Ask, Asks, Repo};
 use bumpalo::Bump;
 use ggraph::{Entry, Graph, Kind, Node, Parents, Refs};
 use gname::{Oid, RefName};
@@ -50,18 +50,17 @@ fn repo<A: Allocator + Copy>(rt: &impl Abort, alloc: A) -> Option<Repo<A>> {
 fn settles_in(rt: &(impl Abort + AllocGlobal), room: usize) -> Result<bool, Fail> {
     let arena = Bump::try_with_capacity(rt.alloc(), 50_000)?;
     let mut repo = repo(rt, &arena).expect(rt, "a repository");
-    let mut asks = Vec::new(rt.alloc());
+    let mut asks = Asks::new(&arena);
     for text in ["refs/x", "refs/y"] {
-        asks.push(Ask {
+        asks.add(Ask {
             name: name(rt, &arena, text),
             id: id(rt, b'b'),
             forced: false,
         })?;
     }
-    assert!(rt; names_differ(asks.as_slice()));
     let last = name(rt, &arena, "refs/x");
     fill(rt.alloc(), &arena, room)?;
-    let code = match repo.settle(asks.as_slice()) {
+    let code = match repo.settle(&asks) {
         Ok(_) => 0,
         Err(fault) => fault.code(),
     };
@@ -79,12 +78,28 @@ fn settles_in(rt: &(impl Abort + AllocGlobal), room: usize) -> Result<bool, Fail
 #[test]
 fn refs_stay_where_there_is_no_memory(rt: HostRuntime) -> Result<(), Fail> {
     let mut enough = 0usize;
-    for step in 0..400usize {
-        if settles_in(&rt, 4 * step)? {
+    for step in 0..1000usize {
+        if settles_in(&rt, 8 * step)? {
             enough = step;
             break;
         }
     }
     assert!(rt; 0 < enough, "{enough}");
+    Ok(())
+}
+
+// Asks stay where there is no memory for one more.
+#[test]
+fn asks_stay_where_there_is_no_memory(rt: HostRuntime) -> Result<(), Fail> {
+    let arena = Bump::new(rt.alloc());
+    let mut asks = Asks::new(&arena);
+    let first = Ask {
+        name: name(&rt, &arena, "refs/x"),
+        id: id(&rt, b'a'),
+        forced: false,
+    };
+    fill(rt.alloc(), &arena, 0)?;
+    assert!(rt; asks.add(first).is_err());
+    assert!(rt; asks.is_empty());
     Ok(())
 }

@@ -1,6 +1,6 @@
 //! What becomes of the refs that are asked for.
-use super::makers::{Row, ask, check_marks, check_refs, repo_of};
-use crate::{Ask, RefUpdate, Repo, RepoFault, names_differ};
+use super::makers::{Asked, Row, asks_of, check_marks, check_refs, id, name, repo_of};
+use crate::{RefUpdate, Repo};
 use std::process::Abort;
 
 // A, then B and C above it, then E above B. D has a parent that is not there.
@@ -18,18 +18,7 @@ const Y: &str = "refs/remotes/y/main";
 
 const NEW: &str = "refs/tags/v1";
 
-type Asked = (&'static str, u8, bool);
-
 type Stands = &'static [(&'static str, u8)];
-
-fn asks_of(rt: &(impl Abort + AllocGlobal), asked: &[Asked]) -> Vec<Ask> {
-    let mut asks = Vec::new(rt.alloc());
-    for (text, digit, forced) in asked {
-        asks.push(ask(rt, text, *digit, *forced))
-            .expect(rt, "memory");
-    }
-    asks
-}
 
 // What settling answers: what becomes of each ask, or the number of the fault.
 fn settle(
@@ -37,9 +26,7 @@ fn settle(
     repo: &mut Repo,
     asked: &[Asked],
 ) -> Result<Vec<RefUpdate>, u32> {
-    let asks = asks_of(rt, asked);
-    assert!(rt; names_differ(asks.as_slice()));
-    match repo.settle(asks.as_slice()) {
+    match repo.settle(&asks_of(rt, asked)) {
         Ok(updates) => Ok(updates),
         Err(fault) => Err(fault.code()),
     }
@@ -118,9 +105,32 @@ fn refs_move_all_at_once(rt: HostRuntime) {
     }
 }
 
+// The first ask for a ref counts.
 #[test]
 fn an_ask_is_for_one_ref(rt: HostRuntime) {
-    let same = asks_of(&rt, &[(X, b'a', false), (Y, b'a', false), (X, b'b', true)]);
-    assert!(rt; !names_differ(same.as_slice()));
-    assert!(rt; names_differ(&same.as_slice()[..2]));
+    let asks = asks_of(&rt, &[(X, b'a', false), (Y, b'c', false), (X, b'b', true)]);
+    assert_eq!(rt; asks.len(), 2);
+    for (place, text, digit) in [(0usize, X, b'a'), (1, Y, b'c')] {
+        assert!(rt; asks.is_asked(&name(&rt, text)), "{text}");
+        match asks.at(place) {
+            Some((found, at)) => {
+                assert!(rt; *found == name(&rt, text), "{text}");
+                assert_eq!(rt; at, id(&rt, digit), "{text}");
+            }
+            None => panic!(rt; "no ask at {place}"),
+        }
+    }
+    assert!(rt; asks.at(2).is_none());
+    assert!(rt; !asks.is_asked(&name(&rt, NEW)));
+    let ids = asks.ids(rt.alloc()).expect(&rt, "memory");
+    assert_eq!(rt; ids.as_slice(), [id(&rt, b'a'), id(&rt, b'c')].as_slice());
+}
+
+#[test]
+fn no_asks_move_nothing(rt: HostRuntime) {
+    let asks = asks_of(&rt, &[]);
+    assert!(rt; asks.is_empty());
+    let mut repo = repo_of(&rt, TREE, &[(X, b'b')]);
+    assert_eq!(rt; repo.settle(&asks).expect(&rt, "settled").len(), 0);
+    check_refs(&rt, &repo, &[(X, b'b')]);
 }

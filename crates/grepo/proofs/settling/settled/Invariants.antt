@@ -2,5 +2,5 @@ use Rattle.std.proofs.Common.{take}
 use Rattle.grepo.specs.SettlingSteps.{HasSettled}
 use Rattle.grepo.proofs.settling.settled.Given as goal
 
-abbrev pub invariant-loop-ask : goal.invariant-loop-ask
-invariant-loop-ask g l = HasSettled l.graph.entries l.refs (take l.ask-index l.asks) l.updates.items l.new
+abbrev pub invariant-loop-place : goal.invariant-loop-place
+invariant-loop-place g l = HasSettled l.graph.entries l.refs (take l.place l.asks) l.updates.items l.new

@@ -16,3 +16,6 @@ returns-clause-keeps g c = rw (← c.self.view_is) c.insert_all.ensures.keeps
 
 pub returns-clause-full : goal.returns-clause-full
 returns-clause-full g c = rw (← c.self.view_is) c.insert_all.ensures.full
+
+pub returns-clause-whole : goal.returns-clause-whole
+returns-clause-whole g c = invariant_of-self g c

@@ -7,8 +7,8 @@ use Rattle.grepo.proofs.RepoLemmas.{set_from}
 use Rattle.grepo.proofs.SettlingLemmas.{cannot_set_local}
 use Rattle.grepo.proofs.repo.Repo.set_local_ref.Goals as goal
 
-pub returns-in_err-set : goal.returns-in_err-set
-returns-in_err-set g c =
+pub returns-in_err-set-clause-sets : goal.returns-in_err-set-clause-sets
+returns-in_err-set-clause-sets g c =
     let p = err_from_is_err_and c.from_residual-in_err-set.result c.from_residual-in_err-set.ensures.1 in
     rw (p.1, p.2) (cannot_set_local c.args.self.now c.args.name c.args.id c.in_err-set.field-0.0 (All-head (IsFull c.args.self.now.graph.entries) c.args.id [] (rw c.in_default.is at c.in_ok-missing.ensures.answer))
     (λ is. rw (c.in_ok-refs.ensures ∙ ap (λ (s : RepoState g.row.A.Denot). s.refs) c.self.view_is) at (c.in_err-set.ensures.refused.0 (ap Err is))))
