@@ -8,3 +8,4 @@ pub mod SessionLemmas
 pub mod BatchLemmas
 pub mod ReplyLemmas
 pub mod LsLemmas
+pub mod TakingLaws

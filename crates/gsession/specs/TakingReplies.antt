@@ -5,6 +5,7 @@ use Rattle.std.specs.Prelude.{Err}
 use Rattle.gpkt.specs.Change.{Change}
 use Rattle.gpkt.specs.Packets.{Packet}
 use Rattle.ggrammar.specs.Kinds.{ReadsMessage}
+use Rattle.ggrammar.specs.MessageBytes.{known}
 use Rattle.ggrammar.specs.MessageReading.{ReadsRefused}
 use Rattle.ggrammar.specs.declared.fault.MessageFault.{MessageFault}
 use Rattle.gfetchreply.specs.FetchReplies.{Reading, FetchReply, Acks, Ready, Pack, Says, brings, judge}
@@ -171,3 +172,10 @@ module _ {A : Type 0} (indexes : Indexes A) (index_fails : IndexFails) where
       × TakesRead indexes index_fails asked.haves old repo_old reply new repo_new taken)
   TakesReply old repo_old change new repo_new (Err fault) =
       IsTakeFault old repo_old change fault × (new ≡ after_fault old fault) × (repo_new ≡ repo_old)
+
+  -- where the bytes are known, the session after a reply is decided by the bytes and by what is answered
+  abbrev pub TakingIsDecided : Type 0
+  TakingIsDecided =
+      (old one other : SessionState A) (s repo_one repo_other : RepoState A) (bytes left also : List ℕ)
+      (result : Result Taken (ClientFault A)) → TakesReply old s (known bytes left) one repo_one result
+      → TakesReply old s (known bytes also) other repo_other result → one ≡ other

@@ -2,7 +2,10 @@
 #![tactic(auto)]
 
 ghost use Rattle.gsession.specs.Bounds.{BeganStays, RoundsAreFew};
+ghost use Rattle.gsession.specs.TakingReplies.{TakingIsDecided};
 
+use gfetchreply::laws::reads_exactly;
+use ggraph::Indexer;
 use ggraph::graph_laws::{full_stays_full, growing_keeps, offers_are_exact, reached_are_counted};
 use std::alloc::Allocator;
 
@@ -21,4 +24,12 @@ pub fn rounds_are_few<A: Allocator + Copy>()
     ensures { RoundsAreFew A }
 {
     reached_are_counted::<A>();
+}
+
+/// Where the bytes to come are known, they and what is answered decide the session after a reply to fetch, whatever
+/// list the indexer makes of its pack.
+pub fn taking_is_decided<A: Allocator + Copy, K: Indexer<A>>()
+    ensures { (k : K) → TakingIsDecided (K.indexes k) (K.index_fails k) }
+{
+    reads_exactly();
 }

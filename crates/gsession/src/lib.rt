@@ -21,14 +21,15 @@
 //!   session, and leaves objects and refs as they were; every later call is then refused.
 //! - A reader of replies goes on after a reply that was read to its end, and is as reading left it where one was
 //!   refused.
-//! - A session asks for objects at most once more than there are ids that its tips reach ([`laws`]).
+//! - Where the bytes to come are known, they and the answer decide the session after a reply to fetch; and a session asks
+//!   for objects at most once more than there are ids that its tips reach ([`laws`]).
 //! - Each fault has the number and the name of its row. No call panics, overflows or reads out of bounds, and each
 //!   returns where the reader's calls return.
 //!
 //! # Only tested
 //!
-//! Whole conversations with the bytes of a peer; that a pack goes to the indexer as it comes; that memory which is there
-//! is used; the texts of the faults.
+//! Whole conversations with the bytes of a peer; that a pack may come in any pieces; that memory which is there is used;
+//! the texts of the faults.
 //!
 //! # What a body can still get away with
 //!
