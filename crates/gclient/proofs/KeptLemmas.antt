@@ -57,16 +57,16 @@ module _ {A : Type 0} (indexes : Indexes A) (index_fails : IndexFails) (start : 
 
   fails_keep : (input : Input) (output : Output) (new : RepoState A) (cause : FetchFault A)
       → Fails indexes index_fails start input output new cause → IsKeptRepo start.repo new
-  fails_keep input output new cause (cannot_begin begins unread unwritten still) = same_is_kept start.repo new still
+  fails_keep input output new cause (cannot_begin why begins unread unwritten still) = same_is_kept start.repo new still
   fails_keep input output new cause (no_buffer few unread unwritten still) = same_is_kept start.repo new still
-  fails_keep input output new cause (cannot_hear few refuses unwritten still) = same_is_kept start.repo new still
-  fails_keep input output new cause (cannot_ask {talk = talk} {last = last} converses made asked still) =
+  fails_keep input output new cause (cannot_hear why few refuses unwritten still) = same_is_kept start.repo new still
+  fails_keep input output new cause (cannot_ask talk last after converses made so_far still) =
       kept_is start.repo last.repo new (kept_so_far input talk last _ converses) still
-  fails_keep input output new cause (cannot_send {talk = talk} {last = last} converses due failed still) =
+  fails_keep input output new cause (cannot_send talk last asked converses due failed still) =
       kept_is start.repo last.repo new (kept_so_far input talk last _ converses) still
-  fails_keep input output new cause (cannot_take {talk = talk} {last = last} made converses passed still) =
+  fails_keep input output new cause (cannot_take talk last asked waiting why made converses passed still) =
       kept_is start.repo last.repo new (kept_so_far input talk last _ converses) still
-  fails_keep input output new cause (cannot_settle {talk = talk} {last = last} {cause = why} converses over passed settles) =
+  fails_keep input output new cause (cannot_settle talk last why converses over passed settles) =
       kept_is start.repo last.repo new (kept_so_far input talk last _ converses) (refused_is_same last.repo last.session.asks new why settles)
 
   fetches_grow : (input : Input) (output : Output) (new : RepoState A) (fetched : Fetched A)

@@ -140,7 +140,7 @@ module _ {W : Type 0} (contents passed_on : W → Option (List ℕ)) (is_down : 
         let mid : passed_on b ≡ Some (old ++ xs) =
         first.passed_on known passed ∙ appends_to old xs (contents a) (contents b) is first.written in
         let last = passes_on_from (old ++ xs) (passed_on b) (passed_on c) mid kept in
-        (last.0, last.1 ∙ ap (λ (bytes : List ℕ). Some bytes) (append_assoc old xs last.0));
+        (last.0, last.1);
     down = next.down;
   }
 

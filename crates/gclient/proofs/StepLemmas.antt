@@ -1,5 +1,6 @@
 -- The steps before a reply: hearing the server, and asking.
 use Rattle.std.proofs.Common.{◌≡◌, ℕ, ◌<◌, Bool, true, false, List, [], ◌∷◌, length, arith, Option, Some, None, Result, Ok, Err, refl, sym, ap, subst, ◌∙◌, inl, inr}
+use Rattle.std.specs.Prelude.{IsErrAnd}
 use Rattle.gname.specs.declared.formats.Format.{Format}
 use Rattle.gpkt.specs.Change.{Change}
 use Rattle.gpkt.specs.Devices.{KeepsPassed}
@@ -18,7 +19,7 @@ use Rattle.grepo.specs.Repos.{RepoState}
 use Rattle.grepo.specs.declared.fault.RepoFault.TheVariants as repo
 use Rattle.grequest.specs.Asked.{Asked, Empty}
 use Rattle.gsession.specs.Requesting.{Requests, is_due}
-use Rattle.gsession.specs.Sessions.{SessionState, no_memory, tells_unborn}
+use Rattle.gsession.specs.Sessions.{SessionState, IsBegun, no_memory, tells_unborn}
 use Rattle.gsession.specs.SettlingRefs.{SettlesSession}
 use Rattle.gsession.specs.declared.fault.ClientFault.{ClientFault}
 use Rattle.gsession.specs.declared.fault.ClientFault.TheVariants as client
@@ -30,6 +31,13 @@ use Rattle.gclient.specs.Conversations.{Start, RefusesAdvert, heard, request_byt
 use Rattle.gclient.specs.Steps.{Asks, Closes, HasBegun, HearsServer, start_with}
 use Rattle.gclient.specs.declared.fault.FetchFault.{FetchFault}
 use Rattle.gclient.specs.declared.fault.FetchFault.TheVariants as fault
+
+-- ---- faults
+
+-- a result that is a fault, which is this one
+pub err_of : {T E : Type 0} (value : E) (result : Result T E) → IsErrAnd result (λ e. e ≡ value) → result ≡ Err value
+err_of value (Ok done) h = absurd h
+err_of value (Err e) h = ap (λ (x : _). Err x) h
 
 -- ---- hearing
 
@@ -143,6 +151,10 @@ module _ {A : Type 0} (old new : SessionState A) (r s : RepoState A) (output : O
   closes_not client.TooManyWants over h = absurd h
 
 -- ---- a session that has heard the server
+
+pub fresh_is_begun : {A : Type 0} (session : SessionState A) (repo : RepoState A) → HasBegun session repo → IsBegun session
+fresh_is_begun session repo fresh =
+    (ap (λ (s : SessionState _). s.stage) fresh, ap (λ (s : SessionState _). s.pending) fresh)
 
 -- it is as it began, but for what it heard
 pub record IsHeard {A : Type 0} (repo : RepoState A) (s : SessionState A) : Type 0 where

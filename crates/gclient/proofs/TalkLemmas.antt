@@ -23,7 +23,7 @@ use Rattle.gsession.specs.declared.fault.ClientFault.{ClientFault}
 use Rattle.gsession.specs.declared.fault.ClientFault.TheVariants as client
 use Rattle.gsession.specs.declared.stage.Stage.TheVariants.{Settling}
 use Rattle.gsession.specs.declared.taken.Settled.{Settled}
-use Rattle.gclient.specs.Conversations.{Start, Advertises, Converses, Fails, cannot_ask, cannot_hear, cannot_send, cannot_settle, cannot_take, cannot_begin, no_buffer, Fetches, FetchesOver, HasAsked, IsDue, request, ending, IsLeft, begun, heard, rest_of, request_bytes, requests_bytes}
+use Rattle.gclient.specs.Conversations.{Start, Advertises, Converses, Fails, cannot_ask, cannot_hear, cannot_send, cannot_settle, cannot_take, cannot_begin, no_buffer, Fetches, FetchesOver, HasAsked, IsDue, request, ending, IsLeft, begun, heard, rest_of, request_bytes, requests_bytes, tips_of}
 use Rattle.gclient.specs.Steps.{Closes, FailsTurn, unasked, unsent, untaken, HasTalked, HasTurned, HearsServer, client_of}
 use Rattle.gclient.specs.Turns.{AreTurns, AsksNext, ClientState, Refuses, Turn}
 use Rattle.gclient.specs.declared.fault.FetchFault.{FetchFault}
@@ -107,6 +107,11 @@ module _ {A S W : Type 0} (indexes : Indexes A) (index_fails : IndexFails) (star
       (turns_kept indexes index_fails (heard start converses.capabilities) talk now converses.each).own
       ∙ sym (same_format input talk now Rest converses)
 
+  pub same_tips : (input : Input) (talk : List Turn) (now : ClientState A) (Rest : Input → Type 0)
+      → Converses indexes index_fails start input talk now Rest → now.session.tips ≡ tips_of start.repo
+  same_tips input talk now Rest converses =
+      (turns_kept indexes index_fails (heard start converses.capabilities) talk now converses.each).tips
+
   -- ---- from turn to turn
 
   -- one turn more
@@ -131,18 +136,18 @@ module _ {A S W : Type 0} (indexes : Indexes A) (index_fails : IndexFails) (star
       → FailsTurn indexes index_fails now (input_of remaining source_down s t) (output_of contents passed_on sink_down b c) cause
       → repo ≡ now.repo
       → Fails indexes index_fails start (input_of remaining source_down r t) (output_of contents passed_on sink_down a c) repo cause
-  talk_failed r s t a b c now repo cause before (unasked {after = after} made unread unwritten) still =
-      cannot_ask {talk = before.talk} {last = now} {after = after} (left_still r s t before.talk now before.converses unread) made
+  talk_failed r s t a b c now repo cause before (unasked after made unread unwritten) still =
+      cannot_ask before.talk now after (left_still r s t before.talk now before.converses unread) made
       (asked_still contents passed_on sink_down start.repo.graph.format a b c before.talk before.asked unwritten) still
-  talk_failed r s t a b c now repo cause before (unsent {asked = asked} {waiting = waiting} made unread some kept) still =
+  talk_failed r s t a b c now repo cause before (unsent asked waiting made unread some kept) still =
       let same : now.repo.graph.format ≡ start.repo.graph.format = same_format (input_of remaining source_down r s) before.talk now IsLeft before.converses in
-      cannot_send {talk = before.talk} {last = now} {asked = asked} (left_still r s t before.talk now before.converses unread)
-      (request {asked = asked} {waiting = waiting} made)
+      cannot_send before.talk now asked (left_still r s t before.talk now before.converses unread)
+      (request asked waiting made)
       (asked_fails contents passed_on sink_down start.repo.graph.format a b c before.talk (request_bytes start.repo.graph.format asked) before.asked
       (subst (λ (f : Format). SendsSome (output_of contents passed_on sink_down b c) (request_bytes f asked)) same some) kept) still
-  talk_failed r s t a b c now repo cause before (untaken {asked = asked} {waiting = waiting} {cause = why} made refuses passed) still =
+  talk_failed r s t a b c now repo cause before (untaken asked waiting why made refuses passed) still =
       let same : now.repo.graph.format ≡ start.repo.graph.format = same_format (input_of remaining source_down r s) before.talk now IsLeft before.converses in
-      cannot_take {talk = before.talk} {last = now} {asked = asked} {waiting = waiting} {cause = why} made
+      cannot_take before.talk now asked waiting why made
       (converse_on r s t before.talk now (λ rest. Refuses indexes index_fails waiting asked now.repo rest why) before.converses
       (record { untaken = refuses.untaken; source = refuses.source }))
       (asked_passes contents passed_on sink_down start.repo.graph.format a b c before.talk (request_bytes start.repo.graph.format asked) before.asked
@@ -151,17 +156,18 @@ module _ {A S W : Type 0} (indexes : Indexes A) (index_fails : IndexFails) (star
   -- ---- the beginning
 
   -- the server is heard, and nothing is asked
-  pub talked_none : (r s : S) (a : W) (new : SessionState A) → length start.refspecs ≤ max_specs
-      → HearsServer {A = A} start.repo.graph.format (begun start) (input_of remaining source_down r s) new (Ok tt)
+  pub talked_none : (r s : S) (a : W) (old new : SessionState A) → length start.refspecs ≤ max_specs → old ≡ begun start
+      → HearsServer {A = A} start.repo.graph.format old (input_of remaining source_down r s) new (Ok tt)
       → HasTalked indexes index_fails start (input_of remaining source_down r s) (output_of contents passed_on sink_down a a) (client_of new start.repo None)
-  talked_none r s a new few (packets, capabilities, advertises, lines, is, up) = record {
+  talked_none r s a old new few fresh (packets, capabilities, advertises, lines, is, up) = record {
     talk = [];
     converses = record {
       few = few;
       packets = packets;
       capabilities = capabilities;
       advertises = advertises;
-      each = ap (λ (x : SessionState A). client_of x start.repo None) is;
+      each = ap (λ (x : SessionState A). client_of x start.repo None)
+          (is ∙ ap (λ (x : SessionState A). record x { offers_unborn = tells_unborn capabilities }) fresh);
       between = remaining s;
       read = subst (λ (xs : List Packet). ReadsLines (record { old = remaining r; new = remaining s }) xs) (sym (append-nil packets)) lines;
       rest = record { unread = refl; up = up };
@@ -169,19 +175,19 @@ module _ {A S W : Type 0} (indexes : Indexes A) (index_fails : IndexFails) (star
     asked = record { written = refl; passed_on = refl; down = refl };
   }
 
-  pub not_heard : (r s : S) (a : W) (new : SessionState A) (cause : FetchFault A) → length start.refspecs ≤ max_specs
-      → HearsServer {A = A} start.repo.graph.format (begun start) (input_of remaining source_down r s) new (Err cause)
+  pub not_heard : (r s : S) (a : W) (old new : SessionState A) (cause : FetchFault A) → length start.refspecs ≤ max_specs
+      → HearsServer {A = A} start.repo.graph.format old (input_of remaining source_down r s) new (Err cause)
       → Fails indexes index_fails start (input_of remaining source_down r s) (output_of contents passed_on sink_down a a) start.repo cause
-  not_heard r s a new (fault.Client (client.Message cause)) few refuses =
-      cannot_hear {cause = cause} few refuses (record { written = refl; passed_on = refl; down = refl }) refl
-  not_heard r s a new (fault.Client (client.Index cause)) few refuses = absurd refuses
-  not_heard r s a new (fault.Client client.TooManySpecs) few refuses = absurd refuses
-  not_heard r s a new (fault.Client client.NoOpenRequest) few refuses = absurd refuses
-  not_heard r s a new (fault.Client (client.StrangeAck id)) few refuses = absurd refuses
-  not_heard r s a new (fault.Client client.TooManyWants) few refuses = absurd refuses
-  not_heard r s a new (fault.Client (client.Repo cause)) few refuses = absurd refuses
-  not_heard r s a new fault.NoBuffer few refuses = absurd refuses
-  not_heard r s a new fault.WriteFailed few refuses = absurd refuses
+  not_heard r s a old new (fault.Client (client.Message cause)) few refuses =
+      cannot_hear cause few refuses (record { written = refl; passed_on = refl; down = refl }) refl
+  not_heard r s a old new (fault.Client (client.Index cause)) few refuses = absurd refuses
+  not_heard r s a old new (fault.Client client.TooManySpecs) few refuses = absurd refuses
+  not_heard r s a old new (fault.Client client.NoOpenRequest) few refuses = absurd refuses
+  not_heard r s a old new (fault.Client (client.StrangeAck id)) few refuses = absurd refuses
+  not_heard r s a old new (fault.Client client.TooManyWants) few refuses = absurd refuses
+  not_heard r s a old new (fault.Client (client.Repo cause)) few refuses = absurd refuses
+  not_heard r s a old new fault.NoBuffer few refuses = absurd refuses
+  not_heard r s a old new fault.WriteFailed few refuses = absurd refuses
 
   -- ---- the end
 
@@ -213,7 +219,7 @@ module _ {A S W : Type 0} (indexes : Indexes A) (index_fails : IndexFails) (star
       → Fails indexes index_fails start (input_of remaining source_down r s) (output_of contents passed_on sink_down a c) new cause
   not_closed r s a b c last new (fault.Client (client.Repo cause)) before over (passed, settles) =
       let same : last.repo.graph.format ≡ start.repo.graph.format = same_format (input_of remaining source_down r s) before.talk last IsLeft before.converses in
-      cannot_settle {talk = before.talk} {last = last} {cause = cause} before.converses over
+      cannot_settle before.talk last cause before.converses over
       (asked_passes contents passed_on sink_down start.repo.graph.format a b c before.talk (request_bytes start.repo.graph.format Empty) before.asked
       (subst (λ (f : Format). Passes (output_of contents passed_on sink_down b c) (request_bytes f Empty)) same passed)) settles
   not_closed r s a b c last new (fault.Client (client.Message cause)) before over closes = absurd closes
@@ -225,6 +231,6 @@ module _ {A S W : Type 0} (indexes : Indexes A) (index_fails : IndexFails) (star
   not_closed r s a b c last new fault.NoBuffer before over closes = absurd closes
   not_closed r s a b c last new fault.WriteFailed before over (some, kept, still) =
       let same : last.repo.graph.format ≡ start.repo.graph.format = same_format (input_of remaining source_down r s) before.talk last IsLeft before.converses in
-      cannot_send {talk = before.talk} {last = last} {asked = Empty} before.converses (ending over)
+      cannot_send before.talk last Empty before.converses (ending over)
       (asked_fails contents passed_on sink_down start.repo.graph.format a b c before.talk (request_bytes start.repo.graph.format Empty) before.asked
       (subst (λ (f : Format). SendsSome (output_of contents passed_on sink_down b c) (request_bytes f Empty)) same some) kept) still

@@ -140,7 +140,7 @@ module _ {A : Type 0} (indexes : Indexes A) (index_fails : IndexFails) where
   not_turned is_down before after old waiting asked input output cause fetching made passed why well left down =
       let is = asks_objects old.repo.graph.entries old.session waiting fetching asked made in
       let awaits : Awaits waiting is.0 = waits old.repo.graph.entries old.session waiting asked made ∙ ap (λ (a : Asked). Some a) is.1 in
-      untaken {asked = asked} {waiting = waiting} made
+      untaken asked waiting cause made
       (record {
         untaken = subst (λ (a : Asked). IsUntaken indexes index_fails waiting a old.repo input.read cause) (sym is.1) why;
         source = subst (λ (b : Bool). FitsSource b cause) (sym down)
@@ -185,7 +185,7 @@ module _ {A : Type 0} (indexes : Indexes A) (index_fails : IndexFails) where
   not_listed is_down before after old waiting asked input output cause listing made passed why well left down =
       let is = asks_refs old.repo.graph.entries old.session waiting listing asked made in
       let awaits : AwaitsRefs waiting = (is.0, waits old.repo.graph.entries old.session waiting asked made ∙ ap (λ (a : Asked). Some a) is.1) in
-      untaken {asked = asked} {waiting = waiting} made
+      untaken asked waiting cause made
       (record {
         untaken = subst (λ (a : Asked). IsUntaken indexes index_fails waiting a old.repo input.read cause) (sym is.1) why;
         source = subst (λ (b : Bool). FitsSource b cause) (sym down)
@@ -198,10 +198,10 @@ module _ {A : Type 0} (indexes : Indexes A) (index_fails : IndexFails) where
       → Asks old.session old.repo output new (Err cause) → IsUnread input → FailsTurn indexes index_fails old input output cause
   not_asked old new input output (fault.Client cause) asks unread =
       subst (λ (f : ClientFault A). FailsTurn indexes index_fails old input output (fault.Client f)) (sym asks.0)
-      (unasked {after = new} asks.1 unread asks.2)
+      (unasked new asks.1 unread asks.2)
   not_asked old new input output fault.NoBuffer asks unread = absurd asks
   not_asked old new input output fault.WriteFailed asks unread =
-      unsent {asked = asks.0} {waiting = new} asks.1 unread asks.2 asks.3
+      unsent asks.0 new asks.1 unread asks.2 asks.3
 
 -- ---- what turns keep
 
@@ -222,24 +222,30 @@ inserts_grow format old [] new is = grows_none old new is
 inserts_grow format old (entry ∷ entries) new (next, comes, rest) =
     grows_on old next new (came old entry next comes.comes) (inserts_grow format next entries new rest)
 
--- what a client's turns keep: its refs, its formats, and that objects only come
+-- what a client's turns keep: its refs, its formats and its tips, and that objects only come
 pub record IsKept {A : Type 0} (old new : ClientState A) : Type 0 where
   pub refs : new.repo.refs ≡ old.repo.refs
   pub format : new.repo.graph.format ≡ old.repo.graph.format
   pub grows : Grows old.repo.graph.entries new.repo.graph.entries
   pub own : new.session.format ≡ old.session.format
+  pub tips : new.session.tips ≡ old.session.tips
 
 module _ {A : Type 0} where
-  waiting_format : (old : SessionState A) (asked : Asked) (batch : List (List ℕ)) → (waiting_for old asked batch).format ≡ old.format
-  waiting_format old Empty batch = refl
-  waiting_format old (Ls asked) batch = refl
-  waiting_format old (Fetches asked) batch = refl
+  -- a request changes neither the format nor the tips
+  record IsAsker (old waiting : SessionState A) : Type 0 where
+    format : waiting.format ≡ old.format
+    tips : waiting.tips ≡ old.tips
 
-  asked_format : (g : List (Entry A)) (old waiting : SessionState A) (asked : Asked) → Requests old g waiting (Ok asked) → waiting.format ≡ old.format
-  asked_format g old waiting asked made = ap (λ (s : SessionState A). s.format) made.1.2 ∙ waiting_format old asked made.1.0
+  waiting_asker : (old : SessionState A) (asked : Asked) (batch : List (List ℕ)) → IsAsker old (waiting_for old asked batch)
+  waiting_asker old Empty batch = record { format = refl; tips = refl }
+  waiting_asker old (Ls asked) batch = record { format = refl; tips = refl }
+  waiting_asker old (Fetches asked) batch = record { format = refl; tips = refl }
+
+  asker : (g : List (Entry A)) (old waiting : SessionState A) (asked : Asked) → Requests old g waiting (Ok asked) → IsAsker old waiting
+  asker g old waiting asked made = subst (IsAsker old) (sym made.1.2) (waiting_asker old asked made.1.0)
 
   pub kept_still : (client : ClientState A) → IsKept client client
-  kept_still client = record { refs = refl; format = refl; grows = grows_none client.repo.graph.entries client.repo.graph.entries refl; own = refl }
+  kept_still client = record { refs = refl; format = refl; grows = grows_none client.repo.graph.entries client.repo.graph.entries refl; own = refl; tips = refl }
 
   kept_on : (a b c : ClientState A) → IsKept a b → IsKept b c → IsKept a c
   kept_on a b c first next = record {
@@ -247,39 +253,43 @@ module _ {A : Type 0} where
     format = next.format ∙ first.format;
     grows = grows_on a.repo.graph.entries b.repo.graph.entries c.repo.graph.entries first.grows next.grows;
     own = next.own ∙ first.own;
+    tips = next.tips ∙ first.tips;
   }
 
 module _ {A : Type 0} (indexes : Indexes A) (index_fails : IndexFails) where
   head_kept : (old : ClientState A) (waiting : SessionState A) (reply : FetchReply) (new : ClientState A) (taken : Taken)
-      → waiting.format ≡ old.session.format → TakesHead indexes index_fails waiting old.repo reply new.session new.repo taken → IsKept old new
+      → IsAsker old.session waiting → TakesHead indexes index_fails waiting old.repo reply new.session new.repo taken → IsKept old new
   head_kept old waiting reply new (Round common) same takes = record {
     refs = ap (λ (r : RepoState A). r.refs) takes.3;
     format = ap (λ (r : RepoState A). r.graph.format) takes.3;
     grows = grows_none old.repo.graph.entries new.repo.graph.entries (ap (λ (r : RepoState A). r.graph.entries) takes.3);
-    own = ap (λ (s : SessionState A). s.format) takes.1 ∙ same;
+    own = ap (λ (s : SessionState A). s.format) takes.1 ∙ same.format;
+    tips = ap (λ (s : SessionState A). s.tips) takes.1 ∙ same.tips;
   }
   head_kept old waiting reply new (PackTaken added) same (pack, after, entries, indexed, inserts) = record {
     refs = inserts.refs;
     format = inserts.adds.0;
     grows = inserts_grow old.repo.graph.format old.repo.graph.entries entries new.repo.graph.entries inserts.adds.1;
-    own = ap (λ (s : SessionState A). s.format) after ∙ same;
+    own = ap (λ (s : SessionState A). s.format) after ∙ same.format;
+    tips = ap (λ (s : SessionState A). s.tips) after ∙ same.tips;
   }
 
   takes_kept : (old : ClientState A) (waiting : SessionState A) (asked : Asked) (reply : List Packet) (new : ClientState A)
-      → waiting.format ≡ old.session.format → Takes indexes index_fails waiting asked old reply new → IsKept old new
+      → IsAsker old.session waiting → Takes indexes index_fails waiting asked old reply new → IsKept old new
   takes_kept old waiting Empty reply new same takes = absurd takes
   takes_kept old waiting (Ls asked) reply new same takes = record {
     refs = ap (λ (r : RepoState A). r.refs) takes.stays;
     format = ap (λ (r : RepoState A). r.graph.format) takes.stays;
     grows = grows_none old.repo.graph.entries new.repo.graph.entries (ap (λ (r : RepoState A). r.graph.entries) takes.stays);
-    own = ap (λ (s : SessionState A). s.format) takes.takes.after ∙ same;
+    own = ap (λ (s : SessionState A). s.format) takes.takes.after ∙ same.format;
+    tips = ap (λ (s : SessionState A). s.tips) takes.takes.after ∙ same.tips;
   }
   takes_kept old waiting (Fetches asked) reply new same takes =
       head_kept old waiting takes.reply new takes.taken same takes.takes.1
 
   pub turn_kept : (old : ClientState A) (turn : Turn) (new : ClientState A) → IsTurn indexes index_fails old turn new → IsKept old new
   turn_kept old turn new is =
-      takes_kept old is.waiting turn.asked turn.reply new (asked_format old.repo.graph.entries old.session is.waiting turn.asked is.asks) is.takes
+      takes_kept old is.waiting turn.asked turn.reply new (asker old.repo.graph.entries old.session is.waiting turn.asked is.asks) is.takes
 
   pub turns_kept : (first : ClientState A) (talk : List Turn) (last : ClientState A) → AreTurns indexes index_fails first talk last → IsKept first last
   turns_kept first [] last is = subst (IsKept first) (sym is) (kept_still first)

@@ -1,5 +1,5 @@
--- A client's conversation with a server, from the advertisement to the refs here that move: what is written for the bytes
--- that are read (gitprotocol-v2(5), "Initial Client Request" and "Command Request").
+-- A client's conversation with a server, from the advertisement to the refs here that move: what is written for the
+-- bytes that are read (gitprotocol-v2(5), "Initial Client Request" and "Command Request").
 use Rattle.std.specs.Prelude.{◌≡◌, ◌⊎◌, ℕ, ◌≤◌, false, List, [], ◌∷◌, ◌++◌, length, Option, None, Some, Result, Ok, Err}
 use Rattle.std.specs.List.{flat_map}
 use Rattle.std.specs.Map.{values_of}
@@ -76,7 +76,8 @@ pub record Mismatches (format : Format) (input : Input) (cause : MessageFault) :
   pub frame : cause.frame ≡ 0
   pub up : IsUp input
 
--- it is refused as it is read, at the first packet that does not fit; the fault is the source's exactly where that is down
+-- it is refused as it is read, at the first packet that does not fit; the fault is the source's exactly where that is
+-- down
 pub record RefusesToRead (input : Input) (cause : MessageFault) : Type 0 where
   pub front : List Packet
   pub refused : ReadsRefused advert.judge advert.brings front input.read cause
@@ -144,8 +145,8 @@ module _ {A : Type 0} (indexes : Indexes A) (index_fails : IndexFails) (start : 
   talk_bytes talk =
       requests_bytes start.repo.graph.format talk ++ request_bytes start.repo.graph.format Empty
 
-  -- All replies were taken, the requests and the lone flush are passed on, and the refs are settled. The count is that of
-  -- the requests for objects.
+  -- All replies were taken, the requests and the lone flush are passed on, and the refs are settled. The count is that
+  -- of the requests for objects.
   pub record Fetches (input : Input) (output : Output) (new : RepoState A) (fetched : Fetched A) : Type 0 where
     pub talk : List Turn
     pub last : ClientState A
@@ -159,41 +160,40 @@ module _ {A : Type 0} (indexes : Indexes A) (index_fails : IndexFails) (start : 
 
   -- what is to be written next: the next request, or the lone flush where there is none
   pub data IsDue (last : ClientState A) : Asked → Type 0 where
-    request : {asked : Asked} {waiting : SessionState A} → AsksNext last asked waiting → IsDue last asked
+    request : (asked : Asked) (waiting : SessionState A) → AsksNext last asked waiting → IsDue last asked
     ending : last.session.stage ≡ Settling → IsDue last Empty
 
   -- Why a conversation failed. Each fault comes where all went well before it; the repository is then as the turns so
   -- far left it.
   pub data Fails (input : Input) (output : Output) (new : RepoState A) : FetchFault A → Type 0 where
     -- the session can't begin, and nothing is read
-    cannot_begin : {cause : ClientFault A} → Begins start.repo start.refspecs start.limit start.ends (Err cause)
+    cannot_begin : (cause : ClientFault A) → Begins start.repo start.refspecs start.limit start.ends (Err cause)
         → IsUnread input → IsUnwritten output → new ≡ start.repo → Fails input output new (fault.Client cause)
     -- there is no memory for the reader's buffer, and nothing is read
     no_buffer : length start.refspecs ≤ max_specs → IsUnread input → IsUnwritten output → new ≡ start.repo
         → Fails input output new fault.NoBuffer
     -- the advertisement is refused
-    cannot_hear : {cause : MessageFault} → length start.refspecs ≤ max_specs
+    cannot_hear : (cause : MessageFault) → length start.refspecs ≤ max_specs
         → RefusesAdvert start.repo.graph.format input cause → IsUnwritten output → new ≡ start.repo
         → Fails input output new (fault.Client (client.Message cause))
     -- there is no memory for the next request
-    cannot_ask : {talk : List Turn} {last : ClientState A} {after : SessionState A} → Converses input talk last IsLeft
+    cannot_ask : (talk : List Turn) (last : ClientState A) (after : SessionState A) → Converses input talk last IsLeft
         → Requests last.session last.repo.graph.entries after (Err no_memory)
         → HasAsked start.repo.graph.format output talk → new ≡ last.repo
         → Fails input output new (fault.Client no_memory)
     -- what is due next can't be written, or not be passed on
-    cannot_send : {talk : List Turn} {last : ClientState A} {asked : Asked} → Converses input talk last IsLeft
+    cannot_send : (talk : List Turn) (last : ClientState A) (asked : Asked) → Converses input talk last IsLeft
         → IsDue last asked
         → FailsToAsk start.repo.graph.format output talk (request_bytes start.repo.graph.format asked)
         → new ≡ last.repo → Fails input output new fault.WriteFailed
     -- the reply to a request is refused
-    cannot_take : {talk : List Turn} {last : ClientState A} {asked : Asked} {waiting : SessionState A}
-        {cause : ClientFault A} → AsksNext last asked waiting
+    cannot_take : (talk : List Turn) (last : ClientState A) (asked : Asked) (waiting : SessionState A)
+        (cause : ClientFault A) → AsksNext last asked waiting
         → Converses input talk last (λ rest. Refuses indexes index_fails waiting asked last.repo rest cause)
-        → Passes output
-        (requests_bytes start.repo.graph.format talk ++ request_bytes start.repo.graph.format asked)
+        → Passes output (requests_bytes start.repo.graph.format talk ++ request_bytes start.repo.graph.format asked)
         → new ≡ last.repo → Fails input output new (fault.Client cause)
     -- the refs can't be settled
-    cannot_settle : {talk : List Turn} {last : ClientState A} {cause : RepoFault A} → Converses input talk last IsLeft
+    cannot_settle : (talk : List Turn) (last : ClientState A) (cause : RepoFault A) → Converses input talk last IsLeft
         → last.session.stage ≡ Settling → Passes output (talk_bytes talk)
         → SettlesAsks last.repo last.session.asks new (Err cause)
         → Fails input output new (fault.Client (client.Repo cause))

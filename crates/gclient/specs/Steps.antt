@@ -39,8 +39,8 @@ HearsServer format old input new (Ok done) =
 HearsServer format old input new (Err (fault.Client (client.Message cause))) = RefusesAdvert format input cause
 HearsServer format old input new (Err _) = ⊥
 
--- what asking answers: the next request is passed on, and waits for its reply; or there is no memory for it, and nothing
--- is written; or the sink failed, and a beginning of it stands
+-- what asking answers: the next request is passed on, and waits for its reply; or there is no memory for it, and
+-- nothing is written; or the sink failed, and a beginning of it stands
 abbrev pub Asks : {A : Type 0} → SessionState A → RepoState A → Output → SessionState A
     → Result (Unit {0}) (FetchFault A) → Type 0
 Asks old repo output new (Ok done) =
@@ -85,12 +85,12 @@ module _ {A : Type 0} (indexes : Indexes A) (index_fails : IndexFails) where
 
   -- why there is no turn: there is no memory for its request; or that can't be sent; or its reply is refused
   pub data FailsTurn (old : ClientState A) (input : Input) (output : Output) : FetchFault A → Type 0 where
-    unasked : {after : SessionState A} → Requests old.session old.repo.graph.entries after (Err no_memory)
+    unasked : (after : SessionState A) → Requests old.session old.repo.graph.entries after (Err no_memory)
         → IsUnread input → IsUnwritten output → FailsTurn old input output (fault.Client no_memory)
-    unsent : {asked : Asked} {waiting : SessionState A} → AsksNext old asked waiting → IsUnread input
+    unsent : (asked : Asked) (waiting : SessionState A) → AsksNext old asked waiting → IsUnread input
         → SendsSome output (request_bytes old.repo.graph.format asked) → KeepsPassed output.passed_on
         → FailsTurn old input output fault.WriteFailed
-    untaken : {asked : Asked} {waiting : SessionState A} {cause : ClientFault A} → AsksNext old asked waiting
+    untaken : (asked : Asked) (waiting : SessionState A) (cause : ClientFault A) → AsksNext old asked waiting
         → Refuses indexes index_fails waiting asked old.repo input cause
         → Passes output (request_bytes old.repo.graph.format asked)
         → FailsTurn old input output (fault.Client cause)
@@ -107,6 +107,11 @@ module _ {A : Type 0} (indexes : Indexes A) (index_fails : IndexFails) (start : 
     pub talk : List Turn
     pub converses : Converses indexes index_fails start input talk now IsLeft
     pub asked : HasAsked start.repo.graph.format output talk
+
+  -- what asking until the last reply is taken answers: what is known of an unborn HEAD; or why it failed
+  abbrev pub Talks : Input → Output → SessionState A → RepoState A → Result (Option (List ℕ)) (FetchFault A) → Type 0
+  Talks input output session repo (Ok unborn) = HasTalked input output (client_of session repo unborn)
+  Talks input output session repo (Err failed) = Fails indexes index_fails start input output repo failed
 
   -- what a part of it answers
   abbrev pub TalksTo : {T : Type 0} → Input → Output → ClientState A → Result T (FetchFault A) → Type 0

@@ -21,7 +21,7 @@ use Rattle.gsession.specs.declared.fault.ClientFault.TheVariants.{Message}
 use Rattle.gsession.specs.declared.taken.LsTaken.{LsTaken}
 use Rattle.gsession.specs.declared.taken.Taken.{Taken}
 
--- a client in its conversation: its session and its repository, and what it was told of an unborn HEAD
+-- a client in its conversation: its session and its repository, and what it knows of an unborn HEAD
 pub record ClientState (A : Type 0) : Type 0 where
   pub session : SessionState A
   pub repo : RepoState A

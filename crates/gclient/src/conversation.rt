@@ -1,6 +1,6 @@
 //! A conversation, from the advertisement to the refs here that move.
 
-ghost use Rattle.std.specs.Prelude.{◌≡◌, ◌≤◌, ◌+◌, ℕ, List, Option, None, false, length, IfOk, MatchResult, OnErr, OnOk};
+ghost use Rattle.std.specs.Prelude.{◌≡◌, ◌≤◌, ◌+◌, ℕ, List, Option, None, false, length, IfOk, OnErr, OnOk};
 ghost use Rattle.gpkt.specs.Sending.{input_of, output_of};
 ghost use Rattle.ghistory.specs.Reach.{Grows};
 ghost use Rattle.ghistory.specs.Walks.{CountsReached};
@@ -9,8 +9,8 @@ ghost use Rattle.grepo.specs.Settling.{Settles};
 ghost use Rattle.gsession.specs.Bounds.{BeganOn};
 ghost use Rattle.gsession.specs.Sessions.{max_specs};
 ghost use Rattle.gsession.specs.declared.stage.Stage.TheVariants.{Fetching, Settling};
-ghost use Rattle.gclient.specs.Conversations.{Fails, FetchesOver, Start, start_of, tips_of};
-ghost use Rattle.gclient.specs.Steps.{Closes, HasBegun, HasTalked, TalksTo, client_of, start_with};
+ghost use Rattle.gclient.specs.Conversations.{FetchesOver, Start, start_of, tips_of};
+ghost use Rattle.gclient.specs.Steps.{Closes, HasBegun, HasTalked, Talks, TalksTo, client_of, start_with};
 
 use crate::fault::FetchFault;
 use crate::fetched::Fetched;
@@ -21,7 +21,7 @@ use ggrammar::Ends;
 use ggraph::Indexer;
 use ggraph::graph_laws::distinct_are_once;
 use gname::RefName;
-use gpkt::laws::{canonical_spells, reads_join};
+use gpkt::laws::reads_join;
 use gpkt::{LineBuffer, LineReader, LineWriter, Sink, Source};
 use grepo::Repo;
 use grequest::Request;
@@ -143,21 +143,15 @@ fn talk<S: Source, W: Sink, A: Allocator + Copy, K: Indexer<A>>(
     requires writer { writer.old.failed ≡ false }
     requires begun { HasBegun session.old repo.old }
     requires few { length session.old.refspecs ≤ max_specs }
-    ensures talks { MatchResult result
-        (λ unborn. HasTalked (K.indexes indexer.now) (K.index_fails indexer.now) (start_with session.old repo.old)
+    ensures talks { Talks (K.indexes indexer.now) (K.index_fails indexer.now) (start_with session.old repo.old)
         (input_of S.remaining S.is_down reader.old.source reader.new.source)
-        (output_of W.contents W.passed_on W.is_down writer.old.sink writer.new.sink)
-        (client_of session.new repo.new unborn))
-        (λ fault. Fails (K.indexes indexer.now) (K.index_fails indexer.now) (start_with session.old repo.old)
-        (input_of S.remaining S.is_down reader.old.source reader.new.source)
-        (output_of W.contents W.passed_on W.is_down writer.old.sink writer.new.sink) repo.new fault) }
+        (output_of W.contents W.passed_on W.is_down writer.old.sink writer.new.sink) session.new repo.new result }
     ensures over { OnOk result (session.new.stage ≡ Settling) }
     ensures began { OnOk result (BeganOn repo.old.graph.entries session.new) }
     ensures goes_on { OnOk result (writer.new.failed ≡ false) }
     ensures source_loans { S.loans reader.new.source ≡ S.loans reader.old.source }
     ensures sink_loans { W.loans writer.new.sink ≡ W.loans writer.old.sink }
 {
-    canonical_spells();
     reads_join();
     distinct_are_once();
     began_stays::<A>();

@@ -7,7 +7,7 @@
 //!   those that the bytes spell, in whatever pieces they come, and nothing after the last reply is read. What is
 //!   written is the next request of the session each time, in its one spelling, and a lone flush after the last
 //!   reply was taken; each is passed on before a reply is read. Then the refs here are settled.
-//! - [`Fetched`] has what became of each ask, how many times objects were asked for, and what the server told of an
+//! - [`Fetched`] has what became of each ask, how many times objects were asked for, and what the server says of an
 //!   unborn `HEAD`.
 //! - The first fault ends a conversation: too many refspecs, or no memory to begin, and nothing is read; an
 //!   advertisement that is refused, or a server that the client can't go on with; the fault of a request, of its reply,

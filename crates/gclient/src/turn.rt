@@ -28,7 +28,7 @@ pub(crate) fn hear<S: Source, A: Allocator + Copy>(
     ensures hears { HearsServer repo.now.graph.format session.old
         (input_of S.remaining S.is_down reader.old.source reader.new.source) session.new result }
     ensures goes_on { OnOk result (reader.new.failed ≡ false) }
-    ensures whole { IsWhole repo.now }
+    ensures whole { OnOk result (IsWhole repo.now) }
     ensures loans { S.loans reader.new.source ≡ S.loans reader.old.source }
 {
     let advert = read_advert(repo.graph().allocator(), reader)?;
@@ -80,5 +80,7 @@ pub(crate) fn fetch<S: Source, W: Sink, A: Allocator + Copy, K: Indexer<A>>(
     ensures sink_loans { W.loans writer.new.sink ≡ W.loans writer.old.sink }
 {
     ask(repo, session, writer)?;
-    Ok(session.take_reply(repo, reader, indexer)?)
+    let taken = session.take_reply(repo, reader, indexer)?;
+    let _rounds = session.rounds();
+    Ok(taken)
 }
