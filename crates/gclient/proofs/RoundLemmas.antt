@@ -105,7 +105,8 @@ module _ {A : Type 0} (indexes : Indexes A) (index_fails : IndexFails) where
       → (new.session.stage ≡ Fetching) × (new.repo ≡ old.repo) × (new.session.rounds ≡ old.session.rounds + 1)
   round_taken old input output new taken common before is h =
       let after : new.session.stage ≡ Fetching = h.1 ∙ ap stage_after is in
-      (after, round_more old h.0.turn new before after h.0.is_turn)
+      let more = round_more old h.0.turn new before after h.0.is_turn in
+      (after, more.0, more.1)
 
 -- between rounds there were at most as many as there are objects
 pub rounds_within : {A : Type 0} (g : List (Entry A)) (s : SessionState A) → IsSession s → s.stage ≡ Fetching → s.pending ≡ None → BeganOn g s

@@ -37,7 +37,7 @@ use Rattle.gclient.specs.declared.fault.FetchFault.TheVariants as fault
 -- a result that is a fault, which is this one
 pub err_of : {T E : Type 0} (value : E) (result : Result T E) → IsErrAnd result (λ e. e ≡ value) → result ≡ Err value
 err_of value (Ok done) h = absurd h
-err_of value (Err e) h = ap (λ (x : _). Err x) h
+err_of value (Err e) h = ap (λ x. Err x) h
 
 -- ---- hearing
 
@@ -153,8 +153,8 @@ module _ {A : Type 0} (old new : SessionState A) (r s : RepoState A) (output : O
 -- ---- a session that has heard the server
 
 pub fresh_is_begun : {A : Type 0} (session : SessionState A) (repo : RepoState A) → HasBegun session repo → IsBegun session
-fresh_is_begun session repo fresh =
-    (ap (λ (s : SessionState _). s.stage) fresh, ap (λ (s : SessionState _). s.pending) fresh)
+fresh_is_begun {A} session repo fresh =
+    (ap (λ (s : SessionState A). s.stage) fresh, ap (λ (s : SessionState A). s.pending) fresh)
 
 -- it is as it began, but for what it heard
 pub record IsHeard {A : Type 0} (repo : RepoState A) (s : SessionState A) : Type 0 where
@@ -170,9 +170,9 @@ heard_new start capabilities = record { stage = refl; pending = refl; due = refl
 
 pub is_heard : {A : Type 0} (format : Format) (repo : RepoState A) (old new : SessionState A) (input : Input) → HasBegun old repo
     → HearsServer {A = A} format old input new (Ok tt) → IsHeard repo new
-is_heard format repo old new input begun (packets, capabilities, advertises, lines, is, up) =
+is_heard {A} format repo old new input begun (packets, capabilities, advertises, lines, is, up) =
     let same : new ≡ (heard (start_with old repo) capabilities).session =
-    is ∙ ap (λ (s : SessionState _). record s { offers_unborn = tells_unborn capabilities }) begun in
+    is ∙ ap (λ (s : SessionState A). record s { offers_unborn = tells_unborn capabilities }) begun in
     subst (IsHeard repo) (sym same) (heard_new (start_with old repo) capabilities)
 
 -- ---- a session that has taken refs
@@ -188,12 +188,12 @@ stage_without (want ∷ wants) none = absurd (omega (arith, none))
 module _ {A : Type 0} (waiting new : SessionState A) (g : List (Entry A)) (change : Change) (taken : LsTaken A)
     (takes : TakesLs waiting g change new (Ok taken)) where
   pub refs_pending : new.pending ≡ None
-  refs_pending = ap (λ (s : SessionState A). s.pending) takes.3.after
+  refs_pending = ap (λ (s : SessionState A). s.pending) takes.1.2.after
 
   pub refs_wanted : 0 < taken.wants → new.stage ≡ Fetching
   refs_wanted some =
-      let count = takes.3.count in
-      ap (λ (s : SessionState A). s.stage) takes.3.after ∙ stage_by_wants takes.3.wants (omega (arith, some, count))
+      let count = takes.1.2.count in
+      ap (λ (s : SessionState A). s.stage) takes.1.2.after ∙ stage_by_wants takes.1.2.wants (omega (arith, some, count))
 
   pub refs_held : taken.wants ≡ 0 → new.stage ≡ Settling
-  refs_held none = ap (λ (s : SessionState A). s.stage) takes.3.after ∙ stage_without takes.3.wants (sym takes.3.count ∙ none)
+  refs_held none = ap (λ (s : SessionState A). s.stage) takes.1.2.after ∙ stage_without takes.1.2.wants (sym takes.1.2.count ∙ none)

@@ -81,6 +81,7 @@ module _ {A S W : Type 0} (indexes : Indexes A) (index_fails : IndexFails) (star
       → AreTurns indexes index_fails (heard start before.capabilities) (talk ++ turn ∷ []) new
       → ReadsLines (record { old = remaining s; new = remaining t }) turn.reply → source_down t ≡ false
       → Converses indexes index_fails start (input_of remaining source_down r t) (talk ++ turn ∷ []) new IsLeft
+  unfolding converse_on
   converse_more join r s t talk turn now new before each lines up =
       let still = converse_on r s s talk now IsLeft before (record { unread = refl; up = before.rest.up }) in
       record {

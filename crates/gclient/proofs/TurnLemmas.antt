@@ -74,16 +74,16 @@ fetches_is same = cc
 
 module _ {A S : Type 0} (is_down : S → Bool) (old new : Reader S) where
   -- the fault of a reply that was due is the source's exactly where that is down
-  pub fits_source : {T : Type 0} (cause : ClientFault A) → old.failed ≡ false → (cause ≡ client.NoOpenRequest → ⊥)
+  fits_source : (T : Type 0) (cause : ClientFault A) → old.failed ≡ false → (cause ≡ client.NoOpenRequest → ⊥)
       → LeavesReplies {A = A} {T = T} is_down old new (Err cause) → FitsSource (is_down new.source) cause
-  fits_source (client.Message cause) well due left =
+  fits_source T (client.Message cause) well due left =
       subst (λ (b : Bool). IsReadFailure b (is_down new.source) cause.why) well left.0
-  fits_source client.NoOpenRequest well due left = absurd (due refl)
-  fits_source (client.Index cause) well due left = left.2
-  fits_source client.TooManySpecs well due left = left.2
-  fits_source (client.StrangeAck id) well due left = left.2
-  fits_source client.TooManyWants well due left = left.2
-  fits_source (client.Repo cause) well due left = left.2
+  fits_source T client.NoOpenRequest well due left = absurd (due refl)
+  fits_source T (client.Index cause) well due left = left.2
+  fits_source T client.TooManySpecs well due left = left.2
+  fits_source T (client.StrangeAck id) well due left = left.2
+  fits_source T client.TooManyWants well due left = left.2
+  fits_source T (client.Repo cause) well due left = left.2
 
 module _ {A : Type 0} (indexes : Indexes A) (index_fails : IndexFails) where
   -- ---- a reply to fetch
@@ -101,7 +101,7 @@ module _ {A : Type 0} (indexes : Indexes A) (index_fails : IndexFails) where
       → Requests old.session old.repo.graph.entries waiting (Ok asked) → Passes output (request_bytes old.repo.graph.format asked)
       → TakesReply indexes index_fails waiting old.repo input.read new repo (Ok taken) → IsUp input
       → HasTurned indexes index_fails old input output (client_of new repo old.unborn)
-  turned old waiting new asked repo input output taken made passed (fetched, awaits, reply, read, takes) up =
+  turned old waiting new asked repo input output taken made passed (fetched, awaits, (reply, read, takes)) up =
       let same : asked ≡ Fetches fetched = some_is (sym (waits old.repo.graph.entries old.session waiting asked made) ∙ awaits) in
       record {
         turn = record { asked = Fetches fetched; reply = read.lines };
@@ -127,7 +127,7 @@ module _ {A : Type 0} (indexes : Indexes A) (index_fails : IndexFails) where
       → TakesReply indexes index_fails waiting old.repo input.read new repo (Ok taken) → IsUp input
       → TakesTurn indexes index_fails old input output (client_of new repo old.unborn) (Ok taken)
   takes_turn old waiting new asked repo input output taken made passed took up =
-      let stage = stage_of_taken waiting new old.repo repo took.2 taken took.4.1 in
+      let stage = stage_of_taken waiting new old.repo repo took.2.0 taken took.2.2.1 in
       (turned old waiting new asked repo input output taken made passed took up, stage.0, stage.1)
 
   -- objects were asked for, and the reply is refused
@@ -144,7 +144,7 @@ module _ {A : Type 0} (indexes : Indexes A) (index_fails : IndexFails) where
       (record {
         untaken = subst (λ (a : Asked). IsUntaken indexes index_fails waiting a old.repo input.read cause) (sym is.1) why;
         source = subst (λ (b : Bool). FitsSource b cause) (sym down)
-            (fits_source {A = A} is_down before after {T = Taken} cause well (objects_due waiting is.0 old.repo input.read cause awaits why) left);
+            (fits_source {A = A} is_down before after Taken cause well (objects_due waiting is.0 old.repo input.read cause awaits why) left);
       }) passed
 
   -- ---- a reply to ls-refs
@@ -161,7 +161,7 @@ module _ {A : Type 0} (indexes : Indexes A) (index_fails : IndexFails) where
       → Requests old.session old.repo.graph.entries waiting (Ok asked) → Passes output (request_bytes old.repo.graph.format asked)
       → TakesLs waiting old.repo.graph.entries input.read new (Ok taken) → IsUp input
       → HasTurned indexes index_fails old input output (client_of new old.repo taken.unborn)
-  listed old waiting new asked input output taken made passed (awaits, reply, read, takes) up =
+  listed old waiting new asked input output taken made passed (awaits, (reply, read, takes)) up =
       let same : asked ≡ Ls awaits.0 = some_is (sym (waits old.repo.graph.entries old.session waiting asked made) ∙ awaits.1) in
       record {
         turn = record { asked = Ls awaits.0; reply = read.lines };
@@ -189,7 +189,7 @@ module _ {A : Type 0} (indexes : Indexes A) (index_fails : IndexFails) where
       (record {
         untaken = subst (λ (a : Asked). IsUntaken indexes index_fails waiting a old.repo input.read cause) (sym is.1) why;
         source = subst (λ (b : Bool). FitsSource b cause) (sym down)
-            (fits_source {A = A} is_down before after {T = LsTaken A} cause well (refs_due waiting old.repo.graph.entries input.read cause awaits why) left);
+            (fits_source {A = A} is_down before after (LsTaken A) cause well (refs_due waiting old.repo.graph.entries input.read cause awaits why) left);
       }) passed
 
   -- ---- a request that is not made or not sent
@@ -209,7 +209,7 @@ grows_none : {A : Type 0} (g h : List (Entry A)) → h ≡ g → Grows g h
 grows_none g h is = ([], is ∙ sym (append-nil g))
 
 grows_on : {A : Type 0} (g h k : List (Entry A)) → Grows g h → Grows h k → Grows g k
-grows_on g h k first next =
+grows_on {A} g h k first next =
     (first.0 ++ next.0, next.1 ∙ (ap (λ (xs : List (Entry A)). xs ++ next.0) first.1 ∙ append_assoc g first.0 next.0))
 
 came : {A : Type 0} (old : List (Entry A)) (entry : Entry A) (new : List (Entry A))
@@ -266,7 +266,7 @@ module _ {A : Type 0} (indexes : Indexes A) (index_fails : IndexFails) where
     own = ap (λ (s : SessionState A). s.format) takes.1 ∙ same.format;
     tips = ap (λ (s : SessionState A). s.tips) takes.1 ∙ same.tips;
   }
-  head_kept old waiting reply new (PackTaken added) same (pack, after, entries, indexed, inserts) = record {
+  head_kept old waiting reply new (PackTaken added) same (pack, after, (entries, indexed, inserts)) = record {
     refs = inserts.refs;
     format = inserts.adds.0;
     grows = inserts_grow old.repo.graph.format old.repo.graph.entries entries new.repo.graph.entries inserts.adds.1;

@@ -33,6 +33,8 @@ pub returns-clause-fetches : goal.returns-clause-fetches
 returns-clause-fetches g c =
     let indexes = g.K.Indexer.indexes c.args.indexer.now in
     let fails = g.K.Indexer.index_fails c.args.indexer.now in
+    let input = input_of g.S.Source.remaining g.S.Source.is_down c.args.source.now c.converse-fetched.new.reader.source.now in
+    let output = output_of g.W.Sink.contents g.W.Sink.passed_on g.W.Sink.is_down c.args.writer.now.sink c.converse-fetched.new.writer.sink in
     let same : start_with c.in_ok-session.session c.args.repo.now ≡ start_of c.args.repo.now c.args.specs.now c.args.limit c.args.ends =
     ap (λ (s : SessionState g.row.A.Denot). start_with s c.args.repo.now) c.in_ok-session.ensures.1 in
-    subst (λ (s : Start g.row.A.Denot). FetchesOver indexes fails s _ _ c.converse-fetched.new.repo c.converse-fetched.result) same c.converse-fetched.ensures.fetches
+    subst (λ (s : Start g.row.A.Denot). FetchesOver indexes fails s input output c.converse-fetched.new.repo c.converse-fetched.result) same c.converse-fetched.ensures.fetches

@@ -99,8 +99,8 @@ returns-in_err-taken-clause-talks g c =
     c.in_err-taken.ensures.takes.0 c.in_ok-hear.ensures.goes_on c.in_err-taken.ensures.reader refl)
     refl)
 
-pub returns-then-taken_wants-eq0-clause-talks : goal.returns-then-taken_wants-eq0-clause-talks
-returns-then-taken_wants-eq0-clause-talks g c =
+pub returns-then-taken-eq0-clause-talks : goal.returns-then-taken-eq0-clause-talks
+returns-then-taken-eq0-clause-talks g c =
     let indexes = g.K.Indexer.indexes c.args.indexer.now in
     let fails = g.K.Indexer.index_fails c.args.indexer.now in
     let repo = c.args.repo.now in
@@ -127,12 +127,12 @@ returns-then-taken_wants-eq0-clause-talks g c =
     first source next sink sink after old new none turned in
     talked
 
-pub returns-then-taken_wants-eq0-clause-over : goal.returns-then-taken_wants-eq0-clause-over
-returns-then-taken_wants-eq0-clause-over g c =
+pub returns-then-taken-eq0-clause-over : goal.returns-then-taken-eq0-clause-over
+returns-then-taken-eq0-clause-over g c =
     refs_held c.ask.new.session c.take_ls.new.self c.args.repo.now.graph.entries _ c.in_ok-taken.taken c.in_ok-taken.ensures.takes (omega arith)
 
-pub returns-then-taken_wants-eq0-clause-began : goal.returns-then-taken_wants-eq0-clause-began
-returns-then-taken_wants-eq0-clause-began g c =
+pub returns-then-taken-eq0-clause-began : goal.returns-then-taken-eq0-clause-began
+returns-then-taken-eq0-clause-began g c =
     let indexes = g.K.Indexer.indexes c.args.indexer.now in
     let fails = g.K.Indexer.index_fails c.args.indexer.now in
     let repo = c.args.repo.now in
