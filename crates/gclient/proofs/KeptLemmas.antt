@@ -1,26 +1,24 @@
 -- What a conversation keeps: the refs where it fails, and the objects.
-use Rattle.std.proofs.Common.{◌≡◌, ℕ, List, [], Option, Result, Ok, Err, refl, sym, ap, subst, ◌∙◌, append-nil}
+use Rattle.std.proofs.Common.{◌≡◌, List, [], Result, Ok, Err, refl, sym, subst, append-nil}
 use Rattle.std.specs.Prelude.{IfOk, OnErr}
 use Rattle.gpkt.specs.Sending.{Input, Output}
 use Rattle.ghistory.specs.Graphs.{History}
 use Rattle.ghistory.specs.Reach.{Grows}
 use Rattle.ghistory.specs.declared.fault.GraphFault.TheVariants as graph
 use Rattle.gobject.specs.Packs.{Indexes, IndexFails}
-use Rattle.gobject.specs.declared.node.Entry.{Entry}
 use Rattle.grefs.specs.RefLists.{RefList}
 use Rattle.grefs.specs.declared.fault.RefsFault.TheVariants as refs
 use Rattle.grepo.specs.Changes.{SettlesAsks}
 use Rattle.grepo.specs.Repos.{RepoState}
 use Rattle.grepo.specs.Settling.{Settles}
 use Rattle.grepo.specs.declared.ask.Ask.{Ask}
-use Rattle.grepo.specs.declared.ask.RefUpdate.{RefUpdate}
 use Rattle.grepo.specs.declared.fault.RepoFault.{RepoFault}
 use Rattle.grepo.specs.declared.fault.RepoFault.TheVariants as repo
 use Rattle.gclient.specs.Conversations.{Start, Converses, Fails, cannot_ask, cannot_begin, cannot_hear, cannot_send, cannot_settle, cannot_take, no_buffer, Fetches, FetchesOver, heard}
 use Rattle.gclient.specs.Turns.{ClientState, Turn}
 use Rattle.gclient.specs.declared.fault.FetchFault.{FetchFault}
 use Rattle.gclient.specs.declared.fetched.Fetched.{Fetched}
-use Rattle.gclient.proofs.TurnLemmas.{IsKept, turns_kept}
+use Rattle.gclient.proofs.TurnLemmas.{turns_kept}
 
 -- the refs are as they were, and objects only came
 pub record IsKeptRepo {A : Type 0} (old new : RepoState A) : Type 0 where

@@ -1,20 +1,19 @@
 -- Requests that are written and passed on, one after the other.
-use Rattle.std.proofs.Common.{◌≡◌, ℕ, Bool, true, false, List, [], ◌∷◌, ◌++◌, Option, Some, None, Result, Ok, Err, refl, sym, ap, subst, ◌∙◌, append_assoc, append-nil}
+use Rattle.std.proofs.Common.{◌≡◌, ℕ, Bool, false, List, [], ◌∷◌, ◌++◌, Option, Some, None, Result, Ok, Err, refl, sym, ap, subst, ◌∙◌, append_assoc, append-nil}
 use Rattle.std.specs.Prelude.{IsSome, OnOk}
 use Rattle.std.proofs.lemmas.Bool.{false≢true}
 use Rattle.std.specs.Io.KnownBytes.{Appends, Keeps}
-use Rattle.gpkt.specs.Devices.{KeepsPassed, PassesAll}
+use Rattle.gpkt.specs.Devices.{KeepsPassed}
 use Rattle.gpkt.specs.Laws.{PushesWritten}
-use Rattle.gpkt.specs.LineWriting.{Writer, HasWritten, HasPushed}
+use Rattle.gpkt.specs.LineWriting.{Writer, HasPushed}
 use Rattle.gpkt.specs.Packets.{Packet, canonical_all}
-use Rattle.gpkt.specs.Sending.{output_of, IsUnwritten, Passes, PassesAfter, SendsAndFails, SendsSome}
+use Rattle.gpkt.specs.Sending.{output_of, IsUnwritten, Passes, SendsAndFails, SendsSome}
 use Rattle.gpkt.specs.declared.fault.WriteFault.{WriteFault}
 use Rattle.gpkt.specs.declared.fault.WriteFault.TheVariants.{Failed, Payload, Io}
 use Rattle.ggrammar.specs.Writing.{WritesLines}
 use Rattle.std.specs.List.{flat_map}
 use Rattle.std.proofs.lemmas.Grind.{flat_map-append}
 use Rattle.gname.specs.declared.formats.Format.{Format}
-use Rattle.grequest.specs.Asked.{Asked}
 use Rattle.gclient.specs.Conversations.{FailsToAsk, HasAsked, request_bytes, requests_bytes}
 use Rattle.gclient.specs.Steps.{HasPassed}
 use Rattle.gclient.specs.Turns.{Turn}

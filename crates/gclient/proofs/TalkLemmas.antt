@@ -1,36 +1,28 @@
 -- A conversation, turn by turn.
-use Rattle.std.proofs.Common.{◌≡◌, ℕ, ◌≤◌, Bool, false, List, [], ◌∷◌, ◌++◌, length, Option, Some, None, Result, Ok, Err, refl, sym, ap, subst, ◌∙◌, append_assoc, append-nil, inl, inr}
-use Rattle.std.specs.Prelude.{◌⊎◌}
+use Rattle.std.proofs.Common.{◌≡◌, ℕ, ◌≤◌, Bool, false, List, [], ◌∷◌, ◌++◌, length, Option, None, Ok, Err, refl, sym, ap, subst, ◌∙◌, append_assoc, append-nil}
 use Rattle.std.proofs.lemmas.Grind.{flat_map-append}
 use Rattle.std.specs.List.{flat_map}
 use Rattle.gname.specs.declared.formats.Format.{Format}
 use Rattle.gpkt.specs.Laws.{ReadsJoin}
 use Rattle.gpkt.specs.LineReading.{ReadsLines}
 use Rattle.gpkt.specs.Packets.{Packet}
-use Rattle.gpkt.specs.Devices.{KeepsPassed}
-use Rattle.gpkt.specs.Sending.{Input, input_of, output_of, IsUnread, IsUnwritten, IsUp, Passes, SendsSome}
-use Rattle.ggrammar.specs.Capabilities.{Capability}
-use Rattle.ggrammar.specs.declared.fault.MessageFault.{MessageFault}
-use Rattle.ghistory.specs.Reach.{Grows}
+use Rattle.gpkt.specs.Sending.{Input, input_of, output_of, IsUnread, Passes, SendsSome}
 use Rattle.gobject.specs.Packs.{Indexes, IndexFails}
 use Rattle.grepo.specs.Changes.{SettlesAsks}
 use Rattle.grepo.specs.Repos.{RepoState}
-use Rattle.grepo.specs.Settling.{Settles}
-use Rattle.grepo.specs.declared.fault.RepoFault.{RepoFault}
-use Rattle.grequest.specs.Asked.{Asked, Empty}
+use Rattle.grequest.specs.Asked.{Empty}
 use Rattle.gsession.specs.Sessions.{SessionState, max_specs, tells_unborn}
-use Rattle.gsession.specs.declared.fault.ClientFault.{ClientFault}
 use Rattle.gsession.specs.declared.fault.ClientFault.TheVariants as client
 use Rattle.gsession.specs.declared.stage.Stage.TheVariants.{Settling}
 use Rattle.gsession.specs.declared.taken.Settled.{Settled}
-use Rattle.gclient.specs.Conversations.{Start, Advertises, Converses, Fails, cannot_ask, cannot_hear, cannot_send, cannot_settle, cannot_take, cannot_begin, no_buffer, Fetches, FetchesOver, HasAsked, IsDue, request, ending, IsLeft, begun, heard, rest_of, request_bytes, requests_bytes, tips_of}
+use Rattle.gclient.specs.Conversations.{Start, Converses, Fails, cannot_ask, cannot_hear, cannot_send, cannot_settle, cannot_take, Fetches, request, ending, IsLeft, begun, heard, rest_of, request_bytes, tips_of}
 use Rattle.gclient.specs.Steps.{Closes, FailsTurn, unasked, unsent, untaken, HasTalked, HasTurned, HearsServer, client_of}
-use Rattle.gclient.specs.Turns.{AreTurns, AsksNext, ClientState, Refuses, Turn}
+use Rattle.gclient.specs.Turns.{AreTurns, ClientState, Refuses, Turn}
 use Rattle.gclient.specs.declared.fault.FetchFault.{FetchFault}
 use Rattle.gclient.specs.declared.fault.FetchFault.TheVariants as fault
 use Rattle.gclient.specs.declared.fetched.Fetched.{Fetched}
 use Rattle.gclient.proofs.SendingLemmas.{asked_fails, asked_more, asked_passes, asked_still}
-use Rattle.gclient.proofs.TurnLemmas.{IsKept, turns_kept, turns_more}
+use Rattle.gclient.proofs.TurnLemmas.{turns_kept, turns_more}
 
 reads_more : ReadsJoin → (old mid new : Option (List ℕ)) (packets : List Packet) (talk : List Turn) (turn : Turn)
     → ReadsLines (record { old = old; new = mid }) (packets ++ flat_map (λ t. t.reply) talk)

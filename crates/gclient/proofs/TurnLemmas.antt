@@ -1,14 +1,12 @@
 -- From a request that is made and sent, and a reply that is taken, to a turn; and what turns keep.
-use Rattle.std.proofs.Common.{◌≡◌, ℕ, Bool, true, false, List, [], ◌∷◌, ◌++◌, Option, Some, None, Result, Ok, Err, refl, sym, ap, subst, ◌∙◌, append_assoc, append-nil, inl, inr}
+use Rattle.std.proofs.Common.{◌≡◌, ℕ, Bool, false, List, [], ◌∷◌, ◌++◌, Some, None, Ok, Err, refl, sym, ap, subst, ◌∙◌, append_assoc, append-nil, inl, inr}
 use Rattle.std.specs.Prelude.{◌⊎◌}
 use Rattle.gname.specs.declared.formats.Format.{Format}
 use Rattle.gpkt.specs.Change.{Change}
 use Rattle.gpkt.specs.LineReading.{Reader}
 use Rattle.gpkt.specs.Packets.{Packet}
-use Rattle.gpkt.specs.Sending.{Input, Output, input_of, output_of, IsUnread, IsUnwritten, IsUp, Passes, SendsSome}
-use Rattle.ggrammar.specs.MessageReading.{IsReadFailure, LeavesReader}
-use Rattle.ggrammar.specs.declared.fault.MessageFault.{MessageFault}
-use Rattle.glsreply.specs.LsReplies.{LsReply}
+use Rattle.gpkt.specs.Sending.{Input, Output, IsUnread, IsUp, Passes}
+use Rattle.ggrammar.specs.MessageReading.{IsReadFailure}
 use Rattle.gfetchreply.specs.FetchReplies.{FetchReply}
 use Rattle.gobject.specs.Packs.{Indexes, IndexFails}
 use Rattle.gobject.specs.declared.node.Entry.{Entry}
@@ -19,14 +17,13 @@ use Rattle.ghistory.specs.Reach.{Grows}
 use Rattle.grepo.specs.Repos.{RepoState}
 use Rattle.grequest.specs.Asked.{Asked, Empty, Ls, Fetches, LsRefsAsked, FetchAsked}
 use Rattle.gsession.specs.Bounds.{BeganOn, BeganStays}
-use Rattle.gsession.specs.Requesting.{IsNext, MakesNext, Requests, waiting_for}
+use Rattle.gsession.specs.Requesting.{Requests, waiting_for}
 use Rattle.gsession.specs.Sessions.{LeavesReplies, SessionState}
-use Rattle.gsession.specs.TakingRefs.{AwaitsRefs, IsLsFault, ReadsRefs, TakesLines, TakesLs}
-use Rattle.gsession.specs.TakingReplies.{Awaits, IsTakeFault, ReadsFetch, TakesHead, TakesRead, TakesReply, reading_for, with_acks}
+use Rattle.gsession.specs.TakingRefs.{AwaitsRefs, IsLsFault, TakesLs}
+use Rattle.gsession.specs.TakingReplies.{Awaits, IsTakeFault, TakesHead, TakesReply}
 use Rattle.gsession.specs.declared.fault.ClientFault.{ClientFault}
 use Rattle.gsession.specs.declared.fault.ClientFault.TheVariants as client
-use Rattle.gsession.specs.declared.stage.Stage.{Stage}
-use Rattle.gsession.specs.declared.stage.Stage.TheVariants.{Listing, Fetching, Settling}
+use Rattle.gsession.specs.declared.stage.Stage.TheVariants.{Listing, Fetching}
 use Rattle.gsession.specs.declared.taken.LsTaken.{LsTaken}
 use Rattle.gsession.specs.declared.taken.Taken.{Taken}
 use Rattle.gsession.specs.declared.taken.Taken.TheVariants.{Round, PackTaken}

@@ -65,7 +65,7 @@ pub fn fetch_over<S: Source, W: Sink, A: Allocator + Copy, K: Indexer<A>>(
     let mut writer = LineWriter::new(sink);
     let fetched = fetch_to(repo, source, &mut writer, indexer, specs, limit, ends);
     let _sink = writer.into_inner();
-    // The repository is whole still.
+    // A look-up says that the repository is whole.
     let _format = repo.format();
     fetched
 }

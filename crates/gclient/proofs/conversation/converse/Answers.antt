@@ -1,4 +1,4 @@
-use Rattle.std.proofs.Common.{◌≡◌, ℕ, ◌≤◌, ◌+◌, List, Result, refl, sym, subst, arith}
+use Rattle.std.proofs.Common.{ℕ, ◌≤◌, ◌+◌, List, Result, refl, sym, subst, arith}
 use Rattle.gpkt.specs.Sending.{input_of, output_of}
 use Rattle.ghistory.specs.Walks.{CountsReached}
 use Rattle.gclient.specs.Conversations.{FetchesOver, IsLeft}

@@ -1,4 +1,4 @@
-use Rattle.std.proofs.Common.{◌≡◌, ◌+◌, ◌≤◌, ℕ, List, length, Option, None, Result, refl, sym, ap, subst, ◌∙◌, arith}
+use Rattle.std.proofs.Common.{◌≡◌, length, None, Result, refl, sym, ap, subst, ◌∙◌, arith}
 use Rattle.gpkt.specs.Sending.{input_of, output_of}
 use Rattle.ghistory.specs.Reach.{Grows}
 use Rattle.grepo.specs.Repos.{RepoState}

@@ -1,4 +1,3 @@
-use Rattle.gpkt.specs.Sending.{input_of, output_of}
 use Rattle.gclient.specs.Conversations.{start_of}
 use Rattle.gclient.proofs.KeptLemmas.{over_grows, over_keeps_refs, over_settles}
 use Rattle.gclient.proofs.conversation.fetch_over.Goals as goal

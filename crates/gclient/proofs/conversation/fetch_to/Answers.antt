@@ -1,4 +1,4 @@
-use Rattle.std.proofs.Common.{◌≡◌, ℕ, List, Result, refl, sym, ap, subst}
+use Rattle.std.proofs.Common.{◌≡◌, Result, refl, sym, ap, subst}
 use Rattle.gpkt.specs.Sending.{input_of, output_of}
 use Rattle.gsession.specs.Sessions.{SessionState}
 use Rattle.gclient.specs.Conversations.{Start, FetchesOver, cannot_begin, no_buffer, start_of}

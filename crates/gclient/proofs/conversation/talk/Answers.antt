@@ -1,4 +1,4 @@
-use Rattle.std.proofs.Common.{◌≡◌, ◌<◌, ℕ, List, Option, None, Result, refl, sym, subst, arith}
+use Rattle.std.proofs.Common.{ℕ, List, Option, None, Result, refl, sym, subst, arith}
 use Rattle.gpkt.specs.Sending.{input_of, output_of}
 use Rattle.gclient.specs.Conversations.{IsLeft}
 use Rattle.gclient.specs.Steps.{Talks, client_of, start_with}
