@@ -1,4 +1,4 @@
-use Rattle.std.proofs.Common.{◌≡◌, Result, refl, sym, ap, subst}
+use Rattle.std.proofs.Common.{◌≡◌, ℕ, List, ◌∷◌, refl, sym, ap, subst, ◌∙◌, Result}
 use Rattle.gpkt.specs.Sending.{input_of, output_of}
 use Rattle.gsession.specs.Sessions.{SessionState}
 use Rattle.gclient.specs.Conversations.{Start, FetchesOver, cannot_begin, no_buffer, start_of}
@@ -29,12 +29,25 @@ pub converse-fetched-requires-clause-begun : goal.converse-fetched-requires-clau
 converse-fetched-requires-clause-begun g c =
     subst (λ (s : SessionState g.row.A.Denot). HasBegun s c.args.repo.now) (sym c.in_ok-session.ensures.1) refl
 
+heads : {x y : ℕ} {xs ys : List ℕ} → x ∷ xs ≡ y ∷ ys → x ≡ y
+heads same = cc
+
 pub returns-clause-fetches : goal.returns-clause-fetches
 returns-clause-fetches g c =
     let indexes = g.K.Indexer.indexes c.args.indexer.now in
     let fails = g.K.Indexer.index_fails c.args.indexer.now in
-    let input = input_of g.S.Source.remaining g.S.Source.is_down c.args.source.now c.converse-fetched.new.reader.source.now in
+    let start = start_of c.args.repo.now c.args.specs.now c.args.limit c.args.ends in
+    let read = λ (s t : g.row.S.Denot). input_of g.S.Source.remaining g.S.Source.is_down s t in
     let output = output_of g.W.Sink.contents g.W.Sink.passed_on g.W.Sink.is_down c.args.writer.now.sink c.converse-fetched.new.writer.sink in
-    let same : start_with c.in_ok-session.session c.args.repo.now ≡ start_of c.args.repo.now c.args.specs.now c.args.limit c.args.ends =
+    let after = c.converse-fetched.new.reader.source.now in
+    let same : start_with c.in_ok-session.session c.args.repo.now ≡ start =
     ap (λ (s : SessionState g.row.A.Denot). start_with s c.args.repo.now) c.in_ok-session.ensures.1 in
-    subst (λ (s : Start g.row.A.Denot). FetchesOver indexes fails s input output c.converse-fetched.new.repo c.converse-fetched.result) same c.converse-fetched.ensures.fetches
+    let name : c.with_buffer-arg-1.given ≡ c.into_inner-source.result.ghost_name =
+    sym (ap (λ s. s.ghost_name) c.with_buffer-reader.ensures.source)
+    ∙ (sym (heads c.converse-fetched.ensures.source_loans) ∙ sym (ap (λ s. s.ghost_name) c.into_inner-source.ensures)) in
+    let at : c.source-1.given.0 ≡ after = c.source-1.given.1 name ∙ ap (λ s. s.now) c.into_inner-source.ensures in
+    subst (λ (t : g.row.S.Denot). FetchesOver indexes fails start (read c.args.source.now t) output c.converse-fetched.new.repo c.converse-fetched.result) (sym at)
+    (subst (λ (s : g.row.S.Denot). FetchesOver indexes fails start (read s after) output c.converse-fetched.new.repo c.converse-fetched.result)
+    (ap (λ s. s.now) c.with_buffer-reader.ensures.source)
+    (subst (λ (s : Start g.row.A.Denot). FetchesOver indexes fails s (read c.with_buffer-reader.result.source.now after) output c.converse-fetched.new.repo c.converse-fetched.result)
+    same c.converse-fetched.ensures.fetches))
