@@ -9,6 +9,8 @@ use Rattle.gobject.specs.Packs.{PackFails, Packs}
 use Rattle.gobject.specs.PlainPackText.{pack_text, PackRefuses}
 use Rattle.gpkt.specs.Sending.{Input, Output, IsUnread, IsUnwritten}
 use Rattle.ganswer.specs.Servers.{Server, IsServer, IsUnserved}
+use Rattle.ganswer.specs.declared.fault.BuildFault.{BuildFault}
+use Rattle.ganswer.specs.declared.fault.BuildFault.TheVariants as build
 use Rattle.gserve.specs.Conversations.{Serves}
 use Rattle.gserve.specs.Exchanges.{ServesOne}
 use Rattle.gserve.specs.declared.connection.End.{End}
@@ -31,10 +33,15 @@ pub record NamesServer {A : Type 0} (file : List ℕ) (server : Server A) : Type
   pub names : NamesParts file server
   pub whole : IsServer server
 
+-- why there is no server of such parts; no parent is missing
+abbrev pub MissesPart : {A : Type 0} → Server A → BuildFault A → Type 0
+MissesPart parts (build.NotClosed id) = ⊥
+MissesPart parts cause = IsUnserved parts cause
+
 -- why a file is not served: it is the text of no repository with parents first, or one of which something is missing
 abbrev pub RefusesFile : {A : Type 0} → List ℕ → ProgramFault A → Type 0
 RefusesFile {A} file (program.Text cause) = StopsAt A ParentsFirst file cause
-RefusesFile {A} file (program.Build cause) = (parts : Server A) × NamesParts file parts × IsUnserved parts cause
+RefusesFile {A} file (program.Build cause) = (parts : Server A) × NamesParts file parts × MissesPart parts cause
 RefusesFile file _ = ⊥
 
 -- what loading it answers
@@ -102,9 +109,9 @@ pub record AnswersAll {A : Type 0} (ends : Ends) (input : Input) (output : Outpu
   pub comes_out : outcome ≡ outcome_of_connection ended
 
 -- what `ls --stdio-server` does
-abbrev pub Lists : {A : Type 0} → List ℕ → Input → Output → Outcome A → Type 0
-Lists file input output = ServesFile file input output (AnswersOne input output)
+abbrev pub ServesRequest : {A : Type 0} → List ℕ → Input → Output → Outcome A → Type 0
+ServesRequest file input output = ServesFile file input output (AnswersOne input output)
 
 -- what `upload` does
-abbrev pub Uploads : {A : Type 0} → List ℕ → Ends → Input → Output → Outcome A → Type 0
-Uploads file ends input output = ServesFile file input output (AnswersAll ends input output)
+abbrev pub ServesConnection : {A : Type 0} → List ℕ → Ends → Input → Output → Outcome A → Type 0
+ServesConnection file ends input output = ServesFile file input output (AnswersAll ends input output)

@@ -2,7 +2,7 @@
 
 ghost use Rattle.std.specs.Prelude.{◌≡◌};
 ghost use Rattle.gcmd.specs.Programs.{Runs};
-ghost use Rattle.gcmd.specs.Serving.{outcome_of_exchange, Lists};
+ghost use Rattle.gcmd.specs.Serving.{outcome_of_exchange, ServesRequest};
 ghost use Rattle.gpkt.specs.Sending.{input_of, output_of};
 
 use crate::fault::ProgramFault;
@@ -27,7 +27,7 @@ pub fn cmd_ls<A: Allocator + Copy, S: Source, W: Sink, E: Sink>(
     output: &mut W,
     errors: &mut E,
 ) -> u8
-    ensures runs { Runs {A = A} (Lists file.now (input_of S.remaining S.is_down input.old input.new)
+    ensures runs { Runs {A = A} (ServesRequest file.now (input_of S.remaining S.is_down input.old input.new)
         (output_of W.contents W.passed_on W.is_down output.old output.new))
         (output_of E.contents E.passed_on E.is_down errors.old errors.new) result }
     ensures input_loans { S.loans input.new ≡ S.loans input.old }
@@ -44,7 +44,7 @@ fn answer_one<A: Allocator + Copy, S: Source, W: Sink>(
     input: &mut S,
     output: &mut W,
 ) -> Result<(), ProgramFault<A>>
-    ensures lists { Lists file.now (input_of S.remaining S.is_down input.old input.new)
+    ensures serves { ServesRequest file.now (input_of S.remaining S.is_down input.old input.new)
         (output_of W.contents W.passed_on W.is_down output.old output.new) result }
     ensures input_loans { S.loans input.new ≡ S.loans input.old }
     ensures output_loans { W.loans output.new ≡ W.loans output.old }

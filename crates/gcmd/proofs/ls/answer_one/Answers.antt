@@ -1,8 +1,8 @@
 use Rattle.std.proofs.Common.{inl}
 use Rattle.gcmd.proofs.ls.answer_one.Goals as goal
 
-pub returns-clause-lists : goal.returns-clause-lists
-returns-clause-lists g c =
+pub returns-clause-serves : goal.returns-clause-serves
+returns-clause-serves g c =
     inl (record {
       server = c.in_ok-server.server;
       names = c.in_ok-server.ensures;

@@ -9,8 +9,8 @@ returns-in_err-new g c =
     let repo = c.in_ok-repository.repository in
     let loaded = c.in_ok-repository.ensures.ok in
     rw p.1
-    (refuses_file c.args.file.now (served repo.graph repo.refs repo.head) c.in_err-new.field-0.0 p.0 (record { text = loaded.0; loadable = loaded.1 })
-    c.in_err-new.ensures p.2)
+    (refuses_file c.args.file.now (served repo.graph repo.refs repo.head) (record { text = loaded.0; loadable = loaded.1 })
+    c.in_err-new.field-0.0 p.0 c.in_err-new.ensures p.2)
 
 pub returns : goal.returns
 returns g c =
