@@ -1,5 +1,5 @@
 -- The table of the programs' faults: what is printed of each.
-use Rattle.std.specs.Prelude.{◌≡◌, ℕ, List, codes, Option, Some, None}
+use Rattle.std.specs.Prelude.{ℕ, List, codes, Option, Some, None}
 use Rattle.gname.specs.Faults.{FaultRow}
 use Rattle.gname.specs.Names.{head_name}
 use Rattle.gpkt.specs.Faults.{line_fault_row, write_fault_row}

@@ -1,6 +1,6 @@
 //! `gitv2 check`, as a function over bytes and devices.
 
-ghost use Rattle.std.specs.Prelude.{◌≡◌, ◌+◌, ◌≤◌, ◌++◌, [], length, IfErr, IfOk};
+ghost use Rattle.std.specs.Prelude.{◌≡◌, ◌≤◌, [], length, IfOk};
 ghost use Rattle.gcmd.specs.Checking.{report_line, yes_or_no, Checks, IsReport};
 ghost use Rattle.gcmd.specs.Programs.{Runs};
 ghost use Rattle.gpkt.specs.Sending.{output_of, HasSent};
