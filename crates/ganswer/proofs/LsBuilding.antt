@@ -45,10 +45,6 @@ module _ {A : Type 0} (server : Server A) (asked : LsRefsAsked) where
       subst (IsAnswering server asked (front ++ ref ∷ [])) (sym is)
       (record { lines = shows_join server asked front (ref ∷ []) old.lines lines so_far.lines shows; unborn = so_far.unborn })
 
-  pub without_line : (front : RefList) (ref : List ℕ × List ℕ) (reply : LsReply) → ShowsLines server asked (ref ∷ []) [] → IsAnswering server asked front reply → IsAnswering server asked (front ++ ref ∷ []) reply
-  without_line front ref reply shows so_far =
-      with_lines front ref reply reply [] (ap (λ (l : List RefLine). record reply { lines = l }) (sym (append-nil reply.lines))) shows so_far
-
   -- ---- HEAD
 
   pub nothing_yet : (reply : LsReply) → reply ≡ record { unborn = unborn_of server asked; lines = [] } → IsAnswering server asked [] reply
@@ -75,11 +71,6 @@ module _ {A : Type 0} (server : Server A) (asked : LsRefsAsked) where
 
   -- ---- the refs
 
-  pub first_refs : (reply : LsReply) → IsAnswering server asked (head_ref (head_id server.head server.refs)) reply → IsAnswering server asked (head_ref (head_id server.head server.refs) ++ take 0 server.refs) reply
-  first_refs reply so_far =
-      let head = head_ref (head_id server.head server.refs) in
-      subst (λ (refs : RefList). IsAnswering server asked refs reply) (sym (append-nil head)) so_far
-
   pub ref_next : (k : ℕ) (ref : List ℕ × List ℕ) (reply : LsReply) → k < length server.refs → ref ≡ get_or server.refs k ref
       → IsAnswering server asked (head_ref (head_id server.head server.refs) ++ take k server.refs) reply → IsNextRef server asked ref reply
   ref_next k ref reply inside is so_far =
@@ -98,12 +89,3 @@ module _ {A : Type 0} (server : Server A) (asked : LsRefsAsked) where
       let head = head_ref (head_id server.head server.refs) in
       let more : take (k + 1) server.refs ≡ take k server.refs ++ ref ∷ [] = take_more server.refs k ref inside ∙ ap (λ (r : List ℕ × List ℕ). take k server.refs ++ r ∷ []) (sym is) in
       subst (λ (refs : RefList). IsAnswering server asked refs reply) (append_assoc head (take k server.refs) (ref ∷ []) ∙ ap (λ (refs : RefList). head ++ refs) (sym more)) so_far
-
-  pub all_refs_added : (k : ℕ) (reply : LsReply) → length server.refs ≤ k → IsAnswering server asked (head_ref (head_id server.head server.refs) ++ take k server.refs) reply
-      → IsAnswering server asked (all_refs server) reply
-  all_refs_added k reply past so_far =
-      let head = head_ref (head_id server.head server.refs) in
-      subst (λ (refs : RefList). IsAnswering server asked (head ++ refs) reply) (take_all k server.refs past) so_far
-
-  pub is_answer : (reply : LsReply) → IsAnswering server asked (all_refs server) reply → LsAnswer server asked reply
-  is_answer reply all = record { lines = all.lines; unborn = all.unborn }

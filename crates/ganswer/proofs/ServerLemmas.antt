@@ -107,13 +107,3 @@ module _ {A : Type 0} where
   dangling g refs name (fault.NotClosed id) first is = absurd is
   dangling g refs name fault.HeadMissing first is = absurd is
   dangling g refs name (fault.MissingParent id) first is = absurd is
-
-  -- why refs can't be served is why a server can't be made of them
-  pub unserved : (server : Server A) (cause : BuildFault A) → IsClosed server.graph.entries → ChecksRefs server.graph.entries server.refs (Err cause) → IsUnserved server cause
-  unserved server (fault.RefMissing name) closed first = (closed, first)
-  unserved server fault.Memory closed first = (closed, inl first)
-  unserved server (fault.Graph other) closed first = absurd first
-  unserved server (fault.Refs other) closed first = absurd first
-  unserved server (fault.NotClosed id) closed first = absurd first
-  unserved server fault.HeadMissing closed first = absurd first
-  unserved server (fault.MissingParent id) closed first = absurd first

@@ -3,7 +3,7 @@ use Rattle.std.specs.Prelude.{◌≡◌, ◌≢◌, ⊤, ℕ, List, [], All, Res
 use Rattle.gname.specs.declared.formats.Format.{Format}
 use Rattle.gobject.specs.Packs.{PackFails, Packs}
 use Rattle.ghistory.specs.Graphs.{Holds, IsFirstAbsent}
-use Rattle.grequest.specs.Asked.{Asked, FetchAsked, Empty, Ls as LsAsked, Fetches, is_direct}
+use Rattle.grequest.specs.Asked.{Asked, FetchAsked, Empty, Ls as LsAsked, Fetches}
 use Rattle.glsreply.specs.LsReplies.{LsReply}
 use Rattle.gfetchreply.specs.FetchReplies.{FetchReply}
 use Rattle.gfetchreply.specs.Views.{IsReplyOf, reply_in}
@@ -44,7 +44,7 @@ abbrev pub FetchRefuses : {A : Type 0} → Server A → PackFails A → FetchAsk
 FetchRefuses server fails asked fault.NoWants = asked.wants ≡ []
 FetchRefuses server fails asked (fault.NotOurs id) = IsFirstAbsent server.graph.entries asked.wants id
 FetchRefuses server fails asked (fault.Pack cause) =
-    CanServe server asked × IsPackDue server asked (is_direct asked) × FailsToPack server fails asked cause
+    CanServe server asked × IsPackDue server asked × FailsToPack server fails asked cause
 FetchRefuses server fails asked fault.Memory = CanServe server asked
 FetchRefuses server fails asked _ = ⊥
 

@@ -1,6 +1,6 @@
 -- What fetch answers (gitprotocol-v2(5), "fetch"). A request with `done`, or without haves, is answered with a pack at
 -- once. Any other is answered with the common ids, and where each want reaches one of these, with a pack, too.
-use Rattle.std.specs.Prelude.{◌≡◌, ◌≢◌, ℕ, Bool, true, false, List, [], All, if◌then◌else◌}
+use Rattle.std.specs.Prelude.{◌≡◌, ◌≢◌, ◌⊎◌, ℕ, true, false, List, [], All, if◌then◌else◌}
 use Rattle.std.specs.Map.{values_of}
 use Rattle.gobject.specs.declared.node.Entry.{Entry}
 use Rattle.gobject.specs.declared.fault.PackFault.{PackFault}
@@ -64,6 +64,11 @@ pub record FetchAnswer {A : Type 0} (server : Server A) (packs : Packs A) (asked
   pub replies : RepliesWith server packs asked reply
 
 -- a pack is due: at once, or where enough is common
-abbrev pub IsPackDue : {A : Type 0} → Server A → FetchAsked → Bool → Type 0
-IsPackDue server asked true = Unit {0}
-IsPackDue server asked false = IsReadyFor server asked
+abbrev pub IsPackDue : {A : Type 0} → Server A → FetchAsked → Type 0
+IsPackDue server asked = (is_direct asked ≡ true) ⊎ IsReadyFor server asked
+
+-- the ids that a reply acknowledges
+abbrev pub acks_of : FetchReply → List (List ℕ)
+acks_of (Acks commons) = commons
+acks_of (Ready commons pack) = commons
+acks_of (Pack pack) = []

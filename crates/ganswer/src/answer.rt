@@ -31,9 +31,9 @@ impl<A: Allocator + Copy> Server<A> {
     /// which it leads. With `unborn` comes the name of a ref that HEAD points at and that is not there, where HEAD is asked for.
     ///
     /// Objects: with `done`, or without haves, the pack of those that a want reaches and no common id does; the common
-    /// ids are the distinct haves that are here. Else, where each want reaches a common id, the common ids and that
-    /// pack, and else the common ids alone. With `include-tag` the pack has the tags, too, that lead from the ids of
-    /// refs to commits of it.
+    /// ids are the distinct haves that are here, in the order in which each came first. Else, where each want reaches
+    /// a common id, the common ids and that pack, and else the common ids alone. With `include-tag` the pack has the
+    /// tags, too, that lead from the ids of refs to commits of it.
     ///
     /// It fails with `NoWants` where a fetch wants nothing; else with `NotOurs` for the first want that is not here;
     /// else with `Pack` where the packer fails for the objects to send; and with `Memory`.

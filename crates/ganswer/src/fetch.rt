@@ -63,6 +63,7 @@ impl<A: Allocator + Copy> Server<A> {
         ensures fault { IfErr result (λ fault. fault ≡ Memory) }
     {
         places_are_nodes::<A>();
+        // The call only gives the proof that a request has not too many.
         let _haves = asked.haves();
         let ids = self.common_ids(asked)?;
         Ok(Acks::from_ids(self.graph().format(), ids).unwrap())

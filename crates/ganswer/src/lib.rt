@@ -16,8 +16,11 @@
 //! - [`Server::write_ls_answer`] writes the answer to ls-refs, or a beginning of it where the sink fails.
 //! - [`Server::advert`] fails only when out of memory, and else advertises `agent=gitv2/1`, `ls-refs=unborn`,
 //!   `fetch`, and the format of the graph's ids.
-//! - [`laws`]: a server has one answer to each request for refs; answers have the forms of their messages, so that what
-//!   is written of them can be read by a client of the same object format.
+//! - [`laws`]: a server has one answer to each request for refs, whose lines stand at objects that it has. What an
+//!   answer acknowledges are haves of the request that the server has, too. A pack that is sent completes the
+//!   ancestries of the wants at a client that has those of its haves. Wants that are here are refused only for the
+//!   packer, or out of memory. Answers have the forms of their messages, so that what is written of them can be read by a
+//!   client of the same object format. Objects only come to a server.
 //! - Each fault has the number and the name of its row, and the words for a client.
 //! - No call panics, overflows or reads out of bounds, and each returns.
 //!
@@ -27,9 +30,9 @@
 //!
 //! # What a body can still get away with
 //!
-//! `answer` may report out of memory for any request but the empty one and a fetch that it refuses for its wants, as
-//! `advert` may, and `new` for the name of a ref that it reports, or where nothing is missing. A call may take as long as it likes, and more memory than it
-//! needs.
+//! It may report out of memory: `answer` for any request but the empty one and a fetch that it refuses for its wants;
+//! `advert` at any time; `new` for the name of a ref that it reports, or where nothing is missing; `add` for an object
+//! that is new, and `set_ref` for a name that is. A call may take as long as it likes, and more memory than it needs.
 //!
 //! # Stands on
 //!

@@ -90,6 +90,7 @@ impl<A: Allocator + Copy> Server<A> {
     {
         places_are_nodes::<A>();
         ids_have_one_format();
+        // The call only gives the proof what the type of a server says.
         let _refs = self.refs();
         let Some(line) = self.line(asked, name, id) else {
             return Ok(());

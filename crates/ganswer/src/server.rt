@@ -151,6 +151,7 @@ fn check_parts<A: Allocator + Copy>(
 ) -> Result<(), BuildFault<A>>
     ensures { let parts = served graph.now refs.now head.now in MatchResult result (λ _. IsServer parts) (IsUnserved parts) }
 {
+    // These calls only give the proof what the types of a graph and of a head say.
     let _objects = graph.len();
     keeps_rules(head);
     if let Some(id) = missing_parent(graph) {

@@ -12,7 +12,7 @@ returns-in-Some g c =
     let law = c.writes_lines.ensures in
     let same = one_list c.args.self.now c.args.asked.now c.peels_to_one.ensures ((c.args.name.now, c.args.id) ∷ []) lines (lent_view c.in-Some.line ∷ []) shows c.in-Some.ensures in
     subst (λ (l : List RefLine). WritesPart g.W.Sink.contents g.W.Sink.passed_on g.W.Sink.is_down g.W.Sink.loans c.args.writer.now c.write_ref.new.writer c.write_ref.result (map ref_packet l)) (sym same)
-    (law.part _ _ _ (ref_packet (lent_view c.in-Some.line) ∷ []) c.write_ref.ensures)
+    (law.part _ _ _ (ref_packet (lent_view c.in-Some.line) ∷ []) c.write_ref.ensures.lines)
 
 pub returns-in-None : goal.returns-in-None
 returns-in-None g c =
