@@ -1,14 +1,14 @@
 //! Requests and their answers, byte by byte (gitprotocol-v2(5), "ls-refs" and "fetch").
 use super::samples::{
-    DETACHED, EMPTY, HEAD_AT_TAG, SERVER, SHA256, TAGGED, TAGGED_TWICE, answer, id, request,
-    server, spelled,
+    DETACHED, EMPTY, HEAD_AT_TAG, SERVER, SHA256, TAGGED, TAGGED_TWICE, answer_by, digits, request,
+    server, spelled, written_refs,
 };
 use crate::ServeFault;
-use ggrammar::Ends;
+use ggraph::PlainPack;
 use ghello::write_advert;
 use gpkt::LineWriter;
 use gpkt::memory::VecSink;
-use grequest::Request;
+use std::alloc::Global;
 use std::test::Fail;
 
 // A repository, a request, and the answer.
@@ -211,13 +211,30 @@ const ADVERTS: [(&[u8], &[u8]); 2] = [
     ),
 ];
 
+// What the server of a text answers to a request, or the words for the client where it is refused.
+fn answer(alloc: Global, text: &[u8], bytes: &[u8]) -> Result<Vec<u8>, Fail> {
+    match answer_by(alloc, &PlainPack, text, bytes)? {
+        Ok(answer) => Ok(answer),
+        Err(fault) => Ok(Vec::from_slice(alloc, fault.phrase().as_bytes())?),
+    }
+}
+
+// The same for requests for refs, as it is written line by line.
+fn written(alloc: Global, text: &[u8], bytes: &[u8]) -> Result<Vec<u8>, Fail> {
+    let server = server(alloc, text)?;
+    let request = request(alloc, alloc, &server, bytes)?;
+    written_refs(alloc, &server, &request)
+}
+
 #[test]
 fn refs_are_answered(rt: HostRuntime) -> Result<(), Fail> {
     let alloc = rt.alloc();
     for (repository, request, wanted) in LS_ANSWERS {
         let wanted = spelled(alloc, wanted)?;
-        let answered = answer(alloc, repository, request)?.unwrap_or(Vec::new(alloc));
-        assert_eq!(rt; answered.as_slice(), wanted.as_slice());
+        assert_eq!(rt;
+            answer(alloc, repository, request)?.as_slice(),
+            wanted.as_slice()
+        );
     }
     Ok(())
 }
@@ -226,15 +243,10 @@ fn refs_are_answered(rt: HostRuntime) -> Result<(), Fail> {
 #[test]
 fn refs_are_written(rt: HostRuntime) -> Result<(), Fail> {
     let alloc = rt.alloc();
-    for (repository, bytes, wanted) in LS_ANSWERS {
-        let server = server(alloc, repository)?;
+    for (repository, request, wanted) in LS_ANSWERS {
         let wanted = spelled(alloc, wanted)?;
-        let mut writer = LineWriter::new(VecSink::new(alloc));
-        if let Request::Ls(asked) = request(alloc, alloc, &server, bytes)? {
-            server.write_ls_answer(&asked, Ends::Plain, &mut writer)?;
-        }
         assert_eq!(rt;
-            writer.into_inner().into_written().as_slice(),
+            written(alloc, repository, request)?.as_slice(),
             wanted.as_slice()
         );
     }
@@ -246,37 +258,64 @@ fn objects_are_answered(rt: HostRuntime) -> Result<(), Fail> {
     let alloc = rt.alloc();
     for (repository, request, wanted) in FETCH_ANSWERS {
         let wanted = spelled(alloc, wanted)?;
-        let answered = answer(alloc, repository, request)?.unwrap_or(Vec::new(alloc));
-        assert_eq!(rt; answered.as_slice(), wanted.as_slice());
+        assert_eq!(rt;
+            answer(alloc, repository, request)?.as_slice(),
+            wanted.as_slice()
+        );
     }
     Ok(())
+}
+
+// What the server of a text advertises.
+fn advertised(alloc: Global, text: &[u8]) -> Result<Vec<u8>, Fail> {
+    let advert = server(alloc, text)?.advert()?;
+    let mut writer = LineWriter::new(VecSink::new(alloc));
+    write_advert(&advert, &mut writer)?;
+    Ok(writer.into_inner().into_written())
 }
 
 #[test]
 fn capabilities_are_advertised(rt: HostRuntime) -> Result<(), Fail> {
-    let alloc = rt.alloc();
     for (repository, wanted) in ADVERTS {
-        let advert = server(alloc, repository)?.advert()?;
-        let mut writer = LineWriter::new(VecSink::new(alloc));
-        write_advert(&advert, &mut writer)?;
-        assert_eq!(rt; writer.into_inner().into_written().as_slice(), wanted);
+        assert_eq!(rt; advertised(rt.alloc(), repository)?.as_slice(), wanted);
     }
     Ok(())
 }
 
-// Nothing is wanted, or something that is not here: the first such id is reported.
+// Requests that are refused: the number of the fault, and the id that it reports. Nothing is wanted, or something that
+// is not here.
+const REFUSED: [(&[u8], u32, &[u8]); 2] = [
+    (b"0012command=fetch\n0000", 73, b""),
+    (
+        b"0012command=fetch\n00010032want {c}\n0032want {d}\n0032want {e}\n0032have {a}\n0000",
+        74,
+        b"{d}",
+    ),
+];
+
+// The id that the fault reports.
+fn reported(alloc: Global, fault: &ServeFault) -> Result<Vec<u8>, Fail> {
+    match fault {
+        ServeFault::NotOurs { id } => digits(alloc, id),
+        _ => Ok(Vec::new(alloc)),
+    }
+}
+
+// The number of the fault with which the request is refused, and the id that it reports; else 0, and the answer.
+fn refusal(alloc: Global, bytes: &[u8]) -> Result<(u32, Vec<u8>), Fail> {
+    match answer_by(alloc, &PlainPack, SERVER, bytes)? {
+        Ok(answer) => Ok((0, answer)),
+        Err(fault) => Ok((fault.code(), reported(alloc, &fault)?)),
+    }
+}
+
 #[test]
 fn wants_are_judged_first(rt: HostRuntime) -> Result<(), Fail> {
-    let alloc = rt.alloc();
-    match answer(alloc, SERVER, b"0012command=fetch\n0000")? {
-        Err(fault) => assert_eq!(rt; fault.code(), 73),
-        Ok(_) => assert!(rt; false, "an answer without a want"),
-    }
-    let bytes: &[u8] =
-        b"0012command=fetch\n00010032want {c}\n0032want {d}\n0032want {e}\n0032have {a}\n0000";
-    match answer(alloc, SERVER, bytes)? {
-        Err(ServeFault::NotOurs { id: missing }) => assert_eq!(rt; missing, id(b'd')?),
-        _ => assert!(rt; false, "an answer to a want that is not here"),
+    for (bytes, code, wanted) in REFUSED {
+        let (number, id) = refusal(rt.alloc(), bytes)?;
+        let wanted = spelled(rt.alloc(), wanted)?;
+        assert_eq!(rt; number, code);
+        assert_eq!(rt; id.as_slice(), wanted.as_slice());
     }
     Ok(())
 }

@@ -1,5 +1,5 @@
 //! What a server is made of, and its changes: what is refused, and that nothing changes then.
-use super::samples::{EMPTY, SERVER, id, name, server, spelled};
+use super::samples::{EMPTY, SERVER, digits, id, name, server, spelled};
 use crate::{BuildFault, Server};
 use ggraph::{Entry, Head, Kind, Node, Order, Parents, Target, load, save};
 use std::alloc::Global;
@@ -33,32 +33,31 @@ const UNSERVED: [(&[u8], u32, &[u8]); 6] = [
 
 // The id or the name that the fault reports.
 fn reported(alloc: Global, fault: &BuildFault) -> Result<Vec<u8>, Fail> {
-    let mut digits = [0; 64];
     match fault {
-        BuildFault::NotClosed { id } | BuildFault::MissingParent { id } => {
-            let count = id.to_hex(&mut digits);
-            Ok(Vec::from_slice(alloc, &digits[..count])?)
-        }
+        BuildFault::NotClosed { id } | BuildFault::MissingParent { id } => digits(alloc, id),
         BuildFault::RefMissing { name } => Ok(Vec::from_slice(alloc, name.as_bytes())?),
         BuildFault::HeadMissing => Ok(Vec::from_slice(alloc, b"HEAD")?),
         BuildFault::Graph(_) | BuildFault::Refs(_) | BuildFault::Memory => Ok(Vec::new(alloc)),
     }
 }
 
+// The number of the fault for which there is no server of a text, and what it reports; else 0.
+fn refused(alloc: Global, text: &[u8]) -> Result<(u32, Vec<u8>), Fail> {
+    let text = spelled(alloc, text)?;
+    let parts = load(alloc, text.as_slice(), Order::Any)?;
+    match Server::new(parts.graph, parts.refs, parts.head) {
+        Ok(_server) => Ok((0, Vec::new(alloc))),
+        Err(fault) => Ok((fault.code(), reported(alloc, &fault)?)),
+    }
+}
+
 #[test]
 fn what_is_missing_is_reported(rt: HostRuntime) -> Result<(), Fail> {
-    let alloc = rt.alloc();
     for (text, code, wanted) in UNSERVED {
-        let text = spelled(alloc, text)?;
-        let parts = load(alloc, text.as_slice(), Order::Any)?;
-        match Server::new(parts.graph, parts.refs, parts.head) {
-            Ok(_) => assert!(rt; false, "a server of {code}"),
-            Err(fault) => {
-                assert_eq!(rt; fault.code(), code);
-                let wanted = spelled(alloc, wanted)?;
-                assert_eq!(rt; reported(alloc, &fault)?.as_slice(), wanted.as_slice());
-            }
-        }
+        let (number, reported) = refused(rt.alloc(), text)?;
+        let wanted = spelled(rt.alloc(), wanted)?;
+        assert_eq!(rt; number, code);
+        assert_eq!(rt; reported.as_slice(), wanted.as_slice());
     }
     Ok(())
 }
@@ -83,44 +82,81 @@ fn commit(alloc: Global, digit: u8, parents: &[u8]) -> Result<Entry, Fail> {
     })
 }
 
-// The change was refused with the number, and what the server has is the text.
-fn check_refused(
-    rt: &(impl Abort + AllocGlobal),
-    change: Result<(), BuildFault>,
-    code: u32,
-    server: &Server,
-    text: &[u8],
-) -> Result<(), Fail> {
-    let refused = change.err().map(|fault| fault.code());
-    assert_eq!(rt; refused, Some(code));
-    assert_eq!(rt; text_of(rt.alloc(), server)?.as_slice(), text);
+// Where HEAD is put: nowhere, at the id of a digit, or on a ref.
+enum Place {
+    None,
+    Id(u8),
+    Ref(&'static str),
+}
+
+fn head(alloc: Global, place: &Place) -> Result<Head, Fail> {
+    match place {
+        Place::None => Ok(Head::None),
+        Place::Id(digit) => Ok(Head::Id(id(*digit)?)),
+        Place::Ref(text) => match Target::new(name(alloc, text)?) {
+            Some(target) => Ok(Head::Symref(target)),
+            None => Ok(Head::None),
+        },
+    }
+}
+
+// A commit with its parents, a ref at an id, and HEAD; ids by their digits.
+enum Change {
+    Add(u8, &'static [u8]),
+    Ref(&'static str, u8),
+    Head(Place),
+}
+
+// The number of the fault with which the change is refused.
+fn refusal(alloc: Global, server: &mut Server, change: &Change) -> Result<Option<u32>, Fail> {
+    let changed = match change {
+        Change::Add(digit, parents) => server.add(commit(alloc, *digit, parents)?),
+        Change::Ref(text, digit) => server.set_ref(name(alloc, text)?, id(*digit)?),
+        Change::Head(place) => server.set_head(head(alloc, place)?),
+    };
+    Ok(changed.err().map(|fault| fault.code()))
+}
+
+fn check_text(rt: &(impl Abort + AllocGlobal), server: &Server, wanted: &[u8]) -> Result<(), Fail> {
+    let wanted = spelled(rt.alloc(), wanted)?;
+    assert_eq!(rt; text_of(rt.alloc(), server)?.as_slice(), wanted.as_slice());
     Ok(())
 }
 
+const REFUSED: &[(Change, u32)] = &[
+    // A parent that is missing, also of an object that is here; another node under its id.
+    (Change::Add(b'd', b"ce"), 72),
+    (Change::Add(b'b', b"e"), 72),
+    (Change::Add(b'b', b""), 60),
+    // A ref at a missing object, also under the name HEAD; the name HEAD.
+    (Change::Ref("refs/heads/x", b'd'), 71),
+    (Change::Ref("HEAD", b'd'), 71),
+    (Change::Ref("HEAD", b'c'), 69),
+    // HEAD at a missing object.
+    (Change::Head(Place::Id(b'd')), 71),
+];
+
 #[test]
 fn refused_changes_change_nothing(rt: HostRuntime) -> Result<(), Fail> {
-    let alloc = rt.alloc();
-    let mut server = server(alloc, SERVER)?;
-    let text = spelled(alloc, SERVER)?;
-    let text = text.as_slice();
-    // A parent that is missing, also of an object that is here; another node under its id.
-    let change = server.add(commit(alloc, b'd', b"ce")?);
-    check_refused(&rt, change, 72, &server, text)?;
-    let change = server.add(commit(alloc, b'b', b"e")?);
-    check_refused(&rt, change, 72, &server, text)?;
-    let change = server.add(commit(alloc, b'b', b"")?);
-    check_refused(&rt, change, 60, &server, text)?;
-    // A ref at a missing object, also under the name HEAD; the name HEAD.
-    let change = server.set_ref(name(alloc, "refs/heads/x")?, id(b'd')?);
-    check_refused(&rt, change, 71, &server, text)?;
-    let change = server.set_ref(name(alloc, "HEAD")?, id(b'd')?);
-    check_refused(&rt, change, 71, &server, text)?;
-    let change = server.set_ref(name(alloc, "HEAD")?, id(b'c')?);
-    check_refused(&rt, change, 69, &server, text)?;
-    // HEAD at a missing object.
-    let change = server.set_head(Head::Id(id(b'd')?));
-    check_refused(&rt, change, 71, &server, text)
+    let mut server = server(rt.alloc(), SERVER)?;
+    for (change, code) in REFUSED {
+        assert_eq!(rt; refusal(rt.alloc(), &mut server, change)?, Some(*code));
+        check_text(&rt, &server, SERVER)?;
+    }
+    Ok(())
 }
+
+const CHANGES: &[Change] = &[
+    Change::Add(b'a', b""),
+    Change::Add(b'b', b"a"),
+    Change::Add(b'a', b""),
+    Change::Ref("refs/heads/old", b'b'),
+    Change::Ref("refs/heads/main", b'b'),
+    Change::Ref("refs/heads/old", b'a'),
+    Change::Head(Place::Id(b'a')),
+    Change::Head(Place::None),
+    Change::Head(Place::Ref("refs/heads/old")),
+];
 
 // An object, refs at it, and HEAD on one of these, come to an empty server.
 const GROWN: &[u8] =
@@ -128,20 +164,9 @@ const GROWN: &[u8] =
 
 #[test]
 fn a_server_grows(rt: HostRuntime) -> Result<(), Fail> {
-    let alloc = rt.alloc();
-    let mut server = server(alloc, EMPTY)?;
-    server.add(commit(alloc, b'a', b"")?)?;
-    server.add(commit(alloc, b'b', b"a")?)?;
-    server.add(commit(alloc, b'a', b"")?)?;
-    server.set_ref(name(alloc, "refs/heads/old")?, id(b'b')?)?;
-    server.set_ref(name(alloc, "refs/heads/main")?, id(b'b')?)?;
-    server.set_ref(name(alloc, "refs/heads/old")?, id(b'a')?)?;
-    server.set_head(Head::Id(id(b'a')?))?;
-    server.set_head(Head::None)?;
-    if let Some(target) = Target::new(name(alloc, "refs/heads/old")?) {
-        server.set_head(Head::Symref(target))?;
+    let mut server = server(rt.alloc(), EMPTY)?;
+    for change in CHANGES {
+        assert_eq!(rt; refusal(rt.alloc(), &mut server, change)?, None);
     }
-    let wanted = spelled(alloc, GROWN)?;
-    assert_eq!(rt; text_of(alloc, &server)?.as_slice(), wanted.as_slice());
-    Ok(())
+    check_text(&rt, &server, GROWN)
 }

@@ -1,13 +1,9 @@
 //! Memory that ends: in an arena with a little more room each time, each allocation of a call is at some time
 //! the first that is refused. Until there is room a call answers that, and then what it answers with enough.
-use super::samples::{TAGGED, request, server_in, spelled, written};
+use super::samples::{TAGGED, answer_of, request, server_in, spelled, written_refs};
 use crate::ServeFault;
 use bumpalo::Bump;
-use ggrammar::Ends;
 use ggraph::{PackFault, PlainPack};
-use gpkt::LineWriter;
-use gpkt::memory::VecSink;
-use grequest::Request;
 use std::alloc::Global;
 use std::process::Abort;
 use std::test::Fail;
@@ -34,6 +30,26 @@ fn fill(alloc: Global, arena: &Bump, steps: usize) -> Result<(), Fail> {
     Ok(())
 }
 
+// What a server in the arena answers to a request.
+fn answer_in(
+    alloc: Global,
+    arena: &Bump,
+    bytes: &[u8],
+    steps: usize,
+) -> Result<Result<Vec<u8>, ServeFault>, Fail> {
+    let server = server_in(alloc, arena, TAGGED)?;
+    let request = request(alloc, arena, &server, bytes)?;
+    fill(alloc, arena, steps)?;
+    answer_of(alloc, &server, &request, &PlainPack)
+}
+
+fn is_out_of_memory(fault: &ServeFault) -> bool {
+    matches!(
+        fault,
+        ServeFault::Memory | ServeFault::Pack(PackFault::Memory)
+    )
+}
+
 // Whether the answer to the request ran out of memory; else it is the wanted one.
 fn is_refused(
     rt: &(impl Abort + AllocGlobal),
@@ -42,17 +58,13 @@ fn is_refused(
     steps: usize,
 ) -> Result<bool, Fail> {
     let arena = Bump::try_with_capacity(rt.alloc(), 24_000)?;
-    let server = server_in(rt.alloc(), &arena, TAGGED)?;
-    let request = request(rt.alloc(), &arena, &server, bytes)?;
-    fill(rt.alloc(), &arena, steps)?;
-    match server.answer(&request, &PlainPack) {
-        Ok(reply) => {
-            assert_eq!(rt; written(rt.alloc(), &reply)?.as_slice(), wanted);
+    match answer_in(rt.alloc(), &arena, bytes, steps)? {
+        Ok(answer) => {
+            assert_eq!(rt; answer.as_slice(), wanted);
             Ok(false)
         }
-        Err(ServeFault::Memory | ServeFault::Pack(PackFault::Memory)) => Ok(true),
         Err(fault) => {
-            assert_eq!(rt; fault.code(), 64);
+            assert!(rt; is_out_of_memory(&fault));
             Ok(true)
         }
     }
@@ -66,35 +78,35 @@ fn check_steps(rt: &impl Abort, refused: &[bool]) {
     assert!(rt; last < first);
 }
 
-#[test]
-fn requests_are_answered_where_there_is_memory(rt: HostRuntime) -> Result<(), Fail> {
-    for (bytes, wanted) in [(REFS, REFS_ANSWER), (OBJECTS, OBJECTS_ANSWER)] {
-        let wanted = spelled(rt.alloc(), wanted)?;
-        let mut refused = Vec::new(rt.alloc());
-        for steps in 0..STEPS {
-            refused.push(is_refused(&rt, bytes, wanted.as_slice(), steps)?)?;
-        }
-        check_steps(&rt, refused.as_slice());
+fn check_memory(rt: &(impl Abort + AllocGlobal), bytes: &[u8], wanted: &[u8]) -> Result<(), Fail> {
+    let wanted = spelled(rt.alloc(), wanted)?;
+    let mut refused = Vec::new(rt.alloc());
+    for steps in 0..STEPS {
+        refused.push(is_refused(rt, bytes, wanted.as_slice(), steps)?)?;
     }
+    check_steps(rt, refused.as_slice());
     Ok(())
 }
 
-// The answer to a request for refs is written where there is no memory at all.
+#[test]
+fn requests_are_answered_where_there_is_memory(rt: HostRuntime) -> Result<(), Fail> {
+    check_memory(&rt, REFS, REFS_ANSWER)?;
+    check_memory(&rt, OBJECTS, OBJECTS_ANSWER)
+}
+
+// The answer to the request for refs that a server in the arena writes where it has no room left.
+fn written_in(alloc: Global, arena: &Bump) -> Result<Vec<u8>, Fail> {
+    let server = server_in(alloc, arena, TAGGED)?;
+    let request = request(alloc, arena, &server, REFS)?;
+    fill(alloc, arena, 0)?;
+    written_refs(alloc, &server, &request)
+}
+
 #[test]
 fn refs_are_written_without_memory(rt: HostRuntime) -> Result<(), Fail> {
-    let alloc = rt.alloc();
-    let arena = Bump::try_with_capacity(alloc, 24_000)?;
-    let server = server_in(alloc, &arena, TAGGED)?;
-    let request = request(alloc, &arena, &server, REFS)?;
-    fill(alloc, &arena, 0)?;
-    let mut writer = LineWriter::new(VecSink::new(alloc));
-    if let Request::Ls(asked) = &request {
-        server.write_ls_answer(asked, Ends::Plain, &mut writer)?;
-    }
-    let wanted = spelled(alloc, REFS_ANSWER)?;
-    assert_eq!(rt;
-        writer.into_inner().into_written().as_slice(),
-        wanted.as_slice()
-    );
+    let arena = Bump::try_with_capacity(rt.alloc(), 24_000)?;
+    let written = written_in(rt.alloc(), &arena)?;
+    let wanted = spelled(rt.alloc(), REFS_ANSWER)?;
+    assert_eq!(rt; written.as_slice(), wanted.as_slice());
     Ok(())
 }

@@ -1,7 +1,7 @@
 //! Packers that lie, and packers that fail.
 ghost use Rattle.std.specs.Prelude.{⊤};
 
-use super::samples::{SERVER, TAGGED, request, server, written};
+use super::samples::{SERVER, TAGGED, answer_by};
 use crate::ServeFault;
 use ggraph::{Entry, PackFault, Packer};
 use std::alloc::Allocator;
@@ -42,7 +42,6 @@ const CLONE_WITH_TAGS: &[u8] =
 // What the packer answers is what is sent.
 #[test]
 fn a_pack_is_sent_as_it_is(rt: HostRuntime) -> Result<(), Fail> {
-    let alloc = rt.alloc();
     for (text, bytes, wanted) in [
         (SERVER, CLONE, b"000dpackfile\n0006\x0130000".as_slice()),
         (TAGGED, CLONE, b"000dpackfile\n0006\x0130000".as_slice()),
@@ -52,10 +51,10 @@ fn a_pack_is_sent_as_it_is(rt: HostRuntime) -> Result<(), Fail> {
             b"000dpackfile\n0006\x01?0000".as_slice(),
         ),
     ] {
-        let server = server(alloc, text)?;
-        let request = request(alloc, alloc, &server, bytes)?;
-        let reply = server.answer(&request, &Counter)?;
-        assert_eq!(rt; written(alloc, &reply)?.as_slice(), wanted);
+        match answer_by(rt.alloc(), &Counter, text, bytes)? {
+            Ok(answer) => assert_eq!(rt; answer.as_slice(), wanted),
+            Err(fault) => assert_eq!(rt; fault.code(), 0),
+        }
     }
     Ok(())
 }
@@ -63,19 +62,19 @@ fn a_pack_is_sent_as_it_is(rt: HostRuntime) -> Result<(), Fail> {
 // A packer that fails is met only where a pack is due.
 #[test]
 fn a_packer_that_fails(rt: HostRuntime) -> Result<(), Fail> {
-    let alloc = rt.alloc();
-    let server = server(alloc, SERVER)?;
-    let clone = request(alloc, alloc, &server, CLONE)?;
-    match server.answer(&clone, &Broken) {
+    match answer_by(rt.alloc(), &Broken, SERVER, CLONE)? {
         Err(ServeFault::Pack(fault)) => assert_eq!(rt; fault, PackFault::Other),
         _ => assert!(rt; false, "a pack of a broken packer"),
     }
-    let bytes = b"0012command=fetch\n00010032want {c}\n0032have {d}\n0000";
-    let more = request(alloc, alloc, &server, bytes)?;
-    let reply = server.answer(&more, &Broken)?;
-    assert_eq!(rt;
-        written(alloc, &reply)?.as_slice(),
-        b"0014acknowledgments\n0008NAK\n0000".as_slice()
-    );
+    let bytes: &[u8] = b"0012command=fetch\n00010032want {c}\n0032have {d}\n0000";
+    match answer_by(rt.alloc(), &Broken, SERVER, bytes)? {
+        Ok(answer) => {
+            assert_eq!(rt;
+                answer.as_slice(),
+                b"0014acknowledgments\n0008NAK\n0000".as_slice()
+            );
+        }
+        Err(fault) => assert_eq!(rt; fault.code(), 0),
+    }
     Ok(())
 }

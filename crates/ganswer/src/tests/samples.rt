@@ -2,7 +2,7 @@
 use crate::{Reply, ServeFault, Server};
 use gfetchreply::write_fetch_reply;
 use ggrammar::Ends;
-use ggraph::{Order, PlainPack, load};
+use ggraph::{Order, Packer, load};
 use glsreply::write_ls_reply;
 use gname::{Oid, RefName};
 use gpkt::memory::{SliceSource, VecSink};
@@ -110,18 +110,42 @@ pub(super) fn written<A: Allocator + Copy>(
     Ok(writer.into_inner().into_written())
 }
 
-/// What the server of a text answers to a request.
-pub(super) fn answer(
+/// What the server answers to a request with this packer.
+pub(super) fn answer_of<A: Allocator + Copy, K: Packer<A>>(
     alloc: Global,
+    server: &Server<A>,
+    request: &Request<A>,
+    packer: &K,
+) -> Result<Result<Vec<u8>, ServeFault>, Fail> {
+    match server.answer(request, packer) {
+        Ok(reply) => Ok(Ok(written(alloc, &reply)?)),
+        Err(fault) => Ok(Err(fault)),
+    }
+}
+
+/// The same, where the server and the request are texts.
+pub(super) fn answer_by<K: Packer<Global>>(
+    alloc: Global,
+    packer: &K,
     text: &[u8],
     bytes: &[u8],
 ) -> Result<Result<Vec<u8>, ServeFault>, Fail> {
     let server = server(alloc, text)?;
     let request = request(alloc, alloc, &server, bytes)?;
-    match server.answer(&request, &PlainPack) {
-        Ok(reply) => Ok(Ok(written(alloc, &reply)?)),
-        Err(fault) => Ok(Err(fault)),
+    answer_of(alloc, &server, &request, packer)
+}
+
+/// The answer to a request for refs as it is written line by line, and nothing for other requests.
+pub(super) fn written_refs<A: Allocator + Copy>(
+    alloc: Global,
+    server: &Server<A>,
+    request: &Request<A>,
+) -> Result<Vec<u8>, Fail> {
+    let mut writer = LineWriter::new(VecSink::new(alloc));
+    if let Request::Ls(asked) = request {
+        server.write_ls_answer(asked, Ends::Plain, &mut writer)?;
     }
+    Ok(writer.into_inner().into_written())
 }
 
 /// The id of forty such digits.
@@ -132,4 +156,11 @@ pub(super) fn id(digit: u8) -> Result<Oid, Fail> {
 /// The name.
 pub(super) fn name(alloc: Global, text: &str) -> Result<RefName, Fail> {
     Ok(RefName::new(alloc, text.as_bytes())?)
+}
+
+/// The digits of the id.
+pub(super) fn digits(alloc: Global, id: &Oid) -> Result<Vec<u8>, Fail> {
+    let mut digits = [0; 64];
+    let count = id.to_hex(&mut digits);
+    Ok(Vec::from_slice(alloc, &digits[..count])?)
 }
