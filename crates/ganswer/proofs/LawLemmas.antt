@@ -1,5 +1,5 @@
 -- What answers bring to a client, and how servers grow.
-use Rattle.std.proofs.Common.{◌≡◌, ◌⊎◌, inl, inr, ℕ, List, [], ◌∷◌, ◌++◌, All, Contains, Result, Ok, Err, refl, sym, ap, ◌∙◌, subst, append-nil, arith}
+use Rattle.std.proofs.Common.{◌≡◌, inl, inr, ℕ, List, [], ◌∷◌, ◌++◌, All, Contains, Result, Ok, Err, refl, sym, ap, ◌∙◌, subst, append-nil, arith}
 use Rattle.std.specs.List.{IsDistinct}
 use Rattle.std.specs.Str.{bytes_eq}
 use Rattle.std.proofs.lemmas.List.Elements.{All-contains, All-contains_itself, All-nil, All-weaker, Contains-append_right, Contains-get_or}
@@ -9,12 +9,12 @@ use Rattle.gobject.specs.declared.node.Entry.{Entry}
 use Rattle.gobject.specs.Packs.{PackFails, Packs}
 use Rattle.gobject.specs.Objects.{node_at}
 use Rattle.ghistory.specs.Graphs.{Holds, IsFirstAbsent}
-use Rattle.ghistory.specs.Insert.{ComesIn, Inserts}
-use Rattle.ghistory.specs.Laws.{CommonsAreHeld, HasAll, SendingIsEnough, SentAreEntries}
-use Rattle.ghistory.specs.Reach.{Agree, Grows, IsFull}
+use Rattle.ghistory.specs.Insert.{ComesIn}
+use Rattle.ghistory.specs.Laws.{CommonsAreHeld, SendingIsEnough, SentAreEntries}
+use Rattle.ghistory.specs.Reach.{Grows, IsFull}
 use Rattle.grefs.specs.declared.head.Head.{Head}
 use Rattle.grequest.specs.Asked.{FetchAsked}
-use Rattle.gfetchreply.specs.FetchReplies.{FetchReply, Acks, Ready, Pack}
+use Rattle.gfetchreply.specs.FetchReplies.{Acks, Ready, Pack}
 use Rattle.ganswer.specs.Changes.{Adds, Sets, SetsHead}
 use Rattle.ganswer.specs.FetchAnswers.{commons_of, tag_tips}
 use Rattle.ganswer.specs.Laws.{AcksAreCommon, AreCommon, LsAnswersAreHeld, PacksAreEnough, ServersGrow, ServesWhatIsHeld}

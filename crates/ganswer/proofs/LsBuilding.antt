@@ -1,8 +1,8 @@
 -- A reply to ls-refs gets its lines one by one.
-use Rattle.std.proofs.Common.{◌≡◌, ℕ, ◌+◌, ◌≤◌, ◌<◌, Bool, true, List, [], ◌∷◌, ◌++◌, length, get_or, take, drop, Option, Some, Result, Ok, Err, refl, sym, ap, ◌∙◌, subst, append_assoc, append-nil}
+use Rattle.std.proofs.Common.{◌≡◌, ℕ, ◌+◌, ◌<◌, Bool, true, List, [], ◌∷◌, ◌++◌, length, get_or, take, drop, Option, Some, Result, Ok, Err, refl, sym, ap, ◌∙◌, subst, append_assoc}
 use Rattle.std.specs.Prelude.{OnOk}
 use Rattle.std.proofs.lemmas.Bool.{false≢true}
-use Rattle.std.proofs.lemmas.List.{take_more, take_all}
+use Rattle.std.proofs.lemmas.List.{take_more}
 use Rattle.gname.specs.Names.{head_name}
 use Rattle.ggrammar.specs.Building.{IsBuildReason}
 use Rattle.ggrammar.specs.declared.fault.Why.{Why}
@@ -11,7 +11,7 @@ use Rattle.grefs.specs.RefLists.{RefList}
 use Rattle.grequest.specs.Asked.{LsRefsAsked}
 use Rattle.glsreply.specs.LsReplies.{LsReply}
 use Rattle.glsreply.specs.RefTexts.{RefLine}
-use Rattle.ganswer.specs.LsAnswers.{LsAnswer, ShowsLines, all_refs, head_id, head_ref, unborn_of}
+use Rattle.ganswer.specs.LsAnswers.{ShowsLines, head_id, head_ref, unborn_of}
 use Rattle.ganswer.specs.LsBuilding.{IsAnswering, IsNextRef}
 use Rattle.ganswer.specs.Servers.{Server}
 use Rattle.ganswer.specs.declared.fault.ServeFault.{ServeFault}

@@ -1,5 +1,5 @@
 -- What is missing of a server's parts.
-use Rattle.std.proofs.Common.{◌≡◌, inl, ℕ, ◌+◌, ◌<◌, zero, suc, List, [], ◌∷◌, ◌++◌, length, get_or, take, drop, refl, sym, ap, ◌∙◌, subst, append_assoc, append-nil, add-one, drop-cons, Option, Some, None, Err, IsSome, All, Contains}
+use Rattle.std.proofs.Common.{◌≡◌, ℕ, ◌+◌, ◌<◌, zero, suc, List, [], ◌∷◌, ◌++◌, length, get_or, take, drop, refl, sym, ap, ◌∙◌, subst, append_assoc, append-nil, add-one, drop-cons, Option, Some, None, Err, IsSome, All, Contains}
 use Rattle.std.specs.List.{slice_get}
 use Rattle.std.specs.Option.{option_map}
 use Rattle.std.proofs.lemmas.List.{take_more, take-append-drop}
@@ -12,7 +12,7 @@ use Rattle.ghistory.specs.Graphs.{Holds, IsFirstAbsent}
 use Rattle.ghistory.specs.Laws.{PlacesAreNodes}
 use Rattle.ghistory.specs.Reach.{IsClosed}
 use Rattle.grefs.specs.RefLists.{RefList}
-use Rattle.ganswer.specs.Servers.{Server, HoldsRefs, IsFirstDangling, IsUnserved, ChecksRefs, ReportsRef, parents_in}
+use Rattle.ganswer.specs.Servers.{HoldsRefs, IsFirstDangling, ChecksRefs, ReportsRef, parents_in}
 use Rattle.ganswer.specs.declared.fault.BuildFault.{BuildFault}
 use Rattle.ganswer.specs.declared.fault.BuildFault.TheVariants as fault
 
