@@ -14,15 +14,18 @@ use Rattle.gpkt.specs.Packets.{Packet, canonical_all}
 use Rattle.gpkt.specs.Sending.{Input, Output, input_of, output_of, IsUp, IsUnread, IsUnwritten, Passes, SendsSome}
 use Rattle.gpkt.specs.declared.fault.LineFault.{LineFault}
 use Rattle.gpkt.specs.declared.fault.LineFault.TheVariants.{Memory as NoBuffer}
+use Rattle.ggrammar.specs.Capabilities.{Capability}
 use Rattle.ggrammar.specs.declared.ends.Ends.{Ends}
+use Rattle.ghello.specs.Adverts.{canonical_advert}
 use Rattle.gobject.specs.Packs.{PackFails, Packs}
+use Rattle.ganswer.specs.Adverts.{advertised}
 use Rattle.ganswer.specs.Servers.{Server}
 use Rattle.ganswer.specs.declared.fault.ServeFault.{ServeFault}
 use Rattle.ganswer.specs.declared.fault.ServeFault.TheVariants as fault
 use Rattle.gserve.specs.Refusals.{err_packets}
 use Rattle.gserve.specs.Exchanges.{Turn, Exchanges, IsDue, reply, refusal, IsRefused, IsTurn, ReadsEmpty, ReadsEnd, ReadsTurn, ReadsTurns, reply_packets}
 use Rattle.gserve.specs.Conversations.{advert_packets, talk, talk_bytes, CannotBegin, Converses, HasEnded, IsDueFirst, advert, refusal as refusal_first, Serves, max_requests, rest_of}
-use Rattle.gserve.specs.Steps.{Advertises, HasAnswered, RefusesFirst, end_after}
+use Rattle.gserve.specs.Steps.{Advertises, HasAnswered, HasPassed, RefusesFirst, end_after}
 use Rattle.gserve.specs.declared.connection.End.{End}
 use Rattle.gserve.specs.declared.connection.End.TheVariants as end
 use Rattle.gserve.specs.declared.exchange.ExchangeEnd.{ExchangeEnd}
@@ -45,6 +48,14 @@ talk_more joins format ends turns turn =
     sym (joins (talk format ends turns) (replies turn))
     ∙ ap canonical_all (append_assoc (advert_packets format) (flat_map replies turns) (replies turn)
     ∙ ap (λ (xs : List Packet). advert_packets format ++ xs) (sym last))
+
+-- what is sent of the advertisement
+pub sent_advert : {E : Type 0} (format : Format) (capabilities : List Capability) (output : Output) (result : Result (Unit {0}) E)
+    → capabilities ≡ advertised format → HasPassed output result (canonical_advert capabilities)
+    → HasPassed output result (advert_packets format)
+unfolding advert_packets
+sent_advert format capabilities output result is sent =
+    subst (λ (said : List Capability). HasPassed output result (canonical_advert said)) is sent
 
 -- ---- what is read
 

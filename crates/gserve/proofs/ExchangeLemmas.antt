@@ -13,7 +13,11 @@ use Rattle.ggrammar.specs.declared.fault.Why.TheVariants.{Ended as EndedEarly}
 use Rattle.ggrammar.specs.Kinds.{ReadsMessage}
 use Rattle.ggrammar.specs.MessageReading.{IsReadFailure, ReadsRefused}
 use Rattle.gname.specs.declared.formats.Format.{Format}
-use Rattle.grequest.specs.Asked.{Asked, Empty, Ls as LsAsked, Fetches}
+use Rattle.grequest.specs.Asked.{Asked, LsRefsAsked, Empty, Ls as LsAsked, Fetches}
+use Rattle.grequest.specs.RequestValues.{asked_by_request}
+use Rattle.grequest.specs.declared.request.Request.{Request}
+use Rattle.grequest.specs.declared.request.Request.TheVariants as request
+use Rattle.glsreply.specs.LsReplies.{LsReply}
 use Rattle.grequest.specs.Requests.{Says, brings, judge}
 use Rattle.gobject.specs.Packs.{PackFails, Packs}
 use Rattle.ganswer.specs.Answers.{Answers, Refuses, Reply, Nothing, Ls, Fetch}
@@ -35,6 +39,13 @@ module _ {A : Type 0} (server : Server A) (packs : Packs A) where
   nothing_to_empty (LsAsked asked) h = absurd h
   nothing_to_empty (Fetches asked) h = absurd h
 
+  -- refs answer a request for refs alone
+  pub only_ls_is_listed : (asked : Request A) (listed : LsReply) → ((refs : LsRefsAsked) → asked ≡ request.Ls refs → ⊥)
+      → Answers server packs (asked_by_request asked) (Ls listed) → ⊥
+  only_ls_is_listed request.Empty listed other h = h
+  only_ls_is_listed (request.Ls refs) listed other h = other refs refl
+  only_ls_is_listed (request.Fetch fetch) listed other h = h
+
   asks_for_refs : (asked : Asked) (answer : Reply) → answer ≢ Nothing → Answers server packs asked answer → asked ≢ Empty
   asks_for_refs Empty Nothing other h = λ is. other refl
   asks_for_refs Empty (Ls answer) other h = absurd h
@@ -51,10 +62,10 @@ module _ {A : Type 0} (server : Server A) (packs : Packs A) (fails : PackFails A
   replied_by asked answer (Err fault) asks answers sent =
       (reply_packets ends answer, reply answer asks answers, sent.0, sent.1)
 
-  pub replied : {E : Type 0} (asked : Asked) (answer : Reply) (result : Result (Unit {0}) E) (ended : ExchangeEnd)
-      → ended ≡ end_of_reply result → answer ≢ Nothing → Answers server packs asked answer
-      → HasPassed output result (reply_packets ends answer) → Replies server packs fails ends asked output ended
-  replied asked answer result ended is other answers sent =
+  pub replied : {E : Type 0} (asked : Asked) (answer : Reply) (result : Result (Unit {0}) E) (how : ExchangeEnd)
+      → how ≡ end_of_reply result → answer ≢ Nothing → Answers server packs asked answer
+      → HasPassed output result (reply_packets ends answer) → Replies server packs fails ends asked output how
+  replied asked answer result how is other answers sent =
       subst (λ (e : ExchangeEnd). Replies server packs fails ends asked output e) (sym is)
       (replied_by asked answer result (asks_for_refs server packs asked answer other answers) answers sent)
 
@@ -104,7 +115,7 @@ module _ {A : Type 0} (server : Server A) (packs : Packs A) (fails : PackFails A
     says : Says server.graph.format packets asked
     up : IsUp input
 
-  turn_of : (asked : Asked) → Took asked → Reply → Turn
+  abbrev turn_of : (asked : Asked) → Took asked → Reply → Turn
   turn_of asked took answer = record { request = took.packets; asked = asked; answer = answer }
 
   takes_turn : (asked : Asked) (took : Took asked) (answer : Reply) → asked ≢ Empty → Answers server packs asked answer
@@ -177,10 +188,10 @@ failed_is_answered : end.WriteFailed ≡ end.Answered → ⊥
 failed_is_answered is = cc
 
 -- how an exchange ends whose reply was sent, and that the writer goes on then
-pub goes_on_by : {E : Type 0} {P : Type 0} (sent : Result (Unit {0}) E) (ended : ExchangeEnd) → ended ≡ end_of_reply sent
-    → OnOk sent P → ended ≡ end.Answered → P
-goes_on_by (Ok done) ended is holds answered = holds
-goes_on_by (Err fault) ended is holds answered = absurd (failed_is_answered (sym is ∙ answered))
+pub goes_on_by : {E : Type 0} {P : Type 0} (sent : Result (Unit {0}) E) (how : ExchangeEnd) → how ≡ end_of_reply sent
+    → OnOk sent P → how ≡ end.Answered → P
+goes_on_by (Ok done) how is holds answered = holds
+goes_on_by (Err fault) how is holds answered = absurd (failed_is_answered (sym is ∙ answered))
 
 -- why reading was refused, from what the reader says
 pub refused_to_read : (format own : Format) → format ≡ own → (input : Input) (cause : MessageFault) (failed : Bool) → failed ≡ false

@@ -1,6 +1,6 @@
 -- What is written and passed on, one after the other.
 use Rattle.std.proofs.Common.{◌≡◌, ◌≢◌, ℕ, ◌≤◌, Bool, true, false, List, [], ◌∷◌, ◌++◌, length, codes, Option, Some, None, Result, Ok, Err, refl, sym, ap, subst, ◌∙◌, append_assoc, append-nil, length-append, arith}
-use Rattle.std.specs.Prelude.{IsSome, OnOk}
+use Rattle.std.specs.Prelude.{IsErrAnd, IsSome, OnOk}
 use Rattle.std.proofs.lemmas.Bool.{false≢true}
 use Rattle.std.specs.Io.KnownBytes.{Appends, Keeps}
 use Rattle.gpkt.specs.Change.{Change}
@@ -96,11 +96,12 @@ module _ {W : Type 0} (contents passed_on : W → Option (List ℕ)) (is_down : 
   passed_pushed pushes a b c packets (Err Failed) wrote pushed =
       absurd (false≢true (sym wrote.written.outcome.0.1 ∙ pushed.outcome.0))
 
-  -- a write that failed
-  pub passed_failed : (a b : Writer W) (packets : List Packet) (fault : WriteFault) → a.failed ≡ false
-      → WritesLines contents passed_on is_down loans a b (Err fault) packets
-      → HasPassed {E = WriteFault} (output_of contents passed_on is_down a.sink b.sink) (Err fault) packets
-  passed_failed a b packets Io ready wrote = (
+  -- a write that failed, and whose fault is answered
+  pub passed_failed : (a b : Writer W) (packets : List Packet) (fault : WriteFault) (result : Result (Unit {0}) WriteFault)
+      → a.failed ≡ false → WritesLines contents passed_on is_down loans a b (Err fault) packets
+      → IsErrAnd result (λ other. other ≡ fault) → HasPassed (output_of contents passed_on is_down a.sink b.sink) result packets
+  passed_failed a b packets fault (Ok done) ready wrote answered = absurd answered
+  passed_failed a b packets Io (Err other) ready wrote answered = (
     record {
       front = wrote.written.outcome.1.0;
       rest = wrote.written.outcome.1.1;
@@ -110,8 +111,9 @@ module _ {W : Type 0} (contents passed_on : W → Option (List ℕ)) (is_down : 
     },
     keeps_still (passed_on a.sink) (passed_on b.sink) wrote.written.passed_on,
   )
-  passed_failed a b packets Payload ready wrote = absurd (wrote.fits refl)
-  passed_failed a b packets Failed ready wrote = absurd (false≢true (sym ready ∙ wrote.written.outcome.0))
+  passed_failed a b packets Payload (Err other) ready wrote answered = absurd (wrote.fits refl)
+  passed_failed a b packets Failed (Err other) ready wrote answered =
+      absurd (false≢true (sym ready ∙ wrote.written.outcome.0))
 
   -- the writer goes on
   pub push_goes_on : (b c : Writer W) (result : Result (Unit {0}) WriteFault)
@@ -147,8 +149,7 @@ module _ {W : Type 0} (contents passed_on : W → Option (List ℕ)) (is_down : 
         let known : IsSome (contents a) = is_some (contents a) (Some old) is refl in
         let mid : passed_on b ≡ Some (old ++ xs) =
         first.passed_on known passed ∙ appends_to old xs (contents a) (contents b) is first.written in
-        let last = passes_on_from (old ++ xs) (passed_on b) (passed_on c) mid kept in
-        (last.0, last.1 ∙ ap (λ (bytes : List ℕ). Some bytes) (append_assoc old xs last.0));
+        passes_on_from (old ++ xs) (passed_on b) (passed_on c) mid kept;
     down = next.down;
   }
 

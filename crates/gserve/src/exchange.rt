@@ -6,7 +6,7 @@ ghost use Rattle.grequest.specs.RequestValues.{asked_by_request};
 ghost use Rattle.gserve.specs.Exchanges.{Exchanges, ServesOne};
 ghost use Rattle.gserve.specs.Steps.{Replies, ReportsRefusal, end_of_reply};
 
-use crate::send::{send_fetch_reply, send_ls_reply, send_refusal};
+use crate::send::{send_fetch_reply, send_ls_answer, send_refusal};
 use ganswer::{Reply, ServeFault, Server};
 use ggrammar::Ends;
 use ggraph::Packer;
@@ -115,10 +115,14 @@ fn reply<W: Sink, A: Allocator + Copy, K: Packer<A>>(
     ensures goes_on { result ≡ ExchangeEnd.Answered → writer.new.failed ≡ false }
     ensures loans { W.loans writer.new.sink ≡ W.loans writer.old.sink }
 {
+    // The server lends the names of its refs, so that this reply takes no memory.
+    if let Request::Ls(asked) = request {
+        return end_of(send_ls_answer(server, asked, ends, writer));
+    }
     match server.answer(request, packer) {
         Ok(Reply::Nothing) => ExchangeEnd::Closed,
-        Ok(Reply::Ls(reply)) => end_of(send_ls_reply(&reply, ends, writer)),
         Ok(Reply::Fetch(reply)) => end_of(send_fetch_reply(&reply, ends, writer)),
+        Ok(Reply::Ls(_)) => unreachable!(),
         Err(fault) => refuse(fault, writer),
     }
 }

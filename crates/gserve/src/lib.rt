@@ -21,7 +21,7 @@
 //!
 //! # Only tested
 //!
-//! That memory which is there is used, and that `err_text` takes none.
+//! That memory which is there is used; that the reply to a request for refs takes none, as the server lends the names.
 //!
 //! # What a body can still get away with
 //!

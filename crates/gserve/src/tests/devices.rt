@@ -62,17 +62,18 @@ fn reads_fail(rt: HostRuntime) -> Result<(), Fail> {
         joined(alloc, &[ADVERT, REFS_REPLY, FETCH_REPLY, READ_FAILED])?,
     ];
     let output = output(alloc)?;
-    let mut seen = [0; 3];
+    let mut seen = [false; 3];
     for calls in 0..CALLS {
         let mut source = Limited::new(SliceSource::new(input.as_slice())).failing_after(calls);
         let mut sink = VecSink::new(alloc);
         let served = serve_over(alloc, &mut source, &mut sink)?;
         let count = served.requests as usize;
+        assert!(rt; count < replies.len());
         match ending_of(&served.end) {
             Ending::At(code, _) => {
                 assert_eq!(rt; code, 24);
                 assert_eq!(rt; sink.passed_on(), replies[count].as_slice());
-                seen[count] += 1;
+                seen[count] = true;
             }
             other => {
                 assert_eq!(rt; (served.requests, other), (2, Ending::Ended));
@@ -80,7 +81,7 @@ fn reads_fail(rt: HostRuntime) -> Result<(), Fail> {
             }
         }
     }
-    assert!(rt; seen[0] > 0 && seen[1] > 0 && seen[2] > 0);
+    assert_eq!(rt; seen, [true; 3]);
     Ok(())
 }
 
@@ -95,28 +96,29 @@ fn writes_fail(rt: HostRuntime) -> Result<(), Fail> {
         joined(alloc, &[ADVERT, REFS_REPLY])?,
         joined(alloc, &[ADVERT, REFS_REPLY, FETCH_REPLY])?,
     ];
-    let mut seen = [0; 3];
+    let mut seen = [false; 3];
     for calls in 0..CALLS {
         let mut source = SliceSource::new(input.as_slice());
         let mut sink = Limited::new(VecSink::new(alloc)).failing_after(calls);
         let served = serve_over(alloc, &mut source, &mut sink)?;
         let sink = sink.into_inner();
         let count = served.requests as usize;
+        assert!(rt; count < passed.len());
         assert!(rt; output.as_slice().starts_with(sink.written()));
         match ending_of(&served.end) {
             Ending::WriteFailed => {
                 let is_begun = count == 0 && sink.passed_on().is_empty();
                 assert!(rt; is_begun || sink.passed_on() == passed[count].as_slice());
-                seen[count] += 1;
+                seen[count] = true;
             }
             other => {
                 assert_eq!(rt; (served.requests, other), (2, Ending::Ended));
                 assert_eq!(rt; sink.passed_on(), output.as_slice());
-                seen[2] += 1;
+                seen[2] = true;
             }
         }
     }
-    assert!(rt; seen[0] > 0 && seen[1] > 0 && seen[2] > 0);
+    assert_eq!(rt; seen, [true; 3]);
     Ok(())
 }
 

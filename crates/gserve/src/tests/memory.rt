@@ -17,6 +17,9 @@ use std::test::Fail;
 // The room that is tried: in steps of so many bytes, from none to more than a connection takes.
 const STEP: usize = 256;
 
+// Steps that stop at the end of the advertisement.
+const SMALL_STEP: usize = 16;
+
 const STEPS: usize = 40;
 
 // The room of the arena.
@@ -42,16 +45,17 @@ fn outputs(alloc: Global, line: &[u8]) -> Result<[Vec<u8>; 3], Fail> {
     ])
 }
 
-// Serves two requests with so much room, and answers how the connection ended.
+// Serves requests with so much room, and answers how the connection ended.
 fn serve_within(
     rt: &(impl Abort + AllocGlobal),
     room: usize,
+    requests: &[&[u8]],
 ) -> Result<(u32, Ending, Vec<u8>), Fail> {
     let alloc = rt.alloc();
     let arena = Bump::try_with_capacity(alloc, CAPACITY)?;
     let server = server_in(alloc, &arena, SERVER)?;
     leave(alloc, &arena, room)?;
-    let input = joined(alloc, &[FETCH, CLONE])?;
+    let input = joined(alloc, requests)?;
     let mut source = SliceSource::new(input.as_slice());
     let mut sink = VecSink::new(alloc);
     let served = serve(&server, &PlainPack, Ends::Plain, &mut source, &mut sink);
@@ -61,7 +65,7 @@ fn serve_within(
 // Without room for the buffer, the line of the refusal is all that is written.
 #[test]
 fn there_is_no_buffer(rt: HostRuntime) -> Result<(), Fail> {
-    let (requests, end, written) = serve_within(&rt, 0)?;
+    let (requests, end, written) = serve_within(&rt, 0, &[FETCH])?;
     assert_eq!(rt; (requests, end), (0, Ending::Fault(28)));
     assert_eq!(rt; written.as_slice(), NO_MEMORY);
     Ok(())
@@ -73,10 +77,11 @@ fn memory_ends(rt: HostRuntime) -> Result<(), Fail> {
     let no_memory = outputs(alloc, NO_MEMORY)?;
     let pack_failed = outputs(alloc, PACK_FAILED)?;
     let ample = outputs(alloc, b"")?;
-    let mut seen = [0; 3];
+    let mut seen = [false; 3];
     for step in 0..STEPS {
-        let (requests, end, written) = serve_within(&rt, BUFFER + STEP * step)?;
+        let (requests, end, written) = serve_within(&rt, BUFFER + STEP * step, &[FETCH, CLONE])?;
         let count = requests as usize;
+        assert!(rt; count < ample.len());
         let wanted = match end {
             Ending::Ended => ample[count].as_slice(),
             Ending::Fault(65) => pack_failed[count].as_slice(),
@@ -90,9 +95,30 @@ fn memory_ends(rt: HostRuntime) -> Result<(), Fail> {
                 Ending::Ended | Ending::At(53, _) | Ending::Fault(28 | 64 | 65)
             )
         );
-        seen[count] += 1;
+        seen[count] = true;
     }
-    assert!(rt; seen[0] > 0 && seen[2] > 0);
+    assert!(rt; seen[0] && seen[2]);
+    Ok(())
+}
+
+// The answer to a request for refs takes no memory: it is whole wherever there is an advertisement.
+#[test]
+fn refs_take_no_memory(rt: HostRuntime) -> Result<(), Fail> {
+    let alloc = rt.alloc();
+    let request = b"0014command=ls-refs\n0000".as_slice();
+    let reply = b"0032{c} HEAD\n003d{c} refs/heads/main\n0000".as_slice();
+    let ample = joined(alloc, &[ADVERT, reply])?;
+    let mut is_answered = false;
+    for step in 0..STEPS {
+        let (requests, end, written) = serve_within(&rt, BUFFER + SMALL_STEP * step, &[request])?;
+        if end == Ending::Ended {
+            assert_eq!(rt; (requests, written.as_slice()), (1, ample.as_slice()));
+            is_answered = true;
+        } else {
+            assert_eq!(rt; (requests, written.as_slice()), (0, NO_MEMORY));
+        }
+    }
+    assert!(rt; is_answered);
     Ok(())
 }
 
