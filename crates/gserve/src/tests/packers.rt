@@ -6,6 +6,7 @@ use super::samples::{
 };
 use ggrammar::Ends;
 use ggraph::{Entry, PackFault, Packer};
+use gname::MAX_PACK;
 use std::alloc::Allocator;
 use std::test::Fail;
 
@@ -37,6 +38,9 @@ impl<A: Allocator + Copy> Packer<A> for Same {
     ghost pack_fails = { λ _ list fault. ⊤ };
 
     fn pack(&self, alloc: A, _entries: &[Entry<A>]) -> Result<Vec<u8, A>, PackFault> {
+        if self.pack.len() > MAX_PACK {
+            return Err(PackFault::TooLarge);
+        }
         Ok(Vec::from_slice(alloc, self.pack)?)
     }
 }
