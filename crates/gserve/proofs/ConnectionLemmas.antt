@@ -1,17 +1,14 @@
 -- A connection, request by request.
-use Rattle.std.proofs.Common.{◌≡◌, ◌≢◌, ℕ, ◌+◌, ◌<◌, ◌++◌, List, [], ◌∷◌, length, Bool, Option, Some, None, Result, Ok, Err, refl, sym, ap, subst, ◌∙◌, inl, inr, append_assoc, append-nil, length-append, arith}
+use Rattle.std.proofs.Common.{◌≡◌, ℕ, ◌+◌, ◌++◌, List, [], ◌∷◌, Bool, Option, Some, None, Result, Err, refl, sym, ap, subst, ◌∙◌, inl, inr, append_assoc, append-nil, length-append, arith}
 use Rattle.std.proofs.lemmas.List.Elements.{All-nil, All-push}
 use Rattle.std.proofs.lemmas.Grind.{flat_map-append}
 use Rattle.std.specs.List.{flat_map}
-use Rattle.std.specs.Prelude.{IsSome}
-use Rattle.std.specs.Io.KnownBytes.{Appends}
 use Rattle.gname.specs.declared.formats.Format.{Format}
 use Rattle.gpkt.specs.Change.{Change}
-use Rattle.gpkt.specs.Devices.{KeepsPassed, PassesAll}
 use Rattle.gpkt.specs.Laws.{CanonicalJoins, ReadsJoin, ReadsNone}
 use Rattle.gpkt.specs.LineReading.{ReadsLines}
 use Rattle.gpkt.specs.Packets.{Packet, canonical_all}
-use Rattle.gpkt.specs.Sending.{Input, Output, input_of, output_of, IsUp, IsUnread, IsUnwritten, Passes, SendsSome}
+use Rattle.gpkt.specs.Sending.{Input, Output, input_of, output_of, IsUnread, Passes}
 use Rattle.gpkt.specs.declared.fault.LineFault.{LineFault}
 use Rattle.gpkt.specs.declared.fault.LineFault.TheVariants.{Memory as NoBuffer}
 use Rattle.ggrammar.specs.Capabilities.{Capability}
@@ -23,8 +20,8 @@ use Rattle.ganswer.specs.Servers.{Server}
 use Rattle.ganswer.specs.declared.fault.ServeFault.{ServeFault}
 use Rattle.ganswer.specs.declared.fault.ServeFault.TheVariants as fault
 use Rattle.gserve.specs.Refusals.{err_packets}
-use Rattle.gserve.specs.Exchanges.{Turn, Exchanges, IsDue, reply, refusal, IsRefused, IsTurn, ReadsEmpty, ReadsEnd, ReadsTurn, ReadsTurns, reply_packets}
-use Rattle.gserve.specs.Conversations.{advert_packets, talk, talk_bytes, CannotBegin, Converses, HasEnded, IsDueFirst, advert, refusal as refusal_first, Serves, max_requests, rest_of}
+use Rattle.gserve.specs.Exchanges.{Turn, Exchanges, IsDue, reply, refusal, IsRefused, IsTurn, ReadsEmpty, ReadsEnd, ReadsTurns, reply_packets}
+use Rattle.gserve.specs.Conversations.{advert_packets, talk, talk_bytes, CannotBegin, Converses, HasEnded, advert, refusal as refusal_first, Serves, max_requests, rest_of}
 use Rattle.gserve.specs.Steps.{Advertises, HasAnswered, HasPassed, RefusesFirst, end_after}
 use Rattle.gserve.specs.declared.connection.End.{End}
 use Rattle.gserve.specs.declared.connection.End.TheVariants as end

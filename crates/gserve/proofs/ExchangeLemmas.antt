@@ -1,10 +1,9 @@
 -- From the steps of an exchange to the whole.
-use Rattle.std.proofs.Common.{◌≡◌, ◌≢◌, ℕ, ◌<◌, ◌++◌, List, [], ◌∷◌, Bool, false, Result, Ok, Err, refl, sym, ap, subst, ◌∙◌, inl, inr, arith}
+use Rattle.std.proofs.Common.{◌≡◌, ◌≢◌, ◌<◌, List, Bool, false, Result, Ok, Err, refl, sym, subst, ◌∙◌, arith}
 use Rattle.std.specs.Prelude.{OnOk}
 use Rattle.gpkt.specs.Packets.{Packet, canonical_all}
-use Rattle.gpkt.specs.Sending.{Input, Output, IsUp, IsUnread, IsUnwritten, Passes, SendsSome}
+use Rattle.gpkt.specs.Sending.{Input, Output, IsUp, IsUnread, Passes}
 use Rattle.gpkt.specs.LineReading.{ReadsLines}
-use Rattle.gpkt.specs.Devices.{KeepsPassed}
 use Rattle.gpkt.specs.declared.fault.LineFault.{LineFault}
 use Rattle.gpkt.specs.declared.fault.LineFault.TheVariants.{Memory as NoBuffer}
 use Rattle.ggrammar.specs.declared.ends.Ends.{Ends}
@@ -25,7 +24,7 @@ use Rattle.ganswer.specs.Servers.{Server}
 use Rattle.ganswer.specs.declared.fault.ServeFault.{ServeFault}
 use Rattle.ganswer.specs.declared.fault.ServeFault.TheVariants as fault
 use Rattle.gserve.specs.Refusals.{err_packets}
-use Rattle.gserve.specs.Exchanges.{Turn, Exchanges, LacksBuffer, RefusesAtOnce, IsDue, reply as due_reply, refusal as due_refusal, IsRefused, IsTurn, ReadsTurn, RefusesToAnswer, RefusesToRead, reply_packets}
+use Rattle.gserve.specs.Exchanges.{Turn, Exchanges, LacksBuffer, RefusesAtOnce, IsDue, reply as due_reply, refusal as due_refusal, IsRefused, ReadsTurn, RefusesToAnswer, RefusesToRead, reply_packets}
 use Rattle.gserve.specs.Steps.{HasPassed, IsDueFor, reply, refusal, Replies, ReportsRefusal, end_of_reply}
 use Rattle.gserve.specs.declared.exchange.ExchangeEnd.{ExchangeEnd}
 use Rattle.gserve.specs.declared.exchange.ExchangeEnd.TheVariants as end

@@ -1,14 +1,13 @@
 -- What is written and passed on, one after the other.
-use Rattle.std.proofs.Common.{◌≡◌, ◌≢◌, ℕ, ◌≤◌, Bool, true, false, List, [], ◌∷◌, ◌++◌, length, codes, Option, Some, None, Result, Ok, Err, refl, sym, ap, subst, ◌∙◌, append_assoc, append-nil, length-append, arith}
+use Rattle.std.proofs.Common.{◌≡◌, ℕ, ◌≤◌, Bool, false, List, [], ◌∷◌, ◌++◌, length, codes, Option, Some, None, Result, Ok, Err, refl, sym, ap, subst, ◌∙◌, append_assoc, append-nil, length-append, arith}
 use Rattle.std.specs.Prelude.{IsErrAnd, IsSome, OnOk}
 use Rattle.std.proofs.lemmas.Bool.{false≢true}
 use Rattle.std.specs.Io.KnownBytes.{Appends, Keeps}
-use Rattle.gpkt.specs.Change.{Change}
-use Rattle.gpkt.specs.Devices.{KeepsPassed, PassesAll}
+use Rattle.gpkt.specs.Devices.{KeepsPassed}
 use Rattle.gpkt.specs.Laws.{Fits, PushesWritten}
-use Rattle.gpkt.specs.LineWriting.{Writer, HasWritten, HasPushed}
-use Rattle.gpkt.specs.Packets.{Packet, Data, canonical_all, line_feed, max_payload}
-use Rattle.gpkt.specs.Sending.{output_of, IsUnwritten, Passes, PassesAfter, SendsAndFails, SendsSome}
+use Rattle.gpkt.specs.LineWriting.{Writer, HasPushed}
+use Rattle.gpkt.specs.Packets.{Packet, Data, canonical_all, line_feed}
+use Rattle.gpkt.specs.Sending.{output_of, IsUnwritten, Passes, SendsAndFails, SendsSome}
 use Rattle.gpkt.specs.declared.fault.WriteFault.{WriteFault}
 use Rattle.gpkt.specs.declared.fault.WriteFault.TheVariants.{Failed, Payload, Io}
 use Rattle.ggrammar.specs.Texts.{text_packet}

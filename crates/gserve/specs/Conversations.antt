@@ -1,6 +1,6 @@
 -- A served connection: what is written for the bytes that are read (gitprotocol-v2(5), "Initial Client Request" and
 -- "Command Request").
-use Rattle.std.specs.Prelude.{◌≡◌, ◌⊎◌, ℕ, List, [], ◌++◌, length, Option}
+use Rattle.std.specs.Prelude.{◌≡◌, ◌⊎◌, ℕ, List, ◌++◌, length, Option}
 use Rattle.std.specs.List.{flat_map}
 use Rattle.gname.specs.declared.formats.Format.{Format}
 use Rattle.gpkt.specs.Packets.{Packet, canonical_all}

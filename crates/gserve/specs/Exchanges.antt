@@ -1,5 +1,5 @@
 -- One request: what is read, and what is written for it (gitprotocol-v2(5), "Command Request").
-use Rattle.std.specs.Prelude.{◌≡◌, ◌≢◌, ◌⊎◌, ℕ, false, List, [], ◌∷◌, All, Ok, None}
+use Rattle.std.specs.Prelude.{◌≡◌, ◌≢◌, ◌⊎◌, false, List, [], All, Ok, None}
 use Rattle.std.specs.List.{flat_map}
 use Rattle.gname.specs.declared.formats.Format.{Format}
 use Rattle.gpkt.specs.Change.{Change}

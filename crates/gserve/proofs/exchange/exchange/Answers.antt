@@ -1,5 +1,4 @@
 use Rattle.std.proofs.Common.{◌≡◌, Option, Ok, ap, subst, ◌∙◌}
-use Rattle.gname.specs.declared.formats.Format.{Format}
 use Rattle.gpkt.specs.Sending.{input_of}
 use Rattle.grequest.specs.RequestReading.{ReadsRequest}
 use Rattle.grequest.specs.RequestValues.{asked_by_request}

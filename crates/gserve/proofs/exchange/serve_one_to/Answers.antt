@@ -1,4 +1,4 @@
-use Rattle.std.proofs.Common.{inl, inr, refl}
+use Rattle.std.proofs.Common.{inr, refl}
 use Rattle.gserve.proofs.ExchangeLemmas.{refused_at_once}
 use Rattle.gserve.proofs.exchange.serve_one_to.Goals as goal
 

@@ -1,4 +1,4 @@
-use Rattle.std.proofs.Common.{◌≡◌, ℕ, List, [], ◌∷◌, ◌++◌, codes, subst, ◌∙◌}
+use Rattle.std.proofs.Common.{◌≡◌, List, [], ◌∷◌, ◌++◌, codes, subst, ◌∙◌}
 use Rattle.gpkt.specs.Packets.{Packet, Data, line_feed}
 use Rattle.ggrammar.specs.Writing.{WritesLines}
 use Rattle.gserve.specs.Refusals.{err_text}
