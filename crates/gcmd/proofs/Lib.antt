@@ -1,16 +1,4 @@
-pub mod GrammarLemmas
-pub mod TextLemmas
 pub mod ReadingLemmas
-pub mod RequestLemmas
-pub mod RequestSections
-pub mod RequestVerdicts
-pub mod RequestShape
-pub mod RequestManual
-pub mod RequestStateLemmas
-pub mod WritingLemmas
-pub mod ReplyLemmas
-pub mod AnswerLemmas
-pub mod ExchangeLemmas
-pub mod RepositoryLemmas
 pub mod ProgramLemmas
+pub mod ServingLemmas
 pub mod LinesLemmas

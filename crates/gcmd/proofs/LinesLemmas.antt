@@ -216,7 +216,7 @@ module _
           between = remaining now.source;
           before = showing.read;
           stops = read.bytes;
-          source = read_failure remaining source_down source_loans false now next fault (λ failed. sym showing.ready ∙ failed) read;
+          source = read_failure remaining source_down source_loans now next fault showing.ready read;
         },
         showing.put,
       )

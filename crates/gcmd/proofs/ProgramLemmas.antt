@@ -1,11 +1,9 @@
 -- How programs end.
-use Rattle.std.proofs.Common.{◌≡◌, ℕ, List, Option, Some, sym, subst}
-use Rattle.gpkt.specs.Sending.{Output}
-use Rattle.gcmd.specs.Commands.{EndsWith}
+use Rattle.std.proofs.Common.{◌≡◌, ℕ, List, Result, Ok, Err, inl, inr, subst}
+use Rattle.gpkt.specs.Sending.{Output, HasSent}
+use Rattle.gcmd.specs.Programs.{Prints}
 
--- what was printed is the line of the fault that was met
-pub EndsWith-printed : (line : Option (List ℕ)) (printed due : List ℕ) (errors : Output) (status : ℕ) → line ≡ Some due → printed ≡ due
-    → EndsWith (Some printed) errors status → EndsWith line errors status
-EndsWith-printed line printed due errors status met same ends =
-    subst (λ (it : Option (List ℕ)). EndsWith it errors status) (sym met)
-    (subst (λ (bytes : List ℕ). EndsWith (Some bytes) errors status) same ends)
+-- a line that was sent, or of which a beginning stands, is printed
+pub Prints-sent : {E : Type 0} (errors : Output) (result : Result (Unit {0}) E) (sent due : List ℕ) → sent ≡ due → HasSent errors result sent → Prints errors due
+Prints-sent errors (Ok done) sent due same h = subst (Prints errors) same (inl h)
+Prints-sent errors (Err fault) sent due same h = subst (Prints errors) same (inr h)

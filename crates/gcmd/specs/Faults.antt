@@ -1,58 +1,114 @@
--- The tables of faults: the number and the name of each, as they are printed; and what is kept of a peer's text.
-use Rattle.std.specs.Prelude.{ℕ, List, codes, take}
+-- The table of the programs' faults: what is printed of each.
+use Rattle.std.specs.Prelude.{ℕ, List, codes, Option, Some, None}
 use Rattle.gname.specs.Faults.{FaultRow}
-use Rattle.gpkt.specs.Faults.{line_fault_row}
-use Rattle.gpkt.specs.Packets.{text}
-use Rattle.gcmd.specs.declared.exchange.LsFault.{LsFault}
-use Rattle.gcmd.specs.declared.exchange.LsFault.TheVariants as ls
-use Rattle.gcmd.specs.declared.fault.Why.{Why}
-use Rattle.gcmd.specs.declared.fault.Why.TheVariants as why
-use Rattle.gcmd.specs.declared.program.ProgramFault.{ProgramFault}
-use Rattle.gcmd.specs.declared.program.ProgramFault.TheVariants as program
-use Rattle.gcmd.specs.declared.repository.RepoFault.{RepoFault}
-use Rattle.gcmd.specs.declared.repository.RepoFault.TheVariants as repo
+use Rattle.gname.specs.Names.{head_name}
+use Rattle.gpkt.specs.Faults.{line_fault_row, write_fault_row}
+use Rattle.gpkt.specs.declared.fault.WriteFault.TheVariants.{Io}
+use Rattle.ggrammar.specs.Faults.{WhyRow}
+use Rattle.ggrammar.specs.declared.fault.Why.{Why}
+use Rattle.ggrammar.specs.declared.fault.Why.TheVariants as why
+use Rattle.ghistory.specs.declared.fault.GraphFault.{GraphFault}
+use Rattle.ghistory.specs.declared.fault.GraphFault.TheVariants as graph
+use Rattle.ggraph.specs.Faults.{load_fault_row}
+use Rattle.ggraph.specs.declared.fault.LoadFault.{LoadFault}
+use Rattle.ggraph.specs.declared.fault.LoadFault.TheVariants as load
+use Rattle.ganswer.specs.Faults.{build_fault_row, serve_fault_row}
+use Rattle.ganswer.specs.declared.fault.BuildFault.{BuildFault}
+use Rattle.ganswer.specs.declared.fault.BuildFault.TheVariants as build
+use Rattle.ganswer.specs.declared.fault.ServeFault.{ServeFault}
+use Rattle.ganswer.specs.declared.fault.ServeFault.TheVariants as serve
+use Rattle.gcmd.specs.declared.fault.ProgramFault.{ProgramFault}
+use Rattle.gcmd.specs.declared.fault.ProgramFault.TheVariants as program
 
--- how many bytes are kept of a peer's text
-abbrev pub max_peer_text : ℕ
-max_peer_text = 256
+-- what is printed of a fault: its number and its name, and, where it has them, the place of a packet in its message,
+-- the line of a text, an id, and a name or a text
+pub record Printed : Type 0 where
+  pub number : ℕ
+  pub name : List ℕ
+  pub frame : Option ℕ
+  pub line : Option ℕ
+  pub id : Option (List ℕ)
+  pub text : Option (List ℕ)
 
--- the first bytes of the text, which is the payload without one line feed at its end
-abbrev pub kept_text : List ℕ → List ℕ
-kept_text payload = take max_peer_text (text payload)
+-- a number and a name alone
+abbrev pub plain : FaultRow → Printed
+plain row = record { number = row.0; name = row.1; frame = None; line = None; id = None; text = None }
 
--- ---- faults of messages
+-- ---- repository texts
 
--- why a packet is refused
-abbrev pub why_row : Why → FaultRow
-why_row (why.Line fault) = line_fault_row fault
-why_row why.UnexpectedFrame = (41, codes "UnexpectedFrame")
-why_row why.BadText = (42, codes "BadText")
-why_row why.UnknownCommand = (43, codes "UnknownCommand")
-why_row why.UnknownCapability = (44, codes "UnknownCapability")
-why_row why.UnknownArgument = (45, codes "UnknownArgument")
-why_row why.BadName = (47, codes "BadName")
-why_row why.Limit = (48, codes "Limit")
-why_row (why.RemoteErr said) = (49, codes "RemoteErr")
-why_row why.Format = (52, codes "Format")
-why_row why.Memory = (53, codes "Memory")
-why_row why.Ended = (54, codes "Ended")
+-- the line that is wrong
+abbrev pub line_in_text : LoadFault → Option ℕ
+line_in_text (load.Text line) = Some line
+line_in_text (load.ParentLater line) = Some line
+line_in_text load.Memory = None
 
--- why a request got no answer
-abbrev pub ls_fault_row : LsFault → FaultRow
-ls_fault_row ls.Buffer = (28, codes "Memory")
-ls_fault_row (ls.Message fault) = why_row fault.why
-ls_fault_row ls.Memory = (64, codes "Memory")
+abbrev pub printed_of_text : LoadFault → Printed
+printed_of_text fault = record (plain (load_fault_row fault)) { line = line_in_text fault }
 
--- ---- faults of files and programs
+-- ---- repositories that are not served
 
--- why a text is no repository that can be served
-abbrev pub repo_fault_row : {A : Type 0} → RepoFault A → FaultRow
-repo_fault_row (repo.Text line) = (67, codes "Text")
-repo_fault_row (repo.ParentLater line) = (68, codes "ParentLater")
-repo_fault_row (repo.RefMissing name) = (71, codes "RefMissing")
-repo_fault_row repo.Memory = (64, codes "Memory")
+-- the id that two objects have, or that is of another format
+abbrev pub id_in_graph : GraphFault → Option (List ℕ)
+id_in_graph (graph.Conflict id) = Some id
+id_in_graph (graph.OtherFormat id) = Some id
+id_in_graph _ = None
 
--- the programs' own
-abbrev pub program_fault_row : ProgramFault → FaultRow
-program_fault_row program.Memory = (64, codes "Memory")
-program_fault_row program.File = (95, codes "File")
+-- the id that is missing
+abbrev pub id_in_build : {A : Type 0} → BuildFault A → Option (List ℕ)
+id_in_build (build.Graph cause) = id_in_graph cause
+id_in_build (build.NotClosed id) = Some id
+id_in_build (build.MissingParent id) = Some id
+id_in_build _ = None
+
+-- the ref whose object is missing
+abbrev pub ref_in_build : {A : Type 0} → BuildFault A → Option (List ℕ)
+ref_in_build (build.RefMissing name) = Some name
+ref_in_build build.HeadMissing = Some head_name
+ref_in_build _ = None
+
+abbrev pub printed_of_build : {A : Type 0} → BuildFault A → Printed
+printed_of_build fault =
+    record (plain (build_fault_row fault)) { id = id_in_build fault; text = ref_in_build fault }
+
+-- ---- requests
+
+-- where the message was refused
+abbrev pub frame_in_request : ServeFault → Option ℕ
+frame_in_request (serve.Request fault) = Some fault.frame
+frame_in_request _ = None
+
+-- the want that is missing
+abbrev pub id_in_request : ServeFault → Option (List ℕ)
+id_in_request (serve.NotOurs id) = Some id
+id_in_request _ = None
+
+-- what a peer said
+abbrev pub said_in : Why → Option (List ℕ)
+said_in (why.RemoteErr said) = Some said
+said_in (why.RemoteFatal said) = Some said
+said_in _ = None
+
+abbrev pub said_in_request : ServeFault → Option (List ℕ)
+said_in_request (serve.Request fault) = said_in fault.why
+said_in_request _ = None
+
+abbrev pub number_and_name : WhyRow → FaultRow
+number_and_name row = (row.code, row.name)
+
+abbrev pub printed_of_request : ServeFault → Printed
+printed_of_request fault = record (plain (number_and_name (serve_fault_row fault))) {
+  frame = frame_in_request fault;
+  id = id_in_request fault;
+  text = said_in_request fault;
+}
+
+-- ---- the table
+
+abbrev pub printed_of : {A : Type 0} → ProgramFault A → Printed
+printed_of program.Memory = plain (64, codes "Memory")
+printed_of program.File = plain (95, codes "File")
+printed_of (program.Text fault) = printed_of_text fault
+printed_of (program.Build fault) = printed_of_build fault
+printed_of (program.Request fault) = printed_of_request fault
+printed_of (program.Line fault) = plain (line_fault_row fault)
+printed_of program.WriteFailed = plain (write_fault_row Io)

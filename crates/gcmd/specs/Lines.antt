@@ -1,5 +1,5 @@
 -- `lines`: what it shows of the packet lines that it reads (gitprotocol-common(5), "pkt-line Format").
-use Rattle.std.specs.Prelude.{◌≡◌, ℕ, ◌⊎◌, ◌++◌, Bool, false, List, [], ◌∷◌, length, codes, Option, None, Some, Result}
+use Rattle.std.specs.Prelude.{◌≡◌, ℕ, ◌⊎◌, ◌++◌, Bool, false, List, [], ◌∷◌, length, codes, Option, None, Result}
 use Rattle.std.specs.Prelude.{Ok, Err}
 use Rattle.std.specs.Fmt.{decimal}
 use Rattle.hex.specs.Hex.{encode_lower}
@@ -8,13 +8,12 @@ use Rattle.gpkt.specs.Packets.{Packet, Data, Flush, Delim, ResponseEnd}
 use Rattle.gpkt.specs.LineReading.{Reads, ReadsLines}
 use Rattle.gpkt.specs.declared.device.Down.{Down}
 use Rattle.gpkt.specs.declared.fault.LineFault.{LineFault}
-use Rattle.gcmd.specs.Commands.{EndsWith}
-use Rattle.gcmd.specs.MessageReading.{IsReadFailure}
-use Rattle.gcmd.specs.Printing.{lines_fault_line}
+use Rattle.gpkt.specs.declared.fault.LineFault.TheVariants.{Memory}
 use Rattle.gpkt.specs.Sending.{Input, Output, IsUnread, IsUnwritten, Sends, SendsSome, HasPut}
-use Rattle.gcmd.specs.declared.fault.Why.TheVariants as why
-use Rattle.gcmd.specs.declared.lines.LinesFault.{LinesFault}
-use Rattle.gcmd.specs.declared.lines.LinesFault.TheVariants.{Memory, Line, WriteFailed}
+use Rattle.ggrammar.specs.MessageReading.{IsReadFailure}
+use Rattle.ggrammar.specs.declared.fault.Why.TheVariants as why
+use Rattle.gcmd.specs.Programs.{Outcome}
+use Rattle.gcmd.specs.declared.fault.ProgramFault.TheVariants as program
 
 -- ---- what is shown
 
@@ -73,25 +72,19 @@ ReadsSome input lines =
 abbrev pub ShowsSome : Input → Output → Type 0
 ShowsSome input output = (lines : List Packet) × ReadsSome input lines × SendsSome output (shown_lines lines)
 
--- all lines that are read are shown, up to one that is refused; or a beginning of them, where the sink is down; or
--- nothing, where there is no memory to read them
-abbrev pub HasShown : Input → Output → Result (Unit {0}) LinesFault → Type 0
-HasShown input output (Ok done) =
+-- the lines up to one that is refused are shown; or there is no memory for the buffer of the reader
+abbrev pub ShowsUntil : Input → Output → LineFault → Type 0
+ShowsUntil input output fault =
+    ((lines : List Packet) × ReadsEach input lines (Err fault) × Sends output (shown_lines lines))
+    ⊎ ((fault ≡ Memory) × IsUnread input × IsUnwritten output)
+
+-- all lines that are read are shown, up to one that is refused; or a beginning of them, where the sink is down
+abbrev pub ShowsLines : {A : Type 0} → Input → Output → Outcome A → Type 0
+ShowsLines input output (Ok done) =
     (lines : List Packet) × ReadsEach input lines (Ok tt) × Sends output (shown_lines lines)
-HasShown input output (Err (Line fault)) =
-    (lines : List Packet) × ReadsEach input lines (Err fault) × Sends output (shown_lines lines)
-HasShown input output (Err WriteFailed) = ShowsSome input output
-HasShown input output (Err Memory) = IsUnread input × IsUnwritten output
-
--- the line that is printed at the end, if one is
-abbrev pub line_of_lines : Result (Unit {0}) LinesFault → Option (List ℕ)
-line_of_lines (Ok done) = None
-line_of_lines (Err fault) = Some (lines_fault_line fault)
-
-abbrev pub ShowsLines : Input → Output → Output → ℕ → Type 0
-ShowsLines input output errors status =
-    (result : Result (Unit {0}) LinesFault) × HasShown input output result
-    × EndsWith (line_of_lines result) errors status
+ShowsLines input output (Err (program.Line fault)) = ShowsUntil input output fault
+ShowsLines input output (Err program.WriteFailed) = ShowsSome input output
+ShowsLines input output (Err _) = ⊥
 
 -- ---- its steps, by how reading ended, or the sink's failure
 

@@ -1,15 +1,16 @@
 //! `gitv2 check`, as a function over bytes and devices.
 
-ghost use Rattle.std.specs.Prelude.{◌≡◌, ◌+◌, ◌≤◌, ◌++◌, [], length, IfErr, IfOk};
-ghost use Rattle.gcmd.specs.Commands.{report_line, yes_or_no, Checks, HasChecked, IsReport};
+ghost use Rattle.std.specs.Prelude.{◌≡◌, ◌≤◌, [], length, IfOk};
+ghost use Rattle.gcmd.specs.Checking.{report_line, yes_or_no, Checks, IsReport};
+ghost use Rattle.gcmd.specs.Programs.{Runs};
 ghost use Rattle.gpkt.specs.Sending.{output_of, HasSent};
 
 use crate::compose::{add, add_number};
-use crate::print::FaultLine;
-use crate::program::fail;
+use crate::fault::ProgramFault;
+use crate::program::finish;
 use crate::send::send;
 use arrayvec::ArrayVec;
-use ggraph::{GraphFault, LoadFault, Order, Repository, is_safe, load};
+use ggraph::{GraphFault, Order, Repository, is_safe, load};
 use gpkt::{Down, Sink};
 use std::alloc::Allocator;
 
@@ -27,26 +28,12 @@ pub fn cmd_check<A: Allocator + Copy, W: Sink, E: Sink>(
     output: &mut W,
     errors: &mut E,
 ) -> u8
-    ensures checks { Checks A file.now (output_of W.contents W.passed_on W.is_down output.old output.new)
+    ensures runs { Runs {A = A} (Checks file.now (output_of W.contents W.passed_on W.is_down output.old output.new))
         (output_of E.contents E.passed_on E.is_down errors.old errors.new) result }
     ensures output_loans { W.loans output.new ≡ W.loans output.old }
     ensures errors_loans { E.loans errors.new ≡ E.loans errors.old }
 {
-    match check(alloc, file, output) {
-        Ok(()) => 0,
-        Err(fault) => fail(&FaultLine::of_check(&fault), errors),
-    }
-}
-
-/// Why there is no report.
-#[derive(Drop)]
-pub(crate) enum CheckFault {
-    /// The text was not loaded.
-    Text(LoadFault),
-    /// There is no memory to judge the repository.
-    Memory,
-    /// The output failed.
-    WriteFailed,
+    finish(check(alloc, file, output), errors)
 }
 
 // Writes the report.
@@ -54,21 +41,18 @@ fn check<A: Allocator + Copy, W: Sink>(
     alloc: A,
     file: &[u8],
     output: &mut W,
-) -> Result<(), CheckFault>
-    ensures checked { HasChecked A file.now (output_of W.contents W.passed_on W.is_down output.old output.new) result }
+) -> Result<(), ProgramFault<A>>
+    ensures checks { Checks file.now (output_of W.contents W.passed_on W.is_down output.old output.new) result }
     ensures loans { W.loans output.new ≡ W.loans output.old }
 {
-    let repo = match load(alloc, file, Order::Any) {
-        Ok(repo) => repo,
-        Err(fault) => return Err(CheckFault::Text(fault)),
-    };
+    let repo = load(alloc, file, Order::Any)?;
     let report = match report_of(&repo) {
         Ok(report) => report,
-        Err(_) => return Err(CheckFault::Memory),
+        Err(_) => return Err(ProgramFault::Memory),
     };
     match send_report(&report, output) {
         Ok(()) => Ok(()),
-        Err(_) => Err(CheckFault::WriteFailed),
+        Err(_) => Err(ProgramFault::WriteFailed),
     }
 }
 

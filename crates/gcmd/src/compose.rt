@@ -3,8 +3,7 @@
 ghost use Rattle.std.specs.Prelude.{◌≡◌, ◌+◌, ◌≤◌, ◌++◌, length};
 ghost use Rattle.std.specs.Fmt.{decimal};
 ghost use Rattle.gname.specs.Ids.{id_text};
-ghost use Rattle.gcmd.specs.Reply.{max_id_text};
-ghost use Rattle.gcmd.specs.Printing.{max_decimal};
+ghost use Rattle.gcmd.specs.Printing.{max_decimal, max_id_text};
 
 use arrayvec::ArrayVec;
 use gname::{MAX_ID_TEXT, Oid};

@@ -1,158 +1,78 @@
-//! Why a message is refused, and at which of its packets.
+//! The faults that programs end with.
 
-ghost use Rattle.std.specs.Prelude.{◌≡◌, ◌≤◌, length};
-ghost use Rattle.gcmd.specs.Faults.{kept_text, max_peer_text, why_row};
+ghost use Rattle.std.specs.Prelude.{◌≡◌};
+ghost use Rattle.gcmd.specs.Faults.{printed_of};
+ghost use Rattle.gcmd.specs.declared.fault.ProgramFault.TheVariants as program;
 
-use arrayvec::ArrayVec;
-use gpkt::{LineFault, text_of};
-use std::fmt;
-use std::marker::Model;
+use crate::print::FaultLine;
+use ganswer::{BuildFault, ServeFault};
+use ggraph::LoadFault;
+use gpkt::LineFault;
+use std::alloc::{Allocator, Global};
 use thiserror::Error;
 
-/// The most bytes of a peer's error that are kept.
-const MAX_PEER_TEXT: usize = 256;
-
-/// The text of a peer's error, of which the first 256 bytes are kept.
-#[derive(Drop)]
-pub struct PeerText {
-    text: ArrayVec<u8, MAX_PEER_TEXT>,
-}
-
-impl Model for PeerText {
-    ghost use Rattle.std.specs.Prelude.{List, ℕ};
-
-    ghost Value = { List ℕ };
-
-    ghost view = { λ t. t.text.items };
-}
-
-impl PeerText {
-    /// Keeps the text of an `ERR` line, given what follows the word: one line feed at its end is left
-    /// out, and then all after the first 256 bytes. Takes no memory.
-    pub fn new(text: &[u8]) -> PeerText
-        ensures { result ≡ kept_text text.now }
-    {
-        let line = text_of(text);
-        let kept = &line[..line.len().min(MAX_PEER_TEXT)];
-        let mut text = ArrayVec::new();
-        for byte in kept {
-            text.push(*byte);
-        }
-        PeerText { text }
-    }
-
-    /// The bytes, at most 256.
-    pub fn as_bytes(&self) -> &[u8]
-        ensures bytes { result.now ≡ self.now }
-        ensures short { length result.now ≤ max_peer_text }
-    {
-        self.text.as_slice()
-    }
-}
-
-impl fmt::Debug for PeerText {
-    fn fmt<W: fmt::Write>(&self, f: &mut fmt::Formatter<W>) -> fmt::Result {
-        write!(f, "PeerText")
-    }
-}
-
-/// Why a packet, or the end of the input in its place, is no part of the message.
+/// Why a program ends with status 1. One line is printed of it.
 #[derive(Debug, Drop, Error)]
-pub enum Why {
-    /// 20 to 25: the packet line itself was refused.
-    #[error("{0}")]
-    Line(LineFault),
-    /// 41: a flush, delimiter or response-end where the grammar has none.
-    #[error("unexpected packet")]
-    UnexpectedFrame,
-    /// 42: a text that no case of the grammar has.
-    #[error("bad line")]
-    BadText,
-    /// 43: a command that is not served.
-    #[error("unknown command")]
-    UnknownCommand,
-    /// 44: a capability that is not served.
-    #[error("unknown capability")]
-    UnknownCapability,
-    /// 45: an argument that the command does not have.
-    #[error("unknown argument")]
-    UnknownArgument,
-    /// 47: a prefix of ref names that is none.
-    #[error("bad ref name")]
-    BadName,
-    /// 48: one more than the most that is taken.
-    #[error("limit exceeded")]
-    Limit,
-    /// 49: the peer reported an error.
-    #[error("peer reported an error")]
-    RemoteErr(PeerText),
-    /// 52: another object format.
-    #[error("object format mismatch")]
-    Format,
-    /// 53: no memory for what the packet brings.
+pub enum ProgramFault<A: Allocator + Copy = Global> {
+    /// 64: there is no memory for a file, for a buffer of standard input or output, or to judge a repository.
     #[error("out of memory")]
     Memory,
-    /// 54: the input ends where a packet of the message is due.
-    #[error("unexpected end")]
-    Ended,
+    /// 95: a file could not be read.
+    #[error("the file can't be read")]
+    File,
+    /// 67, 68, 64: a file is no repository's text.
+    #[error("{0}")]
+    Text(LoadFault),
+    /// 71, 64: something is missing of the repository that a file names.
+    #[error("{0}")]
+    Build(BuildFault<A>),
+    /// 20 to 54, 64, 65, 73, 74: a request was refused.
+    #[error("{0}")]
+    Request(ServeFault),
+    /// 20 to 24, 28: a packet line that was to be shown was refused, or there is no memory to read it.
+    #[error("{0}")]
+    Line(LineFault),
+    /// 27: the output failed.
+    #[error("the output failed")]
+    WriteFailed,
 }
 
-impl Why {
+impl<A: Allocator + Copy> ProgramFault<A> {
     /// The number of the fault.
     pub fn code(&self) -> u32
-        ensures { result ≡ (why_row self.now).0 }
+        ensures { result ≡ (printed_of self.now).number }
     {
-        self.row().0
+        FaultLine::of(self).number()
     }
 
     /// The name of the fault.
     pub fn name(&self) -> &'static str
-        ensures { result.now ≡ (why_row self.now).1 }
+        ensures { result.now ≡ (printed_of self.now).name }
     {
-        self.row().1
-    }
-
-    // The table: the number and the name of each fault.
-    fn row(&self) -> (u32, &'static str)
-        ensures { (result.0, result.1.now) ≡ why_row self.now }
-    {
-        match self {
-            Why::Line(fault) => (fault.code(), fault.name()),
-            Why::UnexpectedFrame => (41, "UnexpectedFrame"),
-            Why::BadText => (42, "BadText"),
-            Why::UnknownCommand => (43, "UnknownCommand"),
-            Why::UnknownCapability => (44, "UnknownCapability"),
-            Why::UnknownArgument => (45, "UnknownArgument"),
-            Why::BadName => (47, "BadName"),
-            Why::Limit => (48, "Limit"),
-            Why::RemoteErr(_) => (49, "RemoteErr"),
-            Why::Format => (52, "Format"),
-            Why::Memory => (53, "Memory"),
-            Why::Ended => (54, "Ended"),
-        }
+        FaultLine::of(self).name()
     }
 }
 
-/// A message that was refused: at which of its packets, from 0, and why.
-#[derive(Debug, Drop, Error)]
-#[error("packet {frame}: {why}")]
-pub struct MessageFault {
-    pub frame: u64,
-    pub why: Why,
+impl<A: Allocator + Copy> From<LoadFault> for ProgramFault<A> {
+    ghost from_gives = { λ cause fault. fault ≡ program.Text cause };
+
+    fn from(cause: LoadFault) -> ProgramFault<A> {
+        ProgramFault::Text(cause)
+    }
 }
 
-impl MessageFault {
-    /// The number of the fault.
-    pub fn code(&self) -> u32
-        ensures { result ≡ (why_row self.now.why).0 }
-    {
-        self.why.code()
-    }
+impl<A: Allocator + Copy> From<BuildFault<A>> for ProgramFault<A> {
+    ghost from_gives = { λ cause fault. fault ≡ program.Build cause };
 
-    /// The name of the fault.
-    pub fn name(&self) -> &'static str
-        ensures { result.now ≡ (why_row self.now.why).1 }
-    {
-        self.why.name()
+    fn from(cause: BuildFault<A>) -> ProgramFault<A> {
+        ProgramFault::Build(cause)
+    }
+}
+
+impl<A: Allocator + Copy> From<LineFault> for ProgramFault<A> {
+    ghost from_gives = { λ cause fault. fault ≡ program.Line cause };
+
+    fn from(cause: LineFault) -> ProgramFault<A> {
+        ProgramFault::Line(cause)
     }
 }

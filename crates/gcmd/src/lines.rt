@@ -4,12 +4,13 @@ ghost use Rattle.std.specs.Prelude.{◌≡◌, ◌+◌, ◌≤◌, ◌++◌, cod
 ghost use Rattle.std.specs.Fmt.{decimal};
 ghost use Rattle.hex.specs.Hex.{encode_lower};
 ghost use Rattle.gpkt.specs.Packets.{packet_of};
-ghost use Rattle.gcmd.specs.Lines.{chunk, digits_part, shown_line, ShowsEach, HasPassed, HasShown, ShowsLines};
+ghost use Rattle.gcmd.specs.Lines.{chunk, digits_part, shown_line, ShowsEach, HasPassed, ShowsLines};
+ghost use Rattle.gcmd.specs.Programs.{Runs};
 ghost use Rattle.gpkt.specs.Sending.{input_of, output_of, HasPut};
 
 use crate::compose::{add, add_number};
-use crate::print::FaultLine;
-use crate::program::fail;
+use crate::fault::ProgramFault;
+use crate::program::finish;
 use crate::send::put;
 use arrayvec::ArrayVec;
 use gpkt::{Down, Line, LineBuffer, LineFault, LineReader, Sink, Source, laws};
@@ -34,28 +35,14 @@ pub fn cmd_lines<A: Allocator + Copy, S: Source, W: Sink, E: Sink>(
     output: &mut W,
     errors: &mut E,
 ) -> u8
-    ensures shows { ShowsLines (input_of S.remaining S.is_down input.old input.new)
-        (output_of W.contents W.passed_on W.is_down output.old output.new)
+    ensures runs { Runs {A = A} (ShowsLines (input_of S.remaining S.is_down input.old input.new)
+        (output_of W.contents W.passed_on W.is_down output.old output.new))
         (output_of E.contents E.passed_on E.is_down errors.old errors.new) result }
     ensures input_loans { S.loans input.new ≡ S.loans input.old }
     ensures output_loans { W.loans output.new ≡ W.loans output.old }
     ensures errors_loans { E.loans errors.new ≡ E.loans errors.old }
 {
-    match show_lines(alloc, input, output) {
-        Ok(()) => 0,
-        Err(fault) => fail(&FaultLine::of_lines(&fault), errors),
-    }
-}
-
-/// Why not all lines are shown.
-#[derive(Drop)]
-pub(crate) enum LinesFault {
-    /// There is no memory for the buffer of the reader.
-    Memory,
-    /// A line was refused.
-    Line(LineFault),
-    /// The output failed.
-    WriteFailed,
+    finish(show_lines(alloc, input, output), errors)
 }
 
 // Shows the lines.
@@ -63,23 +50,20 @@ fn show_lines<A: Allocator + Copy, S: Source, W: Sink>(
     alloc: A,
     input: &mut S,
     output: &mut W,
-) -> Result<(), LinesFault>
-    ensures shown { HasShown (input_of S.remaining S.is_down input.old input.new)
+) -> Result<(), ProgramFault<A>>
+    ensures shows { ShowsLines (input_of S.remaining S.is_down input.old input.new)
         (output_of W.contents W.passed_on W.is_down output.old output.new) result }
     ensures input_loans { S.loans input.new ≡ S.loans input.old }
     ensures output_loans { W.loans output.new ≡ W.loans output.old }
 {
-    let buffer = match LineBuffer::new(alloc) {
-        Ok(buffer) => buffer,
-        Err(_) => return Err(LinesFault::Memory),
-    };
+    let buffer = LineBuffer::new(alloc)?;
     let mut reader = LineReader::with_buffer(buffer, input);
     let passed = pass_each(&mut reader, output);
     let _input = reader.into_inner();
     match passed {
         Ok(Ok(())) => Ok(()),
-        Ok(Err(fault)) => Err(LinesFault::Line(fault)),
-        Err(_) => Err(LinesFault::WriteFailed),
+        Ok(Err(fault)) => Err(ProgramFault::Line(fault)),
+        Err(_) => Err(ProgramFault::WriteFailed),
     }
 }
 

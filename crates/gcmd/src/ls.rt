@@ -1,18 +1,22 @@
-//! `gitv2 ls`, as a function over bytes and devices.
+//! `gitv2 ls --stdio-server`, as a function over bytes and devices.
 
 ghost use Rattle.std.specs.Prelude.{◌≡◌};
-ghost use Rattle.gcmd.specs.Commands.{line_at_end, EndsWith, Serves};
+ghost use Rattle.gcmd.specs.Programs.{Runs};
+ghost use Rattle.gcmd.specs.Serving.{outcome_of_exchange, ServesRequest};
 ghost use Rattle.gpkt.specs.Sending.{input_of, output_of};
 
-use crate::exchange::{LsEnd, ls_once};
-use crate::print::FaultLine;
-use crate::program::fail;
-use crate::repository::RepoFile;
-use gpkt::{Sink, Source, WriteFault};
+use crate::fault::ProgramFault;
+use crate::program::finish;
+use crate::repository::load_server;
+use ggrammar::Ends;
+use ggraph::PlainPack;
+use gpkt::{Sink, Source};
+use gserve::{ExchangeEnd, serve_one};
 use std::alloc::Allocator;
 
-/// `gitv2 ls --stdio-server FILE`: reads one request from `input` and writes its reply to `output`, from
-/// the repository whose text is `file`. A fault is one line on `errors`.
+/// `gitv2 ls --stdio-server FILE`: reads one request from `input` and writes its reply to `output`, with no
+/// advertisement before it, from the repository whose text is `file` (gitprotocol-v2(5), "Command Request"). Any
+/// request is answered, one for objects too. A fault is one line on `errors`.
 ///
 /// It answers the exit status: 0 where the request was answered, was a lone flush, or there was no input;
 /// 1 where a fault was met. What is written is passed on before the call returns.
@@ -23,30 +27,39 @@ pub fn cmd_ls<A: Allocator + Copy, S: Source, W: Sink, E: Sink>(
     output: &mut W,
     errors: &mut E,
 ) -> u8
-    ensures serves { Serves A file.now (input_of S.remaining S.is_down input.old input.new)
-        (output_of W.contents W.passed_on W.is_down output.old output.new)
+    ensures runs { Runs {A = A} (ServesRequest file.now (input_of S.remaining S.is_down input.old input.new)
+        (output_of W.contents W.passed_on W.is_down output.old output.new))
         (output_of E.contents E.passed_on E.is_down errors.old errors.new) result }
     ensures input_loans { S.loans input.new ≡ S.loans input.old }
     ensures output_loans { W.loans output.new ≡ W.loans output.old }
     ensures errors_loans { E.loans errors.new ≡ E.loans errors.old }
 {
-    let repo = match RepoFile::read(alloc, file) {
-        Ok(repo) => repo,
-        Err(fault) => return fail(&FaultLine::of_repository(&fault), errors),
-    };
-    let ended = ls_once(alloc, &repo, input, output);
-    status_of(&ended, errors)
+    finish(answer_one(alloc, file, input, output), errors)
 }
 
-// The status at the end of an exchange, after a fault of it was printed.
-fn status_of<E: Sink>(ended: &LsEnd, errors: &mut E) -> u8
-    ensures ends { EndsWith (line_at_end ended.now)
-        (output_of E.contents E.passed_on E.is_down errors.old errors.new) result }
-    ensures loans { E.loans errors.new ≡ E.loans errors.old }
+// Answers one request.
+fn answer_one<A: Allocator + Copy, S: Source, W: Sink>(
+    alloc: A,
+    file: &[u8],
+    input: &mut S,
+    output: &mut W,
+) -> Result<(), ProgramFault<A>>
+    ensures serves { ServesRequest file.now (input_of S.remaining S.is_down input.old input.new)
+        (output_of W.contents W.passed_on W.is_down output.old output.new) result }
+    ensures input_loans { S.loans input.new ≡ S.loans input.old }
+    ensures output_loans { W.loans output.new ≡ W.loans output.old }
+{
+    let server = load_server(alloc, file)?;
+    outcome_of(serve_one(&server, &PlainPack, Ends::Plain, input, output))
+}
+
+// How the work comes out at the end of the exchange.
+fn outcome_of<A: Allocator + Copy>(ended: ExchangeEnd) -> Result<(), ProgramFault<A>>
+    ensures { result ≡ outcome_of_exchange ended }
 {
     match ended {
-        LsEnd::Answered | LsEnd::Closed | LsEnd::NoInput => 0,
-        LsEnd::Refused(fault) => fail(&FaultLine::of_exchange(fault), errors),
-        LsEnd::WriteFailed => fail(&FaultLine::of_write(&WriteFault::Io), errors),
+        ExchangeEnd::Answered | ExchangeEnd::Closed | ExchangeEnd::Ended => Ok(()),
+        ExchangeEnd::Refused(fault) => Err(ProgramFault::Request(fault)),
+        ExchangeEnd::WriteFailed => Err(ProgramFault::WriteFailed),
     }
 }

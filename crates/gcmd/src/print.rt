@@ -1,28 +1,28 @@
-//! How faults are printed: `gitv2: fault NUMBER NAME`, and then, where the fault has them and in this
-//! order, ` frame K`, ` line K`, ` at K`, and a space and the id, the name or the text, each byte outside
-//! 32 to 126 as `?`.
+//! How faults are printed: `gitv2: fault NUMBER NAME`, and then, where the fault has them and in this order, ` frame K`,
+//! ` line K`, and a space and the id, the name or the text, each byte outside 32 to 126 as `?`.
 
 ghost use Rattle.std.specs.Prelude.{◌≡◌, ◌+◌, ◌≤◌, ◌++◌, length, map, None, []};
-ghost use Rattle.gcmd.specs.Printing.{check_fault_line, graph_fault_line, id_fault_line, id_in_conflict, index_fault_line, line_fault_line, line_in_pack, line_in_text, lines_fault_line, ls_fault_line, max_decimal, max_fault_line, max_fault_name, max_subject, message_fault_line, name_fault_line, number_part, peer_text, place_in_id, place_in_name, printed, program_fault_line, repo_fault_line, shown, subject_part, text_fault_line, text_part, write_fault_line, IsShort, IsShortText};
 ghost use Rattle.std.specs.Option.{option_copied};
+ghost use Rattle.gcmd.specs.Faults.{id_in_build, id_in_graph, id_in_request, frame_in_request, line_in_text, printed_of, printed_of_build, printed_of_request, printed_of_text, ref_in_build, said_in, said_in_request};
+ghost use Rattle.gcmd.specs.Printing.{max_decimal, max_fault_line, max_fault_name, max_subject, number_part, printed_line, row_view, shown, subject_part, IsShort, IsShortText};
 ghost use Rattle.gpkt.specs.Sending.{output_of, HasSent};
 
-use crate::check::CheckFault;
 use crate::compose::{add, add_id, add_number};
-use crate::exchange::LsFault;
-use crate::fault::{MessageFault, Why};
-use crate::lines::LinesFault;
-use crate::program::ProgramFault;
-use crate::repository::RepoFault;
+use crate::fault::ProgramFault;
 use crate::send::send;
 use arrayvec::ArrayVec;
-use ggraph::{GraphFault, IndexFault, LoadFault};
-use gname::{NameFault, Oid, OidFault};
-use gpkt::{Down, LineFault, Sink, WriteFault};
+use ganswer::{BuildFault, ServeFault};
+use ggrammar::Why;
+use ggraph::{GraphFault, LoadFault};
+use gname::Oid;
+use gpkt::{Down, Sink, WriteFault};
 use std::alloc::Allocator;
 
-/// The most bytes of a fault's line: its words, a name of 32, four numbers of 20, and a text of 1,000.
-const MAX_FAULT_LINE: usize = 1_145;
+/// The most bytes of a fault's line: its words, a name of 32, three numbers of 20, and a text of 1,000.
+const MAX_FAULT_LINE: usize = 1_121;
+
+/// The name of HEAD.
+const HEAD: &[u8] = b"HEAD";
 
 /// What is printed of a fault.
 #[derive(Clone, Copy)]
@@ -31,19 +31,37 @@ pub(crate) struct FaultLine<'a> {
     name: &'static str,
     frame: Option<u64>,
     line: Option<usize>,
-    at: Option<usize>,
     id: Option<Oid>,
     // A name, or a text.
     text: Option<&'a [u8]>,
 }
 
 impl<'a> FaultLine<'a> {
-    /// A fault of which only the number and the name are printed.
-    pub(crate) fn plain(number: u32, name: &'static str) -> FaultLine<'a>
+    /// The table of faults.
+    pub(crate) fn of<A: Allocator + Copy>(fault: &'a ProgramFault<A>) -> FaultLine<'a>
+        ensures row { row_view result ≡ printed_of fault.now }
+        ensures short { IsShort result }
+    {
+        match fault {
+            ProgramFault::Memory => FaultLine::plain(64, "Memory"),
+            ProgramFault::File => FaultLine::plain(95, "File"),
+            ProgramFault::Text(fault) => FaultLine::of_text(fault),
+            ProgramFault::Build(fault) => FaultLine::of_build(fault),
+            ProgramFault::Request(fault) => FaultLine::of_request(fault),
+            ProgramFault::Line(fault) => FaultLine::plain(fault.code(), fault.name()),
+            ProgramFault::WriteFailed => FaultLine::plain(
+                WriteFault::Io.code(),
+                WriteFault::Io.name(),
+            ),
+        }
+    }
+
+    // A fault of which only the number and the name are printed.
+    fn plain(number: u32, name: &'static str) -> FaultLine<'a>
         requires { length name.now ≤ max_fault_name }
         ensures number { result.number ≡ number }
         ensures name { result.name.now ≡ name.now }
-        ensures places { (result.frame ≡ None) × (result.line ≡ None) × (result.at ≡ None) }
+        ensures places { (result.frame ≡ None) × (result.line ≡ None) }
         ensures subject { (result.id ≡ None) × (option_copied result.text ≡ None) }
     {
         FaultLine {
@@ -51,95 +69,14 @@ impl<'a> FaultLine<'a> {
             name,
             frame: None,
             line: None,
-            at: None,
             id: None,
             text: None,
         }
     }
 
-    /// A text that is no object id, with the place of a byte that is no digit.
-    pub(crate) fn of_id(fault: &OidFault) -> FaultLine<'a>
-        ensures line { printed result ≡ id_fault_line fault.now }
-        ensures short { IsShort result }
-    {
-        FaultLine {
-            at: place_in_id(fault),
-            ..FaultLine::plain(fault.code(), fault.name())
-        }
-    }
-
-    /// A text that is no ref name, or no prefix, with the place of what is wrong.
-    pub(crate) fn of_name(fault: &NameFault) -> FaultLine<'a>
-        ensures line { printed result ≡ name_fault_line fault.now }
-        ensures short { IsShort result }
-    {
-        FaultLine {
-            at: place_in_name(fault),
-            ..FaultLine::plain(fault.code(), fault.name())
-        }
-    }
-
-    /// A fault of a program's own.
-    pub(crate) fn of_program(fault: &ProgramFault) -> FaultLine<'a>
-        ensures line { printed result ≡ program_fault_line fault.now }
-        ensures short { IsShort result }
-    {
-        FaultLine::plain(fault.code(), fault.name())
-    }
-
-    /// A line that was not written.
-    pub(crate) fn of_write(fault: &WriteFault) -> FaultLine<'a>
-        ensures line { printed result ≡ write_fault_line fault.now }
-        ensures short { IsShort result }
-    {
-        FaultLine::plain(fault.code(), fault.name())
-    }
-
-    /// A line that was not read, outside a message.
-    pub(crate) fn of_line(fault: &LineFault) -> FaultLine<'a>
-        ensures line { printed result ≡ line_fault_line fault.now }
-        ensures short { IsShort result }
-    {
-        FaultLine::plain(fault.code(), fault.name())
-    }
-
-    /// Lines that were not all shown.
-    pub(crate) fn of_lines(fault: &LinesFault) -> FaultLine<'a>
-        ensures line { printed result ≡ lines_fault_line fault.now }
-        ensures short { IsShort result }
-    {
-        match fault {
-            LinesFault::Line(fault) => FaultLine::of_line(fault),
-            LinesFault::Memory => FaultLine::of_line(&LineFault::Memory),
-            LinesFault::WriteFailed => FaultLine::of_write(&WriteFault::Io),
-        }
-    }
-
-    /// A refusal of a graph, with the id that two objects have.
-    pub(crate) fn of_graph(fault: &GraphFault) -> FaultLine<'a>
-        ensures line { printed result ≡ graph_fault_line fault.now }
-        ensures short { IsShort result }
-    {
-        FaultLine {
-            id: id_in_conflict(fault),
-            ..FaultLine::plain(fault.code(), fault.name())
-        }
-    }
-
-    /// Bytes that are no pack, with the line.
-    pub(crate) fn of_index(fault: &IndexFault) -> FaultLine<'a>
-        ensures line { printed result ≡ index_fault_line fault.now }
-        ensures short { IsShort result }
-    {
-        FaultLine {
-            line: line_in_pack(fault),
-            ..FaultLine::plain(fault.code(), fault.name())
-        }
-    }
-
-    /// A text that is no repository's, with the line.
-    pub(crate) fn of_text(fault: &LoadFault) -> FaultLine<'a>
-        ensures line { printed result ≡ text_fault_line fault.now }
+    // A text that is no repository's, with the line that is wrong.
+    fn of_text(fault: &LoadFault) -> FaultLine<'a>
+        ensures row { row_view result ≡ printed_of_text fault.now }
         ensures short { IsShort result }
     {
         FaultLine {
@@ -148,65 +85,48 @@ impl<'a> FaultLine<'a> {
         }
     }
 
-    /// A repository that was not checked.
-    pub(crate) fn of_check(fault: &CheckFault) -> FaultLine<'a>
-        ensures line { printed result ≡ check_fault_line fault.now }
-        ensures short { IsShort result }
-    {
-        match fault {
-            CheckFault::Text(fault) => FaultLine::of_text(fault),
-            CheckFault::Memory => FaultLine::of_text(&LoadFault::Memory),
-            CheckFault::WriteFailed => FaultLine::of_write(&WriteFault::Io),
-        }
-    }
-
-    /// A text that is no repository that can be served, with its line, or the ref that is missing.
-    pub(crate) fn of_repository<A: Allocator + Copy>(fault: &'a RepoFault<A>) -> FaultLine<'a>
-        ensures line { printed result ≡ repo_fault_line fault.now }
-        ensures short { IsShort result }
-    {
-        let plain = FaultLine::plain(fault.code(), fault.name());
-        match fault {
-            RepoFault::Text { line } | RepoFault::ParentLater { line } => FaultLine {
-                line: Some(*line),
-                ..plain
-            },
-            RepoFault::RefMissing { name } => FaultLine {
-                text: Some(name.as_bytes()),
-                ..plain
-            },
-            RepoFault::Memory => plain,
-        }
-    }
-
-    /// A request that got no answer.
-    pub(crate) fn of_exchange(fault: &'a LsFault) -> FaultLine<'a>
-        ensures line { printed result ≡ ls_fault_line fault.now }
-        ensures short { IsShort result }
-    {
-        match fault {
-            LsFault::Buffer | LsFault::Memory => FaultLine::plain(fault.code(), fault.name()),
-            LsFault::Message(fault) => FaultLine::of_message(fault),
-        }
-    }
-
-    /// A message that was refused, with the packet, and the text of a peer's error.
-    pub(crate) fn of_message(fault: &'a MessageFault) -> FaultLine<'a>
-        ensures line { printed result ≡ message_fault_line fault.now }
+    // A repository of which something is missing, with the ref or the id.
+    fn of_build<A: Allocator + Copy>(fault: &'a BuildFault<A>) -> FaultLine<'a>
+        ensures row { row_view result ≡ printed_of_build fault.now }
         ensures short { IsShort result }
     {
         FaultLine {
-            frame: Some(fault.frame),
-            text: peer_text(&fault.why),
+            id: id_in_build(fault),
+            text: ref_in_build(fault),
             ..FaultLine::plain(fault.code(), fault.name())
         }
+    }
+
+    // A request that was refused, with the packet, what a peer said, or the want that is missing.
+    fn of_request(fault: &'a ServeFault) -> FaultLine<'a>
+        ensures row { row_view result ≡ printed_of_request fault.now }
+        ensures short { IsShort result }
+    {
+        FaultLine {
+            frame: frame_in_request(fault),
+            id: id_in_request(fault),
+            text: said_in_request(fault),
+            ..FaultLine::plain(fault.code(), fault.name())
+        }
+    }
+
+    pub(crate) fn number(&self) -> u32
+        ensures { result ≡ (row_view self.now).number }
+    {
+        self.number
+    }
+
+    pub(crate) fn name(&self) -> &'static str
+        ensures { result.now ≡ (row_view self.now).name }
+    {
+        self.name
     }
 
     /// Prints the line, and passes it on. At an error a beginning of the line stands printed, and the
     /// sink is down.
     pub(crate) fn print<E: Sink>(&self, errors: &mut E) -> Result<(), Down>
         requires { IsShort self.now }
-        ensures sent { HasSent (output_of E.contents E.passed_on E.is_down errors.old errors.new) result (printed self.now) }
+        ensures sent { HasSent (output_of E.contents E.passed_on E.is_down errors.old errors.new) result (printed_line (row_view self.now)) }
         ensures loans { E.loans errors.new ≡ E.loans errors.old }
     {
         let mut text = ArrayVec::new();
@@ -218,7 +138,7 @@ impl<'a> FaultLine<'a> {
     fn compose(&self, text: &mut ArrayVec<u8, MAX_FAULT_LINE>)
         requires short { IsShort self.now }
         requires empty { text.old.items ≡ [] }
-        ensures { text.new.items ≡ printed self.now }
+        ensures { text.new.items ≡ printed_line (row_view self.now) }
     {
         add(b"gitv2: fault ", text);
         add_number(u64::from(self.number), text);
@@ -226,7 +146,6 @@ impl<'a> FaultLine<'a> {
         add(self.name.as_bytes(), text);
         add_place(b" frame ", self.frame, text);
         add_place(b" line ", as_number(self.line), text);
-        add_place(b" at ", as_number(self.at), text);
         add_subject(self.id, self.text, text);
         add(b"\n", text);
     }
@@ -292,27 +211,6 @@ fn shown(byte: u8) -> u8
     }
 }
 
-fn place_in_id(fault: &OidFault) -> Option<usize>
-    ensures { result ≡ place_in_id fault.now }
-{
-    match fault {
-        OidFault::Length => None,
-        OidFault::Digit { at } => Some(*at),
-    }
-}
-
-fn place_in_name(fault: &NameFault) -> Option<usize>
-    ensures { result ≡ place_in_name fault.now }
-{
-    match fault {
-        NameFault::BadByte { at }
-        | NameFault::Component { at }
-        | NameFault::DoubleDot { at }
-        | NameFault::AtBrace { at } => Some(*at),
-        _ => None,
-    }
-}
-
 fn line_in_text(fault: &LoadFault) -> Option<usize>
     ensures { result ≡ line_in_text fault.now }
 {
@@ -322,30 +220,70 @@ fn line_in_text(fault: &LoadFault) -> Option<usize>
     }
 }
 
-fn line_in_pack(fault: &IndexFault) -> Option<usize>
-    ensures { result ≡ line_in_pack fault.now }
+fn id_in_graph(fault: &GraphFault) -> Option<Oid>
+    ensures { result ≡ id_in_graph fault.now }
 {
     match fault {
-        IndexFault::Bad { line } => Some(*line),
+        GraphFault::Conflict { id } | GraphFault::OtherFormat { id } => Some(*id),
         _ => None,
     }
 }
 
-fn id_in_conflict(fault: &GraphFault) -> Option<Oid>
-    ensures { result ≡ id_in_conflict fault.now }
+fn id_in_build<A: Allocator + Copy>(fault: &BuildFault<A>) -> Option<Oid>
+    ensures { result ≡ id_in_build fault.now }
 {
     match fault {
-        GraphFault::Conflict { id } => Some(*id),
+        BuildFault::Graph(cause) => id_in_graph(cause),
+        BuildFault::NotClosed { id } | BuildFault::MissingParent { id } => Some(*id),
         _ => None,
     }
 }
 
-fn peer_text(why: &Why) -> Option<&[u8]>
-    ensures text { option_copied result ≡ peer_text why.now }
+fn ref_in_build<A: Allocator + Copy>(fault: &BuildFault<A>) -> Option<&[u8]>
+    ensures name { option_copied result ≡ ref_in_build fault.now }
+    ensures short { IsShortText (option_copied result) }
+{
+    match fault {
+        BuildFault::RefMissing { name } => Some(name.as_bytes()),
+        BuildFault::HeadMissing => Some(HEAD),
+        _ => None,
+    }
+}
+
+fn frame_in_request(fault: &ServeFault) -> Option<u64>
+    ensures { result ≡ frame_in_request fault.now }
+{
+    match fault {
+        ServeFault::Request(cause) => Some(cause.frame),
+        _ => None,
+    }
+}
+
+fn id_in_request(fault: &ServeFault) -> Option<Oid>
+    ensures { result ≡ id_in_request fault.now }
+{
+    match fault {
+        ServeFault::NotOurs { id } => Some(*id),
+        _ => None,
+    }
+}
+
+fn said_in_request(fault: &ServeFault) -> Option<&[u8]>
+    ensures text { option_copied result ≡ said_in_request fault.now }
+    ensures short { IsShortText (option_copied result) }
+{
+    match fault {
+        ServeFault::Request(cause) => said_in(&cause.why),
+        _ => None,
+    }
+}
+
+fn said_in(why: &Why) -> Option<&[u8]>
+    ensures text { option_copied result ≡ said_in why.now }
     ensures short { IsShortText (option_copied result) }
 {
     match why {
-        Why::RemoteErr(text) => Some(text.as_bytes()),
+        Why::RemoteErr(text) | Why::RemoteFatal(text) => Some(text.as_bytes()),
         _ => None,
     }
 }

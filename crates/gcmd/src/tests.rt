@@ -1,10 +1,12 @@
-//! What no clause says: whole runs whose bytes were written by hand, devices and memory at their worst, the text
-//! of every fault, and that every call succeeds where it can.
-mod calls;
+//! What no clause says: whole runs whose bytes were written by hand, devices and memory at their worst, and the text of
+//! every fault.
+mod connections;
 mod devices;
 mod faults;
+mod files;
 mod lines;
 mod memory;
 mod programs;
-mod requests;
+mod rows;
 mod samples;
+mod serving;

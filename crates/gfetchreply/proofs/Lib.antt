@@ -12,5 +12,6 @@ pub mod KeptLemmas
 pub mod IdOfLemmas
 pub mod ReplyLemmas
 pub mod ReadLaws
+pub mod PacketReasons
 pub mod ValueLemmas
 pub mod OtherReadings

@@ -1,18 +1,48 @@
 //! The laws of replies to fetch. Each function does nothing, and its contract is the law: a caller that calls it
 //! may rely on the law from there on.
 
+ghost use Rattle.std.specs.Prelude.{◌≡◌};
 ghost use Rattle.ggrammar.specs.Grammar.{HasEndings, IsPrefixFree, RefusesFirstMisfits};
 ghost use Rattle.ggrammar.specs.Kinds.{AsInManual, CanonicalSays, OneMeaning, ReadsBack, ReadsExactly, SaysWhole};
-ghost use Rattle.ggrammar.specs.MessageBytes.{SpellingsPrefixFree};
+ghost use Rattle.ggrammar.specs.MessageBytes.{BeginsOrIsRefused, RefusesPackets, SpellingsPrefixFree};
 ghost use Rattle.gfetchreply.specs.FetchManual.{IsFetchReply};
-ghost use Rattle.gfetchreply.specs.FetchReplies.{IsCanonical, Reading, Says, brings, judge};
+ghost use Rattle.gfetchreply.specs.FetchReplies.{IsCanonical, Reading, Says, brings, judge, max_acks};
 ghost use Rattle.gfetchreply.specs.Laws.{HasShortEndings, IsInAnyLimit, IsRefusedOverLimit, OneInWhateverReading, ReadsBackInto, ReadsIntoOnlySaid, ReadsIntoWhereSaid};
 ghost use Rattle.gfetchreply.specs.WellFormed.{IsReplyIn};
 
 use crate::sink::PackSink;
-use ggrammar::laws::{grammars_are_exact, messages_are_read};
+use crate::value::MAX_ACKS;
+use ggrammar::Kind;
+use ggrammar::laws::{grammars_are_exact, kinds_are_read, messages_are_read};
 use gname::laws::{ids_have_one_format, ids_have_texts};
-use gpkt::laws::{canonical_spells, text_reads_back};
+use gpkt::laws::text_reads_back;
+
+// Replies as they are read, as a kind of message.
+struct Replies;
+
+impl Kind for Replies {
+    ghost use Rattle.gfetchreply.specs.FetchReplies.{FetchReply, IsCanonical, Reading, Says, brings, judge};
+    ghost use Rattle.gfetchreply.specs.WellFormed.{IsReplyIn};
+
+    ghost Given = { Reading };
+
+    ghost Said = { FetchReply };
+
+    ghost judge = { judge };
+
+    ghost brings = { brings };
+
+    ghost says = { Says };
+
+    ghost is_value = { IsReplyIn };
+
+    ghost is_canonical = { λ reading. IsCanonical reading.ends };
+}
+
+/// The constant is the limit that the definitions name.
+pub fn limits_are_the_constants()
+    ensures acks { MAX_ACKS ≡ max_acks }
+{}
 
 /// The lists of packets that are read as a reply are those of the manual's grammar, and they say the same
 /// (gitprotocol-v2(5), "fetch").
@@ -44,6 +74,15 @@ pub fn endings()
     grammars_are_exact();
 }
 
+/// A packet is refused for its own sake alone. All bytes begin with a reply, or are refused for a reason in them.
+pub fn every_input()
+    ensures packets { (reading : Reading) → RefusesPackets (judge reading) }
+    ensures bytes { (reading : Reading) → BeginsOrIsRefused (judge reading) (brings reading) }
+{
+    endings();
+    messages_are_read();
+}
+
 /// The packets that are written of a reply say it, and each fits a packet line.
 pub fn canonical_says()
     ensures { (reading : Reading) → CanonicalSays (Says reading) (IsReplyIn reading) (IsCanonical reading.ends) }
@@ -58,16 +97,17 @@ pub fn canonical_says()
 pub fn reads_exactly()
     ensures { (reading : Reading) → ReadsExactly (judge reading) (brings reading) (Says reading) }
 {
-    messages_are_read();
+    one_meaning();
+    kinds_are_read::<Replies>();
 }
 
 /// What is written of a reply reads back, whatever follows it.
 pub fn reads_back()
     ensures { (reading : Reading) → ReadsBack (judge reading) (brings reading) (Says reading) (IsReplyIn reading) (IsCanonical reading.ends) }
 {
-    messages_are_read();
+    one_meaning();
     canonical_says();
-    canonical_spells();
+    kinds_are_read::<Replies>();
 }
 
 /// A reply is read into a sink, as [`crate::read_fetch_reply_into_in`] reads it, exactly where a front of the bytes spells
@@ -76,16 +116,14 @@ pub fn reads_into_exactly<T: PackSink>()
     ensures said { (reading : Reading) → ReadsIntoWhereSaid T.taken reading }
     ensures only { (reading : Reading) → ReadsIntoOnlySaid T.taken reading }
 {
-    messages_are_read();
+    reads_exactly();
 }
 
 /// What is written of a reply reads back into a sink, whatever follows it.
 pub fn reads_back_into<T: PackSink>()
     ensures { (reading : Reading) → ReadsBackInto T.taken reading }
 {
-    messages_are_read();
-    canonical_says();
-    canonical_spells();
+    reads_back();
 }
 
 /// A reply that is delivered as the answer to another request, or read within another limit. Whatever way some packets

@@ -19,9 +19,10 @@
 //! - [`laws`]: the lists of lines that are replies are those of the manual (`specs/FetchManual.antt`), and what they
 //!   say is the same; lines say one reply, no reply and no spelling of one begins another, each beginning has a short
 //!   ending, and a refused packet is the first that does not fit. What is written says the reply and reads back,
-//!   whatever follows; a reply is read exactly where a front of the bytes spells it. Read as the answer to another
-//!   request, the same bytes are the same reply or none; within another limit they are the same reply or are refused for
-//!   the limit alone.
+//!   whatever follows; a reply is read exactly where a front of the bytes spells it, and all bytes have such a front or
+//!   are refused for a reason in them. Read as the answer to another request, the same bytes are the same reply or none;
+//!   within another limit they are the same reply or are refused for the limit alone. The constant is the limit of the
+//!   definitions.
 //!
 //! # Only tested
 //!

@@ -186,12 +186,12 @@ impl<T: PackSink, A: Allocator + Copy, L: Lent<T>> Message for ReplyReader<'_, T
     ghost left = { λ reader packets. Leaves T.taken T.same L.had L.starts L.seat L.asked (reading_in reader.reading)
         reader.sink.now reader.sink.ghost_name packets };
 
+    fn laws() {}
+
     fn take(&mut self, line: Line<'_>) -> Result<Step, Why> {
         T::laws();
         self.take_packet(line)
     }
-
-    fn laws() {}
 }
 
 /// Reads the reply to fetch of a repository whose ids are SHA-1, as [`read_fetch_reply_into_in`] does: whether the

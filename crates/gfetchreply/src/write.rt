@@ -1,6 +1,8 @@
 //! Writing a reply to fetch (gitprotocol-v2(5), "fetch").
 
-ghost use Rattle.std.specs.Prelude.{[], ◌∷◌, ◌++◌, map};
+ghost use Rattle.std.specs.Prelude.{[], ◌≡◌, ◌∷◌, ◌++◌, map};
+ghost use Rattle.std.specs.Slice.Iter.{chunks_rest, chunks_size};
+ghost use Rattle.gpkt.specs.Bands.{max_band};
 ghost use Rattle.gpkt.specs.Packets.{Delim, Flush};
 ghost use Rattle.ggrammar.specs.Endings.{ends_with};
 ghost use Rattle.ggrammar.specs.Writing.{WritesLines, WritesPart};
@@ -13,6 +15,7 @@ use ggrammar::laws::writes_lines;
 use gname::{MAX_ID_TEXT, Oid};
 use gpkt::{Band, LineWriter, MAX_BAND, Sink, WriteFault};
 use std::alloc::Allocator;
+use std::slice::Chunks;
 
 /// Writes a reply in its one list of packets (gitprotocol-v2(5), "fetch"): the pack in pieces of the largest size, and no
 /// progress. The ids and the pack are written from where they are, and it takes no memory.
@@ -87,10 +90,18 @@ fn write_pieces<W: Sink>(pack: &[u8], writer: &mut LineWriter<W>) -> Result<(), 
     ensures { WritesPart W.contents W.passed_on W.is_down W.loans writer.old writer.new result (map data_packet (pieces pack.now)) }
 {
     writes_lines::<W>();
-    for piece in pack.chunks(MAX_BAND) {
+    for piece in in_pieces(pack) {
         writer.put_band(&Band::Data(piece))?;
     }
     Ok(())
+}
+
+// The pack, to be cut into pieces of the largest size.
+fn in_pieces(pack: &[u8]) -> Chunks<'_, u8>
+    ensures size { chunks_size result ≡ max_band }
+    ensures rest { chunks_rest result ≡ pack.now }
+{
+    pack.chunks(MAX_BAND)
 }
 
 // Writes the acknowledged ids, or `NAK` where there are none.

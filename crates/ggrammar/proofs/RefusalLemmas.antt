@@ -8,7 +8,7 @@ use Rattle.gpkt.specs.declared.fault.LineFault.{LineFault}
 use Rattle.gpkt.specs.declared.fault.LineFault.TheVariants as line_fault
 use Rattle.ggrammar.specs.Grammar.{Judge, Verdict, Open, Whole, Refused, IsOpen, HasEndings}
 use Rattle.ggrammar.specs.MessageReading.{IsReason, IsReasonAfter, ReadsRefused}
-use Rattle.ggrammar.specs.MessageBytes.{known, IsOfBytes, IsOfPacket, RefusesPackets, BeginsWithMessage, IsRefused, LawsOfBytes}
+use Rattle.ggrammar.specs.MessageBytes.{known, IsForPacket, IsOfBytes, IsOfPacket, RefusesPackets, BeginsWithMessage, IsRefused, LawsOfBytes}
 use Rattle.ggrammar.specs.declared.fault.Why.{Why}
 use Rattle.ggrammar.specs.declared.fault.Why.TheVariants as why
 use Rattle.ggrammar.specs.declared.fault.MessageFault.{MessageFault}
@@ -208,7 +208,7 @@ module _ (judge : Judge) (brings : List Packet → Packet → Bool) where
         more (IsOpen-push opened is) (ReadsLines-push (Some bytes) (Some mid) (Some new) front packet read next)
     by_verdict Whole front packet mid new is opened read next more = whole_after front packet mid new opened read next is
     by_verdict (Refused reason) front packet mid new is opened read next more =
-        let h = packet_reason front packet reason is (of_packets front packet reason is) in
+        let h = packet_reason front packet reason is (subst IsForPacket is (of_packets front packet)) in
         refused_after front mid new reason opened read (reason_after judge brings front (known mid new) packet reason next h.0) h.1
 
     found_within : (steps : ℕ) (front : List Packet) (mid : List ℕ) → length mid < steps → IsOpen judge front → ReadsLines (known bytes mid) front → Found

@@ -4,7 +4,7 @@ use Rattle.gpkt.specs.Packets.{Packet, SpellsAll}
 use Rattle.gpkt.specs.Change.{Change}
 use Rattle.gpkt.specs.LineReading.{Reads}
 use Rattle.gpkt.specs.declared.fault.LineFault.TheVariants.{Io, Failed}
-use Rattle.ggrammar.specs.Grammar.{Judge, Refused, IsWhole, HasEndings}
+use Rattle.ggrammar.specs.Grammar.{Judge, Verdict, Refused, IsWhole, HasEndings}
 use Rattle.ggrammar.specs.MessageReading.{ReadsWhole, ReadsRefused}
 use Rattle.ggrammar.specs.declared.fault.Why.{Why}
 use Rattle.ggrammar.specs.declared.fault.Why.TheVariants.{Line, Memory, Ended}
@@ -64,10 +64,14 @@ IsOfPacket Ended = ⊥
 IsOfPacket Memory = ⊥
 IsOfPacket why = Unit {0}
 
+-- what a verdict refuses, it refuses for the packet's own sake
+abbrev pub IsForPacket : Verdict → Type 0
+IsForPacket (Refused why) = IsOfPacket why
+IsForPacket verdict = Unit {0}
+
 -- a judge has no other reasons
 abbrev pub RefusesPackets : Judge → Type 0
-RefusesPackets judge = (front : List Packet) (packet : Packet) (why : Why) → judge front packet ≡ Refused why
-    → IsOfPacket why
+RefusesPackets judge = (front : List Packet) (packet : Packet) → IsForPacket (judge front packet)
 
 -- the bytes begin with a message
 abbrev pub BeginsWithMessage : Judge → List ℕ → Type 0
@@ -82,10 +86,14 @@ pub record IsRefused (judge : Judge) (brings : List Packet → Packet → Bool) 
   pub refused : ReadsRefused judge brings front (known bytes rest) fault
   pub certain : IsOfBytes fault.why
 
--- all bytes begin with a message or are refused, where the grammar has endings and reasons of packets alone
+-- all bytes begin with a message or are refused
+abbrev pub BeginsOrIsRefused : Judge → (List Packet → Packet → Bool) → Type 0
+BeginsOrIsRefused judge brings = (bytes : List ℕ) → BeginsWithMessage judge bytes ⊎ IsRefused judge brings bytes
+
+-- so it is where the grammar has endings and reasons of packets alone
 abbrev pub EveryInput : Judge → Type 0
-EveryInput judge = HasEndings judge → RefusesPackets judge → (brings : List Packet → Packet → Bool) (bytes : List ℕ)
-    → BeginsWithMessage judge bytes ⊎ IsRefused judge brings bytes
+EveryInput judge = HasEndings judge → RefusesPackets judge → (brings : List Packet → Packet → Bool)
+    → BeginsOrIsRefused judge brings
 
 -- no spelling of a message begins another
 abbrev pub SpellingsPrefixFree : Judge → Type 0

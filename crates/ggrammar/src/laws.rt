@@ -1,6 +1,8 @@
 //! The laws of every grammar: functions without effect, whose contracts they are.
 
-ghost use Rattle.ggrammar.specs.Capabilities.{CapabilityIsItsText};
+ghost use Rattle.std.specs.Prelude.{◌≡◌};
+ghost use Rattle.ggrammar.specs.Capabilities.{CapabilityIsItsText, max_capability};
+ghost use Rattle.ggrammar.specs.Faults.{max_peer_text};
 ghost use Rattle.ggrammar.specs.Grammar.{Judge, LawsOf};
 ghost use Rattle.ggrammar.specs.Ids.{IdIsSpelt};
 ghost use Rattle.ggrammar.specs.Kinds.{CanonicalSays, OneMeaning, ReadsBack, ReadsBackIfAny, ReadsExactly, ReadsExactlyIfAny, SaysWhole};
@@ -8,12 +10,20 @@ ghost use Rattle.ggrammar.specs.MessageBytes.{LawsOfBytes};
 ghost use Rattle.ggrammar.specs.Texts.{TextIsRead, TextsOfMore};
 ghost use Rattle.ggrammar.specs.Writing.{EndsWriting, FailsWriting, GoesOnAfterPart, GoesOnWriting, LinesArePart, StartsWriting, WritesFitting, WritesLine};
 
+use crate::capability::MAX_CAPABILITY;
+use crate::fault::MAX_PEER_TEXT;
 use crate::kind::Kind;
 use gpkt::Sink;
 use gpkt::laws::{
     canonical_spells, every_front, has_four_bytes, one_begins, one_outcome, one_reading,
     refused_front, text_reads_back, writes_join,
 };
+
+/// The constants are the limits that the definitions name.
+pub fn limits_are_the_constants()
+    ensures capability { MAX_CAPABILITY ≡ max_capability }
+    ensures peer_text { MAX_PEER_TEXT ≡ max_peer_text }
+{}
 
 /// Open lists grow packet by packet. No message begins another. Where each open list has an ending, it begins a
 /// message and holds none, and a refused packet is the first that does not fit.

@@ -17,7 +17,7 @@
 //! - [`capability_of`] splits a capability into its key and its value exactly where it is one, and
 //!   [`id_of_text`] reads an id exactly where a text spells one.
 //! - The number, the name and the phrase of each fault stand in one row, `why_row`; of a peer's error the
-//!   first 256 bytes are kept.
+//!   first 256 bytes are kept. The constants are the limits of the definitions.
 //!
 //! # Only tested
 //!

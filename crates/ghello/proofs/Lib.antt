@@ -4,3 +4,4 @@ pub mod AdvertShape
 pub mod Manual
 pub mod Canonical
 pub mod TakingLemmas
+pub mod PacketReasons

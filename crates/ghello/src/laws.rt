@@ -1,12 +1,14 @@
 //! The laws of hellos and advertisements: functions without effect, whose contracts they are.
 
+ghost use Rattle.std.specs.Prelude.{◌≡◌};
 ghost use Rattle.ggrammar.specs.Grammar.{HasEndings, IsPrefixFree, RefusesFirstMisfits};
 ghost use Rattle.ggrammar.specs.Kinds.{AsInManual, CanonicalSays, OneMeaning, ReadsBack, ReadsExactly, SaysWhole};
-ghost use Rattle.ggrammar.specs.MessageBytes.{SpellingsPrefixFree};
+ghost use Rattle.ggrammar.specs.MessageBytes.{BeginsOrIsRefused, RefusesPackets, SpellingsPrefixFree};
 ghost use Rattle.ghello.specs.Laws.{PayloadSaysHello};
 ghost use Rattle.ghello.specs.Hello as hello;
 ghost use Rattle.ghello.specs.Adverts as advert;
 
+use crate::{MAX_ADVERTISED, MAX_HOST, MAX_PATH};
 use ggrammar::Kind;
 use ggrammar::laws::{
     grammars_are_exact, kinds_are_read, messages_are_read, texts_are_classified, texts_are_read,
@@ -57,6 +59,13 @@ impl Kind for Adverts {
     ghost is_canonical = { λ _. advert.IsCanonical };
 }
 
+/// The constants are the limits that the definitions name.
+pub fn limits_are_the_constants()
+    ensures path { MAX_PATH ≡ hello.max_path }
+    ensures host { MAX_HOST ≡ hello.max_host }
+    ensures advertised { MAX_ADVERTISED ≡ advert.max_advertised }
+{}
+
 /// Packets say at most one hello, and at most one advertisement.
 pub fn one_meaning()
     ensures hello { OneMeaning hello.Says }
@@ -96,6 +105,18 @@ pub fn endings()
     ensures advert_first { RefusesFirstMisfits advert.judge }
 {
     grammars_are_exact();
+}
+
+/// A packet is refused for its own sake alone. All bytes begin with a hello, or are refused for a reason in them; and
+/// all begin with an advertisement, or are refused.
+pub fn every_input()
+    ensures hello_packets { RefusesPackets hello.judge }
+    ensures hello { BeginsOrIsRefused hello.judge hello.brings }
+    ensures advert_packets { RefusesPackets advert.judge }
+    ensures advert { BeginsOrIsRefused advert.judge advert.brings }
+{
+    endings();
+    messages_are_read();
 }
 
 /// What is written of a hello, or of an advertisement, says it, and each of its lines fits a packet.

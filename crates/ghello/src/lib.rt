@@ -19,8 +19,9 @@
 //!   ids, and [`Advert::check_in`] says why a client of an object format can't go on.
 //! - [`laws`], of both kinds: the tables have exactly the messages of the manual's words, with the same value;
 //!   packets say one value at most; no message begins another, as packets or as bytes; each beginning has an
-//!   ending, and a refused packet is the first that does not fit; what is written says its value, in lines
-//!   that fit; a message is read exactly where the bytes begin with it, and what is written reads back.
+//!   ending, and a refused packet is the first that does not fit; all bytes begin with a message or are refused
+//!   for a reason in them; what is written says its value, in lines that fit; a message is read exactly where the
+//!   bytes begin with it, and what is written reads back. The constants are the limits of the definitions.
 //!
 //! # Only tested
 //!
@@ -30,8 +31,7 @@
 //! # What a body can still get away with
 //!
 //! It may take as long as it likes, and answer that it is out of memory wherever something is to be kept. A value may keep
-//! more memory than it needs, and a look-up or a writer may take some and let it go. That the numbers of the limits that
-//! callers see are those of the definitions is not said by a contract.
+//! more memory than it needs, and a look-up or a writer may take some and let it go.
 //! Where a sink fails, a shorter beginning may stand written. Where the bytes of a source or of a sink are not
 //! known, nothing is said of those that were read or written; what a device has done is said all the same.
 //!

@@ -181,17 +181,17 @@ impl<A: Allocator + Copy> Graph<A> {
         Ok(Entry { id: *id, node })
     }
 
-    /// Whether each node, one with the parents after the others too, came after all its parents.
-    fn stays_ordered(&self, parents: &[Oid]) -> bool
-        ensures { IsTrue result ↔ (IsOrdered self.now.entries × All (Holds self.now.entries) parents.now) }
+    // Whether each node came after all its parents, one more too that is added where its parents are held, or are not.
+    fn stays_ordered(&self, parents_held: bool) -> bool
+        ensures { IsTrue result ↔ (IsOrdered self.now.entries × IsTrue parents_held) }
     {
-        self.is_ordered() && self.contains_all(parents)
+        self.is_ordered() && parents_held
     }
 
     /// Adds an entry after the others. Where there is no memory the graph stays as it was.
     ///
     /// It fails with `Memory` alone.
-    pub fn push(&mut self, entry: Entry<A>) -> Result<(), GraphFault>
+    pub(crate) fn push(&mut self, entry: Entry<A>) -> Result<(), GraphFault>
         requires new { node_at self.old.entries entry.id ≡ None }
         requires ids { HasIdsOf self.old.format entry }
         requires shaped { IsShaped entry.node }
@@ -201,7 +201,26 @@ impl<A: Allocator + Copy> Graph<A> {
         ensures graph { IsGraph self.new }
         ensures fault { IfErr result (λ fault. fault ≡ Memory) }
     {
-        let ordered = self.stays_ordered(entry.node.parents.as_slice());
+        let parents_held = self.contains_all(entry.node.parents.as_slice());
+        self.push_after(entry, parents_held)
+    }
+
+    /// Adds an entry after the others, for a caller who has looked up whether the graph holds its parents. Where there is
+    /// no memory the graph stays as it was.
+    ///
+    /// It fails with `Memory` alone.
+    pub fn push_after(&mut self, entry: Entry<A>, parents_held: bool) -> Result<(), GraphFault>
+        requires new { node_at self.old.entries entry.id ≡ None }
+        requires ids { HasIdsOf self.old.format entry }
+        requires shaped { IsShaped entry.node }
+        requires room { length self.old.entries < max_nodes }
+        requires parents { IsTrue parents_held ↔ All (Holds self.old.entries) entry.node.parents }
+        ensures ok { OnOk result (self.new ≡ record { format = self.old.format; entries = self.old.entries ++ entry ∷ [] }) }
+        ensures err { OnErr result (self.new ≡ self.old) }
+        ensures graph { IsGraph self.new }
+        ensures fault { IfErr result (λ fault. fault ≡ Memory) }
+    {
+        let ordered = self.stays_ordered(parents_held);
         self.nodes.insert(entry.id, entry.node)?;
         self.ordered = ordered;
         Ok(())

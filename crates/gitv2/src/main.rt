@@ -8,7 +8,7 @@
 //! # Only tested
 //!
 //! What the words mean (`words.rt`), and one run of `ls` (`args`, `stdin`, `stdout`, `data/`). The other
-//! runs are tried by hand: no test sees which function `run` calls for `check` and for `lines`, or what a missing
+//! runs are tried by hand: no test sees which function `run` calls for `check`, `lines` and `upload`, or what a missing
 //! file gives.
 //!
 //! # What a body can still get away with
@@ -23,8 +23,9 @@
 mod words;
 
 use crate::words::Command;
-use gcmd::{ProgramFault, cmd_check, cmd_failed, cmd_lines, cmd_ls};
+use gcmd::{Ends, ProgramFault, cmd_check, cmd_failed, cmd_lines, cmd_ls, cmd_upload};
 use gpkt::{FromRead, Sink, ToWrite};
+use std::alloc::Global;
 use std::io::{BufReader, BufWriter, Write};
 use std::process::ExitCode;
 use std::rt::{Env, Files};
@@ -54,8 +55,16 @@ where
     match command {
         Command::Check { file } => check(rt, file.as_str(), errors),
         Command::Lines => show_lines(rt, errors),
-        Command::LsStdioServer { file } => serve_ls(rt, file.as_str(), errors),
+        Command::LsStdioServer { file } => serve(rt, Service::Request, file.as_str(), errors),
+        Command::Upload { ends, file } => {
+            serve(rt, Service::Connection(ends), file.as_str(), errors)
+        }
     }
+}
+
+// Ends with a fault that comes before any work.
+fn fail<E: Sink>(fault: ProgramFault<Global>, errors: &mut E) -> u8 {
+    cmd_failed(fault, errors)
 }
 
 // Reports of a repository on standard output.
@@ -65,10 +74,10 @@ where
     E: Sink,
 {
     let Ok(text) = fs::read(rt, file) else {
-        return cmd_failed(ProgramFault::File, errors);
+        return fail(ProgramFault::File, errors);
     };
     let Ok(mut stdout) = BufWriter::new(rt.alloc(), io::writer(rt)) else {
-        return cmd_failed(ProgramFault::Memory, errors);
+        return fail(ProgramFault::Memory, errors);
     };
     let mut output = ToWrite::new(&mut stdout);
     cmd_check(rt.alloc(), text.as_slice(), &mut output, errors)
@@ -81,32 +90,51 @@ where
     E: Sink,
 {
     let Ok(mut stdin) = BufReader::new(rt.alloc(), rt.reader()) else {
-        return cmd_failed(ProgramFault::Memory, errors);
+        return fail(ProgramFault::Memory, errors);
     };
     let Ok(mut stdout) = BufWriter::new(rt.alloc(), io::writer(rt)) else {
-        return cmd_failed(ProgramFault::Memory, errors);
+        return fail(ProgramFault::Memory, errors);
     };
     let mut input = FromRead::new(&mut stdin);
     let mut output = ToWrite::new(&mut stdout);
     cmd_lines(rt.alloc(), &mut input, &mut output, errors)
 }
 
-// Answers one request of standard input on standard output.
-fn serve_ls<R, E>(rt: &R, file: &str, errors: &mut E) -> u8
+// The bytes of a reply that go out in one write.
+const REPLY_BUFFER: usize = 65_536;
+
+// What is served on standard input and standard output.
+#[derive(Drop)]
+enum Service {
+    // One request, with no advertisement before it.
+    Request,
+    // A connection.
+    Connection(Ends),
+}
+
+// Serves the repository of a file.
+fn serve<R, E>(rt: &R, service: Service, file: &str, errors: &mut E) -> u8
 where
     R: Files + Input + Print + AllocGlobal,
     E: Sink,
 {
+    let alloc = rt.alloc();
     let Ok(text) = fs::read(rt, file) else {
-        return cmd_failed(ProgramFault::File, errors);
+        return fail(ProgramFault::File, errors);
     };
-    let Ok(mut stdin) = BufReader::new(rt.alloc(), rt.reader()) else {
-        return cmd_failed(ProgramFault::Memory, errors);
+    let Ok(mut stdin) = BufReader::new(alloc, rt.reader()) else {
+        return fail(ProgramFault::Memory, errors);
     };
-    let Ok(mut stdout) = BufWriter::new(rt.alloc(), io::writer(rt)) else {
-        return cmd_failed(ProgramFault::Memory, errors);
+    let Ok(mut stdout) = BufWriter::with_capacity(alloc, REPLY_BUFFER, io::writer(rt)) else {
+        return fail(ProgramFault::Memory, errors);
     };
     let mut input = FromRead::new(&mut stdin);
     let mut output = ToWrite::new(&mut stdout);
-    cmd_ls(rt.alloc(), text.as_slice(), &mut input, &mut output, errors)
+    let text = text.as_slice();
+    match service {
+        Service::Request => cmd_ls(alloc, text, &mut input, &mut output, errors),
+        Service::Connection(ends) => {
+            cmd_upload(alloc, text, ends, &mut input, &mut output, errors)
+        }
+    }
 }

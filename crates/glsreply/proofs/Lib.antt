@@ -1,6 +1,7 @@
 pub mod LineLemmas
 pub mod GrammarLemmas
 pub mod TextLemmas
+pub mod PacketReasons
 pub mod StateLemmas
 pub mod LawLemmas
 pub mod ReaderLemmas

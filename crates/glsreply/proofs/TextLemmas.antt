@@ -15,6 +15,7 @@ use Rattle.ggrammar.specs.Ids.{id_of_text, ok_of}
 use Rattle.ggrammar.specs.PeerErrors.{after_word}
 use Rattle.ggrammar.specs.Grammar.{Refused}
 use Rattle.ggrammar.specs.MessageReading.{IsReason}
+use Rattle.ggrammar.specs.MessageBytes.{IsOfPacket}
 use Rattle.ggrammar.specs.declared.fault.Why.{Why}
 use Rattle.ggrammar.specs.declared.fault.Why.TheVariants as why
 use Rattle.glsreply.specs.RefTexts.{RefLine, Attribute, Symref, Peeled, UnknownAttribute, parts_of, is_name, attribute_of, with_symref, with_id, with_attribute, with_attributes, line_with_name, line_with_id, line_of_parts, line_of, unborn_target, unborn_after_head, unborn_of_parts, FirstForm, UnbornForm, RefForm, first_of_parts, first_form}
@@ -29,10 +30,10 @@ IsTextFault why.BadId = Unit {0}
 IsTextFault why.BadName = Unit {0}
 IsTextFault _ = ⊥
 
-pub text_fault : (why : Why) (brings : Bool) → IsTextFault why → IsReason (Refused why) brings why
-text_fault why.BadText brings h = refl
-text_fault why.BadId brings h = refl
-text_fault why.BadName brings h = refl
+pub text_fault : (why : Why) (brings : Bool) → IsTextFault why → IsReason (Refused why) brings why × IsOfPacket why
+text_fault why.BadText brings h = (refl, tt)
+text_fault why.BadId brings h = (refl, tt)
+text_fault why.BadName brings h = (refl, tt)
 text_fault (why.Line _) brings h = absurd h
 text_fault (why.Band _) brings h = absurd h
 text_fault why.UnexpectedFrame brings h = absurd h
@@ -160,11 +161,11 @@ pub line_refused : TextsHaveOneReading → (format : Format) (count : ℕ) (text
     → IsReason (within_limit count (judge_line (line_of format text))) true why
 line_refused law format count text why e =
     subst (λ (read : Result RefLine Why). IsReason (within_limit count (judge_line read)) true why) e
-    (text_fault why true (line_fault format law text why (sym e)))
+    (text_fault why true (line_fault format law text why (sym e))).0
 
 pub unborn_refused : (format : Format) (count : ℕ) (text : List ℕ) (why : Why) → 0 ≡ count → UnbornForm (Err why) ≡ first_form text
     → IsReason (judge_text format count text) true why
 unborn_refused format count text why zero e =
     subst (λ (n : ℕ). IsReason (judge_text format n text) true why) zero
     (subst (λ (form : FirstForm). IsReason (within_limit 0 (judge_first format text form)) true why) e
-    (text_fault why true (subst FormsWell (sym e) (form_well text))))
+    (text_fault why true (subst FormsWell (sym e) (form_well text))).0)

@@ -6,18 +6,24 @@ ghost use Rattle.gname.specs.declared.formats.Format.{Format};
 ghost use Rattle.gpkt.specs.Packets.{Packet};
 ghost use Rattle.ggrammar.specs.Grammar.{HasEndings, IsPrefixFree, RefusesFirstMisfits};
 ghost use Rattle.ggrammar.specs.Kinds.{AsInManual, CanonicalSays, OneMeaning, ReadsBack, ReadsExactly, SaysWhole};
-ghost use Rattle.ggrammar.specs.MessageBytes.{SpellingsPrefixFree};
+ghost use Rattle.ggrammar.specs.MessageBytes.{BeginsOrIsRefused, RefusesPackets, SpellingsPrefixFree};
 ghost use Rattle.ggrammar.specs.declared.ends.Ends.{Ends};
 ghost use Rattle.glsreply.specs.LsManual.{IsLsReply};
-ghost use Rattle.glsreply.specs.LsReplies.{IsCanonicalReply, LsReply, Says, brings, judge};
+ghost use Rattle.glsreply.specs.LsReplies.{IsCanonicalReply, LsReply, Says, brings, judge, max_lines};
 ghost use Rattle.glsreply.specs.WellFormed.{IsLsReplyIn, last_frame};
 
+use crate::MAX_LINES;
 use ggrammar::Kind;
 use ggrammar::laws::{grammars_are_exact, kinds_are_read, messages_are_read, texts_are_read};
 use gname::laws::{
     id_texts_are_digits, ids_have_one_format, ids_have_texts, names_are_clean,
     texts_have_one_reading,
 };
+
+/// The constant is the limit that the definitions name.
+pub fn limits_are_the_constants()
+    ensures lines { MAX_LINES ≡ max_lines }
+{}
 
 /// Packets say at most one reply.
 pub fn one_meaning()
@@ -46,6 +52,16 @@ pub fn endings()
     ensures first { (format : Format) (ends : Ends) → RefusesFirstMisfits (judge format ends) }
 {
     grammars_are_exact();
+}
+
+/// A packet is refused for its own sake alone. All bytes begin with a reply, or are refused for a reason in them.
+pub fn every_input()
+    ensures packets { (format : Format) (ends : Ends) → RefusesPackets (judge format ends) }
+    ensures bytes { (format : Format) (ends : Ends) → BeginsOrIsRefused (judge format ends) brings }
+{
+    endings();
+    messages_are_read();
+    texts_have_one_reading();
 }
 
 /// The lists of packets that are read as a reply are those that the manual has, and they say the same.

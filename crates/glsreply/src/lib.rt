@@ -20,7 +20,8 @@
 //!   the packet that is refused is the first that does not fit. The whole lists of the table are exactly the
 //!   replies that may be sent by the manual, texts included (`specs/LsManual.antt`), and say the same. The packets
 //!   that are written of a reply say that reply, and each fits a packet line. A reply is read exactly where the
-//!   bytes begin with one, and what is written reads back, whatever follows.
+//!   bytes begin with one, and all bytes begin with one or are refused for a reason in them; what is written reads
+//!   back, whatever follows. The constant is the limit of the definitions.
 //!
 //! # Only tested
 //!

@@ -3,6 +3,7 @@
 
 ghost use Rattle.gname.specs.declared.formats.Format.{Format};
 ghost use Rattle.ggrammar.specs.Kinds.{AsInManual, CanonicalSays, OneMeaning, ReadsBack, ReadsBackIfAny, ReadsExactly, ReadsExactlyIfAny, SaysWhole};
+ghost use Rattle.ggrammar.specs.MessageBytes.{BeginsOrIsRefused};
 ghost use Rattle.ggrammar.specs.declared.ends.Ends.{Ends};
 ghost use Rattle.ghello.specs.Hello as hello;
 ghost use Rattle.ghello.specs.Adverts as advert;
@@ -97,6 +98,21 @@ pub fn reads_exactly()
     grequest::laws::reads_exactly();
     glsreply::laws::reads_exactly();
     gfetchreply::laws::reads_exactly();
+}
+
+/// All bytes begin with a message of the kind, or are refused for a reason in them.
+pub fn every_input()
+    ensures hello { BeginsOrIsRefused hello.judge hello.brings }
+    ensures advert { BeginsOrIsRefused advert.judge advert.brings }
+    ensures request { (format : Format) → BeginsOrIsRefused (request.judge format) request.brings }
+    ensures ls_reply { (format : Format) (ends : Ends) → BeginsOrIsRefused (ls_reply.judge format ends) ls_reply.brings }
+    ensures fetch_reply { (reading : fetch_reply.Reading)
+        → BeginsOrIsRefused (fetch_reply.judge reading) (fetch_reply.brings reading) }
+{
+    ghello::laws::every_input();
+    grequest::laws::every_input();
+    glsreply::laws::every_input();
+    gfetchreply::laws::every_input();
 }
 
 /// What is written of a value is read back as it, whatever follows.

@@ -7,6 +7,7 @@ pub mod ReadIdLemmas
 pub mod Texts
 pub mod Sections
 pub mod Verdicts
+pub mod PacketReasons
 pub mod Shape
 pub mod Endings
 pub mod ManualRequests

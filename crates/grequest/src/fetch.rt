@@ -16,7 +16,7 @@ ghost use Rattle.grequest.specs.WellFormed.{IsFetchAsked};
 
 use crate::kept::NotKept;
 use crate::line::{FetchArgument, fetch_argument};
-use crate::parts::{copy_agent, is_same_agent};
+use crate::parts::{are_same_ids, copy_agent, is_same_agent};
 use crate::reading::MAX_ARGUMENTS;
 use ggrammar::{MessageFault, Why, id_of_text, is_word_value};
 use gname::laws::texts_have_one_reading;
@@ -204,7 +204,7 @@ impl<A: Allocator + Copy> FetchRequest<A> {
     fn has_ids_of<B: Allocator + Copy>(&self, other: &FetchRequest<B>) -> bool
         ensures { IsTrue result ↔ HaveSameIds self.now.asked other.now.asked }
     {
-        self.wants() == other.wants() && self.haves() == other.haves()
+        are_same_ids(self.wants(), other.wants()) && are_same_ids(self.haves(), other.haves())
     }
 
     // Whether the flags are the same.

@@ -1,19 +1,29 @@
 //! The laws of the grammar of requests: functions without effect, whose contracts they are.
 
+ghost use Rattle.std.specs.Prelude.{◌≡◌};
 ghost use Rattle.gname.specs.declared.formats.Format.{Format};
 ghost use Rattle.ggrammar.specs.Grammar.{HasEndings, IsPrefixFree, RefusesFirstMisfits};
 ghost use Rattle.ggrammar.specs.Kinds.{AsInManual, CanonicalSays, OneMeaning, ReadsBackIfAny, ReadsExactlyIfAny, SaysWhole};
-ghost use Rattle.ggrammar.specs.MessageBytes.{SpellingsPrefixFree};
+ghost use Rattle.ggrammar.specs.MessageBytes.{BeginsOrIsRefused, RefusesPackets, SpellingsPrefixFree};
+ghost use Rattle.grequest.specs.Asked.{max_haves, max_prefixes, max_wants};
 ghost use Rattle.grequest.specs.Manual.{IsRequest};
 ghost use Rattle.grequest.specs.Requests.{Says, brings, judge};
 ghost use Rattle.grequest.specs.RequestReading.{IsMissingWhereEmpty};
 ghost use Rattle.grequest.specs.RequestWriting.{IsCanonicalRequest};
 ghost use Rattle.grequest.specs.WellFormed.{IsAsked};
 
+use crate::{MAX_HAVES, MAX_PREFIXES, MAX_WANTS};
 use ggrammar::Kind;
 use ggrammar::laws::{grammars_are_exact, kinds_are_read, messages_are_read};
 use gname::laws::{ids_have_one_format, ids_have_texts, prefixes_are_clean};
 use gpkt::laws::has_four_bytes;
+
+/// The constants are the limits that the definitions name.
+pub fn limits_are_the_constants()
+    ensures prefixes { MAX_PREFIXES ≡ max_prefixes }
+    ensures wants { MAX_WANTS ≡ max_wants }
+    ensures haves { MAX_HAVES ≡ max_haves }
+{}
 
 /// The lists of packets that are read as a request are those that the manual has, and they ask the same
 /// (gitprotocol-v2(5), "Command Request", "ls-refs" and "fetch").
@@ -44,6 +54,15 @@ pub fn endings()
     ensures first { (format : Format) → RefusesFirstMisfits (judge format) }
 {
     grammars_are_exact();
+}
+
+/// A packet is refused for its own sake alone. All bytes begin with a request, or are refused for a reason in them.
+pub fn every_input()
+    ensures packets { (format : Format) → RefusesPackets (judge format) }
+    ensures bytes { (format : Format) → BeginsOrIsRefused (judge format) brings }
+{
+    endings();
+    messages_are_read();
 }
 
 /// The lines that are written of a request ask it, and each fits a packet.

@@ -22,7 +22,8 @@
 //!   thing; neither its packets nor its bytes begin another; each beginning of one can be ended, and a packet
 //!   that is refused is the first that does not fit; the lines that are written ask what was asked, and fit
 //!   packets. A request is read exactly where the bytes begin with one, and is missing exactly where there are
-//!   none; what is written of it reads back, whatever follows.
+//!   none; all bytes begin with one or are refused for a reason in them; what is written of it reads back,
+//!   whatever follows. The constants are the limits of the definitions.
 //!
 //! # Only tested
 //!
@@ -31,9 +32,9 @@
 //! # What a body can still get away with
 //!
 //! A call that keeps or copies something may report out of memory, whatever there is. It may take as long as
-//! it likes, and more memory than it needs. Where a sink fails, a shorter beginning may stand written. Where
-//! the bytes of a source are not known, nothing is said of the lines that were read; what a device has done is
-//! said all the same.
+//! it likes, and more memory than it needs; a new request may take some, too. Where a sink fails, a shorter
+//! beginning may stand written. Where the bytes of a source are not known, nothing is said of the lines that
+//! were read; what a device has done is said all the same.
 //!
 //! # Stands on
 //!

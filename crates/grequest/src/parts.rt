@@ -3,7 +3,7 @@
 ghost use Rattle.std.specs.Prelude.{◌≡◌, ◌↔◌, IfOk, IsTrue};
 ghost use Rattle.std.specs.Option.{option_copied, option_map};
 
-use gname::Prefix;
+use gname::{Oid, Prefix};
 use std::alloc::{AllocError, Allocator};
 
 /// The same name of a client, kept by another allocator. It fails only when out of memory.
@@ -58,6 +58,13 @@ pub(crate) fn is_same_agent(one: Option<&[u8]>, other: Option<&[u8]>) -> bool
         (None, None) => true,
         _ => false,
     }
+}
+
+/// Whether these are the same ids in the same order.
+pub(crate) fn are_same_ids(ones: &[Oid], others: &[Oid]) -> bool
+    ensures { IsTrue result ↔ (ones.now ≡ others.now) }
+{
+    ones == others
 }
 
 /// Whether these are the same prefixes in the same order.

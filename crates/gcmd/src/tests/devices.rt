@@ -1,6 +1,7 @@
 // Readers and writers of std that move some bytes a call, fail at a chosen call, and count what comes after it.
-use crate::{ProgramFault, cmd_check, cmd_failed, cmd_lines, cmd_ls};
-use gpkt::{FromRead, ToWrite};
+use crate::{ProgramFault, cmd_check, cmd_failed, cmd_lines, cmd_ls, cmd_upload};
+use ggrammar::Ends;
+use gpkt::{FromRead, Sink, ToWrite};
 use std::alloc::Global;
 use std::io;
 use std::io::{ErrorKind, Read, Write};
@@ -78,14 +79,9 @@ impl Writer {
 }
 
 impl Writer {
-    /// Just these bytes were written, and all of them passed on.
-    pub(super) fn has_passed(&self, due: &[u8]) -> bool {
-        self.written.as_slice() == due && self.passed_on == due.len()
-    }
-
-    /// Just these bytes were written, in so many calls, and none of them passed on.
-    pub(super) fn has_held(&self, due: &[u8], calls: usize) -> bool {
-        self.written.as_slice() == due && self.passed_on == 0 && self.calls == calls
+    /// Just these bytes were written, and so many of them passed on.
+    pub(super) fn has(&self, due: &[u8], passed_on: usize) -> bool {
+        self.written.as_slice() == due && self.passed_on == passed_on
     }
 }
 
@@ -121,19 +117,29 @@ pub(super) struct Ran {
 }
 
 impl Ran {
-    /// This was written, this was printed, and this is the status.
+    /// This was written, this was printed, all of it was passed on, and this is the status.
     pub(super) fn has(&self, written: &[u8], printed: &[u8], status: u8) -> bool {
-        self.output.has_passed(written) && self.errors.has_passed(printed) && self.status == status
+        self.output.has(written, written.len())
+            && self.errors.has(printed, printed.len())
+            && self.status == status
     }
 }
 
 /// A program that is run.
-#[derive(Clone, Copy, Debug)]
+#[derive(Clone, Copy, Debug, PartialEq, Eq)]
 pub(super) enum Program {
     Ls,
+    Upload(Ends),
     Check,
     Lines,
-    Failed(ProgramFault),
+    /// None, since its file can't be read.
+    NoFile,
+    /// None, since there is no memory for its file.
+    NoMemory,
+}
+
+fn fail<E: Sink>(fault: ProgramFault<Global>, errors: &mut E) -> u8 {
+    cmd_failed(fault, errors)
 }
 
 /// Runs a program over a file and an input.
@@ -156,9 +162,11 @@ pub(super) fn run(
     let mut report = ToWrite::new(&mut errors);
     let status = match program {
         Program::Ls => cmd_ls(alloc, file, &mut source, &mut sink, &mut report),
+        Program::Upload(ends) => cmd_upload(alloc, file, ends, &mut source, &mut sink, &mut report),
         Program::Check => cmd_check(alloc, file, &mut sink, &mut report),
         Program::Lines => cmd_lines(alloc, &mut source, &mut sink, &mut report),
-        Program::Failed(fault) => cmd_failed(fault, &mut report),
+        Program::NoFile => fail(ProgramFault::File, &mut report),
+        Program::NoMemory => fail(ProgramFault::Memory, &mut report),
     };
     Ran {
         status,

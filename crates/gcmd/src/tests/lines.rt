@@ -1,10 +1,12 @@
-// What `lines` shows, by hand.
+//! What `lines` shows, by hand.
 use crate::tests::devices::{FREE, Hindrance, Program, SLOW, failing_at, run};
-use crate::tests::programs::check_rows;
-use crate::tests::requests::Case;
+use crate::tests::programs::Run;
 use std::alloc::{AllocError, Global};
 use std::process::Abort;
 use std::test::Fail;
+
+// The input, what is shown, and what is printed.
+type Case = (&'static [u8], &'static [u8], &'static [u8]);
 
 const SHOWN: &[Case] = &[
     (
@@ -33,8 +35,14 @@ const SHOWN: &[Case] = &[
 ];
 
 #[test]
-fn lines_are_shown(rt: HostRuntime) {
-    check_rows(&rt, rt.alloc(), Program::Lines, b"", SHOWN);
+fn lines_are_shown(rt: HostRuntime) -> Result<(), Fail> {
+    for (input, shown, printed) in SHOWN {
+        let mut run = Run::new(rt.alloc(), Program::Lines, b"", &[*input])?;
+        run.writes(rt.alloc(), shown)?;
+        run.prints(rt.alloc(), printed)?;
+        run.check(&rt, rt.alloc());
+    }
+    Ok(())
 }
 
 // A payload of so many bytes, no two of which in a row are the same.

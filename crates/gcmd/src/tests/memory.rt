@@ -1,8 +1,10 @@
-// Memory that ends: in an arena with a little more room each time, each allocation of an exchange is at some
-// time the first that is refused.
-use crate::tests::samples::TAGGED_ROOT;
-use crate::{cmd_check, cmd_lines, cmd_ls};
+//! Memory that ends: in an arena with a little more room each time, each allocation of a program is at some time the
+//! first that is refused.
+use crate::tests::devices::Program;
+use crate::tests::samples::{ADVERT, NO_MEMORY, TAGGED_ROOT, joined, spelled};
+use crate::{cmd_check, cmd_lines, cmd_ls, cmd_upload};
 use bumpalo::Bump;
+use ggrammar::Ends;
 use gpkt::memory::{SliceSource, VecSink};
 use std::alloc::Global;
 use std::process::Abort;
@@ -12,26 +14,44 @@ const REQUEST: &[u8] =
     b"0014command=ls-refs\n0020agent=git/2.43.0-for-a-test\n00010009peel\n000csymrefs\n\
     0014ref-prefix HEAD\n001bref-prefix refs/heads/\n001aref-prefix refs/tags/\n0000";
 
-const REFUSED: &[u8] = b"0023ERR upload-pack: out of memory\n";
-
 const ANSWER: &[u8] =
-    b"0050aaaaaaaaaaaaaaaaaaaaaaaaaaaaaaaaaaaaaaaa HEAD symref-target:refs/heads/main\n\
-    003daaaaaaaaaaaaaaaaaaaaaaaaaaaaaaaaaaaaaaaa refs/heads/main\n\
-    006a1111111111111111111111111111111111111111 refs/tags/v1 peeled:aaaaaaaaaaaaaaaaaaaaaaaaaaaaaaaaaaaaaaaa\n\
-    0000";
+    b"0050{a} HEAD symref-target:refs/heads/main\n003d{a} refs/heads/main\n006a{1} refs/tags/v1 peeled:{a}\n0000";
 
-// What is written, what is printed, and the status, in the order in which memory is taken: for the
-// repository, for the reader's buffer, for the agent, for each prefix, for the answer; and with enough of it.
-const OUTCOMES: [(&[u8], &[u8], u8); 8] = [
-    (b"", b"gitv2: fault 64 Memory\n", 1),
-    (REFUSED, b"gitv2: fault 28 Memory\n", 1),
-    (REFUSED, b"gitv2: fault 53 Memory frame 1\n", 1),
-    (REFUSED, b"gitv2: fault 53 Memory frame 5\n", 1),
-    (REFUSED, b"gitv2: fault 53 Memory frame 6\n", 1),
-    (REFUSED, b"gitv2: fault 53 Memory frame 7\n", 1),
-    (REFUSED, b"gitv2: fault 64 Memory\n", 1),
-    (ANSWER, b"", 0),
+const DATA: &[u8] = b"data 16 636f6d6d616e643d6c732d726566730a\n";
+
+// What is written and what is printed.
+type Outcome = (&'static [&'static [u8]], &'static [u8]);
+
+// The outcomes in the order in which memory is taken: for the repository, for the reader's buffer, for the agent, for
+// each prefix; and with enough of it. The reply takes none.
+const LISTED: &[Outcome] = &[
+    (&[], b"gitv2: fault 64 Memory\n"),
+    (&[NO_MEMORY], b"gitv2: fault 28 Memory\n"),
+    (&[NO_MEMORY], b"gitv2: fault 53 Memory frame 1\n"),
+    (&[NO_MEMORY], b"gitv2: fault 53 Memory frame 5\n"),
+    (&[NO_MEMORY], b"gitv2: fault 53 Memory frame 6\n"),
+    (&[NO_MEMORY], b"gitv2: fault 53 Memory frame 7\n"),
+    (&[ANSWER], b""),
 ];
+
+// The same of a connection, whose advertisement takes memory, too.
+const UPLOADED: &[Outcome] = &[
+    (&[], b"gitv2: fault 64 Memory\n"),
+    (&[NO_MEMORY], b"gitv2: fault 28 Memory\n"),
+    (&[NO_MEMORY], b"gitv2: fault 64 Memory\n"),
+    (&[ADVERT, NO_MEMORY], b"gitv2: fault 53 Memory frame 1\n"),
+    (&[ADVERT, NO_MEMORY], b"gitv2: fault 53 Memory frame 5\n"),
+    (&[ADVERT, NO_MEMORY], b"gitv2: fault 53 Memory frame 6\n"),
+    (&[ADVERT, NO_MEMORY], b"gitv2: fault 53 Memory frame 7\n"),
+    (&[ADVERT, ANSWER], b""),
+];
+
+const CHECKED: &[Outcome] = &[
+    (&[], b"gitv2: fault 64 Memory\n"),
+    (&[b"nodes 2 refs 2 closed yes safe yes\n"], b""),
+];
+
+const SHOWN: &[Outcome] = &[(&[], b"gitv2: fault 28 Memory\n"), (&[DATA], b"")];
 
 // An arena with room for so many bytes more.
 fn arena(alloc: Global, room: usize) -> Result<Bump, Fail> {
@@ -42,92 +62,93 @@ fn arena(alloc: Global, room: usize) -> Result<Bump, Fail> {
     Ok(arena)
 }
 
-// Which of the outcomes an exchange has in so much room.
-fn outcome(alloc: Global, room: usize) -> Result<Option<usize>, Fail> {
-    let arena = arena(alloc, room)?;
+// Runs a program in an arena.
+fn run(
+    arena: &Bump,
+    program: Program,
+    file: &[u8],
+    output: &mut VecSink,
+    errors: &mut VecSink,
+) -> u8 {
     let mut input = SliceSource::new(REQUEST);
-    let mut output = VecSink::new(alloc);
-    let mut errors = VecSink::new(alloc);
-    let status = cmd_ls(&arena, TAGGED_ROOT, &mut input, &mut output, &mut errors);
-    let ran = (output.passed_on(), errors.passed_on(), status);
-    Ok(OUTCOMES.iter().position(|outcome| *outcome == ran))
+    let mut line = SliceSource::new(&REQUEST[..20]);
+    match program {
+        Program::Ls => cmd_ls(arena, file, &mut input, output, errors),
+        Program::Upload(ends) => cmd_upload(arena, file, ends, &mut input, output, errors),
+        Program::Check => cmd_check(arena, file, output, errors),
+        _ => cmd_lines(arena, &mut line, output, errors),
+    }
 }
 
-// Goes from one room to another, and answers how many outcomes were met in all. More room never ends an
-// exchange earlier, and no outcome is passed over.
-fn check_rooms(
-    rt: &impl Abort,
+// Which of the outcomes a program has in so much room.
+fn outcome(
     alloc: Global,
-    rooms: (usize, usize),
-    met: usize,
-) -> Result<usize, Fail> {
-    let mut met = met;
-    for count in 0..rooms.1.saturating_sub(rooms.0) / 8 {
-        let room = rooms.0 + 8 * count;
-        match outcome(alloc, room)? {
-            Some(place) => {
-                let next = place.saturating_add(1);
-                assert!(rt; place == met || next == met, "{place} at {room}");
-                met = next;
-            }
-            None => assert!(rt; false, "at {room}"),
+    program: Program,
+    outcomes: &[Outcome],
+    room: usize,
+) -> Result<Option<usize>, Fail> {
+    let file = spelled(alloc, TAGGED_ROOT)?;
+    let arena = arena(alloc, room)?;
+    let mut output = VecSink::new(alloc);
+    let mut errors = VecSink::new(alloc);
+    let status = run(&arena, program, file.as_slice(), &mut output, &mut errors);
+    for (place, (written, printed)) in outcomes.iter().enumerate() {
+        let written = joined(alloc, written)?;
+        let is_met = output.passed_on() == written.as_slice()
+            && errors.passed_on() == *printed
+            && (status == 0) == printed.is_empty();
+        if is_met {
+            return Ok(Some(place));
         }
     }
-    Ok(met)
+    Ok(None)
 }
 
-#[test]
-fn each_allocation_is_refused_in_turn(rt: HostRuntime) -> Result<(), Fail> {
-    let met = check_rooms(&rt, rt.alloc(), (0, 4_000), 0)?;
-    assert_eq!(rt; met, 2);
-    let met = check_rooms(&rt, rt.alloc(), (65_600, 69_600), met)?;
-    assert_eq!(rt; met, OUTCOMES.len());
-    Ok(())
-}
+// How much room is tried, in steps of eight bytes: with none for the buffer of a reader, and with some.
+const ROOMS: [(usize, usize); 2] = [(0, 4_000), (65_600, 70_400)];
 
-// What a check writes and prints, and its status: with enough memory, and without.
-const CHECKED: (&[u8], &[u8], u8) = (b"nodes 2 refs 2 closed yes safe yes\n", b"", 0);
-
-const UNCHECKED: (&[u8], &[u8], u8) = (b"", b"gitv2: fault 64 Memory\n", 1);
-
-// Whether a check is done in so much room. Else it reports that there is no memory.
-fn is_checked(rt: &impl Abort, alloc: Global, room: usize) -> Result<bool, Fail> {
-    let arena = arena(alloc, room)?;
-    let mut output = VecSink::new(alloc);
-    let mut errors = VecSink::new(alloc);
-    let status = cmd_check(&arena, TAGGED_ROOT, &mut output, &mut errors);
-    let ran = (output.passed_on(), errors.passed_on(), status);
-    assert!(rt; ran == CHECKED || ran == UNCHECKED, "at {room}");
-    Ok(status == 0)
-}
-
-// More room never undoes a check.
-#[test]
-fn checks_report_missing_memory(rt: HostRuntime) -> Result<(), Fail> {
-    let mut done = false;
-    for count in 0..500usize {
-        let checked = is_checked(&rt, rt.alloc(), 8 * count)?;
-        assert!(rt; checked || !done);
-        done = checked;
+// More room never ends a program earlier, and no outcome is passed over.
+fn check(
+    rt: &impl Abort,
+    alloc: Global,
+    program: Program,
+    outcomes: &[Outcome],
+) -> Result<(), Fail> {
+    let mut met = 0usize;
+    for (least, most) in ROOMS {
+        for step in 0..most.saturating_sub(least) / 8 {
+            let room = least + 8 * step;
+            match outcome(alloc, program, outcomes, room)? {
+                Some(place) => {
+                    let next = place.saturating_add(1);
+                    assert!(rt; place == met || next == met, "{place} at {room}");
+                    met = next;
+                }
+                None => assert!(rt; false, "at {room}"),
+            }
+        }
     }
-    assert!(rt; done);
+    assert_eq!(rt; met, outcomes.len());
     Ok(())
 }
 
-// With no room for the buffer of the reader nothing is read or shown.
 #[test]
-fn lines_report_missing_memory(rt: HostRuntime) -> Result<(), Fail> {
-    let refused = (b"".as_slice(), b"gitv2: fault 28 Memory\n".as_slice(), 1);
-    let shown = (b"flush\n".as_slice(), b"".as_slice(), 0);
-    for (room, left, due) in [(0, 4, refused), (70_000, 0, shown)] {
-        let arena = arena(rt.alloc(), room)?;
-        let mut input = SliceSource::new(b"0000");
-        let mut output = VecSink::new(rt.alloc());
-        let mut errors = VecSink::new(rt.alloc());
-        let status = cmd_lines(&arena, &mut input, &mut output, &mut errors);
-        let ran = (output.passed_on(), errors.passed_on(), status);
-        assert!(rt; ran == due, "at {room}");
-        assert_eq!(rt; input.rest().len(), left);
-    }
-    Ok(())
+fn each_allocation_of_an_exchange_is_refused(rt: HostRuntime) -> Result<(), Fail> {
+    check(&rt, rt.alloc(), Program::Ls, LISTED)
+}
+
+#[test]
+fn each_allocation_of_a_connection_is_refused(rt: HostRuntime) -> Result<(), Fail> {
+    check(&rt, rt.alloc(), Program::Upload(Ends::Plain), UPLOADED)
+}
+
+#[test]
+fn each_allocation_of_a_check_is_refused(rt: HostRuntime) -> Result<(), Fail> {
+    check(&rt, rt.alloc(), Program::Check, CHECKED)
+}
+
+// With no room for the buffer of the reader nothing is shown.
+#[test]
+fn each_allocation_of_lines_is_refused(rt: HostRuntime) -> Result<(), Fail> {
+    check(&rt, rt.alloc(), Program::Lines, SHOWN)
 }

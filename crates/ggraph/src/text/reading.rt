@@ -200,12 +200,13 @@ fn add_node<A: Allocator + Copy>(
     if graph.len() >= MAX_NODES || !is_shaped(kind, parents) || graph.contains(&id) {
         return Err(LoadFault::Text { line: number });
     }
-    if order == Order::ParentsFirst && !graph.contains_all(parents) {
+    let parents_held = graph.contains_all(parents);
+    if order == Order::ParentsFirst && !parents_held {
         return Err(LoadFault::ParentLater { line: number });
     }
     let parents = Parents::from_slice(alloc, parents)?;
     let node = Node { kind, parents };
-    match graph.push(Entry { id, node }) {
+    match graph.push_after(Entry { id, node }, parents_held) {
         Ok(()) => Ok(()),
         Err(_) => Err(LoadFault::Memory),
     }

@@ -1,4 +1,4 @@
-//! Messages one behind the other in one input: each is read to its end, and nothing after it.
+//! Messages one after the other in one input: each is read to its end, and nothing after it.
 use crate::tests::samples::{ADVERT, FETCH_REPLY, HELLO, LS_REPLY, REQUEST};
 use crate::{
     Ends, FetchHead, PackLimit, Request, read_advert, read_fetch_reply_into, read_hello,

@@ -1,7 +1,4 @@
-use Rattle.std.proofs.Common.{refl, Err}
-use Rattle.gcmd.proofs.ProgramLemmas.{EndsWith-printed}
 use Rattle.gcmd.proofs.lines.cmd_lines.Goals as goal
 
-pub returns-in-Err-clause-shows : goal.returns-in-Err-clause-shows
-returns-in-Err-clause-shows g c =
-    (Err c.in-Err.fault, c.in-Err.ensures.shown, EndsWith-printed _ _ _ _ _ refl c.of_lines.ensures.line c.fail.ensures.ends)
+pub returns-clause-runs : goal.returns-clause-runs
+returns-clause-runs g c = (c.show_lines.result, c.show_lines.ensures.shows, c.finish.ensures.exits)

@@ -1,6 +1,8 @@
-use Rattle.std.proofs.Common.{refl}
-use Rattle.gcmd.proofs.ProgramLemmas.{EndsWith-printed}
+use Rattle.std.proofs.Common.{refl, ap}
+use Rattle.gcmd.specs.Printing.{fault_line, printed_line}
+use Rattle.gcmd.proofs.ProgramLemmas.{Prints-sent}
 use Rattle.gcmd.proofs.program.cmd_failed.Goals as goal
 
-pub returns-clause-ends : goal.returns-clause-ends
-returns-clause-ends g c = EndsWith-printed _ _ _ _ _ refl c.of_program.ensures.line c.fail.ensures.ends
+pub returns-clause-exits : goal.returns-clause-exits
+unfolding fault_line
+returns-clause-exits g c = (Prints-sent _ _ _ _ (ap printed_line c.of.ensures.row) c.print.ensures.sent, refl)

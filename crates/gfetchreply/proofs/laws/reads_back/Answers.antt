@@ -1,6 +1,5 @@
-use Rattle.gfetchreply.specs.FetchReplies.{judge}
-use Rattle.gfetchreply.proofs.ReadLaws.{back}
 use Rattle.gfetchreply.proofs.laws.reads_back.Goals as goal
 
 pub returns : goal.returns
-returns c = λ reading. back reading (c.messages_are_read.ensures (judge reading)) c.canonical_spells.ensures.lines (c.canonical_says.ensures reading)
+returns c = λ reading.
+    c.kinds_are_read.ensures.back reading (c.one_meaning.ensures.whole reading) (c.one_meaning.ensures.meaning reading) (c.canonical_says.ensures reading)

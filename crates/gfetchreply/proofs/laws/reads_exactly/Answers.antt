@@ -1,6 +1,4 @@
-use Rattle.gfetchreply.specs.FetchReplies.{judge}
-use Rattle.gfetchreply.proofs.ReadLaws.{exactly}
 use Rattle.gfetchreply.proofs.laws.reads_exactly.Goals as goal
 
 pub returns : goal.returns
-returns c = λ reading. exactly reading (c.messages_are_read.ensures (judge reading))
+returns c = λ reading. c.kinds_are_read.ensures.exactly reading (c.one_meaning.ensures.whole reading) (c.one_meaning.ensures.meaning reading)

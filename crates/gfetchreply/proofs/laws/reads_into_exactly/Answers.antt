@@ -1,9 +1,8 @@
-use Rattle.gfetchreply.specs.FetchReplies.{judge}
 use Rattle.gfetchreply.proofs.ReadLaws.{into_only_said, into_where_said}
 use Rattle.gfetchreply.proofs.laws.reads_into_exactly.Goals as goal
 
 pub returns-clause-said : goal.returns-clause-said
-returns-clause-said g c = λ reading. into_where_said reading (c.messages_are_read.ensures (judge reading)) g.T.PackSink.taken
+returns-clause-said g c = λ reading. into_where_said reading g.T.PackSink.taken (c.reads_exactly.ensures reading)
 
 pub returns-clause-only : goal.returns-clause-only
-returns-clause-only g c = λ reading. into_only_said reading (c.messages_are_read.ensures (judge reading)) g.T.PackSink.taken
+returns-clause-only g c = λ reading. into_only_said reading g.T.PackSink.taken (c.reads_exactly.ensures reading)

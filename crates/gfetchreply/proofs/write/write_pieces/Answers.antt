@@ -1,7 +1,7 @@
 use Rattle.std.proofs.Common.{◌≡◌, ℕ, ◌≤◌, [], ◌∷◌, List, length, map, min, Ok, Err, sym, ap, subst, ◌∙◌, arith}
 use Rattle.std.specs.Slice.Iter.{chunks_rest, chunks_size}
 use Rattle.gpkt.specs.Bands.{max_band}
-use Rattle.ggrammar.specs.Writing.{IsWriting, WritesPart}
+use Rattle.ggrammar.specs.Writing.{IsWriting}
 use Rattle.gfetchreply.specs.FetchReplies.{data_packet, pieces}
 use Rattle.gfetchreply.proofs.CanonicalLemmas.{pieces_next, pieces_none}
 use Rattle.gfetchreply.proofs.WritingLemmas.{fits_band}
@@ -11,12 +11,13 @@ pub loop-piece-init : goal.loop-piece-init
 loop-piece-init g c =
     let same = c.into_iter-piece-iterator.ensures.into_iter_gives in
     let pack = c.args.pack.now in
-    let start = c.args.writer.now in (
-      ap chunks_size same ∙ c.chunks-piece-items.ensures.size,
-      subst
+    let start = c.args.writer.now in
+    record {
+      size = ap chunks_size same ∙ c.in_pieces-piece-items.ensures.size;
+      coming = subst
           (λ (xs : List ℕ). IsWriting g.W.Sink.contents g.W.Sink.passed_on g.W.Sink.is_down g.W.Sink.loans start start (map data_packet (pieces pack)) (map data_packet (pieces xs)))
-          (sym (ap chunks_rest same ∙ c.chunks-piece-items.ensures.rest)) (c.writes_lines.ensures.starts start (map data_packet (pieces pack))),
-    )
+          (sym (ap chunks_rest same ∙ c.in_pieces-piece-items.ensures.rest)) (c.writes_lines.ensures.starts start (map data_packet (pieces pack)));
+    }
 
 pub returns-in_err-put_band : goal.returns-in_err-put_band
 returns-in_err-put_band g c =
@@ -26,11 +27,11 @@ returns-in_err-put_band g c =
     let after = chunks_rest c.next.new.self in
     let piece = c.in-Some.piece.now in
     let steps = c.in-Some.ensures.steps in
-    let size : length piece ≡ min max_band (length rest) = steps.1.1 ∙ ap (λ (n : ℕ). min n (length rest)) c.loop-piece.invariant.0 in
+    let size : length piece ≡ min max_band (length rest) = steps.1.1 ∙ ap (λ (n : ℕ). min n (length rest)) c.loop-piece.invariant.size in
     let short : length piece ≤ max_band = omega arith in
     let band = c.in_err-put_band.ensures in
     law.part _ _ _ all
-    (law.fails _ _ _ all (map data_packet (pieces rest)) (data_packet piece ∷ []) (map data_packet (pieces after)) _ _ c.loop-piece.invariant.1
+    (law.fails _ _ _ all (map data_packet (pieces rest)) (data_packet piece ∷ []) (map data_packet (pieces after)) _ _ c.loop-piece.invariant.coming
     (ap (map data_packet) (pieces_next rest piece after steps.1.0 size steps.1.2))
     (law.line _ _ (Err _) (data_packet piece) band.written (fits_band (Err _) piece band.too_long short)) c.from_residual.ensures.1)
 
@@ -42,14 +43,15 @@ loop-piece-preserved g c =
     let after = chunks_rest c.next.new.self in
     let piece = c.in-Some.piece.now in
     let steps = c.in-Some.ensures.steps in
-    let size : length piece ≡ min max_band (length rest) = steps.1.1 ∙ ap (λ (n : ℕ). min n (length rest)) c.loop-piece.invariant.0 in
+    let size : length piece ≡ min max_band (length rest) = steps.1.1 ∙ ap (λ (n : ℕ). min n (length rest)) c.loop-piece.invariant.size in
     let short : length piece ≤ max_band = omega arith in
-    let band = c.in_ok-put_band.ensures in (
-      steps.0 ∙ c.loop-piece.invariant.0,
-      law.goes_on _ _ _ all (map data_packet (pieces rest)) (data_packet piece ∷ []) (map data_packet (pieces after)) c.loop-piece.invariant.1
+    let band = c.in_ok-put_band.ensures in
+    record {
+      size = steps.0 ∙ c.loop-piece.invariant.size;
+      coming = law.goes_on _ _ _ all (map data_packet (pieces rest)) (data_packet piece ∷ []) (map data_packet (pieces after)) c.loop-piece.invariant.coming
           (ap (map data_packet) (pieces_next rest piece after steps.1.0 size steps.1.2))
-          (law.line _ _ (Ok tt) (data_packet piece) band.written (fits_band (Ok tt) piece band.too_long short)),
-    )
+          (law.line _ _ (Ok tt) (data_packet piece) band.written (fits_band (Ok tt) piece band.too_long short));
+    }
 
 pub returns : goal.returns
 returns g c =
@@ -57,4 +59,4 @@ returns g c =
     let pack = c.args.pack.now in
     subst
     (λ (ps : List (List ℕ)). IsWriting g.W.Sink.contents g.W.Sink.passed_on g.W.Sink.is_down g.W.Sink.loans c.args.writer.now c.loop-piece.writer (map data_packet (pieces pack)) (map data_packet ps))
-    (pieces_none rest c.in-None.ensures.steps.1.0) c.loop-piece.invariant.1
+    (pieces_none rest c.in-None.ensures.steps.1.0) c.loop-piece.invariant.coming

@@ -7,7 +7,8 @@ use Rattle.gfetchreply.proofs.write.write_pieces.Given as goal
 
 -- the pieces of what is left are to come
 abbrev pub invariant-loop-piece : goal.invariant-loop-piece
-invariant-loop-piece g l =
-    (chunks_size l.piece-iterator ≡ max_band)
-    × IsWriting g.W.Sink.contents g.W.Sink.passed_on g.W.Sink.is_down g.W.Sink.loans l.initial.writer l.writer (map data_packet (pieces l.pack))
-    (map data_packet (pieces (chunks_rest l.piece-iterator)))
+invariant-loop-piece g l = record {
+  size : chunks_size l.piece-iterator ≡ max_band;
+  coming : IsWriting g.W.Sink.contents g.W.Sink.passed_on g.W.Sink.is_down g.W.Sink.loans l.initial.writer l.writer (map data_packet (pieces l.pack))
+      (map data_packet (pieces (chunks_rest l.piece-iterator)));
+}

@@ -1,0 +1,132 @@
+-- What answers bring to a client, and how servers grow.
+use Rattle.std.proofs.Common.{◌≡◌, inl, inr, ℕ, List, [], ◌∷◌, ◌++◌, All, Contains, Result, Ok, Err, refl, sym, ap, ◌∙◌, subst, append-nil, arith}
+use Rattle.std.specs.List.{IsDistinct}
+use Rattle.std.specs.Str.{bytes_eq}
+use Rattle.std.proofs.lemmas.List.Elements.{All-contains, All-contains_itself, All-nil, All-weaker, Contains-append_right, Contains-get_or}
+use Rattle.std.proofs.lemmas.Option.{none-some}
+use Rattle.gname.specs.declared.formats.Format.{Format}
+use Rattle.gobject.specs.declared.node.Entry.{Entry}
+use Rattle.gobject.specs.Packs.{PackFails, Packs}
+use Rattle.gobject.specs.Objects.{node_at}
+use Rattle.ghistory.specs.Graphs.{Holds, IsFirstAbsent}
+use Rattle.ghistory.specs.Insert.{ComesIn}
+use Rattle.ghistory.specs.Laws.{CommonsAreHeld, SendingIsEnough, SentAreEntries}
+use Rattle.ghistory.specs.Reach.{Grows, IsFull}
+use Rattle.grefs.specs.declared.head.Head.{Head}
+use Rattle.grequest.specs.Asked.{FetchAsked}
+use Rattle.gfetchreply.specs.FetchReplies.{Acks, Ready, Pack}
+use Rattle.ganswer.specs.Changes.{Adds, Sets, SetsHead}
+use Rattle.ganswer.specs.FetchAnswers.{commons_of, tag_tips}
+use Rattle.ganswer.specs.Laws.{AcksAreCommon, AreCommon, LsAnswersAreHeld, PacksAreEnough, ServersGrow, ServesWhatIsHeld}
+use Rattle.ganswer.specs.LsAnswers.{all_refs}
+use Rattle.ganswer.specs.Servers.{Server}
+use Rattle.ganswer.specs.declared.fault.BuildFault.{BuildFault}
+use Rattle.ganswer.specs.declared.fault.BuildFault.TheVariants as fault
+use Rattle.ganswer.specs.declared.fault.ServeFault.TheVariants as serve
+use Rattle.ganswer.proofs.FormatLemmas.{all_held, lines_held, some_is}
+
+pub ls_answers_are_held : {A : Type 0} → LsAnswersAreHeld A
+ls_answers_are_held server asked reply is answers =
+    lines_held server asked (all_refs server) reply.lines answers.lines (all_held server is)
+
+-- ---- objects
+
+nothing_twice : IsDistinct bytes_eq []
+unfolding IsDistinct
+nothing_twice = tt
+
+module _ {A : Type 0} (law : CommonsAreHeld A) where
+  commons_are_common : (server : Server A) (asked : FetchAsked) → AreCommon server asked (commons_of server asked)
+  commons_are_common server asked =
+      let commons = commons_of server asked in
+      let each = law server.graph.entries asked.haves in record {
+        once = each.0;
+        offered = All-weaker (Contains commons) (Contains asked.haves) (λ a here. ((each.1 a).0 here).0) commons (All-contains_itself commons);
+        held = All-weaker (Contains commons) (Holds server.graph.entries) (λ a here. ((each.1 a).0 here).1) commons (All-contains_itself commons);
+      }
+
+  are_common : (server : Server A) (asked : FetchAsked) (ids : List (List ℕ)) → ids ≡ commons_of server asked → AreCommon server asked ids
+  are_common server asked ids same = subst (AreCommon server asked) (sym same) (commons_are_common server asked)
+
+  pub acks_are_common : (packs : Packs A) → AcksAreCommon A packs
+  acks_are_common packs server asked (Acks ids) answers = are_common server asked ids answers.replies.1
+  acks_are_common packs server asked (Ready ids pack) answers = are_common server asked ids answers.replies.1
+  acks_are_common packs server asked (Pack pack) answers = record {
+    once = nothing_twice;
+    offered = All-nil (Contains asked.haves);
+    held = All-nil (Holds server.graph.entries);
+  }
+
+  full_commons : (server : Server A) (asked : FetchAsked) (client : List (Entry A)) → All (IsFull client) asked.haves → All (IsFull client) (commons_of server asked)
+  full_commons server asked client full =
+      All-weaker (Contains asked.haves) (IsFull client) (λ a offered. All-contains (IsFull client) asked.haves a full offered) (commons_of server asked)
+      (commons_are_common server asked).offered
+
+  pub packs_are_enough : SentAreEntries A → SendingIsEnough A → (packs : Packs A) → PacksAreEnough A packs
+  packs_are_enough sent sending packs server asked pack is can sends =
+      let g = server.graph in
+      let commons = commons_of server asked in
+      let tips = tag_tips server asked in
+      let list = sent g sends.list asked.wants commons tips is.graph sends.sent in record {
+        list = sends.list;
+        packed = sends.packed;
+        entries = list.1;
+        graph = list.0;
+        nodes = list.2;
+        enough = λ client new format agree full comes.
+            sending g.entries client sends.list new asked.wants commons tips format is.graph.differ is.closed agree can.held (full_commons server asked client full) sends.sent comes;
+      }
+
+-- a want that is not held is none of some that are
+none_absent : {A : Type 0} (g : List (Entry A)) (wants : List (List ℕ)) (id : List ℕ) → All (Holds g) wants → IsFirstAbsent g wants id → ⊥
+none_absent g wants id held first =
+    let all = subst (All (Holds g)) first.parts held in
+    let among = Contains-append_right first.front (id ∷ first.rest) id (Contains-get_or (id ∷ first.rest) 0 id (omega arith)) in
+    let here : Holds g id = All-contains (Holds g) (first.front ++ id ∷ first.rest) id all among in
+    let node = some_is (node_at g id) here in
+    none-some node.0 (sym first.absent ∙ node.1)
+
+pub held_wants_are_served : {A : Type 0} → SentAreEntries A → (fails : PackFails A) → ServesWhatIsHeld A fails
+held_wants_are_served sent fails server asked serve.Memory is can refused = inl refl
+held_wants_are_served sent fails server asked (serve.Pack why) is can refused =
+    let failed = refused.2 in
+    let list = sent server.graph failed.list asked.wants (commons_of server asked) (tag_tips server asked) is.graph failed.sent in
+    inr (failed.list, why, refl, list.1, failed.failed)
+held_wants_are_served sent fails server asked serve.NoWants is can refused = absurd (can.some refused)
+held_wants_are_served sent fails server asked (serve.NotOurs id) is can refused = absurd (none_absent server.graph.entries asked.wants id can.held refused)
+held_wants_are_served sent fails server asked (serve.Reader cause) is can refused = absurd refused
+held_wants_are_served sent fails server asked (serve.Request cause) is can refused = absurd refused
+
+-- ---- changes
+
+module _ {A : Type 0} where
+  comes_at_end : (g h : List (Entry A)) (entry : Entry A) (format : Format) → ComesIn format g entry h → Grows g h
+  comes_at_end g h entry format came =
+      elim came.comes [
+        | inl there ↦ ([], there.1 ∙ sym (append-nil g))
+        | inr new ↦ (entry ∷ [], new.1)
+      ]
+
+  stays : (old new : Server A) → new ≡ old → Grows old.graph.entries new.graph.entries
+  stays old new same = ([], ap (λ (s : Server A). s.graph.entries) same ∙ sym (append-nil old.graph.entries))
+
+  adding : (old new : Server A) (entry : Entry A) (result : Result (Unit {0}) (BuildFault A)) → Adds old entry new result → Grows old.graph.entries new.graph.entries
+  adding old new entry (Ok done) adds = comes_at_end old.graph.entries new.graph.entries entry old.graph.format adds.comes
+  adding old new entry (Err cause) adds = stays old new adds.0
+
+  setting : (old new : Server A) (name id : List ℕ) (result : Result (Unit {0}) (BuildFault A)) → Sets old name id new result → new.graph ≡ old.graph
+  setting old new name id (Ok done) sets = sets.graph
+  setting old new name id (Err cause) sets = ap (λ (s : Server A). s.graph) sets.0
+
+  setting_head : (old new : Server A) (head : Head A) (result : Result (Unit {0}) (BuildFault A)) → SetsHead old head new result → new.graph ≡ old.graph
+  setting_head old new head (Ok done) sets = ap (λ (s : Server A). s.graph) sets.1
+  setting_head old new head (Err fault.HeadMissing) sets = ap (λ (s : Server A). s.graph) sets.0
+  setting_head old new head (Err (fault.Graph cause)) sets = absurd sets
+  setting_head old new head (Err (fault.Refs cause)) sets = absurd sets
+  setting_head old new head (Err (fault.NotClosed id)) sets = absurd sets
+  setting_head old new head (Err (fault.RefMissing name)) sets = absurd sets
+  setting_head old new head (Err (fault.MissingParent id)) sets = absurd sets
+  setting_head old new head (Err fault.Memory) sets = absurd sets
+
+  pub servers_grow : ServersGrow A
+  servers_grow = record { adding = adding; setting = setting; setting_head = setting_head }

@@ -1,0 +1,12 @@
+pub mod AdvertLemmas
+pub mod AnswerLemmas
+pub mod ChangeLemmas
+pub mod FetchLemmas
+pub mod FitLemmas
+pub mod FormatLemmas
+pub mod LawLemmas
+pub mod LsBuilding
+pub mod LsLemmas
+pub mod LsWriting
+pub mod PeelLemmas
+pub mod ServerLemmas

@@ -1,0 +1,25 @@
+use Rattle.std.proofs.Common.{[], ◌∷◌, List, ℕ, sym, subst}
+use Rattle.glsreply.specs.RefTexts.{RefLine}
+use Rattle.ganswer.specs.LsAnswers.{ShowsLines}
+use Rattle.ganswer.proofs.FormatLemmas.{goes, room}
+use Rattle.ganswer.proofs.LsBuilding.{only_memory, with_lines}
+use Rattle.ganswer.proofs.server.Server.add_line.Goals as goal
+
+pub no_memory-requires : goal.no_memory-requires
+no_memory-requires g c =
+    let server = c.args.self.now in
+    let asked = c.args.asked.now in
+    let ref : List ℕ × List ℕ = (c.args.name.now, c.args.id) in
+    let shows = subst (λ (line : RefLine). ShowsLines server asked (ref ∷ []) (line ∷ [])) (sym c.in_ok-line.ensures) c.in-Some.ensures in
+    let fits = goes c.places_are_nodes.ensures c.ids_have_one_format.ensures server c.refs-refs.ensures.server asked ref c.args.reply.now c.requires c.in_ok-line.line shows in
+    let space = room c.places_are_nodes.ensures c.ids_have_one_format.ensures server c.refs-refs.ensures.server asked ref c.args.reply.now c.requires in
+    only_memory _ _ c.in-Err.fault.why fits space c.in-Err.ensures.2
+
+pub returns-in-Ok-clause-added : goal.returns-in-Ok-clause-added
+returns-in-Ok-clause-added g c =
+    λ front so_far.
+    let server = c.args.self.now in
+    let asked = c.args.asked.now in
+    let ref : List ℕ × List ℕ = (c.args.name.now, c.args.id) in
+    let shows = subst (λ (line : RefLine). ShowsLines server asked (ref ∷ []) (line ∷ [])) (sym c.in_ok-line.ensures) c.in-Some.ensures in
+    with_lines server asked front ref c.args.reply.now c.push.new.self (c.in_ok-line.line ∷ []) c.in-Ok.ensures.2 shows so_far

@@ -1,0 +1,13 @@
+-- The lines of the refs from here on are to come.
+use Rattle.std.proofs.Common.{List, drop, map}
+use Rattle.ggrammar.specs.Writing.{IsWriting}
+use Rattle.glsreply.specs.LsReplies.{ref_packet}
+use Rattle.glsreply.specs.RefTexts.{RefLine}
+use Rattle.ganswer.specs.LsAnswers.{ShowsLines}
+use Rattle.ganswer.proofs.server.Server.write_refs.Given as goal
+
+abbrev pub invariant-loop-reference : goal.invariant-loop-reference
+invariant-loop-reference g l =
+    (lines : List RefLine) → ShowsLines l.self l.asked l.refs lines
+    → (rest : List RefLine) × ShowsLines l.self l.asked (drop l.reference-index l.refs) rest
+    × IsWriting g.W.Sink.contents g.W.Sink.passed_on g.W.Sink.is_down g.W.Sink.loans l.initial.writer l.writer (map ref_packet lines) (map ref_packet rest)

@@ -1,0 +1,20 @@
+-- What a server advertises (gitprotocol-v2(5), "Capability Advertisement").
+use Rattle.std.specs.Prelude.{ℕ, List, [], ◌∷◌, codes, Some, None}
+use Rattle.gname.specs.Formats.{format_name}
+use Rattle.gname.specs.declared.formats.Format.{Format}
+use Rattle.ggrammar.specs.Capabilities.{Capability}
+
+abbrev pub key : List ℕ → Capability
+key name = record { key = name; value = None }
+
+abbrev pub key_with : List ℕ → List ℕ → Capability
+key_with name value = record { key = name; value = Some value }
+
+-- its name; that it lists refs, and an unborn HEAD, and sends packs; and the format of its ids
+abbrev pub advertised : Format → List Capability
+advertised format =
+    key_with (codes "agent") (codes "gitv2/1")
+    ∷ key_with (codes "ls-refs") (codes "unborn")
+    ∷ key (codes "fetch")
+    ∷ key_with (codes "object-format") (format_name format)
+    ∷ []

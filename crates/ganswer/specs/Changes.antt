@@ -1,0 +1,66 @@
+-- Changes of a server: an object is added, a ref is set, HEAD is set. After a refusal the server is as it was.
+use Rattle.std.specs.Prelude.{◌≡◌, ℕ, List, None, Result, Ok, Err}
+use Rattle.gobject.specs.declared.node.Entry.{Entry}
+use Rattle.gobject.specs.Objects.{node_at}
+use Rattle.ghistory.specs.Graphs.{Holds, HoldsParents, IsFirstAbsent}
+use Rattle.ghistory.specs.Insert.{ComesIn, IsCause}
+use Rattle.grefs.specs.RefLists.{CannotSet, RefList, SetsRef, ref_at}
+use Rattle.grefs.specs.declared.fault.RefsFault.{RefsFault}
+use Rattle.grefs.specs.declared.fault.RefsFault.TheVariants as refs
+use Rattle.grefs.specs.declared.head.Head.{Head}
+use Rattle.ganswer.specs.Servers.{Server, HoldsHead}
+use Rattle.ganswer.specs.declared.fault.BuildFault.{BuildFault}
+use Rattle.ganswer.specs.declared.fault.BuildFault.TheVariants as fault
+
+-- ---- an object
+
+-- why an object is not added: a parent is missing, the first that is; else what a graph refuses of it
+abbrev pub IsNotAdded : {A : Type 0} → Server A → Entry A → BuildFault A → Type 0
+IsNotAdded server entry (fault.MissingParent id) = IsFirstAbsent server.graph.entries entry.node.parents id
+IsNotAdded server entry (fault.Graph cause) =
+    HoldsParents server.graph.entries entry × IsCause server.graph.format server.graph.entries entry cause
+IsNotAdded server entry _ = ⊥
+
+-- only the graph changes: the object is there with its node, or comes at the end
+pub record AddsObject {A : Type 0} (old : Server A) (entry : Entry A) (new : Server A) : Type 0 where
+  pub parents : HoldsParents old.graph.entries entry
+  pub format : new.graph.format ≡ old.graph.format
+  pub comes : ComesIn old.graph.format old.graph.entries entry new.graph.entries
+  pub refs : new.refs ≡ old.refs
+  pub head : new.head ≡ old.head
+
+abbrev pub Adds : {A : Type 0} → Server A → Entry A → Server A → Result (Unit {0}) (BuildFault A) → Type 0
+Adds old entry new (Ok _) = AddsObject old entry new
+Adds old entry new (Err fault) = (new ≡ old) × IsNotAdded old entry fault
+
+-- ---- a ref
+
+-- why refs do not take a name: it can't be set, or it is new and there is no memory
+abbrev pub IsNotTaken : RefList → List ℕ → RefsFault → Type 0
+IsNotTaken list name refs.Refs = CannotSet list name
+IsNotTaken list name refs.Memory = (ref_at list name ≡ None) × ¬ (CannotSet list name)
+
+-- why a ref is not set: the id is not held; else what the refs refuse
+abbrev pub IsNotSet : {A : Type 0} → Server A → List ℕ → List ℕ → BuildFault A → Type 0
+IsNotSet server name id (fault.RefMissing missing) = (missing ≡ name) × (node_at server.graph.entries id ≡ None)
+IsNotSet server name id (fault.Refs cause) = Holds server.graph.entries id × IsNotTaken server.refs name cause
+IsNotSet server name id _ = ⊥
+
+-- only the refs change: the name stands at the id
+pub record SetsOneRef {A : Type 0} (old : Server A) (name id : List ℕ) (new : Server A) : Type 0 where
+  pub held : Holds old.graph.entries id
+  pub graph : new.graph ≡ old.graph
+  pub sets : SetsRef old.refs new.refs name id
+  pub head : new.head ≡ old.head
+
+abbrev pub Sets : {A : Type 0} → Server A → List ℕ → List ℕ → Server A → Result (Unit {0}) (BuildFault A) → Type 0
+Sets old name id new (Ok _) = SetsOneRef old name id new
+Sets old name id new (Err fault) = (new ≡ old) × IsNotSet old name id fault
+
+-- ---- HEAD
+
+-- HEAD stands as it is handed in, or it is refused where that is at an id which is not held
+abbrev pub SetsHead : {A : Type 0} → Server A → Head A → Server A → Result (Unit {0}) (BuildFault A) → Type 0
+SetsHead old head new (Ok _) = HoldsHead old.graph.entries head × (new ≡ record old { head = head })
+SetsHead old head new (Err fault.HeadMissing) = (new ≡ old) × ¬ (HoldsHead old.graph.entries head)
+SetsHead old head new (Err _) = ⊥

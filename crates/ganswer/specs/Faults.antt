@@ -1,0 +1,31 @@
+-- The tables of faults: the number and the name of each, and the words for a client.
+use Rattle.std.specs.Prelude.{codes}
+use Rattle.gname.specs.Faults.{FaultRow}
+use Rattle.gpkt.specs.Faults.{line_fault_row}
+use Rattle.grefs.specs.Faults.{refs_fault_row}
+use Rattle.gobject.specs.Faults.{pack_fault_row}
+use Rattle.ghistory.specs.Faults.{graph_fault_row}
+use Rattle.ggrammar.specs.Faults.{WhyRow, line_phrase, row_of, why_row}
+use Rattle.ganswer.specs.declared.fault.BuildFault.{BuildFault}
+use Rattle.ganswer.specs.declared.fault.BuildFault.TheVariants as build
+use Rattle.ganswer.specs.declared.fault.ServeFault.{ServeFault}
+use Rattle.ganswer.specs.declared.fault.ServeFault.TheVariants as serve
+
+-- why a server was not made, or not changed
+abbrev pub build_fault_row : {A : Type 0} → BuildFault A → FaultRow
+build_fault_row (build.Graph fault) = graph_fault_row fault
+build_fault_row (build.Refs fault) = refs_fault_row fault
+build_fault_row (build.NotClosed id) = (70, codes "NotClosed")
+build_fault_row (build.RefMissing name) = (71, codes "RefMissing")
+build_fault_row build.HeadMissing = (71, codes "RefMissing")
+build_fault_row (build.MissingParent id) = (72, codes "MissingParent")
+build_fault_row build.Memory = (64, codes "Memory")
+
+-- why a request was not answered
+abbrev pub serve_fault_row : ServeFault → WhyRow
+serve_fault_row (serve.Reader fault) = row_of (line_fault_row fault) (line_phrase fault)
+serve_fault_row (serve.Request fault) = why_row fault.why
+serve_fault_row serve.NoWants = row_of (73, codes "NoWants") (codes "no wants")
+serve_fault_row (serve.NotOurs id) = row_of (74, codes "NotOurs") (codes "not our ref")
+serve_fault_row (serve.Pack fault) = row_of (pack_fault_row fault) (codes "pack failed")
+serve_fault_row serve.Memory = row_of (64, codes "Memory") (codes "out of memory")

@@ -1,0 +1,74 @@
+-- What fetch answers (gitprotocol-v2(5), "fetch"). A request with `done`, or without haves, is answered with a pack at
+-- once. Any other is answered with the common ids, and where each want reaches one of these, with a pack, too.
+use Rattle.std.specs.Prelude.{◌≡◌, ◌≢◌, ◌⊎◌, ℕ, true, false, List, [], All, if◌then◌else◌}
+use Rattle.std.specs.Map.{values_of}
+use Rattle.gobject.specs.declared.node.Entry.{Entry}
+use Rattle.gobject.specs.declared.fault.PackFault.{PackFault}
+use Rattle.gobject.specs.Packs.{MayPack, PackFails, Packs}
+use Rattle.ghistory.specs.Graphs.{Holds}
+use Rattle.ghistory.specs.Sending.{IsListToSend}
+use Rattle.ghistory.specs.Walks.{IsReady, common_of}
+use Rattle.grequest.specs.Asked.{FetchAsked, is_direct}
+use Rattle.gfetchreply.specs.FetchReplies.{FetchReply, Acks, Ready, Pack}
+use Rattle.ganswer.specs.Servers.{Server}
+
+-- something is wanted, and all of it is held
+pub record CanServe {A : Type 0} (server : Server A) (asked : FetchAsked) : Type 0 where
+  pub some : asked.wants ≢ []
+  pub held : All (Holds server.graph.entries) asked.wants
+
+-- the ids that both ends have
+abbrev pub commons_of : {A : Type 0} → Server A → FetchAsked → List (List ℕ)
+commons_of server asked = common_of server.graph.entries asked.haves
+
+-- each want reaches one of them
+abbrev pub IsReadyFor : {A : Type 0} → Server A → FetchAsked → Type 0
+IsReadyFor server asked = IsReady server.graph.entries asked.wants (commons_of server asked)
+
+-- the ids from which tags are sent: those of the refs with `include-tag`, and else none
+abbrev pub tag_tips : {A : Type 0} → Server A → FetchAsked → List (List ℕ)
+tag_tips server asked = if asked.include_tag then values_of server.refs else []
+
+-- the objects to send: what the wants reach and the common ids do not, and tags
+abbrev pub IsSent : {A : Type 0} → Server A → FetchAsked → List (Entry A) → Type 0
+IsSent server asked list =
+    IsListToSend server.graph.entries asked.wants (commons_of server asked) (tag_tips server asked) list
+
+-- the packer may answer these bytes for them
+pub record SendsPack {A : Type 0} (server : Server A) (packs : Packs A) (asked : FetchAsked)
+    (pack : List ℕ) : Type 0 where
+  pub list : List (Entry A)
+  pub sent : IsSent server asked list
+  pub packed : MayPack packs list pack
+
+-- and for them it may fail so
+pub record FailsToPack {A : Type 0} (server : Server A) (fails : PackFails A) (asked : FetchAsked)
+    (fault : PackFault) : Type 0 where
+  pub list : List (Entry A)
+  pub sent : IsSent server asked list
+  pub failed : fails list fault
+
+-- which reply a request gets that can be served
+abbrev pub RepliesWith : {A : Type 0} → Server A → Packs A → FetchAsked → FetchReply → Type 0
+RepliesWith server packs asked (Pack pack) = (is_direct asked ≡ true) × SendsPack server packs asked pack
+RepliesWith server packs asked (Ready commons pack) =
+    (is_direct asked ≡ false) × (commons ≡ commons_of server asked) × IsReadyFor server asked
+    × SendsPack server packs asked pack
+RepliesWith server packs asked (Acks commons) =
+    (is_direct asked ≡ false) × (commons ≡ commons_of server asked) × ¬ (IsReadyFor server asked)
+
+-- the reply to a request for fetch
+pub record FetchAnswer {A : Type 0} (server : Server A) (packs : Packs A) (asked : FetchAsked)
+    (reply : FetchReply) : Type 0 where
+  pub can : CanServe server asked
+  pub replies : RepliesWith server packs asked reply
+
+-- a pack is due: at once, or where enough is common
+abbrev pub IsPackDue : {A : Type 0} → Server A → FetchAsked → Type 0
+IsPackDue server asked = (is_direct asked ≡ true) ⊎ IsReadyFor server asked
+
+-- the ids that a reply acknowledges
+abbrev pub acks_of : FetchReply → List (List ℕ)
+acks_of (Acks commons) = commons
+acks_of (Ready commons pack) = commons
+acks_of (Pack pack) = []

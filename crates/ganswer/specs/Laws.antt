@@ -1,0 +1,112 @@
+-- What follows from the definitions of answers and of changes.
+use Rattle.std.specs.Prelude.{◌≡◌, ◌⊎◌, ◌≤◌, ℕ, List, length, All, Contains, Result}
+use Rattle.std.specs.List.{IsDistinct}
+use Rattle.std.specs.Str.{bytes_eq}
+use Rattle.gname.specs.declared.formats.Format.{Format}
+use Rattle.gobject.specs.declared.node.Entry.{Entry}
+use Rattle.gobject.specs.declared.fault.PackFault.{PackFault}
+use Rattle.gobject.specs.Packs.{AreEntries, MayPack, PackFails, Packs}
+use Rattle.ghistory.specs.Graphs.{Holds, IsGraph, IsNode}
+use Rattle.ghistory.specs.Insert.{Inserts}
+use Rattle.ghistory.specs.Laws.{HasAll}
+use Rattle.ghistory.specs.Reach.{Agree, Grows, IsFull}
+use Rattle.grefs.specs.declared.head.Head.{Head}
+use Rattle.grequest.specs.Asked.{FetchAsked, LsRefsAsked, is_direct, max_haves}
+use Rattle.glsreply.specs.LsReplies.{LsReply}
+use Rattle.glsreply.specs.WellFormed.{IsLsReplyIn}
+use Rattle.gfetchreply.specs.FetchHeads.{pack_of}
+use Rattle.gfetchreply.specs.FetchReplies.{FetchReply, Reading}
+use Rattle.gfetchreply.specs.WellFormed.{IsReplyIn}
+use Rattle.ganswer.specs.Answers.{FetchRefuses}
+use Rattle.ganswer.specs.Changes.{Adds, Sets, SetsHead}
+use Rattle.ganswer.specs.FetchAnswers.{CanServe, FetchAnswer, SendsPack, acks_of}
+use Rattle.ganswer.specs.LsAnswers.{LsAnswer}
+use Rattle.ganswer.specs.Servers.{Server, IsServer}
+use Rattle.ganswer.specs.declared.fault.BuildFault.{BuildFault}
+use Rattle.ganswer.specs.declared.fault.ServeFault.{ServeFault}
+use Rattle.ganswer.specs.declared.fault.ServeFault.TheVariants as fault
+
+-- ---- refs
+
+-- each request for refs has an answer
+abbrev pub LsRequestsHaveAnswers : Type 0 → Type 0
+LsRequestsHaveAnswers A = (server : Server A) (asked : LsRefsAsked) → (reply : LsReply) × LsAnswer server asked reply
+
+-- and one alone
+abbrev pub LsAnswersAreOne : Type 0 → Type 0
+LsAnswersAreOne A =
+    (server : Server A) (asked : LsRefsAsked) (a b : LsReply)
+    → LsAnswer server asked a → LsAnswer server asked b → a ≡ b
+
+-- an answer has the form of its message: it can be written, and read where ids are of the server's format
+abbrev pub LsAnswersFit : Type 0 → Type 0
+LsAnswersFit A =
+    (server : Server A) (asked : LsRefsAsked) (reply : LsReply)
+    → IsServer server → LsAnswer server asked reply → IsLsReplyIn server.graph.format reply
+
+-- each of its lines stands at an id that the server holds
+abbrev pub LsAnswersAreHeld : Type 0 → Type 0
+LsAnswersAreHeld A =
+    (server : Server A) (asked : LsRefsAsked) (reply : LsReply)
+    → IsServer server → LsAnswer server asked reply → All (λ line. Holds server.graph.entries line.id) reply.lines
+
+-- ---- objects
+
+-- a reply to fetch by one who knows the request, where the pack is within the limit
+abbrev pub FetchAnswersFit : (A : Type 0) → Packs A → Type 0
+FetchAnswersFit A packs =
+    (server : Server A) (asked : FetchAsked) (reply : FetchReply) (reading : Reading)
+    → IsServer server → length asked.haves ≤ max_haves → FetchAnswer server packs asked reply
+    → reading.format ≡ server.graph.format → reading.direct ≡ is_direct asked
+    → length (pack_of reply) ≤ reading.limit → IsReplyIn reading reply
+
+-- both ends have these ids: the client has offered each, and the server holds it; none comes twice
+pub record AreCommon {A : Type 0} (server : Server A) (asked : FetchAsked) (ids : List (List ℕ)) : Type 0 where
+  pub once : IsDistinct bytes_eq ids
+  pub offered : All (Contains asked.haves) ids
+  pub held : All (Holds server.graph.entries) ids
+
+-- the acknowledged ids are such
+abbrev pub AcksAreCommon : (A : Type 0) → Packs A → Type 0
+AcksAreCommon A packs =
+    (server : Server A) (asked : FetchAsked) (reply : FetchReply)
+    → FetchAnswer server packs asked reply → AreCommon server asked (acks_of reply)
+
+-- The pack is one of some entries of the server, which may be a graph's. Once they come in at a client whose graph
+-- agrees with the server's and that has the whole ancestry of each have, it has that of each want, and all that a want
+-- reaches at the server.
+pub record IsEnough {A : Type 0} (server : Server A) (packs : Packs A) (asked : FetchAsked)
+    (pack : List ℕ) : Type 0 where
+  pub list : List (Entry A)
+  pub packed : MayPack packs list pack
+  pub entries : AreEntries list
+  pub graph : IsGraph (record { format = server.graph.format; entries = list })
+  pub nodes : All (λ entry. IsNode server.graph.entries entry.id entry.node) list
+  pub enough : (client new : List (Entry A)) (format : Format) → Agree server.graph.entries client →
+      All (IsFull client) asked.haves → Inserts format client list new →
+      HasAll server.graph.entries asked.wants new
+
+-- each pack that is sent is enough
+abbrev pub PacksAreEnough : (A : Type 0) → Packs A → Type 0
+PacksAreEnough A packs =
+    (server : Server A) (asked : FetchAsked) (pack : List ℕ)
+    → IsServer server → CanServe server asked → SendsPack server packs asked pack → IsEnough server packs asked pack
+
+-- a request that can be served is refused only where the packer fails for entries as a graph has them, or out of memory
+abbrev pub ServesWhatIsHeld : (A : Type 0) → PackFails A → Type 0
+ServesWhatIsHeld A fails =
+    (server : Server A) (asked : FetchAsked) (cause : ServeFault)
+    → IsServer server → CanServe server asked → FetchRefuses server fails asked cause
+    → (cause ≡ fault.Memory)
+    ⊎ ((list : List (Entry A)) × (why : PackFault) × (cause ≡ fault.Pack why) × AreEntries list × fails list why)
+
+-- ---- changes
+
+-- objects only come to a server, and only where one is added
+pub record ServersGrow (A : Type 0) : Type 0 where
+  pub adding : (old new : Server A) (entry : Entry A) (result : Result (Unit {0}) (BuildFault A)) →
+      Adds old entry new result → Grows old.graph.entries new.graph.entries
+  pub setting : (old new : Server A) (name id : List ℕ) (result : Result (Unit {0}) (BuildFault A)) →
+      Sets old name id new result → new.graph ≡ old.graph
+  pub setting_head : (old new : Server A) (head : Head A) (result : Result (Unit {0}) (BuildFault A)) →
+      SetsHead old head new result → new.graph ≡ old.graph

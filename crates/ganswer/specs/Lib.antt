@@ -1,0 +1,24 @@
+pub mod Adverts
+pub mod Answers
+pub mod Changes
+pub mod FaultViews
+pub mod Faults
+pub mod FetchAnswers
+pub mod Laws
+pub mod LsAnswers
+pub mod LsBuilding
+pub mod Servers
+pub use Rattle.gobject.specs.Objects
+pub use Rattle.gobject.specs.Packs
+pub use Rattle.ghistory.specs.Graphs
+pub use Rattle.ghistory.specs.Insert
+pub use Rattle.ghistory.specs.Peeling
+pub use Rattle.ghistory.specs.Reach
+pub use Rattle.ghistory.specs.Sending
+pub use Rattle.ghistory.specs.Walks
+pub use Rattle.grefs.specs.RefLists
+pub use Rattle.grequest.specs.Asked
+pub use Rattle.grequest.specs.RequestValues
+pub use Rattle.glsreply.specs.LsReplies
+pub use Rattle.gfetchreply.specs.FetchReplies
+pub use Rattle.ghello.specs.Adverts as Capabilities

@@ -1,0 +1,56 @@
+//! What a server answers (gitprotocol-v2(5), "Command Request").
+
+ghost use Rattle.std.specs.Prelude.{IfOk, MatchResult};
+ghost use Rattle.grequest.specs.RequestValues.{asked_by_request};
+ghost use Rattle.ganswer.specs.Answers.{Answers, HasFormat, Refuses, reply_of};
+
+use crate::fault::ServeFault;
+use crate::server::Server;
+use gfetchreply::FetchReply;
+use ggraph::Packer;
+use glsreply::LsReply;
+use grequest::Request;
+use std::alloc::Allocator;
+
+/// What a server answers.
+#[derive(Drop)]
+pub enum Reply<A: Allocator + Copy> {
+    /// To the empty request, with which a client ends the conversation.
+    Nothing,
+    /// Refs.
+    Ls(LsReply<A>),
+    /// Common ids, objects, or both.
+    Fetch(FetchReply<A>),
+}
+
+impl<A: Allocator + Copy> Server<A> {
+    /// The answer to a request (gitprotocol-v2(5), "ls-refs" and "fetch").
+    ///
+    /// Refs: HEAD first, then the names in byte order; those that begin with one of the prefixes, or all where there
+    /// is none. With `symrefs` a HEAD that points at a ref has its target, and with `peel` the id of a tag the commit to
+    /// which it leads. With `unborn` comes the name of a ref that HEAD points at and that is not there, where HEAD is asked for.
+    ///
+    /// Objects: with `done`, or without haves, the pack of those that a want reaches and no common id does; the common
+    /// ids are the distinct haves that are here, in the order in which each came first. Else, where each want reaches
+    /// a common id, the common ids and that pack, and else the common ids alone. With `include-tag` the pack has the
+    /// tags, too, that lead from the ids of refs to commits of it.
+    ///
+    /// It fails with `NoWants` where a fetch wants nothing; else with `NotOurs` for the first want that is not here;
+    /// else with `Pack` where the packer fails for the objects to send; and with `Memory`.
+    pub fn answer<K: Packer<A>>(
+        &self,
+        request: &Request<A>,
+        packer: &K,
+    ) -> Result<Reply<A>, ServeFault>
+        ensures answer { MatchResult result
+            (λ reply. Answers self.now (K.packs packer.now) (asked_by_request request.now) (reply_of reply))
+            (Refuses self.now (K.pack_fails packer.now) (asked_by_request request.now)) }
+        ensures format { IfOk result (HasFormat self.now.graph.format) }
+    {
+        match request {
+            Request::Empty => Ok(Reply::Nothing),
+            Request::Ls(asked) => Ok(Reply::Ls(self.answer_ls(asked)?)),
+            Request::Fetch(asked) => Ok(Reply::Fetch(self.answer_fetch(asked, packer)?)),
+        }
+    }
+}

@@ -1,0 +1,180 @@
+//! Why a server was not made or not changed, and why a request was not answered.
+
+ghost use Rattle.std.specs.Prelude.{◌≡◌};
+ghost use Rattle.gpkt.specs.Faults.{line_fault_row};
+ghost use Rattle.ggrammar.specs.Faults.{line_phrase, row_of};
+ghost use Rattle.ganswer.specs.Faults.{build_fault_row, serve_fault_row};
+ghost use Rattle.ganswer.specs.FaultViews.{row_view};
+ghost use Rattle.ganswer.specs.declared.fault.BuildFault.TheVariants as build;
+ghost use Rattle.ganswer.specs.declared.fault.ServeFault.TheVariants as serve;
+
+use ggrammar::{MessageFault, Why};
+use ggraph::{GraphFault, PackFault, RefsFault};
+use gname::{Oid, RefName};
+use gpkt::LineFault;
+use std::alloc::{AllocError, Allocator, Global};
+use thiserror::Error;
+
+/// Why a server was not made, or not changed.
+#[derive(Debug, Drop, Error)]
+pub enum BuildFault<A: Allocator + Copy = Global> {
+    /// 60 to 64, 75: the graph refuses the object.
+    #[error("{0}")]
+    Graph(GraphFault),
+    /// 69, 64: the refs refuse the name.
+    #[error("{0}")]
+    Refs(RefsFault),
+    /// 70: the parent of an object is not there.
+    #[error("a parent is missing")]
+    NotClosed { id: Oid },
+    /// 71: the object at which a ref stands is not there.
+    #[error("a ref stands at a missing object")]
+    RefMissing { name: RefName<A> },
+    /// 71: the object at which HEAD stands by its id is not there.
+    #[error("HEAD stands at a missing object")]
+    HeadMissing,
+    /// 72: the parent of an object that is to be added is not there.
+    #[error("a parent of the new object is missing")]
+    MissingParent { id: Oid },
+    /// 64: there is no memory for a name.
+    #[error("out of memory")]
+    Memory,
+}
+
+impl<A: Allocator + Copy> BuildFault<A> {
+    /// The number of the fault.
+    pub fn code(&self) -> u32
+        ensures { result ≡ (build_fault_row self.now).0 }
+    {
+        self.row().0
+    }
+
+    /// The name of the fault.
+    pub fn name(&self) -> &'static str
+        ensures { result.now ≡ (build_fault_row self.now).1 }
+    {
+        self.row().1
+    }
+
+    // The table: the number and the name of each fault.
+    fn row(&self) -> (u32, &'static str)
+        ensures { (result.0, result.1.now) ≡ build_fault_row self.now }
+    {
+        match self {
+            BuildFault::Graph(fault) => (fault.code(), fault.name()),
+            BuildFault::Refs(fault) => (fault.code(), fault.name()),
+            BuildFault::NotClosed { .. } => (70, "NotClosed"),
+            BuildFault::RefMissing { .. } => (71, "RefMissing"),
+            BuildFault::HeadMissing => (71, "RefMissing"),
+            BuildFault::MissingParent { .. } => (72, "MissingParent"),
+            BuildFault::Memory => (64, "Memory"),
+        }
+    }
+}
+
+impl<A: Allocator + Copy> From<AllocError> for BuildFault<A> {
+    ghost from_gives = { λ _ fault. fault ≡ build.Memory };
+
+    fn from(_refused: AllocError) -> BuildFault<A> {
+        BuildFault::Memory
+    }
+}
+
+/// Why a request was not answered.
+#[derive(Debug, Drop, Error)]
+pub enum ServeFault {
+    /// 28: there is no memory for the reader of requests.
+    #[error("{0}")]
+    Reader(LineFault),
+    /// 20 to 54: the request was refused as it was read.
+    #[error("{0}")]
+    Request(MessageFault),
+    /// 73: a fetch without a want.
+    #[error("nothing is wanted")]
+    NoWants,
+    /// 74: the first wanted object that is not there.
+    #[error("a wanted object is missing")]
+    NotOurs { id: Oid },
+    /// 65: the packer refuses the objects to send.
+    #[error("{0}")]
+    Pack(PackFault),
+    /// 64: there is no memory for the answer.
+    #[error("out of memory")]
+    Memory,
+}
+
+// The number and the name of a fault, and the words for a client.
+#[derive(Clone, Copy)]
+struct ServeRow {
+    code: u32,
+    name: &'static str,
+    phrase: &'static str,
+}
+
+fn row(code: u32, name: &'static str, phrase: &'static str) -> ServeRow
+    ensures { row_view result ≡ row_of (code, name.now) phrase.now }
+{
+    ServeRow { code, name, phrase }
+}
+
+// Why no line is read, in a client's words.
+fn line_row(fault: LineFault) -> ServeRow
+    ensures { row_view result ≡ row_of (line_fault_row fault) (line_phrase fault) }
+{
+    let why = Why::Line(fault);
+    row(why.code(), why.name(), why.phrase())
+}
+
+impl ServeFault {
+    /// The number of the fault.
+    pub fn code(&self) -> u32
+        ensures { result ≡ (serve_fault_row self.now).code }
+    {
+        self.row().code
+    }
+
+    /// The name of the fault.
+    pub fn name(&self) -> &'static str
+        ensures { result.now ≡ (serve_fault_row self.now).name }
+    {
+        self.row().name
+    }
+
+    /// The words for a client, as in `ERR upload-pack: no wants`. For a wanted object that is missing the digits of
+    /// its id come after them.
+    pub fn phrase(&self) -> &'static str
+        ensures { result.now ≡ (serve_fault_row self.now).phrase }
+    {
+        self.row().phrase
+    }
+
+    // The table of faults.
+    fn row(&self) -> ServeRow
+        ensures { row_view result ≡ serve_fault_row self.now }
+    {
+        match self {
+            ServeFault::Reader(fault) => line_row(*fault),
+            ServeFault::Request(fault) => row(fault.code(), fault.name(), fault.why.phrase()),
+            ServeFault::NoWants => row(73, "NoWants", "no wants"),
+            ServeFault::NotOurs { .. } => row(74, "NotOurs", "not our ref"),
+            ServeFault::Pack(fault) => row(fault.code(), fault.name(), "pack failed"),
+            ServeFault::Memory => row(64, "Memory", "out of memory"),
+        }
+    }
+}
+
+impl From<AllocError> for ServeFault {
+    ghost from_gives = { λ _ fault. fault ≡ serve.Memory };
+
+    fn from(_refused: AllocError) -> ServeFault {
+        ServeFault::Memory
+    }
+}
+
+impl From<PackFault> for ServeFault {
+    ghost from_gives = { λ cause fault. fault ≡ serve.Pack cause };
+
+    fn from(cause: PackFault) -> ServeFault {
+        ServeFault::Pack(cause)
+    }
+}

@@ -1,0 +1,130 @@
+//! What fetch answers (gitprotocol-v2(5), "fetch").
+
+ghost use Rattle.std.specs.Prelude.{◌≡◌, ◌↔◌, IfOk, IfErr, IsTrue, MatchResult};
+ghost use Rattle.ghistory.specs.declared.fault.GraphFault.TheVariants.{Memory as OutOfMemory};
+ghost use Rattle.gfetchreply.specs.Views.{IsReplyOf, reply_in};
+ghost use Rattle.ganswer.specs.Answers.{ChecksWants, FetchRefuses, PacksFor};
+ghost use Rattle.ganswer.specs.FetchAnswers.{FetchAnswer, IsReadyFor, IsSent, commons_of};
+ghost use Rattle.ganswer.specs.declared.fault.ServeFault.TheVariants.{Memory};
+
+use crate::fault::ServeFault;
+use crate::server::Server;
+use gfetchreply::{Acks, FetchReply, PackBytes};
+use ggraph::graph_laws::places_are_nodes;
+use ggraph::{Entry, GraphFault, Packer, common_ids, ready, send_list, send_list_tags};
+use gname::Oid;
+use grequest::FetchRequest;
+use std::alloc::Allocator;
+
+impl<A: Allocator + Copy> Server<A> {
+    // The reply to a request for objects.
+    pub(crate) fn answer_fetch<K: Packer<A>>(
+        &self,
+        asked: &FetchRequest<A>,
+        packer: &K,
+    ) -> Result<FetchReply<A>, ServeFault>
+        ensures answer { MatchResult result
+            (λ reply. FetchAnswer self.now (K.packs packer.now) asked.now.asked (reply_in reply))
+            (FetchRefuses self.now (K.pack_fails packer.now) asked.now.asked) }
+        ensures format { IfOk result (IsReplyOf self.now.graph.format) }
+    {
+        self.check_wants(asked.wants())?;
+        let commons = self.commons(asked)?;
+        if asked.is_direct() {
+            let pack = self.pack(asked, commons.ids(), packer)?;
+            return Ok(FetchReply::Pack(pack));
+        }
+        if !self.is_ready(asked, commons.ids())? {
+            return Ok(FetchReply::Acks(commons));
+        }
+        let pack = self.pack(asked, commons.ids(), packer)?;
+        Ok(FetchReply::Ready(commons, pack))
+    }
+
+    // Whether something is wanted, and all of it is here.
+    fn check_wants(&self, wants: &[Oid]) -> Result<(), ServeFault>
+        ensures { ChecksWants self.now wants.now result }
+    {
+        if wants.is_empty() {
+            return Err(ServeFault::NoWants);
+        }
+        match self.graph().first_absent(wants) {
+            Some(id) => Err(ServeFault::NotOurs { id }),
+            None => Ok(()),
+        }
+    }
+
+    // The ids that both ends have, to be acknowledged.
+    fn commons(&self, asked: &FetchRequest<A>) -> Result<Acks<A>, ServeFault>
+        ensures commons { IfOk result (λ commons. commons ≡ record {
+          format = self.now.graph.format;
+          ids = commons_of self.now asked.now.asked;
+        }) }
+        ensures fault { IfErr result (λ fault. fault ≡ Memory) }
+    {
+        places_are_nodes::<A>();
+        // The call only gives the proof that a request has not too many.
+        let _haves = asked.haves();
+        let ids = self.common_ids(asked)?;
+        Ok(Acks::from_ids(self.graph().format(), ids).unwrap())
+    }
+
+    // The ids that both ends have.
+    fn common_ids(&self, asked: &FetchRequest<A>) -> Result<Vec<Oid, A>, ServeFault>
+        ensures ids { IfOk result (λ ids. ids.items ≡ commons_of self.now asked.now.asked) }
+        ensures fault { IfErr result (λ fault. fault ≡ Memory) }
+    {
+        common_ids(self.graph(), asked.haves()).map_err(no_memory)
+    }
+
+    // Whether each want reaches one of the common ids.
+    fn is_ready(&self, asked: &FetchRequest<A>, commons: &[Oid]) -> Result<bool, ServeFault>
+        requires { commons.now ≡ commons_of self.now asked.now.asked }
+        ensures ready { IfOk result (λ ready. IsTrue ready ↔ IsReadyFor self.now asked.now.asked) }
+        ensures fault { IfErr result (λ fault. fault ≡ Memory) }
+    {
+        ready(self.graph(), asked.wants(), commons).map_err(no_memory)
+    }
+
+    // The pack of the objects to send.
+    fn pack<K: Packer<A>>(
+        &self,
+        asked: &FetchRequest<A>,
+        commons: &[Oid],
+        packer: &K,
+    ) -> Result<PackBytes<A>, ServeFault>
+        requires { commons.now ≡ commons_of self.now asked.now.asked }
+        ensures { PacksFor self.now (K.packs packer.now) (K.pack_fails packer.now) asked.now.asked result }
+    {
+        let list = self.objects(asked, commons)?;
+        let bytes = packer.pack(self.graph().allocator(), list.as_slice())?;
+        Ok(PackBytes::new(bytes).unwrap())
+    }
+
+    // The objects to send.
+    fn objects(
+        &self,
+        asked: &FetchRequest<A>,
+        commons: &[Oid],
+    ) -> Result<Vec<Entry<A>, A>, ServeFault>
+        requires { commons.now ≡ commons_of self.now asked.now.asked }
+        ensures list { IfOk result (λ list. IsSent self.now asked.now.asked list.items) }
+        ensures fault { IfErr result (λ fault. fault ≡ Memory) }
+    {
+        let graph = self.graph();
+        if asked.include_tag() {
+            send_list_tags(graph, asked.wants(), commons, self.refs()).map_err(no_memory)
+        } else {
+            send_list(graph, asked.wants(), commons).map_err(no_memory)
+        }
+    }
+}
+
+// The fault of a walk, which fails only when out of memory.
+fn no_memory(fault: GraphFault) -> ServeFault
+    requires { fault ≡ OutOfMemory }
+    ensures { result ≡ Memory }
+{
+    let _ = fault;
+    ServeFault::Memory
+}

@@ -1,0 +1,75 @@
+//! Laws of answers and of changes. A call does nothing, and gives its caller's proof the law.
+
+ghost use Rattle.ganswer.specs.Laws.{AcksAreCommon, FetchAnswersFit, LsAnswersAreHeld, LsAnswersAreOne, LsAnswersFit, LsRequestsHaveAnswers, PacksAreEnough, ServersGrow, ServesWhatIsHeld};
+
+use ggraph::Packer;
+use ggraph::graph_laws::{
+    commons_are_held, peels_to_one, places_are_nodes, sending_is_enough, sent_are_entries,
+};
+use gname::laws::head_is_a_name;
+use std::alloc::Allocator;
+
+/// A server has one answer to each request for refs.
+pub fn ls_requests_have_one_answer<A: Allocator + Copy>()
+    ensures exists { LsRequestsHaveAnswers A }
+    ensures one { LsAnswersAreOne A }
+{
+    peels_to_one::<A>();
+}
+
+/// An answer to a request for refs has the form of its message: its ids have the format of the server's, its names
+/// keep their rules, and it has no more lines than a reply may have.
+pub fn ls_answers_fit<A: Allocator + Copy>()
+    ensures { LsAnswersFit A }
+{
+    places_are_nodes::<A>();
+    head_is_a_name();
+}
+
+/// Each line of an answer to a request for refs stands at an object that the server has.
+pub fn ls_answers_are_held<A: Allocator + Copy>()
+    ensures { LsAnswersAreHeld A }
+{}
+
+/// An answer to a request for objects has the form of its message. A client reads it with the format of the server's
+/// ids, as direct exactly where its request was, and where the pack is within its limit.
+pub fn fetch_answers_fit<A: Allocator + Copy, K: Packer<A>>(packer: &K)
+    ensures { FetchAnswersFit A (K.packs packer.now) }
+{
+    let _ = packer;
+    places_are_nodes::<A>();
+}
+
+/// The ids that an answer acknowledges are haves of the request that the server holds, each once.
+pub fn acks_are_common<A: Allocator + Copy, K: Packer<A>>(packer: &K)
+    ensures { AcksAreCommon A (K.packs packer.now) }
+{
+    let _ = packer;
+    commons_are_held::<A>();
+}
+
+/// A pack that is sent is one of entries of the server's graph. Where they are inserted into the graph of a client
+/// that has the whole ancestries of the haves of its request, and agrees with the server on what both hold, the
+/// client's has those of the wants, and all that these reach at the server.
+pub fn packs_are_enough<A: Allocator + Copy, K: Packer<A>>(packer: &K)
+    ensures { PacksAreEnough A (K.packs packer.now) }
+{
+    let _ = packer;
+    commons_are_held::<A>();
+    sent_are_entries::<A>();
+    sending_is_enough::<A>();
+}
+
+/// A request whose wants the server holds is refused only where the packer fails for some entries as a graph has
+/// them, or out of memory.
+pub fn held_wants_are_served<A: Allocator + Copy, K: Packer<A>>(packer: &K)
+    ensures { ServesWhatIsHeld A (K.pack_fails packer.now) }
+{
+    let _ = packer;
+    sent_are_entries::<A>();
+}
+
+/// Objects only come to a server, and only by [`Server::add`](crate::Server::add).
+pub fn servers_grow<A: Allocator + Copy>()
+    ensures { ServersGrow A }
+{}

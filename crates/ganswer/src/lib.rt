@@ -1,0 +1,57 @@
+//! What a server of Git's protocol version 2 has, and what it answers: a repository that is served, its
+//! advertisement, and the answers to requests for refs and for objects (gitprotocol-v2(5), "ls-refs" and "fetch").
+//!
+//! # Proved
+//!
+//! - A [`Server`] has exactly the graph, the refs and the HEAD that it was given. In its type: no parent of an object
+//!   is missing, and each ref, and HEAD by its id, stands at an object that is there. [`Server::new`] refuses other parts
+//!   for the first that is missing, in a fixed order.
+//! - [`Server::add`], [`Server::set_ref`] and [`Server::set_head`] change that one thing and nothing else, or are
+//!   refused for their first cause and change nothing.
+//! - [`Server::answer`] gives an answer to the request (`specs/Answers.antt`), for any packer: to ls-refs the refs
+//!   that are asked for, HEAD first and then in the byte order of their names, with the attributes that are asked for; to
+//!   fetch the common ids, the pack of the objects to send, or both. It refuses a fetch exactly where nothing is
+//!   wanted, or with the first want that is not here; where the packer may refuse the objects to send; or out of
+//!   memory. The ids of an answer have the format of the graph, and an answer is never refused for its length.
+//! - [`Server::write_ls_answer`] writes the answer to ls-refs, or a beginning of it where the sink fails.
+//! - [`Server::advert`] fails only when out of memory, and else advertises `agent=gitv2/1`, `ls-refs=unborn`,
+//!   `fetch`, and the format of the graph's ids.
+//! - [`laws`]: a server has one answer to each request for refs, whose lines stand at objects that it has. What an
+//!   answer acknowledges are haves of the request that the server has, too. A pack that is sent completes the
+//!   ancestries of the wants at a client that has those of its haves. Wants that are here are refused only for the
+//!   packer, or out of memory. Answers have the forms of their messages, so that what is written of them can be read by a
+//!   client of the same object format. Objects only come to a server.
+//! - Each fault has the number and the name of its row, and the words for a client.
+//! - No call panics, overflows or reads out of bounds, and each returns.
+//!
+//! # Only tested
+//!
+//! The texts of the faults; that memory which is there is used; that `write_ls_answer` takes none.
+//!
+//! # What a body can still get away with
+//!
+//! It may report out of memory: `answer` for any request but the empty one and a fetch that it refuses for its wants;
+//! `advert` at any time; `new` for the name of a ref that it reports, or where nothing is missing; `add` for an object
+//! that is new, and `set_ref` for a name that is. A call may take as long as it likes, and more memory than it needs.
+//!
+//! # Stands on
+//!
+//! `ggraph` for graphs, refs, walks and packers, which come from `gobject`, `ghistory`, `grefs` and `gwalk`;
+//! `grequest`, `glsreply`, `gfetchreply` and `ghello` for the messages, `ggrammar` and `gpkt` for what these share,
+//! `gname` for ids and names, `thiserror` for the texts of faults; in tests `bumpalo`, for memory that ends.
+#![tactic(auto)]
+
+mod advert;
+mod answer;
+mod fault;
+mod fetch;
+pub mod laws;
+mod ls;
+mod server;
+#[cfg(test)]
+mod tests;
+mod write;
+
+pub use crate::answer::Reply;
+pub use crate::fault::{BuildFault, ServeFault};
+pub use crate::server::Server;

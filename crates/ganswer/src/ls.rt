@@ -1,0 +1,233 @@
+//! What ls-refs answers (gitprotocol-v2(5), "ls-refs").
+
+ghost use Rattle.std.specs.Prelude.{◌≡◌, ◌∷◌, ◌++◌, [], nat_eq, IfOk, IfErr, OnOk};
+ghost use Rattle.std.specs.List.{list_any, starts_with};
+ghost use Rattle.std.specs.Option.{option_copied};
+ghost use Rattle.ggrammar.specs.declared.fault.Why.TheVariants as why;
+ghost use Rattle.glsreply.specs.LentViews.{lent_view};
+ghost use Rattle.grefs.specs.RefLists.{RefList};
+ghost use Rattle.ganswer.specs.LsAnswers.{IsPeeled, IsPeeledIf, LsAnswer, ShowsLines, all_refs, head_id, head_ref, is_asked, missing_target, symref_of, target_of, unborn_of};
+ghost use Rattle.ganswer.specs.LsBuilding.{IsAnswering, IsNextRef, line_list};
+ghost use Rattle.ganswer.specs.declared.fault.ServeFault.TheVariants.{Memory};
+
+use crate::fault::ServeFault;
+use crate::server::Server;
+use ggrammar::MessageFault;
+use ggraph::graph_laws::places_are_nodes;
+use ggraph::{Graph, Head, Kind};
+use glsreply::{LentLine, LsReply, RefLine};
+use gname::laws::ids_have_one_format;
+use gname::{Oid, Prefix, RefName};
+use grequest::LsRefsRequest;
+use std::alloc::{AllocError, Allocator};
+
+impl<A: Allocator + Copy> Server<A> {
+    // The reply to a request for refs. It fails with `Memory` alone.
+    pub(crate) fn answer_ls(&self, asked: &LsRefsRequest<A>) -> Result<LsReply<A>, ServeFault>
+        ensures answer { IfOk result (LsAnswer self.now asked.now) }
+        ensures fault { IfErr result (λ fault. fault ≡ Memory) }
+    {
+        let mut reply = self.begin_ls(asked)?;
+        self.add_head(asked, &mut reply)?;
+        self.add_refs(asked, self.refs().as_slice(), &mut reply)?;
+        Ok(reply)
+    }
+
+    // A reply without lines, with the target of an unborn HEAD.
+    fn begin_ls(&self, asked: &LsRefsRequest<A>) -> Result<LsReply<A>, ServeFault>
+        ensures reply { IfOk result (λ reply. reply ≡ record { unborn = unborn_of self.now asked.now; lines = [] }) }
+        ensures fault { IfErr result (λ fault. fault ≡ Memory) }
+    {
+        let mut reply = LsReply::new(self.graph().allocator());
+        if let Some(target) = self.unborn(asked) {
+            reply.set_unborn(target.clone()?).unwrap();
+        }
+        Ok(reply)
+    }
+
+    // Adds the line of HEAD, where it stands at an id and is asked for.
+    fn add_head(&self, asked: &LsRefsRequest<A>, reply: &mut LsReply<A>) -> Result<(), ServeFault>
+        requires { reply.old ≡ record { unborn = unborn_of self.now asked.now; lines = [] } }
+        ensures head { OnOk result (IsAnswering self.now asked.now (head_ref (head_id self.now.head self.now.refs)) reply.new) }
+        ensures fault { IfErr result (λ fault. fault ≡ Memory) }
+    {
+        match self.head_id() {
+            Some(id) => self.add_line(asked, self.name_of_head(), id, reply),
+            None => Ok(()),
+        }
+    }
+
+    // Adds the lines of the refs that are asked for.
+    fn add_refs(
+        &self,
+        asked: &LsRefsRequest<A>,
+        refs: &[(RefName<A>, Oid)],
+        reply: &mut LsReply<A>,
+    ) -> Result<(), ServeFault>
+        requires refs { refs.now ≡ self.now.refs }
+        requires head { IsAnswering self.now asked.now (head_ref (head_id self.now.head self.now.refs)) reply.old }
+        ensures all { OnOk result (IsAnswering self.now asked.now (all_refs self.now) reply.new) }
+        ensures fault { IfErr result (λ fault. fault ≡ Memory) }
+    {
+        for reference in refs {
+            self.add_line(asked, &reference.0, reference.1, reply)?;
+        }
+        Ok(())
+    }
+
+    // Adds the line of a ref, where it is asked for.
+    fn add_line(
+        &self,
+        asked: &LsRefsRequest<A>,
+        name: &RefName<A>,
+        id: Oid,
+        reply: &mut LsReply<A>,
+    ) -> Result<(), ServeFault>
+        requires { IsNextRef self.now asked.now (name.now, id) reply.old }
+        ensures added { OnOk result ((front : RefList) → IsAnswering self.now asked.now front reply.old
+            → IsAnswering self.now asked.now (front ++ (name.now, id) ∷ []) reply.new) }
+        ensures fault { IfErr result (λ fault. fault ≡ Memory) }
+    {
+        places_are_nodes::<A>();
+        ids_have_one_format();
+        // The call only gives the proof what the type of a server says.
+        let _refs = self.refs();
+        let Some(line) = self.line(asked, name, id) else {
+            return Ok(());
+        };
+        let line = own_line(line)?;
+        match reply.push(line) {
+            Ok(()) => Ok(()),
+            Err(fault) => Err(no_memory(fault)),
+        }
+    }
+
+    // The line of a ref with the attributes that are asked for, where it is asked for.
+    pub(crate) fn line<'a>(
+        &'a self,
+        asked: &LsRefsRequest<A>,
+        name: &'a RefName<A>,
+        id: Oid,
+    ) -> Option<LentLine<'a, A>>
+        ensures { ShowsLines self.now asked.now ((name.now, id) ∷ []) (line_list result) }
+    {
+        if !is_asked(asked.prefixes(), name) {
+            return None;
+        }
+        Some(LentLine {
+            id,
+            name,
+            symref: self.symref(asked, name),
+            peeled: peeled_if(asked.peel(), self.graph(), &id),
+        })
+    }
+
+    // The id at which HEAD stands.
+    pub(crate) fn head_id(&self) -> Option<Oid>
+        ensures { result ≡ head_id self.now.head self.now.refs }
+    {
+        match self.head() {
+            Head::None => None,
+            Head::Id(id) => Some(*id),
+            Head::Symref(target) => self.refs().get(target.name()),
+        }
+    }
+
+    // The name that HEAD points at.
+    fn target(&self) -> Option<&RefName<A>>
+        ensures { option_copied result ≡ target_of self.now.head }
+    {
+        match self.head() {
+            Head::Symref(target) => Some(target.name()),
+            Head::None | Head::Id(_) => None,
+        }
+    }
+
+    // The name that HEAD points at, where targets are asked for and the name is HEAD.
+    fn symref(&self, asked: &LsRefsRequest<A>, name: &RefName<A>) -> Option<&RefName<A>>
+        ensures { option_copied result ≡ symref_of self.now.head asked.now name.now }
+    {
+        if asked.symrefs() && name.is_head() {
+            self.target()
+        } else {
+            None
+        }
+    }
+
+    // The name that HEAD points at, where there is no such ref.
+    fn missing_target(&self) -> Option<&RefName<A>>
+        ensures { option_copied result ≡ missing_target self.now.head self.now.refs }
+    {
+        let target = self.target()?;
+        match self.refs().get(target) {
+            Some(_) => None,
+            None => Some(target),
+        }
+    }
+
+    // That name, where an unborn HEAD is asked for, and HEAD is.
+    pub(crate) fn unborn(&self, asked: &LsRefsRequest<A>) -> Option<&RefName<A>>
+        ensures { option_copied result ≡ unborn_of self.now asked.now }
+    {
+        if asked.unborn() && is_asked(asked.prefixes(), self.name_of_head()) {
+            self.missing_target()
+        } else {
+            None
+        }
+    }
+}
+
+// The line with names of its own.
+fn own_line<A: Allocator + Copy>(line: LentLine<'_, A>) -> Result<RefLine<A>, AllocError>
+    ensures { IfOk result (λ own. own ≡ lent_view line.entry) }
+{
+    let symref = match line.symref {
+        Some(target) => Some(target.clone()?),
+        None => None,
+    };
+    Ok(RefLine {
+        id: line.id,
+        name: line.name.clone()?,
+        symref,
+        peeled: line.peeled,
+    })
+}
+
+// The commit to which the tag leads, where it is asked for.
+fn peeled_if<A: Allocator + Copy>(is_asked: bool, graph: &Graph<A>, id: &Oid) -> Option<Oid>
+    ensures { IsPeeledIf is_asked graph.now.entries id.now result }
+{
+    if is_asked { peeled(graph, id) } else { None }
+}
+
+// The commit to which a tag leads, and nothing for other objects.
+fn peeled<A: Allocator + Copy>(graph: &Graph<A>, id: &Oid) -> Option<Oid>
+    ensures { IsPeeled graph.now.entries id.now result }
+{
+    match graph.node(id)?.kind {
+        Kind::Tag => graph.peel(id),
+        Kind::Commit => None,
+    }
+}
+
+// Whether the name begins with one of the prefixes, or there is none.
+fn is_asked<A: Allocator + Copy>(prefixes: &[Prefix<A>], name: &RefName<A>) -> bool
+    ensures { result ≡ is_asked prefixes.now name.now }
+{
+    prefixes.is_empty() || begins_with_any(prefixes, name)
+}
+
+fn begins_with_any<A: Allocator + Copy>(prefixes: &[Prefix<A>], name: &RefName<A>) -> bool
+    ensures { result ≡ list_any (starts_with nat_eq name.now) prefixes.now }
+{
+    prefixes.iter().any(|prefix| name.starts_with(prefix))
+}
+
+// The fault of a line that fits its reply, and for which there is no memory.
+fn no_memory(fault: MessageFault) -> ServeFault
+    requires { fault.why ≡ why.Memory }
+    ensures { result ≡ Memory }
+{
+    let _ = fault;
+    ServeFault::Memory
+}

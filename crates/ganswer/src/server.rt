@@ -1,0 +1,236 @@
+//! The repository that is served, and its changes.
+
+ghost use Rattle.std.specs.Prelude.{◌≡◌, ◌↔◌, IsTrue, MatchOption, MatchResult, All, None};
+ghost use Rattle.gobject.specs.Objects.{node_at};
+ghost use Rattle.ghistory.specs.Graphs.{Holds, IsFirstAbsent};
+ghost use Rattle.ghistory.specs.Reach.{Grows, IsClosed};
+ghost use Rattle.grefs.specs.RefLists.{IsRefs};
+ghost use Rattle.ganswer.specs.Changes.{Adds, Sets, SetsHead};
+ghost use Rattle.ganswer.specs.Servers.{ChecksRefs, HoldsHead, IsServer, IsUnserved, Makes, PointsBelowRefs, ReportsRef, parents_in, served};
+ghost use Rattle.gname.specs.Names.{head_name};
+ghost use Rattle.ganswer.specs.declared.fault.BuildFault.TheVariants as fault;
+
+use crate::fault::BuildFault;
+use ggraph::graph_laws::{closed_stays, ordered_is_closed, places_are_nodes};
+use ggraph::{Entry, Graph, Head, Refs};
+use gname::{Oid, RefName};
+use std::alloc::{Allocator, Global};
+use std::marker::Model;
+
+/// A repository that is served: a graph, refs and HEAD. Each parent of an object is there, and so is each object at
+/// which a ref, or HEAD by its id, stands. HEAD may point at a ref that is not there.
+#[derive(Drop)]
+pub struct Server<A: Allocator + Copy = Global> {
+    graph: Graph<A>,
+    refs: Refs<A>,
+    head: Head<A>,
+    // The name HEAD, which answers lend.
+    name_of_head: RefName<A>,
+}
+
+impl<A: Allocator + Copy> Model for Server<A> {
+    ghost use Rattle.std.specs.Prelude.{◌≡◌};
+    ghost use Rattle.gname.specs.Names.{head_name};
+    ghost use Rattle.ganswer.specs.Servers.{Server, IsServer};
+
+    ghost Value = { Server A };
+
+    ghost view = { λ server. record { graph = server.graph; refs = server.refs; head = server.head } };
+
+    ghost invariant = { λ server. IsServer (record { graph = server.graph; refs = server.refs; head = server.head }) × (server.name_of_head ≡ head_name) };
+}
+
+impl<A: Allocator + Copy> Server<A> {
+    /// A server of these parts.
+    ///
+    /// It fails with `NotClosed` where the parent of an object is not there, and reports the first in the order of
+    /// the objects and of their parents; else with `RefMissing` where the object of a ref is not there, and reports the
+    /// first by name; else with `HeadMissing` where HEAD stands at the id of no object; and with `Memory` where there is none
+    /// for that name, or for the name HEAD.
+    pub fn new(graph: Graph<A>, refs: Refs<A>, head: Head<A>) -> Result<Server<A>, BuildFault<A>>
+        ensures { Makes (served graph refs head) result }
+    {
+        check_parts(&graph, &refs, &head)?;
+        let name_of_head = RefName::head(graph.allocator())?;
+        Ok(Server {
+            graph,
+            refs,
+            head,
+            name_of_head,
+        })
+    }
+
+    /// The objects.
+    pub fn graph(&self) -> &Graph<A>
+        ensures graph { result.now ≡ self.now.graph }
+        ensures server { IsServer self.now }
+    {
+        &self.graph
+    }
+
+    /// The refs.
+    pub fn refs(&self) -> &Refs<A>
+        ensures refs { result.now ≡ self.now.refs }
+        ensures server { IsServer self.now }
+    {
+        &self.refs
+    }
+
+    /// What HEAD stands at.
+    pub fn head(&self) -> &Head<A>
+        ensures head { result.now ≡ self.now.head }
+        ensures server { IsServer self.now }
+    {
+        &self.head
+    }
+
+    /// Adds an object at the end of the store order. Where it is there with the same node nothing changes.
+    ///
+    /// It fails with `MissingParent` where a parent of it is not there, and reports the first; else with `Graph` as
+    /// `Graph::insert` does. Nothing changes then.
+    pub fn add(&mut self, entry: Entry<A>) -> Result<(), BuildFault<A>>
+        ensures adds { Adds self.old entry self.new result }
+        ensures grows { Grows self.old.graph.entries self.new.graph.entries }
+        ensures server { IsServer self.new }
+    {
+        closed_stays::<A>();
+        if let Some(id) = self.graph.first_absent(entry.node.parents.as_slice()) {
+            return Err(BuildFault::MissingParent { id });
+        }
+        match self.graph.insert(entry) {
+            Ok(_) => Ok(()),
+            Err(cause) => Err(BuildFault::Graph(cause)),
+        }
+    }
+
+    /// Puts a name at an id.
+    ///
+    /// It fails with `RefMissing` where the object is not there; else with `Refs` as `Refs::set` does. Nothing changes
+    /// then.
+    pub fn set_ref(&mut self, name: RefName<A>, id: Oid) -> Result<(), BuildFault<A>>
+        ensures sets { Sets self.old name id self.new result }
+        ensures server { IsServer self.new }
+    {
+        if !self.graph.contains(&id) {
+            return Err(BuildFault::RefMissing { name });
+        }
+        match self.refs.set(name, id) {
+            Ok(()) => Ok(()),
+            Err(cause) => Err(BuildFault::Refs(cause)),
+        }
+    }
+
+    /// Puts HEAD where it is to stand. It takes no memory.
+    ///
+    /// It fails with `HeadMissing` where that is the id of no object, and nothing changes then.
+    pub fn set_head(&mut self, head: Head<A>) -> Result<(), BuildFault<A>>
+        ensures sets { SetsHead self.old head self.new result }
+        ensures server { IsServer self.new }
+    {
+        if !holds_head(&self.graph, &head) {
+            return Err(BuildFault::HeadMissing);
+        }
+        keeps_rules(&head);
+        self.head = head;
+        Ok(())
+    }
+
+    // The name HEAD.
+    pub(crate) fn name_of_head(&self) -> &RefName<A>
+        ensures { result.now ≡ head_name }
+    {
+        &self.name_of_head
+    }
+}
+
+// Whether nothing is missing of these parts.
+fn check_parts<A: Allocator + Copy>(
+    graph: &Graph<A>,
+    refs: &Refs<A>,
+    head: &Head<A>,
+) -> Result<(), BuildFault<A>>
+    ensures { let parts = served graph.now refs.now head.now in MatchResult result (λ _. IsServer parts) (IsUnserved parts) }
+{
+    // These calls only give the proof what the types of a graph and of a head say.
+    let _objects = graph.len();
+    keeps_rules(head);
+    if let Some(id) = missing_parent(graph) {
+        return Err(BuildFault::NotClosed { id });
+    }
+    check_refs(graph, refs.as_slice())?;
+    if holds_head(graph, head) {
+        Ok(())
+    } else {
+        Err(BuildFault::HeadMissing)
+    }
+}
+
+// The first parent that is missing.
+fn missing_parent<A: Allocator + Copy>(graph: &Graph<A>) -> Option<Oid>
+    ensures { MatchOption result (IsClosed graph.now.entries)
+        (IsFirstAbsent graph.now.entries (parents_in graph.now.entries)) }
+{
+    ordered_is_closed::<A>();
+    if graph.is_ordered() {
+        return None;
+    }
+    first_missing_parent(graph)
+}
+
+// The same, by look-ups.
+fn first_missing_parent<A: Allocator + Copy>(graph: &Graph<A>) -> Option<Oid>
+    ensures { MatchOption result (IsClosed graph.now.entries)
+        (IsFirstAbsent graph.now.entries (parents_in graph.now.entries)) }
+{
+    places_are_nodes::<A>();
+    for place in 0..graph.len() {
+        if let Some(id) = graph.first_absent(graph.parents(place)) {
+            return Some(id);
+        }
+    }
+    None
+}
+
+// Whether the object of each ref is there.
+fn check_refs<A: Allocator + Copy>(
+    graph: &Graph<A>,
+    refs: &[(RefName<A>, Oid)],
+) -> Result<(), BuildFault<A>>
+    ensures { ChecksRefs graph.now.entries refs.now result }
+{
+    for reference in refs {
+        if !graph.contains(&reference.1) {
+            return Err(ref_missing(&reference.0));
+        }
+    }
+    Ok(())
+}
+
+// The fault of a ref of this name, or that there is no memory for the name.
+fn ref_missing<A: Allocator + Copy>(name: &RefName<A>) -> BuildFault<A>
+    ensures { ReportsRef name.now result }
+{
+    match name.clone() {
+        Ok(name) => BuildFault::RefMissing { name },
+        Err(_) => BuildFault::Memory,
+    }
+}
+
+// What the type of a head says of it; the call has no effect.
+fn keeps_rules<A: Allocator + Copy>(head: &Head<A>)
+    ensures { PointsBelowRefs head.now }
+{
+    if let Head::Symref(target) = head {
+        let _name = target.name();
+    }
+}
+
+// Whether the object is there at which HEAD stands by its id.
+fn holds_head<A: Allocator + Copy>(graph: &Graph<A>, head: &Head<A>) -> bool
+    ensures { IsTrue result ↔ HoldsHead graph.now.entries head.now }
+{
+    match head {
+        Head::Id(id) => graph.contains(id),
+        Head::None | Head::Symref(_) => true,
+    }
+}

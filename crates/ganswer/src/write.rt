@@ -1,0 +1,115 @@
+//! Writing an answer to ls-refs line by line, with names that the server lends.
+
+ghost use Rattle.std.specs.Prelude.{◌≡◌, ◌∷◌, ◌++◌, [], List, map};
+ghost use Rattle.gpkt.specs.Packets.{Flush};
+ghost use Rattle.ggrammar.specs.Endings.{ends_with};
+ghost use Rattle.ggrammar.specs.Writing.{WritesLines, WritesPart};
+ghost use Rattle.glsreply.specs.LsReplies.{LsReply, canonical_reply, ref_packet};
+ghost use Rattle.glsreply.specs.RefTexts.{RefLine};
+ghost use Rattle.ganswer.specs.LsAnswers.{LsAnswer, ShowsLines, all_refs, head_id, head_ref};
+
+use crate::server::Server;
+use ggrammar::Ends;
+use ggrammar::laws::writes_lines;
+use ggraph::graph_laws::peels_to_one;
+use glsreply::{RefText, write_end, write_ref, write_unborn};
+use gname::{Oid, RefName};
+use gpkt::{LineWriter, Sink, WriteFault};
+use grequest::LsRefsRequest;
+use std::alloc::Allocator;
+
+impl<A: Allocator + Copy> Server<A> {
+    /// Writes the answer to a request for refs (gitprotocol-v2(5), "ls-refs"), the one that [`Server::answer`] gives. The
+    /// server lends the names, so it takes no memory.
+    ///
+    /// It fails with `Io` where the sink fails, and then a beginning of the answer stands written; with `Failed` where
+    /// the writer had failed before.
+    pub fn write_ls_answer<W: Sink>(
+        &self,
+        asked: &LsRefsRequest<A>,
+        ends: Ends,
+        writer: &mut LineWriter<W>,
+    ) -> Result<(), WriteFault>
+        ensures { (reply : LsReply) → LsAnswer self.now asked.now reply
+            → WritesLines W.contents W.passed_on W.is_down W.loans writer.old writer.new result (canonical_reply ends reply) }
+    {
+        writes_lines::<W>();
+        write_unborn(self.unborn(asked), writer)?;
+        self.write_lines(asked, ends, writer)
+    }
+
+    // Writes the lines of the refs, and the end of the answer.
+    fn write_lines<W: Sink>(
+        &self,
+        asked: &LsRefsRequest<A>,
+        ends: Ends,
+        writer: &mut LineWriter<W>,
+    ) -> Result<(), WriteFault>
+        ensures { (lines : List RefLine) → ShowsLines self.now asked.now (all_refs self.now) lines
+            → WritesLines W.contents W.passed_on W.is_down W.loans writer.old writer.new result
+            (map ref_packet lines ++ Flush ∷ ends_with ends) }
+    {
+        writes_lines::<W>();
+        let mut text = RefText::new();
+        self.write_head(asked, &mut text, writer)?;
+        self.write_refs(asked, self.refs().as_slice(), &mut text, writer)?;
+        write_end(ends, writer)
+    }
+
+    // Writes the line of HEAD, where it stands at an id and is asked for.
+    fn write_head<W: Sink>(
+        &self,
+        asked: &LsRefsRequest<A>,
+        text: &mut RefText,
+        writer: &mut LineWriter<W>,
+    ) -> Result<(), WriteFault>
+        ensures { (lines : List RefLine) → ShowsLines self.now asked.now (head_ref (head_id self.now.head self.now.refs)) lines
+            → WritesPart W.contents W.passed_on W.is_down W.loans writer.old writer.new result (map ref_packet lines) }
+    {
+        writes_lines::<W>();
+        peels_to_one::<A>();
+        match self.head_id() {
+            Some(id) => self.write_line(asked, self.name_of_head(), id, text, writer),
+            None => Ok(()),
+        }
+    }
+
+    // Writes the lines of the refs that are asked for.
+    fn write_refs<W: Sink>(
+        &self,
+        asked: &LsRefsRequest<A>,
+        refs: &[(RefName<A>, Oid)],
+        text: &mut RefText,
+        writer: &mut LineWriter<W>,
+    ) -> Result<(), WriteFault>
+        ensures { (lines : List RefLine) → ShowsLines self.now asked.now refs.now lines
+            → WritesPart W.contents W.passed_on W.is_down W.loans writer.old writer.new result (map ref_packet lines) }
+    {
+        writes_lines::<W>();
+        peels_to_one::<A>();
+        for reference in refs {
+            self.write_line(asked, &reference.0, reference.1, text, writer)?;
+        }
+        Ok(())
+    }
+
+    // Writes the line of a ref, where it is asked for.
+    fn write_line<W: Sink>(
+        &self,
+        asked: &LsRefsRequest<A>,
+        name: &RefName<A>,
+        id: Oid,
+        text: &mut RefText,
+        writer: &mut LineWriter<W>,
+    ) -> Result<(), WriteFault>
+        ensures { (lines : List RefLine) → ShowsLines self.now asked.now ((name.now, id) ∷ []) lines
+            → WritesPart W.contents W.passed_on W.is_down W.loans writer.old writer.new result (map ref_packet lines) }
+    {
+        writes_lines::<W>();
+        peels_to_one::<A>();
+        match self.line(asked, name, id) {
+            Some(line) => write_ref(&line, text, writer),
+            None => Ok(()),
+        }
+    }
+}

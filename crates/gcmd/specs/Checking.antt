@@ -1,0 +1,52 @@
+-- `check`: what it reports of a repository's file.
+use Rattle.std.specs.Prelude.{◌≡◌, ◌↔◌, ℕ, ◌++◌, Bool, IsTrue, if◌then◌else◌, List, length, codes, Ok, Err}
+use Rattle.std.specs.Fmt.{decimal}
+use Rattle.ghistory.specs.Reach.{IsClosed}
+use Rattle.ggraph.specs.SafeRefs.{IsSafe}
+use Rattle.ggraph.specs.Loading.{StopsAt}
+use Rattle.ggraph.specs.RepositoryText.{repository_text, IsLoadable}
+use Rattle.ggraph.specs.declared.text.Order.TheVariants.{Any}
+use Rattle.ggraph.specs.declared.text.Repository.{Repository}
+use Rattle.gpkt.specs.Sending.{Output, IsUnwritten, Sends, SendsSome}
+use Rattle.gcmd.specs.Programs.{Outcome}
+use Rattle.gcmd.specs.declared.check.Report.{Report}
+use Rattle.gcmd.specs.declared.fault.ProgramFault.TheVariants as program
+
+-- what there is to report of a repository
+pub record IsReport {A : Type 0} (repo : Repository A) (report : Report) : Type 0 where
+  pub nodes : report.nodes ≡ length repo.graph.entries
+  pub refs : report.refs ≡ length repo.refs
+  pub closed : IsTrue report.closed ↔ IsClosed repo.graph.entries
+  pub safe : IsTrue report.safe ↔ IsSafe repo.graph.entries repo.refs
+
+abbrev pub yes_or_no : Bool → List ℕ
+yes_or_no holds = if holds then codes "yes" else codes "no"
+
+-- the line that reports it
+abbrev pub report_line : Report → List ℕ
+report_line report =
+    codes "nodes " ++ decimal report.nodes ++ codes " refs " ++ decimal report.refs
+    ++ codes " closed " ++ yes_or_no report.closed ++ codes " safe " ++ yes_or_no report.safe ++ codes "\n"
+
+-- the file is the text of a repository
+pub record IsRepository (A : Type 0) (file : List ℕ) : Type 0 where
+  pub repo : Repository A
+  pub names : file ≡ repository_text repo.graph repo.refs repo.head
+  pub loadable : IsLoadable Any repo.graph repo.refs repo.head
+
+-- the repository that the file names, and its report
+pub record IsReported (A : Type 0) (file : List ℕ) (report : Report) : Type 0 where
+  pub repo : Repository A
+  pub names : file ≡ repository_text repo.graph repo.refs repo.head
+  pub loadable : IsLoadable Any repo.graph repo.refs repo.head
+  pub reports : IsReport repo report
+
+-- what `check` does: the line is written; or a beginning of it, where the sink is down; or nothing, where the file is
+-- no repository, or there is no memory to judge it
+abbrev pub Checks : {A : Type 0} → List ℕ → Output → Outcome A → Type 0
+Checks {A} file output (Ok done) = (report : Report) × IsReported A file report × Sends output (report_line report)
+Checks {A} file output (Err program.WriteFailed) =
+    (report : Report) × IsReported A file report × SendsSome output (report_line report)
+Checks {A} file output (Err (program.Text fault)) = StopsAt A Any file fault × IsUnwritten output
+Checks {A} file output (Err program.Memory) = IsRepository A file × IsUnwritten output
+Checks file output (Err _) = ⊥

@@ -1,0 +1,22 @@
+-- How programs end: what each prints, and its exit status.
+use Rattle.std.specs.Prelude.{◌≡◌, ℕ, ◌⊎◌, List, Result, Ok, Err}
+use Rattle.gpkt.specs.Sending.{Output, IsUnwritten, Sends, SendsSome}
+use Rattle.gcmd.specs.Printing.{fault_line}
+use Rattle.gcmd.specs.declared.fault.ProgramFault.{ProgramFault}
+
+-- how a program's work comes out: it is done, or a fault was met
+abbrev pub Outcome : Type 0 → Type 0
+Outcome A = Result (Unit {0}) (ProgramFault A)
+
+-- a line is printed and passed on; or a beginning of it is printed, and the sink is down
+abbrev pub Prints : Output → List ℕ → Type 0
+Prints errors line = Sends errors line ⊎ SendsSome errors line
+
+-- where the work is done nothing is printed, and the status is 0; else the fault's line is printed, and it is 1
+abbrev pub ExitsWith : {A : Type 0} → Outcome A → Output → ℕ → Type 0
+ExitsWith (Ok done) errors status = IsUnwritten errors × (status ≡ 0)
+ExitsWith (Err fault) errors status = Prints errors (fault_line fault) × (status ≡ 1)
+
+-- a program does its work, and ends as that came out
+abbrev pub Runs : {A : Type 0} → (Outcome A → Type 0) → Output → ℕ → Type 0
+Runs {A} Works errors status = (outcome : Outcome A) × Works outcome × ExitsWith outcome errors status

@@ -1,0 +1,117 @@
+-- The programs that serve the repository of a file: `ls --stdio-server` and `upload`.
+use Rattle.std.specs.Prelude.{◌≡◌, ℕ, ◌⊎◌, List, Result, Ok, Err}
+use Rattle.ggraph.specs.Loading.{StopsAt}
+use Rattle.ggraph.specs.RepositoryText.{repository_text, IsLoadable}
+use Rattle.ggraph.specs.declared.text.Order.TheVariants.{ParentsFirst}
+use Rattle.ggrammar.specs.declared.ends.Ends.{Ends}
+use Rattle.ggrammar.specs.declared.ends.Ends.TheVariants.{Plain}
+use Rattle.gobject.specs.Packs.{PackFails, Packs}
+use Rattle.gobject.specs.PlainPackText.{pack_text, PackRefuses}
+use Rattle.gpkt.specs.Sending.{Input, Output, IsUnread, IsUnwritten}
+use Rattle.ganswer.specs.Servers.{Server, IsServer, IsUnserved}
+use Rattle.ganswer.specs.declared.fault.BuildFault.{BuildFault}
+use Rattle.ganswer.specs.declared.fault.BuildFault.TheVariants as build
+use Rattle.gserve.specs.Conversations.{Serves}
+use Rattle.gserve.specs.Exchanges.{ServesOne}
+use Rattle.gserve.specs.declared.connection.End.{End}
+use Rattle.gserve.specs.declared.connection.End.TheVariants as end
+use Rattle.gserve.specs.declared.exchange.ExchangeEnd.{ExchangeEnd}
+use Rattle.gserve.specs.declared.exchange.ExchangeEnd.TheVariants as exchange
+use Rattle.gcmd.specs.Programs.{Outcome}
+use Rattle.gcmd.specs.declared.fault.ProgramFault.{ProgramFault}
+use Rattle.gcmd.specs.declared.fault.ProgramFault.TheVariants as program
+
+-- ---- the file
+
+-- the file is the text of what a server has, each parent before its children
+pub record NamesParts {A : Type 0} (file : List ℕ) (parts : Server A) : Type 0 where
+  pub text : file ≡ repository_text parts.graph parts.refs parts.head
+  pub loadable : IsLoadable ParentsFirst parts.graph parts.refs parts.head
+
+-- and nothing of it is missing
+pub record NamesServer {A : Type 0} (file : List ℕ) (server : Server A) : Type 0 where
+  pub names : NamesParts file server
+  pub whole : IsServer server
+
+-- why there is no server of such parts; no parent is missing
+abbrev pub MissesPart : {A : Type 0} → Server A → BuildFault A → Type 0
+MissesPart parts (build.NotClosed id) = ⊥
+MissesPart parts cause = IsUnserved parts cause
+
+-- why a file is not served: it is the text of no repository with parents first, or one of which something is missing
+abbrev pub RefusesFile : {A : Type 0} → List ℕ → ProgramFault A → Type 0
+RefusesFile {A} file (program.Text cause) = StopsAt A ParentsFirst file cause
+RefusesFile {A} file (program.Build cause) = (parts : Server A) × NamesParts file parts × MissesPart parts cause
+RefusesFile file _ = ⊥
+
+-- what loading it answers
+abbrev pub LoadsServer : {A : Type 0} → List ℕ → Result (Server A) (ProgramFault A) → Type 0
+LoadsServer file (Ok server) = NamesServer file server
+LoadsServer file (Err fault) = RefusesFile file fault
+
+module _ {A : Type 0} (file : List ℕ) (input : Input) (output : Output) where
+  -- the file is not served, and nothing is read or written
+  pub record IsNotServed (outcome : Outcome A) : Type 0 where
+    pub fault : ProgramFault A
+    pub refused : RefusesFile file fault
+    pub met : outcome ≡ Err fault
+    pub unread : IsUnread input
+    pub unwritten : IsUnwritten output
+
+  -- the server that the file names does this
+  pub record IsServedBy (Does : Server A → Outcome A → Type 0) (outcome : Outcome A) : Type 0 where
+    pub server : Server A
+    pub names : NamesServer file server
+    pub does : Does server outcome
+
+  -- what a program does that serves the file
+  abbrev pub ServesFile : (Server A → Outcome A → Type 0) → Outcome A → Type 0
+  ServesFile Does outcome = IsServedBy Does outcome ⊎ IsNotServed outcome
+
+-- ---- packs are plain
+
+abbrev pub plain_packs : {A : Type 0} → Packs A
+plain_packs list pack = pack ≡ pack_text list
+
+abbrev pub plain_pack_fails : {A : Type 0} → PackFails A
+plain_pack_fails list fault = PackRefuses (pack_text list) fault
+
+-- ---- one request, and a whole connection
+
+-- how an exchange comes out, after its end
+abbrev pub outcome_of_exchange : {A : Type 0} → ExchangeEnd → Outcome A
+outcome_of_exchange exchange.Answered = Ok tt
+outcome_of_exchange exchange.Closed = Ok tt
+outcome_of_exchange exchange.Ended = Ok tt
+outcome_of_exchange (exchange.Refused fault) = Err (program.Request fault)
+outcome_of_exchange exchange.WriteFailed = Err program.WriteFailed
+
+-- how a connection does
+abbrev pub outcome_of_connection : {A : Type 0} → End → Outcome A
+outcome_of_connection end.Closed = Ok tt
+outcome_of_connection end.Ended = Ok tt
+outcome_of_connection (end.Refused fault) = Err (program.Request fault)
+outcome_of_connection end.WriteFailed = Err program.WriteFailed
+
+-- a server answers one request
+pub record AnswersOne {A : Type 0} (input : Input) (output : Output) (server : Server A)
+    (outcome : Outcome A) : Type 0 where
+  pub ended : ExchangeEnd
+  pub exchange : ServesOne server plain_packs plain_pack_fails Plain input output ended
+  pub comes_out : outcome ≡ outcome_of_exchange ended
+
+-- it answers the requests of a connection, so many of them
+pub record AnswersAll {A : Type 0} (ends : Ends) (input : Input) (output : Output) (server : Server A)
+    (outcome : Outcome A) : Type 0 where
+  pub requests : ℕ
+  pub ended : End
+  pub connection : Serves server plain_packs plain_pack_fails ends input output requests ended
+  pub comes_out : outcome ≡ outcome_of_connection ended
+
+-- what `ls --stdio-server` does
+abbrev pub ServesRequest : {A : Type 0} → List ℕ → Input → Output → Outcome A → Type 0
+ServesRequest file input output = ServesFile file input output (AnswersOne input output)
+
+-- what `upload` does
+abbrev pub ServesConnection : {A : Type 0} → List ℕ → Ends → Input → Output → Outcome A → Type 0
+ServesConnection file ends input output = ServesFile file input output (AnswersAll ends input output)

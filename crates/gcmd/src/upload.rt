@@ -1,0 +1,67 @@
+//! `gitv2 upload`, as a function over bytes and devices.
+
+ghost use Rattle.std.specs.Prelude.{◌≡◌};
+ghost use Rattle.gcmd.specs.Programs.{Runs};
+ghost use Rattle.gcmd.specs.Serving.{outcome_of_connection, ServesConnection};
+ghost use Rattle.gpkt.specs.Sending.{input_of, output_of};
+
+use crate::fault::ProgramFault;
+use crate::program::finish;
+use crate::repository::load_server;
+use ggrammar::Ends;
+use ggraph::PlainPack;
+use gpkt::{Sink, Source};
+use gserve::{End, serve};
+use std::alloc::Allocator;
+
+/// `gitv2 upload [--response-end] FILE`: serves one connection from `input` to `output`: the advertisement, and then the
+/// reply to each request, from the repository whose text is `file` (gitprotocol-v2(5), "Capability Advertisement",
+/// "Command Request"). With `Ends::Response` each reply ends with a response-end. A fault is one line on `errors`.
+///
+/// It answers the exit status: 0 where the client ended the connection by a lone flush, the input ended before a
+/// request, or there were 4,294,967,295 requests; 1 where a fault was met. What is written is passed on before the call returns.
+pub fn cmd_upload<A: Allocator + Copy, S: Source, W: Sink, E: Sink>(
+    alloc: A,
+    file: &[u8],
+    ends: Ends,
+    input: &mut S,
+    output: &mut W,
+    errors: &mut E,
+) -> u8
+    ensures runs { Runs {A = A} (ServesConnection file.now ends (input_of S.remaining S.is_down input.old input.new)
+        (output_of W.contents W.passed_on W.is_down output.old output.new))
+        (output_of E.contents E.passed_on E.is_down errors.old errors.new) result }
+    ensures input_loans { S.loans input.new ≡ S.loans input.old }
+    ensures output_loans { W.loans output.new ≡ W.loans output.old }
+    ensures errors_loans { E.loans errors.new ≡ E.loans errors.old }
+{
+    finish(answer_all(alloc, file, ends, input, output), errors)
+}
+
+// Serves the connection.
+fn answer_all<A: Allocator + Copy, S: Source, W: Sink>(
+    alloc: A,
+    file: &[u8],
+    ends: Ends,
+    input: &mut S,
+    output: &mut W,
+) -> Result<(), ProgramFault<A>>
+    ensures serves { ServesConnection file.now ends (input_of S.remaining S.is_down input.old input.new)
+        (output_of W.contents W.passed_on W.is_down output.old output.new) result }
+    ensures input_loans { S.loans input.new ≡ S.loans input.old }
+    ensures output_loans { W.loans output.new ≡ W.loans output.old }
+{
+    let server = load_server(alloc, file)?;
+    outcome_of(serve(&server, &PlainPack, ends, input, output).end)
+}
+
+// How the work comes out at the end of the connection.
+fn outcome_of<A: Allocator + Copy>(ended: End) -> Result<(), ProgramFault<A>>
+    ensures { result ≡ outcome_of_connection ended }
+{
+    match ended {
+        End::Closed | End::Ended => Ok(()),
+        End::Refused(fault) => Err(ProgramFault::Request(fault)),
+        End::WriteFailed => Err(ProgramFault::WriteFailed),
+    }
+}

@@ -1,0 +1,54 @@
+-- Packets are refused for their own sake.
+use Rattle.std.proofs.Common.{ℕ, ◌==◌, Bool, true, false, cond, List, length, Option, Some, None}
+use Rattle.std.specs.Prelude.{nat_lt}
+use Rattle.std.specs.Str.{bytes_eq}
+use Rattle.gpkt.specs.Packets.{Packet, Data, Flush, Delim, ResponseEnd, text}
+use Rattle.ggrammar.specs.Grammar.{Verdict, Open, Whole, Refused}
+use Rattle.ggrammar.specs.Capabilities.{Capability, capability_of}
+use Rattle.ggrammar.specs.MessageBytes.{IsForPacket, RefusesPackets}
+use Rattle.ggrammar.specs.PeerErrors.{peer_error, unless_error}
+use Rattle.ggrammar.specs.Texts.{texts_of}
+use Rattle.ggrammar.specs.declared.fault.Why.TheVariants.{BadText, Limit, UnexpectedFrame}
+use Rattle.ghello.specs.Hello as hello
+use Rattle.ghello.specs.Adverts.{capabilities_of, judge, judge_at, judge_capability, judge_text, judge_version, max_advertised, version}
+
+-- ---- a hello
+
+of_payload : (said : Option hello.Hello) → IsForPacket (hello.judge_payload said)
+of_payload (Some said) = tt
+of_payload None = tt
+
+pub hello_refuses_packets : RefusesPackets hello.judge
+hello_refuses_packets front (Data payload) = of_payload (hello.hello_of payload)
+hello_refuses_packets front Flush = tt
+hello_refuses_packets front Delim = tt
+hello_refuses_packets front ResponseEnd = tt
+
+-- ---- an advertisement
+
+of_test : (test : Bool) (one other : Verdict) → IsForPacket one → IsForPacket other → IsForPacket (cond test one other)
+of_test true one other h k = h
+of_test false one other h k = k
+
+past_error : (said : Option (List ℕ)) (verdict : Verdict) → IsForPacket verdict → IsForPacket (unless_error said verdict)
+past_error (Some said) verdict h = tt
+past_error None verdict h = h
+
+of_capability : (count : ℕ) (capability : Option Capability) → IsForPacket (judge_capability count capability)
+of_capability count None = tt
+of_capability count (Some capability) = of_test (nat_lt count max_advertised) Open (Refused Limit) tt tt
+
+of_text : (texts count : ℕ) (line : List ℕ) → IsForPacket (judge_text texts count line)
+of_text texts count line =
+    of_test (texts == 0) (judge_version line) (judge_capability count (capability_of line))
+    (of_test (bytes_eq line version) Open (Refused BadText) tt tt) (of_capability count (capability_of line))
+
+of_packet : (texts count : ℕ) (packet : Packet) → IsForPacket (judge_at texts count packet)
+unfolding judge_at
+of_packet texts count (Data payload) = past_error (peer_error payload) (judge_text texts count (text payload)) (of_text texts count (text payload))
+of_packet texts count Flush = of_test (texts == 0) (Refused UnexpectedFrame) Whole tt tt
+of_packet texts count Delim = tt
+of_packet texts count ResponseEnd = tt
+
+pub advert_refuses_packets : RefusesPackets judge
+advert_refuses_packets front packet = of_packet (length (texts_of front)) (length (capabilities_of front)) packet

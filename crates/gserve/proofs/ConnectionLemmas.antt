@@ -1,0 +1,244 @@
+-- A connection, request by request.
+use Rattle.std.proofs.Common.{◌≡◌, ℕ, ◌<◌, ◌+◌, ◌++◌, List, [], ◌∷◌, Bool, Option, Some, None, Result, Err, refl, sym, ap, subst, ◌∙◌, inl, inr, append_assoc, append-nil, length-append, arith}
+use Rattle.std.proofs.lemmas.List.Elements.{All-nil, All-push}
+use Rattle.std.proofs.lemmas.Grind.{flat_map-append}
+use Rattle.std.specs.List.{flat_map}
+use Rattle.gname.specs.declared.formats.Format.{Format}
+use Rattle.gpkt.specs.Change.{Change}
+use Rattle.gpkt.specs.Laws.{CanonicalJoins, ReadsJoin, ReadsNone}
+use Rattle.gpkt.specs.LineReading.{ReadsLines}
+use Rattle.gpkt.specs.Packets.{Packet, canonical_all}
+use Rattle.gpkt.specs.Sending.{Input, Output, input_of, output_of, IsUnread, Passes}
+use Rattle.gpkt.specs.declared.fault.LineFault.{LineFault}
+use Rattle.gpkt.specs.declared.fault.LineFault.TheVariants.{Memory as NoBuffer}
+use Rattle.ggrammar.specs.Capabilities.{Capability}
+use Rattle.ggrammar.specs.declared.ends.Ends.{Ends}
+use Rattle.ghello.specs.Adverts.{canonical_advert}
+use Rattle.gobject.specs.Packs.{PackFails, Packs}
+use Rattle.ganswer.specs.Adverts.{advertised}
+use Rattle.ganswer.specs.Servers.{Server}
+use Rattle.ganswer.specs.declared.fault.ServeFault.{ServeFault}
+use Rattle.ganswer.specs.declared.fault.ServeFault.TheVariants as fault
+use Rattle.gserve.specs.Refusals.{err_packets}
+use Rattle.gserve.specs.Exchanges.{Turn, Exchanges, IsDue, reply, refusal, IsRefused, IsTurn, ReadsEmpty, ReadsEnd, ReadsTurns, reply_packets}
+use Rattle.gserve.specs.Conversations.{advert_packets, talk, talk_bytes, CannotBegin, Converses, HasEnded, advert, refusal as refusal_first, Serves, max_requests, rest_of}
+use Rattle.gserve.specs.Steps.{Advertises, HasAnswered, HasPassed, RefusesFirst, end_after}
+use Rattle.gserve.specs.declared.connection.End.{End}
+use Rattle.gserve.specs.declared.connection.End.TheVariants as end
+use Rattle.gserve.specs.declared.exchange.ExchangeEnd.{ExchangeEnd}
+use Rattle.gserve.specs.declared.exchange.ExchangeEnd.TheVariants as exchange
+use Rattle.gserve.proofs.SendingLemmas.{fails_after, passes_join, passes_still}
+
+-- ---- what is written
+
+talk_none : (format : Format) (ends : Ends) → advert_packets format ≡ talk format ends []
+unfolding talk
+talk_none format ends = sym (append-nil (advert_packets format))
+
+talk_more : CanonicalJoins → (format : Format) (ends : Ends) (turns : List Turn) (turn : Turn)
+    → talk_bytes format ends turns ++ canonical_all (reply_packets ends turn.answer) ≡ talk_bytes format ends (turns ++ turn ∷ [])
+unfolding talk
+talk_more joins format ends turns turn =
+    let replies : Turn → List Packet = λ t. reply_packets ends t.answer in
+    let last : flat_map replies (turns ++ turn ∷ []) ≡ flat_map replies turns ++ replies turn =
+    flat_map-append replies turns (turn ∷ []) ∙ ap (λ (xs : List Packet). flat_map replies turns ++ xs) (append-nil (replies turn)) in
+    sym (joins (talk format ends turns) (replies turn))
+    ∙ ap canonical_all (append_assoc (advert_packets format) (flat_map replies turns) (replies turn)
+    ∙ ap (λ (xs : List Packet). advert_packets format ++ xs) (sym last))
+
+-- what is sent of the advertisement
+pub sent_advert : {E : Type 0} (format : Format) (capabilities : List Capability) (output : Output) (result : Result (Unit {0}) E)
+    → capabilities ≡ advertised format → HasPassed output result (canonical_advert capabilities)
+    → HasPassed output result (advert_packets format)
+unfolding advert_packets
+sent_advert format capabilities output result is sent =
+    subst (λ (said : List Capability). HasPassed output result (canonical_advert said)) is sent
+
+-- ---- what is read
+
+module _ {A : Type 0} (server : Server A) (packs : Packs A) where
+  turns_none : ReadsNone → (bytes : Option (List ℕ)) → ReadsTurns server packs (record { old = bytes; new = bytes }) []
+  turns_none none bytes = record { lines = none bytes; each = All-nil (IsTurn server packs) }
+
+  turns_more : ReadsJoin → (old mid new : Option (List ℕ)) (turns : List Turn) (turn : Turn)
+      → ReadsTurns server packs (record { old = old; new = mid }) turns → ReadsLines (record { old = mid; new = new }) turn.request
+      → IsTurn server packs turn → ReadsTurns server packs (record { old = old; new = new }) (turns ++ turn ∷ [])
+  turns_more join old mid new turns turn before lines is =
+      let requests : Turn → List Packet = λ t. t.request in
+      let last : flat_map requests turns ++ turn.request ≡ flat_map requests (turns ++ turn ∷ []) =
+      sym (flat_map-append requests turns (turn ∷ []) ∙ ap (λ (xs : List Packet). flat_map requests turns ++ xs) (append-nil turn.request)) in
+      record {
+        lines = subst (λ (xs : List Packet). ReadsLines (record { old = old; new = new }) xs) last
+            (join old mid new (flat_map requests turns) turn.request before.lines lines);
+        each = All-push (IsTurn server packs) turns turn before.each is;
+      }
+
+-- whether the source was down before plays no part
+module _ {A : Type 0} (server : Server A) (packs : Packs A) (fails : PackFails A) (ends : Ends) (read : Change) (was before down : Bool) where
+  moved_empty : ReadsEmpty server.graph.format (record { read = read; was_down = was; is_down = down })
+      → ReadsEmpty server.graph.format (record { read = read; was_down = before; is_down = down })
+  moved_empty h = record { packets = h.packets; lines = h.lines; says = h.says; up = h.up }
+
+  moved_end : ReadsEnd (record { read = read; was_down = was; is_down = down })
+      → ReadsEnd (record { read = read; was_down = before; is_down = down })
+  moved_end h = record { ended = h.ended; up = h.up }
+
+  moved_refused : (cause : ServeFault) → IsRefused server fails (record { read = read; was_down = was; is_down = down }) cause
+      → IsRefused server fails (record { read = read; was_down = before; is_down = down }) cause
+  moved_refused (fault.Request cause) h = record { front = h.front; refused = h.refused; source = h.source; begun = h.begun }
+  moved_refused (fault.Reader cause) h =
+      record { packets = h.packets; asked = h.asked; lines = h.lines; says = h.says; refuses = h.refuses; up = h.up }
+  moved_refused fault.NoWants h =
+      record { packets = h.packets; asked = h.asked; lines = h.lines; says = h.says; refuses = h.refuses; up = h.up }
+  moved_refused (fault.NotOurs id) h =
+      record { packets = h.packets; asked = h.asked; lines = h.lines; says = h.says; refuses = h.refuses; up = h.up }
+  moved_refused (fault.Pack cause) h =
+      record { packets = h.packets; asked = h.asked; lines = h.lines; says = h.says; refuses = h.refuses; up = h.up }
+  moved_refused fault.Memory h =
+      record { packets = h.packets; asked = h.asked; lines = h.lines; says = h.says; refuses = h.refuses; up = h.up }
+
+  moved_due : (due : List Packet) → IsDue server packs fails ends (record { read = read; was_down = was; is_down = down }) due
+      → IsDue server packs fails ends (record { read = read; was_down = before; is_down = down }) due
+  moved_due due (reply turn h) = reply turn (record { lines = h.lines; is_turn = h.is_turn; up = h.up })
+  moved_due due (refusal cause h) = refusal cause (moved_refused cause h)
+
+-- ---- from request to request
+
+pub none_is_answered : (ended : ExchangeEnd) → end_after ended ≡ None → ended ≡ exchange.Answered
+none_is_answered exchange.Answered is = refl
+none_is_answered exchange.Closed is = cc
+none_is_answered exchange.Ended is = cc
+none_is_answered (exchange.Refused cause) is = cc
+none_is_answered exchange.WriteFailed is = cc
+
+none_is_some : {x : End} → None ≡ Some x → ⊥
+none_is_some is = cc
+
+some_is : {x y : End} → Some x ≡ Some y → x ≡ y
+some_is is = cc
+
+module _ {A S W : Type 0} (server : Server A) (packs : Packs A) (fails : PackFails A) (ends : Ends)
+    (remaining : S → Option (List ℕ)) (source_down : S → Bool)
+    (contents passed_on : W → Option (List ℕ)) (sink_down : W → Bool) where
+  -- the advertisement is passed on, and nothing is read
+  pub answered_none : ReadsNone → (s : S) (a b : W)
+      → Passes (output_of contents passed_on sink_down a b) (canonical_all (advert_packets server.graph.format))
+      → HasAnswered server packs fails ends (input_of remaining source_down s s) (output_of contents passed_on sink_down a b) 0
+  answered_none none s a b passed = record {
+    turns = [];
+    read = turns_none server packs none (remaining s);
+    count = refl;
+    passed = subst (λ (xs : List Packet). Passes (output_of contents passed_on sink_down a b) (canonical_all xs)) (talk_none server.graph.format ends) passed;
+    up = λ more. absurd (omega (arith, more));
+  }
+
+  -- one request more is answered
+  pub answered_more : CanonicalJoins → ReadsJoin → (r s t : S) (a b c : W) (requests : ℕ)
+      → HasAnswered server packs fails ends (input_of remaining source_down r s) (output_of contents passed_on sink_down a b) requests
+      → Exchanges server packs fails ends (input_of remaining source_down s t) (output_of contents passed_on sink_down b c) exchange.Answered
+      → HasAnswered server packs fails ends (input_of remaining source_down r t) (output_of contents passed_on sink_down a c) (requests + 1)
+  answered_more joins join r s t a b c requests before (turn, read, passed) = record {
+    turns = before.turns ++ turn ∷ [];
+    read = turns_more server packs join (remaining r) (remaining s) (remaining t) before.turns turn before.read read.lines read.is_turn;
+    count = ap (λ (n : ℕ). n + 1) before.count ∙ sym (length-append before.turns (turn ∷ []));
+    passed = subst (λ (bytes : List ℕ). Passes (output_of contents passed_on sink_down a c) bytes) (talk_more joins server.graph.format ends before.turns turn)
+        (passes_join contents passed_on sink_down a b c _ _ before.passed passed);
+    up = λ more. read.up;
+  }
+
+  -- these requests are answered, and then this is left
+  conversed : (r s t : S) (a b : W) (requests : ℕ) (Last : Input → Type 0)
+      → (before : HasAnswered server packs fails ends (input_of remaining source_down r s) (output_of contents passed_on sink_down a b) requests)
+      → Last (rest_of (input_of remaining source_down r t) (remaining s))
+      → Converses server packs (input_of remaining source_down r t) requests before.turns Last
+  conversed r s t a b requests Last before last = record {
+    between = remaining s;
+    read = before.read;
+    count = before.count;
+    last = last;
+  }
+
+  -- as many requests are answered as may be
+  pub answered_all : (r s : S) (a b : W)
+      → HasAnswered server packs fails ends (input_of remaining source_down r s) (output_of contents passed_on sink_down a b) max_requests
+      → Serves server packs fails ends (input_of remaining source_down r s) (output_of contents passed_on sink_down a b) max_requests end.Ended
+  answered_all r s a b before =
+      (before.turns, conversed r s s a b max_requests (HasEnded max_requests) before (inr (refl, refl, before.up (omega arith))), before.passed)
+
+  -- a connection ends with an exchange
+  pub ended_by : (r s t : S) (a b c : W) (requests : ℕ) (ended : ExchangeEnd)
+      → HasAnswered server packs fails ends (input_of remaining source_down r s) (output_of contents passed_on sink_down a b) requests
+      → Exchanges server packs fails ends (input_of remaining source_down s t) (output_of contents passed_on sink_down b c) ended
+      → (requests < max_requests) → (last : End) → end_after ended ≡ Some last
+      → Serves server packs fails ends (input_of remaining source_down r t) (output_of contents passed_on sink_down a c) requests last
+  ended_by r s t a b c requests exchange.Answered before h room last is = absurd (none_is_some is)
+  ended_by r s t a b c requests exchange.Closed before h room last is =
+      let served : Serves server packs fails ends (input_of remaining source_down r t) (output_of contents passed_on sink_down a c) requests end.Closed = (
+        before.turns,
+        room,
+        conversed r s t a b requests (ReadsEmpty server.graph.format) before (moved_empty server packs fails ends _ _ _ _ h.0),
+        passes_still contents passed_on sink_down a b c _ before.passed h.1,
+      ) in
+      subst (λ (e : End). Serves server packs fails ends (input_of remaining source_down r t) (output_of contents passed_on sink_down a c) requests e) (some_is is) served
+  ended_by r s t a b c requests exchange.Ended before h room last is =
+      let served : Serves server packs fails ends (input_of remaining source_down r t) (output_of contents passed_on sink_down a c) requests end.Ended = (
+        before.turns,
+        conversed r s t a b requests (HasEnded requests) before (inl (room, moved_end server packs fails ends _ _ _ _ h.0)),
+        passes_still contents passed_on sink_down a b c _ before.passed h.1,
+      ) in
+      subst (λ (e : End). Serves server packs fails ends (input_of remaining source_down r t) (output_of contents passed_on sink_down a c) requests e) (some_is is) served
+  ended_by r s t a b c requests (exchange.Refused cause) before h room last is =
+      let served : Serves server packs fails ends (input_of remaining source_down r t) (output_of contents passed_on sink_down a c) requests (end.Refused cause) =
+      inl (
+        before.turns,
+        room,
+        conversed r s t a b requests (λ rest. IsRefused server fails rest cause) before (moved_refused server packs fails ends _ _ _ _ cause h.0),
+        passes_join contents passed_on sink_down a b c _ _ before.passed h.1,
+      ) in
+      subst (λ (e : End). Serves server packs fails ends (input_of remaining source_down r t) (output_of contents passed_on sink_down a c) requests e) (some_is is) served
+  ended_by r s t a b c requests exchange.WriteFailed before h room last is =
+      let served : Serves server packs fails ends (input_of remaining source_down r t) (output_of contents passed_on sink_down a c) requests end.WriteFailed =
+      inl (
+        before.turns,
+        h.0,
+        room,
+        conversed r s t a b requests (λ rest. IsDue server packs fails ends rest h.0) before (moved_due server packs fails ends _ _ _ _ h.0 h.1),
+        fails_after contents passed_on sink_down a b c _ _ before.passed h.2 h.3,
+      ) in
+      subst (λ (e : End). Serves server packs fails ends (input_of remaining source_down r t) (output_of contents passed_on sink_down a c) requests e) (some_is is) served
+
+  -- ---- before the first request
+
+  -- the line of a refusal stands in the advertisement's place
+  pub refused_first : (s : S) (a b : W) (cause : ServeFault) (last : End)
+      → CannotBegin (input_of remaining source_down s s) cause → RefusesFirst cause (output_of contents passed_on sink_down a b) last
+      → Serves server packs fails ends (input_of remaining source_down s s) (output_of contents passed_on sink_down a b) 0 last
+  refused_first s a b cause end.Closed cannot h = absurd h
+  refused_first s a b cause end.Ended cannot h = absurd h
+  refused_first s a b cause (end.Refused reported) cannot h =
+      let P : ServeFault → Type 0 = λ f. CannotBegin (input_of remaining source_down s s) f × Passes (output_of contents passed_on sink_down a b) (canonical_all (err_packets f)) in
+      let both : P reported = subst P (sym h.0) (cannot, h.1) in
+      inr (refl, both.0, both.1)
+  refused_first s a b cause end.WriteFailed cannot h = inr (err_packets cause, refl, refusal_first cause cannot, h.0, h.1)
+
+  unread : (s : S) → IsUnread (input_of remaining source_down s s)
+  unread s = record { read = refl; down = refl }
+
+  -- there is no advertisement
+  pub not_advertised : (s : S) (a b : W) (last : End)
+      → Advertises server.graph.format (output_of contents passed_on sink_down a b) (Err last)
+      → Serves server packs fails ends (input_of remaining source_down s s) (output_of contents passed_on sink_down a b) 0 last
+  not_advertised s a b end.Closed h = absurd h
+  not_advertised s a b end.Ended h = absurd h
+  not_advertised s a b (end.Refused reported) h = refused_first s a b fault.Memory (end.Refused reported) (unread s) h
+  not_advertised s a b end.WriteFailed (inl h) = refused_first s a b fault.Memory end.WriteFailed (unread s) h
+  not_advertised s a b end.WriteFailed (inr h) =
+      inr (advert_packets server.graph.format, refl, advert (unread s), h.0, h.1)
+
+  -- there is no buffer
+  pub no_buffer : (s : S) (a b : W) (cause : LineFault) (last : End) → cause ≡ NoBuffer
+      → RefusesFirst (fault.Reader cause) (output_of contents passed_on sink_down a b) last
+      → Serves server packs fails ends (input_of remaining source_down s s) (output_of contents passed_on sink_down a b) 0 last
+  no_buffer s a b cause last is h =
+      refused_first s a b (fault.Reader cause) last
+      (subst (λ (f : LineFault). CannotBegin (input_of remaining source_down s s) (fault.Reader f)) (sym is) (unread s)) h

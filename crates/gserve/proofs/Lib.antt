@@ -1,0 +1,4 @@
+mod ConnectionLemmas
+mod ExchangeLemmas
+mod PhraseLemmas
+mod SendingLemmas

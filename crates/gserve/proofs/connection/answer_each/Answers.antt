@@ -1,0 +1,58 @@
+use Rattle.std.proofs.Common.{◌≡◌, ℕ, refl, sym, subst, ◌∙◌, arith}
+use Rattle.gpkt.specs.Sending.{input_of, output_of}
+use Rattle.gserve.specs.Conversations.{max_requests}
+use Rattle.gserve.specs.Exchanges.{Exchanges}
+use Rattle.gserve.specs.Steps.{HasAnswered}
+use Rattle.gserve.specs.declared.exchange.ExchangeEnd.{ExchangeEnd}
+use Rattle.gserve.specs.declared.exchange.ExchangeEnd.TheVariants as ended
+use Rattle.gserve.proofs.ConnectionLemmas.{answered_all, answered_more, answered_none, ended_by, none_is_answered}
+use Rattle.gserve.proofs.connection.answer_each.Goals as goal
+
+pub loop-requests-init : goal.loop-requests-init
+loop-requests-init g c = record {
+  answered = λ start passed. answered_none c.args.server.now (g.K.Packer.packs c.args.packer.now) (g.K.Packer.pack_fails c.args.packer.now) c.args.ends
+      g.S.Source.remaining g.S.Source.is_down g.W.Sink.contents g.W.Sink.passed_on g.W.Sink.is_down c.reads_join.ensures.none
+      c.args.reader.now.source start c.args.writer.now.sink passed;
+  reader = c.requires.reader;
+  writer = c.requires.writer;
+  source_loans = refl;
+  sink_loans = refl;
+}
+
+pub loop-requests-preserved : goal.loop-requests-preserved
+loop-requests-preserved g c =
+    let server = c.args.server.now in
+    let packs = g.K.Packer.packs c.args.packer.now in
+    let fails = g.K.Packer.pack_fails c.args.packer.now in
+    let answered : c.exchange.result ≡ ended.Answered = none_is_answered c.exchange.result (sym c.end_after.ensures ∙ c.in-None.is) in
+    record {
+      answered = λ start passed. answered_more server packs fails c.args.ends
+          g.S.Source.remaining g.S.Source.is_down g.W.Sink.contents g.W.Sink.passed_on g.W.Sink.is_down c.canonical_spells.ensures.joins c.reads_join.ensures.join
+          _ _ _ _ _ _ c.loop-requests.requests (c.loop-requests.invariant.answered start passed)
+          (subst (λ (e : ExchangeEnd). Exchanges server packs fails c.args.ends
+          (input_of g.S.Source.remaining g.S.Source.is_down c.loop-requests.reader.source c.exchange.new.reader.source)
+          (output_of g.W.Sink.contents g.W.Sink.passed_on g.W.Sink.is_down c.loop-requests.writer.sink c.exchange.new.writer.sink) e) answered c.exchange.ensures.exchange);
+      reader = (c.exchange.ensures.goes_on answered).0;
+      writer = (c.exchange.ensures.goes_on answered).1;
+      source_loans = c.exchange.ensures.source_loans ∙ c.loop-requests.invariant.source_loans;
+      sink_loans = c.exchange.ensures.sink_loans ∙ c.loop-requests.invariant.sink_loans;
+    }
+
+pub returns-in-Some-clause-serves : goal.returns-in-Some-clause-serves
+returns-in-Some-clause-serves g c = λ start passed.
+    ended_by c.args.server.now (g.K.Packer.packs c.args.packer.now) (g.K.Packer.pack_fails c.args.packer.now) c.args.ends
+    g.S.Source.remaining g.S.Source.is_down g.W.Sink.contents g.W.Sink.passed_on g.W.Sink.is_down
+    _ _ _ _ _ _ c.loop-requests.requests c.exchange.result (c.loop-requests.invariant.answered start passed) c.exchange.ensures.exchange
+    (omega arith) c.in-Some.end (sym c.end_after.ensures ∙ c.in-Some.is)
+
+pub returns-clause-serves : goal.returns-clause-serves
+returns-clause-serves g c = λ start passed.
+    let server = c.args.server.now in
+    let packs = g.K.Packer.packs c.args.packer.now in
+    let fails = g.K.Packer.pack_fails c.args.packer.now in
+    let all : c.loop-requests.requests ≡ max_requests = omega arith in
+    answered_all server packs fails c.args.ends
+    g.S.Source.remaining g.S.Source.is_down g.W.Sink.contents g.W.Sink.passed_on g.W.Sink.is_down _ _ _ _
+    (subst (λ (n : ℕ). HasAnswered server packs fails c.args.ends
+    (input_of g.S.Source.remaining g.S.Source.is_down c.args.reader.now.source c.loop-requests.reader.source)
+    (output_of g.W.Sink.contents g.W.Sink.passed_on g.W.Sink.is_down start c.loop-requests.writer.sink) n) all (c.loop-requests.invariant.answered start passed))

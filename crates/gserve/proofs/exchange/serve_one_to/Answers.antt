@@ -1,0 +1,7 @@
+use Rattle.std.proofs.Common.{inr, refl}
+use Rattle.gserve.proofs.ExchangeLemmas.{refused_at_once}
+use Rattle.gserve.proofs.exchange.serve_one_to.Goals as goal
+
+pub returns-in-Err-clause-exchange : goal.returns-in-Err-clause-exchange
+returns-in-Err-clause-exchange g c =
+    inr (refused_at_once _ _ c.in-Err.fault c.refuse.result c.in-Err.ensures (record { read = refl; down = refl }) c.refuse.ensures.refused)

@@ -1,0 +1,96 @@
+-- A served connection: what is written for the bytes that are read (gitprotocol-v2(5), "Capability Advertisement"
+-- and "Command Request").
+use Rattle.std.specs.Prelude.{◌≡◌, ◌<◌, ◌⊎◌, ℕ, List, ◌++◌, length, Option}
+use Rattle.std.specs.List.{flat_map}
+use Rattle.gname.specs.declared.formats.Format.{Format}
+use Rattle.gpkt.specs.Packets.{Packet, canonical_all}
+use Rattle.gpkt.specs.Sending.{Input, Output, IsUnread, IsUp, Passes, SendsAndFails, SendsSome}
+use Rattle.gpkt.specs.Devices.{KeepsPassed}
+use Rattle.ggrammar.specs.declared.ends.Ends.{Ends}
+use Rattle.ghello.specs.Adverts.{canonical_advert}
+use Rattle.gobject.specs.Packs.{PackFails, Packs}
+use Rattle.ganswer.specs.Adverts.{advertised}
+use Rattle.ganswer.specs.Servers.{Server}
+use Rattle.ganswer.specs.declared.fault.ServeFault.{ServeFault}
+use Rattle.ganswer.specs.declared.fault.ServeFault.TheVariants as fault
+use Rattle.gserve.specs.Refusals.{err_packets}
+use Rattle.gserve.specs.Exchanges.{Turn, IsDue, IsRefused, LacksBuffer, ReadsEmpty, ReadsEnd, ReadsTurns, reply_packets}
+use Rattle.gserve.specs.declared.connection.End.{End}
+use Rattle.gserve.specs.declared.connection.End.TheVariants as end
+
+-- the most requests of a connection; then nothing more is read
+abbrev pub max_requests : ℕ
+max_requests = 4294967295
+
+-- what a server of a format advertises
+unfoldable pub advert_packets : Format → List Packet
+advert_packets format = canonical_advert (advertised format)
+
+-- what is written for some turns: the advertisement, and the replies
+unfoldable pub talk : Format → Ends → List Turn → List Packet
+talk format ends turns = advert_packets format ++ flat_map (λ turn. reply_packets ends turn.answer) turns
+
+abbrev pub talk_bytes : Format → Ends → List Turn → List ℕ
+talk_bytes format ends turns = canonical_all (talk format ends turns)
+
+-- ---- before the first request
+
+-- there is no memory to begin, and nothing is read
+abbrev pub CannotBegin : Input → ServeFault → Type 0
+CannotBegin input fault.Memory = IsUnread input
+CannotBegin input fault = LacksBuffer input fault
+
+-- what is due then: the advertisement, or the line of a refusal in its place
+pub data IsDueFirst (format : Format) (input : Input) : List Packet → Type 0 where
+  advert : IsUnread input → IsDueFirst format input (advert_packets format)
+  refusal : (fault : ServeFault) → CannotBegin input fault → IsDueFirst format input (err_packets fault)
+
+-- ---- the requests
+
+-- what is left of the input where so much of it is still to come
+abbrev pub rest_of : Input → Option (List ℕ) → Input
+rest_of input between = record {
+  read = record { old = between; new = input.read.new };
+  was_down = input.was_down;
+  is_down = input.is_down;
+}
+
+-- so many requests are read, each of which is answered, and then this holds of the rest of the input
+pub record Converses {A : Type 0} (server : Server A) (packs : Packs A) (input : Input) (requests : ℕ)
+    (turns : List Turn) (Last : Input → Type 0) : Type 0 where
+  pub between : Option (List ℕ)
+  pub read : ReadsTurns server packs (record { old = input.read.old; new = between }) turns
+  pub count : requests ≡ length turns
+  pub last : Last (rest_of input between)
+
+-- the input ends; or as many requests were answered as may be, and nothing more is read
+abbrev pub HasEnded : ℕ → Input → Type 0
+HasEnded requests rest =
+    ((requests < max_requests) × ReadsEnd rest)
+    ⊎ ((requests ≡ max_requests) × (rest.read.new ≡ rest.read.old) × IsUp rest)
+
+-- ---- the whole
+
+module _ {A : Type 0} (server : Server A) (packs : Packs A) (fails : PackFails A) (ends : Ends) where
+  -- What was read and written on a connection, how many requests were answered, and how it ended. One more was read
+  -- only where there may be one more. All that was due is written and passed on. Or the sink failed: a beginning of it
+  -- stands, and each reply that counts was passed on.
+  abbrev pub Serves : Input → Output → ℕ → End → Type 0
+  Serves input output requests end.Closed =
+      (turns : List Turn) × (requests < max_requests)
+      × Converses server packs input requests turns (ReadsEmpty server.graph.format)
+      × Passes output (talk_bytes server.graph.format ends turns)
+  Serves input output requests end.Ended =
+      (turns : List Turn) × Converses server packs input requests turns (HasEnded requests)
+      × Passes output (talk_bytes server.graph.format ends turns)
+  Serves input output requests (end.Refused fault) =
+      ((turns : List Turn) × (requests < max_requests)
+      × Converses server packs input requests turns (λ rest. IsRefused server fails rest fault)
+      × Passes output (talk_bytes server.graph.format ends turns ++ canonical_all (err_packets fault)))
+      ⊎ ((requests ≡ 0) × CannotBegin input fault × Passes output (canonical_all (err_packets fault)))
+  Serves input output requests end.WriteFailed =
+      ((turns : List Turn) × (due : List Packet) × (requests < max_requests)
+      × Converses server packs input requests turns (λ rest. IsDue server packs fails ends rest due)
+      × SendsAndFails output (talk_bytes server.graph.format ends turns) (canonical_all due))
+      ⊎ ((due : List Packet) × (requests ≡ 0) × IsDueFirst server.graph.format input due
+      × SendsSome output (canonical_all due) × KeepsPassed output.passed_on)

@@ -1,0 +1,35 @@
+-- What a client reads of a refusal (gitprotocol-pack(5), "error-line").
+use Rattle.std.specs.Prelude.{ℕ, List, [], ◌∷◌, ◌++◌, codes}
+use Rattle.gname.specs.Ids.{id_text}
+use Rattle.gpkt.specs.Packets.{Packet}
+use Rattle.ggrammar.specs.Texts.{text_packet}
+use Rattle.ganswer.specs.Faults.{serve_fault_row}
+use Rattle.ganswer.specs.declared.fault.ServeFault.{ServeFault}
+use Rattle.ganswer.specs.declared.fault.ServeFault.TheVariants as fault
+
+-- the most bytes of a refusal's text
+abbrev pub max_err_text : ℕ
+max_err_text = 128
+
+-- the most bytes of its parts
+abbrev pub max_phrase : ℕ
+max_phrase = 22
+
+abbrev pub max_id_text : ℕ
+max_id_text = 64
+
+abbrev pub max_detail : ℕ
+max_detail = 65
+
+-- a want that is not held is named by its id
+abbrev pub detail_of : ServeFault → List ℕ
+detail_of (fault.NotOurs id) = codes " " ++ id_text id
+detail_of _ = []
+
+-- the text of a refusal
+unfoldable pub err_text : ServeFault → List ℕ
+err_text fault = codes "upload-pack: " ++ (serve_fault_row fault).phrase ++ detail_of fault
+
+-- its line
+unfoldable pub err_packets : ServeFault → List Packet
+err_packets fault = text_packet (codes "ERR " ++ err_text fault) ∷ []

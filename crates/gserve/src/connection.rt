@@ -1,0 +1,194 @@
+//! A connection, from the advertisement to its end.
+
+ghost use Rattle.std.specs.Prelude.{◌≡◌, false, OnOk};
+ghost use Rattle.gpkt.specs.Packets.{canonical_all};
+ghost use Rattle.gpkt.specs.Sending.{input_of, output_of, Passes};
+ghost use Rattle.gserve.specs.Conversations.{Serves, advert_packets};
+ghost use Rattle.gserve.specs.Steps.{Advertises, RefusesFirst, end_after};
+
+use crate::exchange::{ExchangeEnd, exchange};
+use crate::send::{send_advert, send_refusal};
+use ganswer::{ServeFault, Server};
+use ggrammar::Ends;
+use ggraph::Packer;
+use gpkt::laws::{canonical_spells, reads_join};
+use gpkt::{LineBuffer, LineReader, LineWriter, Sink, Source};
+use std::alloc::Allocator;
+
+/// The most requests of a connection. Then nothing more is read, as at the end of the input.
+pub const MAX_REQUESTS: u32 = u32::MAX;
+
+/// How a connection ended.
+#[derive(Debug, Drop)]
+pub enum End {
+    /// The client ended it, with a lone flush.
+    Closed,
+    /// The input ended before a request, or there were [`MAX_REQUESTS`] of them.
+    Ended,
+    /// The line that reports the refusal is the last thing written, and is passed on.
+    Refused(ServeFault),
+    /// 27: the sink failed. A beginning of what was to be written stands.
+    WriteFailed,
+}
+
+/// A connection that was served.
+#[derive(Debug, Drop)]
+pub struct Served {
+    /// How many replies were written and passed on.
+    pub requests: u32,
+    pub end: End,
+}
+
+/// Serves one connection: writes the advertisement, and then reads and answers one request after the other
+/// (gitprotocol-v2(5), "Capability Advertisement", "Command Request"). What is written is passed on after the
+/// advertisement, after each reply and after the line of a refusal. The server stays as it is.
+///
+/// It ends where the client ends it, where the input ends before a request, at the first refusal, whose line is
+/// written last, or where the sink fails. Where there is no memory to begin with, the line that says so is all that is
+/// written, and nothing is read.
+pub fn serve<S: Source, W: Sink, A: Allocator + Copy, K: Packer<A>>(
+    server: &Server<A>,
+    packer: &K,
+    ends: Ends,
+    source: &mut S,
+    sink: &mut W,
+) -> Served
+    ensures serves { Serves server.now (K.packs packer.now) (K.pack_fails packer.now) ends
+        (input_of S.remaining S.is_down source.old source.new)
+        (output_of W.contents W.passed_on W.is_down sink.old sink.new) result.requests result.end }
+    ensures source_loans { S.loans source.new ≡ S.loans source.old }
+    ensures sink_loans { W.loans sink.new ≡ W.loans sink.old }
+{
+    let mut writer = LineWriter::new(sink);
+    let served = serve_to(server, packer, ends, source, &mut writer);
+    let _sink = writer.into_inner();
+    served
+}
+
+fn serve_to<S: Source, W: Sink, A: Allocator + Copy, K: Packer<A>>(
+    server: &Server<A>,
+    packer: &K,
+    ends: Ends,
+    source: &mut S,
+    writer: &mut LineWriter<W>,
+) -> Served
+    requires { writer.old.failed ≡ false }
+    ensures serves { Serves server.now (K.packs packer.now) (K.pack_fails packer.now) ends
+        (input_of S.remaining S.is_down source.old source.new)
+        (output_of W.contents W.passed_on W.is_down writer.old.sink writer.new.sink) result.requests result.end }
+    ensures source_loans { S.loans source.new ≡ S.loans source.old }
+    ensures sink_loans { W.loans writer.new.sink ≡ W.loans writer.old.sink }
+{
+    let buffer = match LineBuffer::new(server.graph().allocator()) {
+        Ok(buffer) => buffer,
+        Err(fault) => {
+            let end = refuse_first(ServeFault::Reader(fault), writer);
+            return Served { requests: 0, end };
+        }
+    };
+    let mut reader = LineReader::with_buffer(buffer, source);
+    let served = converse(server, packer, ends, &mut reader, writer);
+    let _source = reader.into_inner();
+    served
+}
+
+// Advertises, and answers all requests.
+fn converse<S: Source, W: Sink, A: Allocator + Copy, K: Packer<A>>(
+    server: &Server<A>,
+    packer: &K,
+    ends: Ends,
+    reader: &mut LineReader<S, A>,
+    writer: &mut LineWriter<W>,
+) -> Served
+    requires reader { reader.old.failed ≡ false }
+    requires writer { writer.old.failed ≡ false }
+    ensures serves { Serves server.now (K.packs packer.now) (K.pack_fails packer.now) ends
+        (input_of S.remaining S.is_down reader.old.source reader.new.source)
+        (output_of W.contents W.passed_on W.is_down writer.old.sink writer.new.sink) result.requests result.end }
+    ensures source_loans { S.loans reader.new.source ≡ S.loans reader.old.source }
+    ensures sink_loans { W.loans writer.new.sink ≡ W.loans writer.old.sink }
+{
+    match advertise(server, writer) {
+        Ok(()) => answer_each(server, packer, ends, reader, writer),
+        Err(end) => Served { requests: 0, end },
+    }
+}
+
+// Answers one request after the other, of a connection that began at another state of the sink, from which the
+// advertisement was passed on.
+fn answer_each<S: Source, W: Sink, A: Allocator + Copy, K: Packer<A>>(
+    server: &Server<A>,
+    packer: &K,
+    ends: Ends,
+    reader: &mut LineReader<S, A>,
+    writer: &mut LineWriter<W>,
+) -> Served
+    requires reader { reader.old.failed ≡ false }
+    requires writer { writer.old.failed ≡ false }
+    ensures serves { (start : W)
+        → Passes (output_of W.contents W.passed_on W.is_down start writer.old.sink) (canonical_all (advert_packets server.now.graph.format))
+        → Serves server.now (K.packs packer.now) (K.pack_fails packer.now) ends
+        (input_of S.remaining S.is_down reader.old.source reader.new.source)
+        (output_of W.contents W.passed_on W.is_down start writer.new.sink) result.requests result.end }
+    ensures source_loans { S.loans reader.new.source ≡ S.loans reader.old.source }
+    ensures sink_loans { W.loans writer.new.sink ≡ W.loans writer.old.sink }
+{
+    canonical_spells();
+    reads_join();
+    for requests in 0..MAX_REQUESTS {
+        match end_after(exchange(server, packer, ends, reader, writer)) {
+            Some(end) => return Served { requests, end },
+            None => {}
+        }
+    }
+    Served {
+        requests: MAX_REQUESTS,
+        end: End::Ended,
+    }
+}
+
+// How a connection ends with an exchange.
+fn end_after(exchange: ExchangeEnd) -> Option<End>
+    ensures { result ≡ end_after exchange }
+{
+    match exchange {
+        ExchangeEnd::Answered => None,
+        ExchangeEnd::Closed => Some(End::Closed),
+        ExchangeEnd::Ended => Some(End::Ended),
+        ExchangeEnd::Refused(fault) => Some(End::Refused(fault)),
+        ExchangeEnd::WriteFailed => Some(End::WriteFailed),
+    }
+}
+
+// Makes and sends the advertisement, or the line of a refusal in its place.
+fn advertise<W: Sink, A: Allocator + Copy>(
+    server: &Server<A>,
+    writer: &mut LineWriter<W>,
+) -> Result<(), End>
+    requires { writer.old.failed ≡ false }
+    ensures advertises { Advertises server.now.graph.format
+        (output_of W.contents W.passed_on W.is_down writer.old.sink writer.new.sink) result }
+    ensures goes_on { OnOk result (writer.new.failed ≡ false) }
+    ensures loans { W.loans writer.new.sink ≡ W.loans writer.old.sink }
+{
+    let advert = match server.advert() {
+        Ok(advert) => advert,
+        Err(fault) => return Err(refuse_first(fault, writer)),
+    };
+    match send_advert(&advert, writer) {
+        Ok(()) => Ok(()),
+        Err(_) => Err(End::WriteFailed),
+    }
+}
+
+// Reports that there is no memory to begin with.
+fn refuse_first<W: Sink>(fault: ServeFault, writer: &mut LineWriter<W>) -> End
+    requires { writer.old.failed ≡ false }
+    ensures refused { RefusesFirst fault (output_of W.contents W.passed_on W.is_down writer.old.sink writer.new.sink) result }
+    ensures loans { W.loans writer.new.sink ≡ W.loans writer.old.sink }
+{
+    match send_refusal(&fault, writer) {
+        Ok(()) => End::Refused(fault),
+        Err(_) => End::WriteFailed,
+    }
+}

@@ -1,0 +1,150 @@
+//! One request, read and answered.
+
+ghost use Rattle.std.specs.Prelude.{◌≡◌, ◌≢◌, false};
+ghost use Rattle.gpkt.specs.Sending.{input_of, output_of};
+ghost use Rattle.grequest.specs.RequestValues.{asked_by_request};
+ghost use Rattle.gserve.specs.Exchanges.{Exchanges, ServesOne};
+ghost use Rattle.gserve.specs.Steps.{Replies, ReportsRefusal, end_of_reply};
+
+use crate::send::{send_fetch_reply, send_ls_answer, send_refusal};
+use ganswer::{Reply, ServeFault, Server};
+use ggrammar::Ends;
+use ggraph::Packer;
+use gpkt::{LineBuffer, LineReader, LineWriter, Sink, Source, WriteFault};
+use grequest::{Request, read_request_in};
+use std::alloc::Allocator;
+
+/// How an exchange ended.
+#[derive(Debug, Drop)]
+pub enum ExchangeEnd {
+    /// The reply is written and passed on.
+    Answered,
+    /// The request was a lone flush; nothing is written.
+    Closed,
+    /// The input ended before the request; nothing is written.
+    Ended,
+    /// The line that reports the refusal is written and passed on.
+    Refused(ServeFault),
+    /// 27: the sink failed. A beginning of what was to be written stands.
+    WriteFailed,
+}
+
+/// Reads one request and writes what answers it, with no advertisement before it (gitprotocol-v2(5), "Command Request").
+/// Nothing after the request's last packet is read. Where there is no memory for the reader's buffer nothing is read.
+///
+/// The source is well where the request was answered, and where there was none.
+pub fn serve_one<S: Source, W: Sink, A: Allocator + Copy, K: Packer<A>>(
+    server: &Server<A>,
+    packer: &K,
+    ends: Ends,
+    source: &mut S,
+    sink: &mut W,
+) -> ExchangeEnd
+    ensures exchange { ServesOne server.now (K.packs packer.now) (K.pack_fails packer.now) ends
+        (input_of S.remaining S.is_down source.old source.new)
+        (output_of W.contents W.passed_on W.is_down sink.old sink.new) result }
+    ensures source_loans { S.loans source.new ≡ S.loans source.old }
+    ensures sink_loans { W.loans sink.new ≡ W.loans sink.old }
+{
+    let mut writer = LineWriter::new(sink);
+    let ended = serve_one_to(server, packer, ends, source, &mut writer);
+    let _sink = writer.into_inner();
+    ended
+}
+
+fn serve_one_to<S: Source, W: Sink, A: Allocator + Copy, K: Packer<A>>(
+    server: &Server<A>,
+    packer: &K,
+    ends: Ends,
+    source: &mut S,
+    writer: &mut LineWriter<W>,
+) -> ExchangeEnd
+    requires { writer.old.failed ≡ false }
+    ensures exchange { ServesOne server.now (K.packs packer.now) (K.pack_fails packer.now) ends
+        (input_of S.remaining S.is_down source.old source.new)
+        (output_of W.contents W.passed_on W.is_down writer.old.sink writer.new.sink) result }
+    ensures source_loans { S.loans source.new ≡ S.loans source.old }
+    ensures sink_loans { W.loans writer.new.sink ≡ W.loans writer.old.sink }
+{
+    let buffer = match LineBuffer::new(server.graph().allocator()) {
+        Ok(buffer) => buffer,
+        Err(fault) => return refuse(ServeFault::Reader(fault), writer),
+    };
+    let mut reader = LineReader::with_buffer(buffer, source);
+    let ended = exchange(server, packer, ends, &mut reader, writer);
+    let _source = reader.into_inner();
+    ended
+}
+
+/// Reads one request and writes what answers it. After an answer both the reader and the writer go on.
+pub(crate) fn exchange<S: Source, W: Sink, A: Allocator + Copy, K: Packer<A>>(
+    server: &Server<A>,
+    packer: &K,
+    ends: Ends,
+    reader: &mut LineReader<S, A>,
+    writer: &mut LineWriter<W>,
+) -> ExchangeEnd
+    requires reader { reader.old.failed ≡ false }
+    requires writer { writer.old.failed ≡ false }
+    ensures exchange { Exchanges server.now (K.packs packer.now) (K.pack_fails packer.now) ends
+        (input_of S.remaining S.is_down reader.old.source reader.new.source)
+        (output_of W.contents W.passed_on W.is_down writer.old.sink writer.new.sink) result }
+    ensures goes_on { result ≡ ExchangeEnd.Answered → (reader.new.failed ≡ false) × (writer.new.failed ≡ false) }
+    ensures source_loans { S.loans reader.new.source ≡ S.loans reader.old.source }
+    ensures sink_loans { W.loans writer.new.sink ≡ W.loans writer.old.sink }
+{
+    let graph = server.graph();
+    match read_request_in(graph.format(), reader, graph.allocator()) {
+        Ok(None) => ExchangeEnd::Ended,
+        Ok(Some(request)) => reply(server, packer, ends, &request, writer),
+        Err(fault) => refuse(ServeFault::Request(fault), writer),
+    }
+}
+
+// Answers a request that was read.
+fn reply<W: Sink, A: Allocator + Copy, K: Packer<A>>(
+    server: &Server<A>,
+    packer: &K,
+    ends: Ends,
+    request: &Request<A>,
+    writer: &mut LineWriter<W>,
+) -> ExchangeEnd
+    requires { writer.old.failed ≡ false }
+    ensures replies { Replies server.now (K.packs packer.now) (K.pack_fails packer.now) ends (asked_by_request request.now)
+        (output_of W.contents W.passed_on W.is_down writer.old.sink writer.new.sink) result }
+    ensures goes_on { result ≡ ExchangeEnd.Answered → writer.new.failed ≡ false }
+    ensures loans { W.loans writer.new.sink ≡ W.loans writer.old.sink }
+{
+    // The server lends the names of its refs, so that this reply takes no memory.
+    if let Request::Ls(asked) = request {
+        return end_of(send_ls_answer(server, asked, ends, writer));
+    }
+    match server.answer(request, packer) {
+        Ok(Reply::Nothing) => ExchangeEnd::Closed,
+        Ok(Reply::Fetch(reply)) => end_of(send_fetch_reply(&reply, ends, writer)),
+        Ok(Reply::Ls(_)) => unreachable!(),
+        Err(fault) => refuse(fault, writer),
+    }
+}
+
+fn end_of(sent: Result<(), WriteFault>) -> ExchangeEnd
+    ensures { result ≡ end_of_reply sent }
+{
+    match sent {
+        Ok(()) => ExchangeEnd::Answered,
+        Err(_) => ExchangeEnd::WriteFailed,
+    }
+}
+
+/// Reports a refusal.
+pub(crate) fn refuse<W: Sink>(fault: ServeFault, writer: &mut LineWriter<W>) -> ExchangeEnd
+    requires { writer.old.failed ≡ false }
+    ensures refused { ReportsRefusal fault (output_of W.contents W.passed_on W.is_down writer.old.sink writer.new.sink) result }
+    ensures ended { result ≢ ExchangeEnd.Answered }
+    ensures loans { W.loans writer.new.sink ≡ W.loans writer.old.sink }
+{
+    match send_refusal(&fault, writer) {
+        Ok(()) => ExchangeEnd::Refused(fault),
+        Err(_) => ExchangeEnd::WriteFailed,
+    }
+}

@@ -1,0 +1,51 @@
+//! Served connections of Git's fetch service, protocol version 2 (gitprotocol-v2(5)): the advertisement, and then the
+//! answer to each request; or one request alone.
+//!
+//! # Proved
+//!
+//! - [`serve`] holds a conversation (`specs/Conversations.antt`). The requests that are read are those that the bytes
+//!   spell, in whatever pieces they come, and nothing after the last packet of a request is read. Each is answered as
+//!   `ganswer` says, for any packer. What is written is the advertisement and these replies in their one spelling, and
+//!   all of it is passed on. [`Served::requests`](Served) counts the replies.
+//! - It ends with the client's lone flush; where the input ends before a request, or there were [`MAX_REQUESTS`]; at the
+//!   first request that is refused, whose line is then the last thing written, and is passed on; or where the sink
+//!   fails. The fault is the one of the request's grammar, of the server's answer, or the source's.
+//! - Where there is no memory for the buffer or for the advertisement, the line that says so stands in the
+//!   advertisement's place, and nothing is read.
+//! - Where the sink fails a beginning of what was due stands written: of the advertisement, of a reply, or of the line
+//!   of a refusal that was due. Each reply that counts was passed on, and stays so.
+//! - At each end it is known whether the source and the sink have failed.
+//! - [`serve_one`] does the same for one request, with no advertisement (`specs/Exchanges.antt`).
+//! - [`err_text`] writes the text of a fault, at most 128 bytes.
+//! - No call panics, overflows or reads out of bounds, and each returns where each call of its devices does.
+//!
+//! # Only tested
+//!
+//! That memory which is there is used; that the reply to a request for refs takes none, as the server lends the names.
+//!
+//! # What a body can still get away with
+//!
+//! Where the bytes of a source or of a sink are not known, nothing is said of those that were read or written; how
+//! many requests were answered, how it ended, and whether a device has failed is said all the same. Where the sink
+//! fails, a shorter beginning may stand written, and more than the replies that count may have been passed on. It may
+//! report out of memory in the place of any reply, and in that of the advertisement by the fault of a reader or of a
+//! server as it likes; it may take as long as it likes, and flush more often.
+//!
+//! # Stands on
+//!
+//! `ganswer` for the server and its answers; `grequest`, `glsreply`, `gfetchreply` and `ghello` for the messages,
+//! `ggrammar` and `gpkt` for what these share, `ggraph` for packers, `gname` for the digits of an id, `arrayvec` for a
+//! text of bounded length; in tests `bumpalo`, for memory that ends.
+#![tactic(auto)]
+
+mod connection;
+mod exchange;
+mod refusal;
+mod send;
+#[cfg(test)]
+mod tests;
+
+pub use crate::connection::{End, MAX_REQUESTS, Served, serve};
+pub use crate::exchange::{ExchangeEnd, serve_one};
+pub use crate::refusal::{MAX_ERR_TEXT, err_text};
+pub use ganswer::{BuildFault, Reply, ServeFault, Server};

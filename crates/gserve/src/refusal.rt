@@ -1,0 +1,94 @@
+//! What a client reads of a refusal (gitprotocol-pack(5), "error-line").
+
+ghost use Rattle.std.specs.Prelude.{◌≡◌, ◌≤◌, ◌+◌, ◌++◌, length, take};
+ghost use Rattle.gname.specs.Ids.{id_text};
+ghost use Rattle.ggrammar.specs.Writing.{WritesLines};
+ghost use Rattle.ganswer.specs.Faults.{serve_fault_row};
+ghost use Rattle.gserve.specs.Refusals.{detail_of, err_packets, err_text, max_detail, max_err_text, max_id_text, max_phrase};
+
+use arrayvec::ArrayVec;
+use ganswer::ServeFault;
+use ggrammar::laws::writes_lines;
+use gname::{MAX_ID_TEXT, Oid};
+use gpkt::{LineWriter, Sink, WriteFault};
+
+/// The most bytes of a refusal's text.
+pub const MAX_ERR_TEXT: usize = 128;
+
+/// Writes the text of a refusal into the front of the buffer, and answers how many bytes that are. It
+/// takes no memory.
+pub fn err_text(fault: &ServeFault, out: &mut [u8; MAX_ERR_TEXT]) -> usize
+    ensures few { result ≤ max_err_text }
+    ensures text { take result out.new ≡ err_text fault.now }
+{
+    let text = text_of(fault);
+    let len = text.len();
+    out[..len].copy_from_slice(text.as_slice());
+    len
+}
+
+// The text of a refusal.
+#[tactic(auto, unfolding(crate::specs::Refusals::err_text))]
+fn text_of(fault: &ServeFault) -> ArrayVec<u8, MAX_ERR_TEXT>
+    ensures text { result.items ≡ err_text fault.now }
+    ensures long { length result.items ≤ max_err_text }
+{
+    let mut text = ArrayVec::new();
+    add(b"upload-pack: ", &mut text);
+    add_phrase(fault, &mut text);
+    add_detail(fault, &mut text);
+    text
+}
+
+// Why the request is refused, in a client's words.
+#[tactic(auto, using(crate::proofs::PhraseLemmas::phrase_is_short))]
+fn add_phrase(fault: &ServeFault, text: &mut ArrayVec<u8, MAX_ERR_TEXT>)
+    requires { length text.old.items + max_phrase ≤ max_err_text }
+    ensures text { text.new.items ≡ text.old.items ++ (serve_fault_row fault.now).phrase }
+    ensures long { length text.new.items ≤ length text.old.items + max_phrase }
+{
+    add(fault.phrase().as_bytes(), text);
+}
+
+// A want that is not held is named by its id.
+fn add_detail(fault: &ServeFault, text: &mut ArrayVec<u8, MAX_ERR_TEXT>)
+    requires { length text.old.items + max_detail ≤ max_err_text }
+    ensures text { text.new.items ≡ text.old.items ++ detail_of fault.now }
+    ensures long { length text.new.items ≤ length text.old.items + max_detail }
+{
+    if let ServeFault::NotOurs { id } = fault {
+        add(b" ", text);
+        add_id(id, text);
+    }
+}
+
+fn add_id(id: &Oid, text: &mut ArrayVec<u8, MAX_ERR_TEXT>)
+    requires { length text.old.items + max_id_text ≤ max_err_text }
+    ensures text { text.new.items ≡ text.old.items ++ id_text id.now }
+    ensures long { length text.new.items ≤ length text.old.items + max_id_text }
+{
+    let mut digits = [0; MAX_ID_TEXT];
+    let count = id.to_hex(&mut digits);
+    add(&digits[..count], text);
+}
+
+// Adds a piece for which there is room.
+fn add(piece: &[u8], text: &mut ArrayVec<u8, MAX_ERR_TEXT>)
+    requires { length text.old.items + length piece.now ≤ max_err_text }
+    ensures text { text.new.items ≡ text.old.items ++ piece.now }
+    ensures long { length text.new.items ≡ length text.old.items + length piece.now }
+{
+    text.try_extend_from_slice(piece).unwrap()
+}
+
+/// Writes the line of a refusal. It takes no memory.
+pub(crate) fn write_refusal<W: Sink>(
+    fault: &ServeFault,
+    writer: &mut LineWriter<W>,
+) -> Result<(), WriteFault>
+    ensures { WritesLines W.contents W.passed_on W.is_down W.loans writer.old writer.new result (err_packets fault.now) }
+{
+    writes_lines::<W>();
+    let text = text_of(fault);
+    writer.text2(b"ERR ", text.as_slice())
+}
