@@ -32,7 +32,8 @@
 //!
 //! It may report out of memory: `answer` for any request but the empty one and a fetch that it refuses for its wants;
 //! `advert` at any time; `new` for the name of a ref that it reports, or where nothing is missing; `add` for an object
-//! that is new, and `set_ref` for a name that is. A call may take as long as it likes, and more memory than it needs.
+//! that is new, and `set_ref` for a name that is. So it may report out of memory where the packer gave another cause, and
+//! call the packer more often than once. A call may take as long as it likes, and more memory than it needs.
 //!
 //! # Stands on
 //!

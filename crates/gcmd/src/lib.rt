@@ -12,8 +12,9 @@
 //! - [`cmd_upload`] serves one connection as `gserve` says, from the repository that its file names, with plain packs,
 //!   and [`cmd_ls`] one request (`specs/Serving.antt`). The work is done where the client ended the connection, the request
 //!   was answered or was a lone flush, the input ended before a request, or the connection had as many requests as may be;
-//!   else the fault is that of the refusal, or of the output. Of a file that is no text of a repository in which each parent comes before its children, and each ref, and HEAD by
-//!   its id, stands at an object that is there, nothing is read or written; the fault is that of the text, of the ref or of HEAD.
+//!   else the fault is that of the refusal, or of the output. Of a file that is no text of a repository in which each
+//!   parent comes before its children, and each ref, and HEAD by its id, stands at an object that is there, nothing is
+//!   read or written; the fault is that of the text, of the ref or of HEAD.
 //! - [`cmd_check`] writes its one line, with the counts, and whether the graph is closed and the refs are
 //!   safe, and passes it on; where the sink fails, a beginning of it stands. Of a file that is no repository
 //!   nothing is written.
