@@ -1,0 +1,6 @@
+pub mod SendingLemmas
+pub mod StepLemmas
+pub mod TurnLemmas
+pub mod TalkLemmas
+pub mod RoundLemmas
+pub mod KeptLemmas

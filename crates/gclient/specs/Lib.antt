@@ -1,0 +1,14 @@
+pub mod Turns
+pub mod Conversations
+pub mod Steps
+pub mod Faults
+pub use Rattle.gsession.specs.Sessions
+pub use Rattle.gsession.specs.Asking
+pub use Rattle.gsession.specs.Requesting
+pub use Rattle.gsession.specs.TakingRefs
+pub use Rattle.gsession.specs.TakingReplies
+pub use Rattle.gsession.specs.SettlingRefs
+pub use Rattle.gsession.specs.Bounds
+pub use Rattle.grepo.specs.Changes
+pub use Rattle.grepo.specs.Repos
+pub use Rattle.grepo.specs.Settling

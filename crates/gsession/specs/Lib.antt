@@ -1,0 +1,15 @@
+pub mod Sessions
+pub mod Asking
+pub mod Requesting
+pub mod TakingRefs
+pub mod TakingReplies
+pub mod SettlingRefs
+pub mod Bounds
+pub mod Feeding
+pub mod Faults
+pub use Rattle.gspec.specs.Refspecs
+pub use Rattle.grepo.specs.Changes
+pub use Rattle.grepo.specs.Repos
+pub use Rattle.grepo.specs.Settling
+pub use Rattle.grequest.specs.Asked
+pub use Rattle.ghistory.specs.Offer

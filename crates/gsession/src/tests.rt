@@ -1,0 +1,6 @@
+//! Tests.
+mod bounds;
+mod makers;
+mod order;
+mod refused;
+mod talks;
