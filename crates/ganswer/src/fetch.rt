@@ -3,8 +3,9 @@
 ghost use Rattle.std.specs.Prelude.{◌≡◌, ◌↔◌, IfOk, IfErr, IsTrue, MatchResult};
 ghost use Rattle.ghistory.specs.declared.fault.GraphFault.TheVariants.{Memory as OutOfMemory};
 ghost use Rattle.gfetchreply.specs.Views.{IsReplyOf, reply_in};
-ghost use Rattle.ganswer.specs.Answers.{ChecksWants, FetchRefuses, PacksFor};
+ghost use Rattle.ganswer.specs.Answers.{FetchRefuses};
 ghost use Rattle.ganswer.specs.FetchAnswers.{FetchAnswer, IsReadyFor, IsSent, commons_of};
+ghost use Rattle.ganswer.specs.Steps.{ChecksWants, PacksFor};
 ghost use Rattle.ganswer.specs.declared.fault.ServeFault.TheVariants.{Memory};
 
 use crate::fault::ServeFault;

@@ -16,11 +16,12 @@
 //! - [`Server::write_ls_answer`] writes the answer to ls-refs, or a beginning of it where the sink fails.
 //! - [`Server::advert`] fails only when out of memory, and else advertises `agent=gitv2/1`, `ls-refs=unborn`,
 //!   `fetch`, and the format of the graph's ids.
-//! - [`laws`]: a server has one answer to each request for refs, whose lines stand at objects that it has. What an
-//!   answer acknowledges are haves of the request that the server has, too. A pack that is sent completes the
-//!   ancestries of the wants at a client that has those of its haves. Wants that are here are refused only for the
-//!   packer, or out of memory. Answers have the forms of their messages, so that what is written of them can be read by a
-//!   client of the same object format. Objects only come to a server.
+//! - [`laws`]: what is advertised can be read by each client, and one of the same object format goes on with it. A
+//!   server has one answer to each request for refs, whose lines stand at objects that it has. What an answer
+//!   acknowledges are haves of the request that the server has, too. A pack that is sent completes the ancestries of
+//!   the wants at a client that has those of its haves. Wants that are here are refused only for the packer, or out of
+//!   memory. Answers have the forms of their messages, so that what is written of them can be read by a client of the
+//!   same object format. Objects only come to a server, and their ids stay of one format.
 //! - Each fault has the number and the name of its row, and the words for a client.
 //! - No call panics, overflows or reads out of bounds, and each returns.
 //!
