@@ -7,6 +7,7 @@ pub mod FetchAnswers
 pub mod Laws
 pub mod LsAnswers
 pub mod LsBuilding
+pub mod OnePack
 pub mod Servers
 pub mod Steps
 pub use Rattle.gobject.specs.Objects

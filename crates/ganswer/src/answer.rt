@@ -5,6 +5,7 @@ ghost use Rattle.grequest.specs.RequestValues.{asked_by_request};
 ghost use Rattle.ganswer.specs.Answers.{Answers, HasFormat, Refuses, reply_of};
 
 use crate::fault::ServeFault;
+use crate::one_pack::OnePack;
 use crate::server::Server;
 use gfetchreply::FetchReply;
 use ggraph::Packer;
@@ -50,7 +51,10 @@ impl<A: Allocator + Copy> Server<A> {
         match request {
             Request::Empty => Ok(Reply::Nothing),
             Request::Ls(asked) => Ok(Reply::Ls(self.answer_ls(asked)?)),
-            Request::Fetch(asked) => Ok(Reply::Fetch(self.answer_fetch(asked, packer)?)),
+            Request::Fetch(asked) => {
+                let mut packer = OnePack::new(packer);
+                Ok(Reply::Fetch(self.answer_fetch(asked, &mut packer)?))
+            }
         }
     }
 }

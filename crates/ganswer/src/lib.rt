@@ -13,6 +13,8 @@
 //!   fetch the common ids, the pack of the objects to send, or both. It refuses a fetch exactly where nothing is
 //!   wanted, or with the first want that is not here; where the packer may refuse the objects to send; or out of
 //!   memory. The ids of an answer have the format of the graph, and an answer is never refused for its length.
+//! - [`Server::answer_fetch`] asks the packer exactly once where a pack is sent, and where a fault of the packer is
+//!   reported, which is the one that it answered; else it does not ask. So out of memory never hides such a fault.
 //! - [`Server::write_ls_answer`] writes the answer to ls-refs, or a beginning of it where the sink fails.
 //! - [`Server::advert`] fails only when out of memory, and else advertises `agent=gitv2/1`, `ls-refs=unborn`,
 //!   `fetch`, and the format of the graph's ids.
@@ -32,8 +34,9 @@
 //! # What a body can still get away with
 //!
 //! It may report out of memory: `answer` for any request but the empty one and a fetch that it refuses for its wants;
-//! `advert` at any time; `new` for the name of a ref that it reports, or where nothing is missing; `add` for an object
-//! that is new, and `set_ref` for a name that is. A call may take as long as it likes, and more memory than it needs.
+//! `answer_fetch` likewise, but not once it has asked the packer; `advert` at any time; `new` for the name of a ref that
+//! it reports, or where nothing is missing; `add` for an object that is new, and `set_ref` for a name that is. A call may
+//! take as long as it likes, and more memory than it needs.
 //!
 //! # Stands on
 //!
@@ -48,6 +51,7 @@ mod fault;
 mod fetch;
 pub mod laws;
 mod ls;
+mod one_pack;
 mod server;
 #[cfg(test)]
 mod tests;
@@ -55,4 +59,5 @@ mod write;
 
 pub use crate::answer::Reply;
 pub use crate::fault::{BuildFault, ServeFault};
+pub use crate::one_pack::{OnePack, Packing};
 pub use crate::server::Server;
