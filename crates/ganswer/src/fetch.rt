@@ -106,8 +106,7 @@ impl<A: Allocator + Copy> Server<A> {
     ) -> Result<PackBytes<A>, ServeFault>
         requires commons { commons.now ≡ commons_of self.now asked.now.asked }
         requires unasked { packer.old.answered ≡ packing.Unasked }
-        ensures pack {
-            PacksFor self.now (K.packs packer.old.packer) (K.pack_fails packer.old.packer) asked.now.asked result }
+        ensures pack { PacksFor self.now (K.packs packer.old.packer) (K.pack_fails packer.old.packer) asked.now.asked result }
         ensures packing { MatchResult result
             (λ _. packer.new.answered ≡ packing.Packed)
             (λ fault. packer.new.answered ≡ packing_of_fault fault) }

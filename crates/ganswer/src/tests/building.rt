@@ -65,7 +65,10 @@ fn what_is_missing_is_reported(rt: HostRuntime) -> Result<(), Fail> {
 // A ref at a missing object is reported by its name, and not as if there were no memory for that.
 #[test]
 fn a_missing_ref_is_named(rt: HostRuntime) -> Result<(), Fail> {
-    let text = spelled(rt.alloc(), b"gitv2 1\nc {a}\nr {b} refs/heads/b\nh none\nend\n")?;
+    let text = spelled(
+        rt.alloc(),
+        b"gitv2 1\nc {a}\nr {b} refs/heads/b\nh none\nend\n",
+    )?;
     let parts = load(rt.alloc(), text.as_slice(), Order::Any)?;
     match Server::new(parts.graph, parts.refs, parts.head) {
         Err(BuildFault::RefMissing { name }) => {

@@ -140,7 +140,10 @@ fn a_packer_is_asked_once(rt: HostRuntime) -> Result<(), Fail> {
     let alloc = rt.alloc();
     for (bytes, wanted) in CALLS {
         assert_eq!(rt; calls(alloc, &counting(None), bytes)?, wanted);
-        assert_eq!(rt; calls(alloc, &counting(Some(PackFault::TooLarge)), bytes)?, wanted);
+        assert_eq!(rt;
+            calls(alloc, &counting(Some(PackFault::TooLarge)), bytes)?,
+            wanted
+        );
     }
     Ok(())
 }
