@@ -27,9 +27,10 @@ pub enum Reply<A: Allocator + Copy> {
 impl<A: Allocator + Copy> Server<A> {
     /// The answer to a request (gitprotocol-v2(5), "ls-refs" and "fetch").
     ///
-    /// Refs: HEAD first, then the names in byte order; those that begin with one of the prefixes, or all where there
-    /// is none. With `symrefs` a HEAD that points at a ref has its target, and with `peel` the id of a tag the commit to
-    /// which it leads. With `unborn` comes the name of a ref that HEAD points at and that is not there, where HEAD is asked for.
+    /// Refs: HEAD first, then the names in byte order; those that begin with one of the prefixes, or all where there is
+    /// none. With `symrefs` a HEAD that points at a ref has its target, and with `peel` the id of a tag the commit to
+    /// which it leads. With `unborn` comes the name of a ref that HEAD points at and that is not there, where HEAD is
+    /// asked for.
     ///
     /// Objects: with `done`, or without haves, the pack of those that a want reaches and no common id does; the common
     /// ids are the distinct haves that are here, in the order in which each came first. Else, where each want reaches

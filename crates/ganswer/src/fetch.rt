@@ -38,6 +38,7 @@ impl<A: Allocator + Copy> Server<A> {
         ensures packing { MatchResult result
             (λ reply. packer.new.answered ≡ packing_of_reply (reply_in reply))
             (λ fault. packer.new.answered ≡ packing_of_fault fault) }
+        ensures packer { packer.new.packer ≡ packer.old.packer }
     {
         self.check_wants(asked.wants())?;
         let commons = self.commons(asked)?;
@@ -110,6 +111,7 @@ impl<A: Allocator + Copy> Server<A> {
         ensures packing { MatchResult result
             (λ _. packer.new.answered ≡ packing.Packed)
             (λ fault. packer.new.answered ≡ packing_of_fault fault) }
+        ensures packer { packer.new.packer ≡ packer.old.packer }
     {
         let list = self.objects(asked, commons)?;
         let bytes = packer.pack(self.graph().allocator(), list.as_slice())?;

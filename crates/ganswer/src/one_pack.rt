@@ -67,6 +67,7 @@ impl<'a, K> OnePack<'a, K> {
             (λ pack. MayPack (K.packs self.old.packer) entries.now pack.items)
             (λ fault. K.pack_fails self.old.packer entries.now fault) }
         ensures answered { self.new.answered ≡ packing_of result }
+        ensures packer { self.new.packer ≡ self.old.packer }
     {
         match self.packer.pack(alloc, entries) {
             Ok(pack) => {

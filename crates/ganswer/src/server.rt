@@ -43,10 +43,10 @@ impl<A: Allocator + Copy> Model for Server<A> {
 impl<A: Allocator + Copy> Server<A> {
     /// A server of these parts.
     ///
-    /// It fails with `NotClosed` where the parent of an object is not there, and reports the first in the order of
-    /// the objects and of their parents; else with `RefMissing` where the object of a ref is not there, and reports the
-    /// first by name; else with `HeadMissing` where HEAD stands at the id of no object; and with `Memory` where there is none
-    /// for that name, or for the name HEAD.
+    /// It fails with `NotClosed` where the parent of an object is not there, and reports the first in the order of the
+    /// objects and of their parents; else with `RefMissing` where the object of a ref is not there, and reports the
+    /// first by name; else with `HeadMissing` where HEAD stands at the id of no object; and with `Memory` where there
+    /// is none for that name, or for the name HEAD.
     pub fn new(graph: Graph<A>, refs: Refs<A>, head: Head<A>) -> Result<Server<A>, BuildFault<A>>
         ensures { Makes (served graph refs head) result }
     {
