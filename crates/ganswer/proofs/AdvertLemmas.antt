@@ -1,5 +1,5 @@
 -- The capabilities that are advertised have their form.
-use Rattle.std.proofs.Common.{◌≡◌, ℕ, List, [], ◌∷◌, All, true, None, refl, arith}
+use Rattle.std.proofs.Common.{◌≡◌, [], ◌∷◌, All, true, None, refl, arith}
 use Rattle.std.specs.Prelude.{codes}
 use Rattle.std.proofs.lemmas.List.Elements.{All-cons, All-nil}
 use Rattle.gname.specs.Formats.{format_name}
