@@ -75,7 +75,7 @@ module _ {A : Type 0} (server : Server A) (packs : Packs A) where
 
 -- whether the source was down before plays no part
 module _ {A : Type 0} (server : Server A) (packs : Packs A) (fails : PackFails A) (ends : Ends) (read : Change) (was before down : Bool) where
-  moved_empty : ReadsEmpty server.graph.format (record { read = read; was_down = was; is_down = down })
+  pub moved_empty : ReadsEmpty server.graph.format (record { read = read; was_down = was; is_down = down })
       → ReadsEmpty server.graph.format (record { read = read; was_down = before; is_down = down })
   moved_empty h = record { packets = h.packets; lines = h.lines; says = h.says; up = h.up }
 
@@ -83,7 +83,7 @@ module _ {A : Type 0} (server : Server A) (packs : Packs A) (fails : PackFails A
       → ReadsEnd (record { read = read; was_down = before; is_down = down })
   moved_end h = record { ended = h.ended; up = h.up }
 
-  moved_refused : (cause : ServeFault) → IsRefused server fails (record { read = read; was_down = was; is_down = down }) cause
+  pub moved_refused : (cause : ServeFault) → IsRefused server fails (record { read = read; was_down = was; is_down = down }) cause
       → IsRefused server fails (record { read = read; was_down = before; is_down = down }) cause
   moved_refused (serve.Request cause) h = record { front = h.front; refused = h.refused; source = h.source; begun = h.begun }
   moved_refused (serve.Reader cause) h =
