@@ -1,5 +1,5 @@
 -- The bytes of a client say what is written to it, where each request has one answer.
-use Rattle.std.proofs.Common.{◌≡◌, ◌≢◌, ℕ, zero, suc, ◌<◌, ◌≤◌, ◌+◌, ◌++◌, List, [], ◌∷◌, All, Contains, length, false, true, Option, Some, None, Result, Ok, Err, refl, sym, ap, subst, ◌∙◌, inl, inr, append_assoc, arith}
+use Rattle.std.proofs.Common.{◌≡◌, ◌≢◌, ℕ, zero, suc, ◌<◌, ◌≤◌, ◌+◌, ◌++◌, List, [], ◌∷◌, All, length, false, Option, Some, None, Result, Ok, Err, refl, sym, ap, subst, ◌∙◌, inl, inr, append_assoc, arith}
 use Rattle.std.proofs.lemmas.Bool.{false≢true}
 use Rattle.std.specs.Prelude.{IsSome}
 use Rattle.std.specs.List.{flat_map}
@@ -270,7 +270,7 @@ module _ {A : Type 0} (packs : Packs A) (fails : PackFails A) (server : Server A
         ap end.Refused (one_refusal bytes rest after cause reason (refusal_of server fails bytes rest cause own h)
         (refusal_of server fails bytes after reason other k))
     one_end n bytes end.WriteFailed last h k own other = absurd h
-    one_end n bytes ended end.WriteFailed h k own other = absurd k
+    one_end n bytes _ end.WriteFailed h k own other = absurd k
 
     at_most : (n : ℕ) (bytes : List ℕ) (ended : End) → Stops server fails n bytes ended → n ≤ max_requests
     at_most n bytes end.Closed (room, rest, h) = omega arith
@@ -403,4 +403,4 @@ module _ {A : Type 0} (packs : Packs A) (fails : PackFails A) (server : Server A
     talks_are_one split bytes one other ended last answers (inl h) (inl k) own next =
         one_talk answers split bytes one other ended last h k own next
     talks_are_one split bytes one other ended last answers (inr h) talk own next = absurd (begins bytes one ended h own)
-    talks_are_one split bytes one other ended last answers talk (inr k) own next = absurd (begins bytes other last k next)
+    talks_are_one split bytes one other _ last answers talk (inr k) own next = absurd (begins bytes other last k next)

@@ -19,13 +19,14 @@ ServingIsTalking A packs fails =
     → output.is_down ≡ false
     → (written : List ℕ) × Passes output written × Talks server packs fails ends bytes written ended
 
--- each request has at most one answer
+-- Each request has at most one answer. This is a premise below: a packer may have several packs for the same objects.
 abbrev pub HasOneAnswer : {A : Type 0} → Server A → Packs A → Type 0
 HasOneAnswer server packs =
     (asked : Asked) (one other : Reply) → Answers server packs asked one → Answers server packs asked other
     → one ≡ other
 
--- then the bytes of a client say what is written to it, and how that ends, but for the server's own faults
+-- Where that is so, the bytes of a client say what is written to it, and how that ends, but for the server's own
+-- faults.
 abbrev pub TalksAreOne : (A : Type 0) → Packs A → PackFails A → Type 0
 TalksAreOne A packs fails =
     (server : Server A) (ends : Ends) (bytes one other : List ℕ) (ended last : End) → HasOneAnswer server packs

@@ -19,8 +19,8 @@ use Rattle.gserve.specs.declared.exchange.ExchangeEnd.TheVariants as exchange
 use Rattle.gserve.specs.declared.connection.End.{End}
 use Rattle.gserve.specs.declared.connection.End.TheVariants as end
 
--- What a call did that was to write these packets and to pass them on. (`Passes` is `Sends` with one premise more: it is
--- known what was written before. So two of them, one after the other, are one.)
+-- What a call did that was to write these packets and to pass them on. (`Passes` is `Sends` with one premise more: it
+-- is known what was written before. So two of them, one after the other, are one.)
 abbrev pub PassesPackets : {E : Type 0} → Output → Result (Unit {0}) E → List Packet → Type 0
 PassesPackets output (Ok done) packets = Passes output (canonical_all packets)
 PassesPackets output (Err fault) packets = SendsSome output (canonical_all packets) × KeepsPassed output.passed_on

@@ -14,8 +14,10 @@ pub fn serving_is_talking<A: Allocator + Copy, K: Packer<A>>()
     ensures { (packer : K) → ServingIsTalking A (K.packs packer) (K.pack_fails packer) }
 {}
 
-/// Where each request has one answer, what a client sends says what is written to it, and how the conversation ends,
-/// unless memory or the packer fails.
+/// What a client sends says what is written to it, and how the conversation ends, unless memory or the packer fails.
+///
+/// It is assumed, and not proved, that each request has one answer (`HasOneAnswer`). A packer may have several packs
+/// for the same objects, and the bytes of a client do not say which of them is sent.
 pub fn talks_are_one<A: Allocator + Copy, K: Packer<A>>()
     ensures { (packer : K) → TalksAreOne A (K.packs packer) (K.pack_fails packer) }
 {

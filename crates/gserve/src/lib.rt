@@ -21,8 +21,8 @@
 //! - [`write_reply`] writes a reply in its one list of packets, or a beginning of it where the sink fails.
 //! - [`err_text`] writes the text of a fault, at most 128 bytes, and nothing behind it.
 //! - [`laws`]: where bytes are known and no device has failed, a connection is a conversation over the bytes alone
-//!   (`specs/Talks.antt`). Where each request has one answer, the bytes of a client say what is written to it and how
-//!   the conversation ends, unless memory or the packer fails.
+//!   (`specs/Talks.antt`). If each request has one answer, which is assumed there, the bytes of a client say what is
+//!   written to it and how the conversation ends, unless memory or the packer fails.
 //! - No call panics, overflows or reads out of bounds, and each returns where each call of its devices does.
 //!
 //! # Only tested

@@ -56,8 +56,14 @@ fn replies_are_cut(rt: HostRuntime) -> Result<(), Fail> {
     for calls in 0..whole.len() {
         let sink = Limited::new(VecSink::new(alloc)).with_most(1);
         let mut writer = LineWriter::new(sink.failing_after(calls));
-        assert_eq!(rt; write_reply(&answer, Ends::Response, &mut writer), Err(WriteFault::Io));
-        assert_eq!(rt; write_reply(&answer, Ends::Response, &mut writer), Err(WriteFault::Failed));
+        assert_eq!(rt;
+            write_reply(&answer, Ends::Response, &mut writer),
+            Err(WriteFault::Io)
+        );
+        assert_eq!(rt;
+            write_reply(&answer, Ends::Response, &mut writer),
+            Err(WriteFault::Failed)
+        );
         let sink = writer.into_inner().into_inner();
         assert_eq!(rt; sink.written(), &whole.as_slice()[..calls]);
     }
