@@ -27,12 +27,15 @@
 //!
 //! # Only tested
 //!
-//! That a walk does not go on from marked objects; that memory which is there is used; the texts of the faults.
+//! That [`Repo::missing`] does not go on from marked objects; that memory which is there is used; the texts of the
+//! faults.
 //!
 //! # What a body can still get away with
 //!
 //! Where several ids are missing it may answer any. It may report out of memory as often as it likes, but not of an
-//! object that is held. It may walk past marks, take as long as it likes, and more memory than it needs.
+//! object that is held. Setting a ref and settling may walk past marks. A call may take as long as it likes, and more
+//! memory than it needs. No clause says where memory comes from: [`Asks::allocator`] may answer any allocator of its
+//! kind, and [`Asks::ids`] may take its memory from that of the asks.
 //!
 //! # Time
 //!

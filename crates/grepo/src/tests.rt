@@ -1,6 +1,7 @@
 //! What no clause says, and examples from outside the proofs.
 mod faults;
 mod known;
+mod laws;
 mod local;
 mod makers;
 mod many;

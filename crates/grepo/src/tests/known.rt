@@ -1,40 +1,23 @@
 //! Marks of objects whose whole ancestry is known to be held.
-use super::makers::{A_ALONE, MAIN, asks_of, check_marks, check_refs, commits, id, name, repo_of};
+use super::makers::{
+    A_ALONE, MAIN, asks_of, check_marks, check_refs, commits, far_commit, far_id, id, name, repo_of,
+};
 use crate::{RefUpdate, Repo, RepoFault};
-use ggraph::{Count, Entry, Graph, Kind, Node, Parents, Refs, missing_counted, missing_known};
-use gname::Oid;
+use ggraph::{Count, Graph, Refs, missing_counted, missing_known};
 use std::process::Abort;
 
-const DIGITS: [u8; 16] = *b"0123456789abcdef";
+const LENGTH: usize = 1000;
 
-fn far_id(rt: &impl Abort, number: usize) -> Oid {
-    let mut text = [b'0'; 40];
-    text[37] = DIGITS[number / 256 % 16];
-    text[38] = DIGITS[number / 16 % 16];
-    text[39] = DIGITS[number % 16];
-    Oid::from_hex(&text).expect(rt, "an id")
-}
-
-fn far_commit(rt: &(impl Abort + AllocGlobal), number: usize) -> Entry {
-    let mut parents = Parents::new(rt.alloc());
-    if number > 0 {
-        parents.push(far_id(rt, number - 1)).expect(rt, "memory");
-    }
-    let kind = Kind::Commit;
-    Entry {
-        id: far_id(rt, number),
-        node: Node { kind, parents },
-    }
-}
-
-// A chain of so many commits, and a ref at its end.
-fn chain(rt: &(impl Abort + AllocGlobal), count: usize) -> Repo {
+// A chain of a thousand commits, and a ref at its end.
+fn chain(rt: &(impl Abort + AllocGlobal)) -> Repo {
     let mut graph = Graph::new(rt.alloc());
-    for number in 0..count {
-        graph.insert(far_commit(rt, number)).expect(rt, "a commit");
+    for number in 0..LENGTH {
+        graph
+            .insert(far_commit(rt, rt.alloc(), number))
+            .expect(rt, "a commit");
     }
     let mut refs = Refs::new(rt.alloc());
-    refs.set(name(rt, MAIN), far_id(rt, count.max(1) - 1))
+    refs.set(name(rt, MAIN), far_id(rt, LENGTH - 1))
         .expect(rt, "a ref");
     Repo::new(graph, refs).expect(rt, "a repository")
 }
@@ -42,13 +25,13 @@ fn chain(rt: &(impl Abort + AllocGlobal), count: usize) -> Repo {
 // A thousand commits that are marked, and one above them that is not.
 #[test]
 fn a_walk_stops_at_what_is_known(rt: HostRuntime) {
-    let mut repo = chain(&rt, 1000);
-    assert!(rt; repo.add_local(far_commit(&rt, 1000)).is_ok());
+    let mut repo = chain(&rt);
+    assert!(rt; repo.add_local(far_commit(&rt, rt.alloc(), LENGTH)).is_ok());
     for (number, mark) in [(0, true), (999, true), (1000, false)] {
         assert_eq!(rt; repo.known().marked(number), mark, "{number}");
     }
     let _format = repo.format();
-    let top = [far_id(&rt, 1000)];
+    let top = [far_id(&rt, LENGTH)];
     let short = Count { ids: 2, parents: 1 };
     assert_eq!(rt;
         missing_known(repo.graph(), &top, repo.known()),

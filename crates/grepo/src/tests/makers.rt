@@ -2,6 +2,7 @@
 use crate::{Ask, Asks, Repo};
 use ggraph::{Entry, Graph, Kind, Node, Parents, Refs};
 use gname::{Format, MAX_ID_TEXT, Oid, RefName};
+use std::alloc::Allocator;
 use std::process::Abort;
 
 // A commit: its id and its parents.
@@ -19,6 +20,34 @@ pub(super) fn id_in(rt: &impl Abort, format: Format, digit: u8) -> Oid {
 
 pub(super) fn id(rt: &impl Abort, digit: u8) -> Oid {
     id_in(rt, Format::Sha1, digit)
+}
+
+const DIGITS: [u8; 16] = *b"0123456789abcdef";
+
+// The id with a number.
+pub(super) fn far_id(rt: &impl Abort, number: usize) -> Oid {
+    let mut text = [b'0'; 40];
+    text[37] = DIGITS[number / 256 % 16];
+    text[38] = DIGITS[number / 16 % 16];
+    text[39] = DIGITS[number % 16];
+    Oid::from_hex(&text).expect(rt, "an id")
+}
+
+// The commit with a number, above the one before it.
+pub(super) fn far_commit<A: Allocator + Copy>(
+    rt: &impl Abort,
+    alloc: A,
+    number: usize,
+) -> Entry<A> {
+    let mut parents = Parents::new(alloc);
+    if number > 0 {
+        parents.push(far_id(rt, number - 1)).expect(rt, "memory");
+    }
+    let kind = Kind::Commit;
+    Entry {
+        id: far_id(rt, number),
+        node: Node { kind, parents },
+    }
 }
 
 pub(super) fn name(rt: &(impl Abort + AllocGlobal), text: &str) -> RefName {

@@ -1,7 +1,8 @@
 //! Memory that ends.
+use super::makers::{far_commit, far_id};
 use crate::{Ask, Asks, Repo};
 use bumpalo::Bump;
-use ggraph::{Entry, Graph, Kind, Node, Parents, Refs};
+use ggraph::{Entry, Graph, Kind, Node, Parents, Refs, missing_counted};
 use gname::{Oid, RefName};
 use std::alloc::{Allocator, Global};
 use std::process::Abort;
@@ -101,5 +102,42 @@ fn asks_stay_where_there_is_no_memory(rt: HostRuntime) -> Result<(), Fail> {
     fill(rt.alloc(), &arena, 0)?;
     assert!(rt; asks.add(first).is_err());
     assert!(rt; asks.is_empty());
+    Ok(())
+}
+
+const LENGTH: usize = 300;
+
+// A chain of commits, each before its parent, a ref at its end, and one commit more above it.
+fn long_repo<A: Allocator + Copy>(rt: &impl Abort, alloc: A) -> Option<Repo<A>> {
+    let mut graph = Graph::new(alloc);
+    for number in 0..LENGTH {
+        graph
+            .insert(far_commit(rt, alloc, LENGTH - 1 - number))
+            .expect(rt, "a commit");
+    }
+    let mut refs = Refs::new(alloc);
+    refs.set(name(rt, alloc, "refs/x"), far_id(rt, LENGTH - 1))
+        .expect(rt, "a ref");
+    let mut repo = Repo::new(graph, refs).ok()?;
+    repo.add_local(far_commit(rt, alloc, LENGTH)).ok()?;
+    Some(repo)
+}
+
+// Whether there is memory for a walk from the last commit, which stops at what is known or does not.
+fn walks(rt: &(impl Abort + AllocGlobal), stops: bool) -> Result<bool, Fail> {
+    let arena = Bump::try_with_capacity(rt.alloc(), 500_000)?;
+    let repo = long_repo(rt, &arena).expect(rt, "a repository");
+    let last = [far_id(rt, LENGTH)];
+    fill(rt.alloc(), &arena, 1000)?;
+    if stops {
+        return Ok(repo.missing(&last).is_ok());
+    }
+    Ok(missing_counted(repo.graph(), &last).is_ok())
+}
+
+#[test]
+fn a_walk_that_stops_at_what_is_known_takes_little_memory(rt: HostRuntime) -> Result<(), Fail> {
+    assert!(rt; walks(&rt, true)?);
+    assert!(rt; !walks(&rt, false)?);
     Ok(())
 }

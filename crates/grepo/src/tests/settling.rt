@@ -26,7 +26,8 @@ fn settle(
     repo: &mut Repo,
     asked: &[Asked],
 ) -> Result<Vec<RefUpdate>, u32> {
-    match repo.settle(&asks_of(rt, asked)) {
+    let asks = asks_of(rt, asked);
+    match repo.settle(&asks) {
         Ok(updates) => Ok(updates),
         Err(fault) => Err(fault.code()),
     }
@@ -122,7 +123,7 @@ fn an_ask_is_for_one_ref(rt: HostRuntime) {
     }
     assert!(rt; asks.at(2).is_none());
     assert!(rt; !asks.is_asked(&name(&rt, NEW)));
-    let ids = asks.ids(rt.alloc()).expect(&rt, "memory");
+    let ids = asks.ids(asks.allocator()).expect(&rt, "memory");
     assert_eq!(rt; ids.as_slice(), [id(&rt, b'a'), id(&rt, b'c')].as_slice());
 }
 

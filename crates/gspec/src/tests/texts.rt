@@ -1,6 +1,6 @@
 //! Which texts are refspecs, and what they say.
 use super::makers::spec;
-use crate::{Spec, SpecFault};
+use crate::{Spec, SpecFault, laws};
 
 // Refspecs: whether each is forced, whether its source is HEAD, and what its source's names begin with.
 const SPECS: [(&[u8], bool, bool, &[u8]); 9] = [
@@ -105,4 +105,9 @@ fn other_texts_are_refused(rt: HostRuntime) {
             "at {text:?}"
         );
     }
+}
+
+#[test]
+fn laws_can_be_called() {
+    laws::one_reading();
 }
