@@ -56,9 +56,11 @@ module _ {A : Type 0} where
       absurd (false≢true (sym goes_on ∙ ap (λ (r : FetchAsked). r.done) is))
   new_id s asked (b ∷ rest) is fresh goes_on =
       let among : Contains (s.commons ++ b ∷ rest) b =
-      Contains-append_right s.commons (b ∷ rest) b (Contains-append_left (b ∷ []) rest b (Contains-push [] b)) in
-      (b, subst (λ (r : FetchAsked). Contains r.haves b) (sym is) among,
-      All-head (λ a. ¬ (Contains s.sent a)) b rest fresh)
+      Contains-append_right s.commons (b ∷ rest) b (Contains-append_left (b ∷ []) rest b (Contains-push [] b)) in (
+        b,
+        subst (λ (r : FetchAsked). Contains r.haves b) (sym is) among,
+        All-head (λ a. ¬ (Contains s.sent a)) b rest fresh,
+      )
 
   pub offers_are_new : OffersAreExact A → OffersAreNew A
   offers_are_new exact g old new asked made goes_on =

@@ -35,11 +35,11 @@ impl<'k, K: Indexer<A>, A: Allocator + Copy> PackFeed<'k, K, A> {
         ensures { MatchResult result
             (λ entries. ((bytes : List ℕ)
             → MayHaveFed (K.fed self.entry.indexer.now) (K.index_fails self.entry.indexer.now)
-                self.entry.feed bytes
+            self.entry.feed bytes
             → K.indexes self.entry.indexer.now bytes entries.items))
             (λ fault. ((bytes : List ℕ)
             → MayHaveFed (K.fed self.entry.indexer.now) (K.index_fails self.entry.indexer.now)
-                self.entry.feed bytes
+            self.entry.feed bytes
             → K.index_fails self.entry.indexer.now bytes fault)) }
     {
         let PackFeed {
@@ -58,12 +58,12 @@ impl<'k, K: Indexer<A>, A: Allocator + Copy> PackFeed<'k, K, A> {
         ensures indexer { self.new.indexer.now ≡ self.old.indexer.now }
         ensures fed { MatchResult result
             (λ _. ((before : List ℕ) → MayHaveFed (K.fed self.old.indexer.now) (K.index_fails self.old.indexer.now)
-                self.old.feed before
+            self.old.feed before
             → MayHaveFed (K.fed self.old.indexer.now) (K.index_fails self.old.indexer.now)
-                self.new.feed (before ++ bytes.now)))
+            self.new.feed (before ++ bytes.now)))
             (λ fault. ((before more : List ℕ)
             → MayHaveFed (K.fed self.old.indexer.now) (K.index_fails self.old.indexer.now)
-                self.old.feed before
+            self.old.feed before
             → K.index_fails self.old.indexer.now ((before ++ bytes.now) ++ more) fault)) }
     {
         match &mut self.feed {

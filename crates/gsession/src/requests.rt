@@ -113,7 +113,8 @@ fn add_wants<A: Allocator + Copy>(
     requires ids { All (IsIdOf request.old.format) wants.now }
     requires room { length request.old.asked.wants + length wants.now ≤ max_wants }
     ensures { OnOk result (request.new ≡ record request.old {
-        asked = record request.old.asked { wants = request.old.asked.wants ++ wants.now } }) }
+      asked = record request.old.asked { wants = request.old.asked.wants ++ wants.now };
+    }) }
 {
     for id in wants {
         match request.push_want(*id) {
@@ -131,7 +132,8 @@ fn add_haves<A: Allocator + Copy>(
     requires ids { All (IsIdOf request.old.format) haves.now }
     requires room { length request.old.asked.haves + length haves.now ≤ max_haves }
     ensures { OnOk result (request.new ≡ record request.old {
-        asked = record request.old.asked { haves = request.old.asked.haves ++ haves.now } }) }
+      asked = record request.old.asked { haves = request.old.asked.haves ++ haves.now };
+    }) }
 {
     for id in haves {
         match request.push_have(*id) {

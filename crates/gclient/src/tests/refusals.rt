@@ -297,7 +297,9 @@ fn a_fault_has_the_words_of_the_peer(rt: HostRuntime) -> Result<(), Fail> {
 fn id_of(fault: &FetchFault) -> Option<Oid> {
     match fault {
         FetchFault::Client(ClientFault::StrangeAck { id }) => Some(*id),
-        FetchFault::Client(ClientFault::Repo(RepoFault::NotConnected { missing })) => Some(*missing),
+        FetchFault::Client(ClientFault::Repo(RepoFault::NotConnected { missing })) => Some(
+            *missing,
+        ),
         FetchFault::Client(ClientFault::Repo(RepoFault::Graph(GraphFault::Conflict { id }))) => {
             Some(*id)
         }
@@ -335,7 +337,11 @@ fn a_fault_has_its_id(rt: HostRuntime) -> Result<(), Fail> {
 fn packs_have_a_limit(rt: HostRuntime) -> Result<(), Fail> {
     let alloc = rt.alloc();
     let input = joined(alloc, &[ADVERT, REFS, PACK])?;
-    for (bytes, fault) in [(179usize, None), (178, Some((48, Some(5)))), (0, Some((48, Some(5))))] {
+    for (bytes, fault) in [
+        (179usize, None),
+        (178, Some((48, Some(5)))),
+        (0, Some((48, Some(5)))),
+    ] {
         let limit = PackLimit::new(bytes).expect(&rt, "a limit");
         let held = hold_within(alloc, CLIENT, MAIN, limit, Ends::Plain, input.as_slice())?;
         assert_eq!(rt; held.fetched.as_ref().err().map(fault_of), fault);
@@ -357,10 +363,7 @@ fn replies_need_their_end(rt: HostRuntime) -> Result<(), Fail> {
     for (read, fault) in UNENDED {
         let input = joined(alloc, read)?;
         let held = hold(alloc, CLIENT, MAIN, Ends::Response, input.as_slice())?;
-        assert_eq!(rt;
-            held.fetched.as_ref().err().map(fault_of),
-            Some(*fault)
-        );
+        assert_eq!(rt; held.fetched.as_ref().err().map(fault_of), Some(*fault));
         assert_eq!(rt; held.repo.as_slice(), spelled(alloc, CLIENT)?.as_slice());
     }
     Ok(())
@@ -462,11 +465,7 @@ fn check_changed(
     let mut changed = Vec::from_slice(alloc, input)?;
     changed[place] ^= change;
     let held = hold(alloc, CLIENT, MAIN, Ends::Plain, changed.as_slice())?;
-    let ends = if held.fetched.is_ok() {
-        MOVED
-    } else {
-        KEPT
-    };
+    let ends = if held.fetched.is_ok() { MOVED } else { KEPT };
     let ends = spelled(alloc, ends)?;
     assert!(rt; held.repo.as_slice().ends_with(ends.as_slice()), "{place}");
     Ok(())

@@ -114,7 +114,11 @@ impl<A: Allocator + Copy> Session<A> {
         requires ids { All (IsIdOf self.old.format) wants.items }
         requires few { length wants.items ≤ max_wants }
         ensures { self.new ≡ record self.old {
-            stage = stage_for wants.items; pending = None; asks = asks; wants = wants.items } }
+          stage = stage_for wants.items;
+          pending = None;
+          asks = asks;
+          wants = wants.items;
+        } }
     {
         self.stage = stage_for(wants.as_slice());
         self.pending = None;
