@@ -30,16 +30,17 @@ use gsession::{Session, Settled, Taken};
 use gspec::Spec;
 use std::alloc::Allocator;
 
-/// Fetches by refspecs from a server (gitprotocol-v2(5)): reads its advertisement, asks for its refs, asks for the objects
-/// that are wanted as often as the server only acknowledges, ends the conversation with a lone flush, and then moves the
-/// refs here. What is written is passed on after each request, and nothing after the last reply is read. A pack may have
-/// so many bytes as the limit says, and each reply ends as `ends` says.
+/// Fetches by refspecs from a server (gitprotocol-v2(5)): reads its advertisement, asks for its refs, asks for the
+/// objects that are wanted as often as the server only acknowledges, ends the conversation with a lone flush, and
+/// then moves the refs here. What is written is passed on after each request, and nothing after the last reply is
+/// read. A pack may have so many bytes as the limit says, and each reply ends as `ends` says.
 ///
-/// It fails with 82 over 16 refspecs, and with 64 or 28 where there is no memory to begin, and nothing is read then. Else
-/// the first fault ends it: 20 to 25, 29, 30 and 40 to 54 where the advertisement or a reply is refused, 43 or 52 where the
-/// client can't go on with the server; 84, 66, 60 to 63 and 75 where a reply is not taken, 47 or 86 where its refs are not;
-/// 27 where the sink fails, and a beginning of the requests stands then; 85 or 69 where the refs can't move; 64 where there
-/// is no memory. After every fault the refs are as before, and to the graph objects only came.
+/// It fails with 82 over 16 refspecs, and with 64 or 28 where there is no memory to begin, and nothing is read then.
+/// Else the first fault ends it: 20 to 25, 29, 30 and 41 to 54 where the advertisement or a reply is refused, 43 or
+/// 52 where the client can't go on with the server; 84, 66, 60 to 63 and 75 where a reply is not taken, 47 or 86
+/// where its refs are not; 27 where the sink fails, and a beginning of the requests stands then; 85 or 69 where the
+/// refs can't move; 64 where there is no memory. After every fault the refs are as before, and to the graph objects
+/// only came.
 pub fn fetch_over<S: Source, W: Sink, A: Allocator + Copy, K: Indexer<A>>(
     repo: &mut Repo<A>,
     source: &mut S,
@@ -49,7 +50,8 @@ pub fn fetch_over<S: Source, W: Sink, A: Allocator + Copy, K: Indexer<A>>(
     limit: PackLimit,
     ends: Ends,
 ) -> Result<Fetched<A>, FetchFault<A>>
-    ensures fetches { FetchesOver (K.indexes indexer.now) (K.index_fails indexer.now) (start_of repo.old specs.now limit ends)
+    ensures fetches { FetchesOver (K.indexes indexer.now) (K.index_fails indexer.now)
+        (start_of repo.old specs.now limit ends)
         (input_of S.remaining S.is_down source.old source.new)
         (output_of W.contents W.passed_on W.is_down sink.old sink.new) repo.new result }
     ensures settled { IfOk result (λ fetched. Settles repo.new.graph.entries repo.old.refs fetched.settled.asks
@@ -80,7 +82,8 @@ fn fetch_to<S: Source, W: Sink, A: Allocator + Copy, K: Indexer<A>>(
     ends: Ends,
 ) -> Result<Fetched<A>, FetchFault<A>>
     requires { writer.old.failed ≡ false }
-    ensures fetches { FetchesOver (K.indexes indexer.now) (K.index_fails indexer.now) (start_of repo.old specs.now limit ends)
+    ensures fetches { FetchesOver (K.indexes indexer.now) (K.index_fails indexer.now)
+        (start_of repo.old specs.now limit ends)
         (input_of S.remaining S.is_down source.old source.new)
         (output_of W.contents W.passed_on W.is_down writer.old.sink writer.new.sink) repo.new result }
     ensures bound { IfOk result (λ fetched. (held parents : ℕ)
@@ -186,7 +189,8 @@ fn fetch_all<S: Source, W: Sink, A: Allocator + Copy, K: Indexer<A>>(
         (output_of W.contents W.passed_on W.is_down sink writer.old.sink) (client_of session.old repo.old unborn)
         → TalksTo (K.indexes indexer.now) (K.index_fails indexer.now) start
         (input_of S.remaining S.is_down source reader.new.source)
-        (output_of W.contents W.passed_on W.is_down sink writer.new.sink) (client_of session.new repo.new unborn) result }
+        (output_of W.contents W.passed_on W.is_down sink writer.new.sink)
+        (client_of session.new repo.new unborn) result }
     ensures over { OnOk result (session.new.stage ≡ Settling) }
     ensures began { OnOk result (BeganOn repo.old.graph.entries session.new) }
     ensures goes_on { OnOk result (writer.new.failed ≡ false) }

@@ -14,8 +14,8 @@ use thiserror::Error;
 /// Why a conversation failed. Its number tells it apart.
 #[derive(Debug, Drop, Error)]
 pub enum FetchFault<A: Allocator + Copy = Global> {
-    /// 20 to 25, 29, 30 and 40 to 54: the advertisement or a reply was refused, at one of its packets; 60 to 64, 66, 69, 75,
-    /// 82, 84, 85 and 86: the session or the repository refused what came, or there is no memory (64).
+    /// 20 to 25, 29, 30 and 41 to 54: the advertisement or a reply was refused, at one of its packets; 60 to 64, 66,
+    /// 69, 75, 82, 84, 85 and 86: the session or the repository refused what came, or there is no memory (64).
     #[error("{0}")]
     Client(ClientFault<A>),
     /// 28: there is no memory for the buffer of the reader, and nothing was read.

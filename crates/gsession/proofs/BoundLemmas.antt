@@ -11,7 +11,7 @@ use Rattle.gsession.specs.Bounds.{BeganOn, BeganStays, RoundsAreFew}
 use Rattle.gsession.specs.Requesting.{IsNext, batch_of, batch_size, waiting_for}
 use Rattle.gsession.specs.Sessions.{SessionState}
 
-in_batch : (P : List ℕ → Type 0) (commons offer : List (List ℕ)) → All P offer → All P (batch_of commons offer)
+pub in_batch : (P : List ℕ → Type 0) (commons offer : List (List ℕ)) → All P offer → All P (batch_of commons offer)
 in_batch P commons offer all =
     elim (nat_le (length commons + length offer) max_haves) as (λ b. All P (if b then offer else [])) [ true ↦ all | false ↦ All-nil P ]
 

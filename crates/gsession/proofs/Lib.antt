@@ -9,3 +9,4 @@ pub mod BatchLemmas
 pub mod ReplyLemmas
 pub mod LsLemmas
 pub mod TakingLaws
+pub mod NextLaws

@@ -63,7 +63,7 @@ pack_pack (Ready also pack) same = tt
 pack_pack (Pack pack) same = tt
 
 -- a direct reply has no acknowledgments alone
-no_acks : (direct : Bool) (pack : List ℕ) (other : FetchReply) (ids : List (List ℕ)) → head.Acks ids ≡ head_of (if direct then Pack pack else other) → direct ≡ false
+pub no_acks : (direct : Bool) (pack : List ℕ) (other : FetchReply) (ids : List (List ℕ)) → head.Acks ids ≡ head_of (if direct then Pack pack else other) → direct ≡ false
 no_acks true pack other ids same = cc
 no_acks false pack other ids same = refl
 

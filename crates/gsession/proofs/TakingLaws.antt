@@ -13,7 +13,7 @@ use Rattle.gsession.specs.declared.taken.Taken.{Taken}
 use Rattle.gsession.specs.declared.taken.Taken.TheVariants.{Round, PackTaken}
 
 -- one request waits
-one_asked : {A : Type 0} (s : SessionState A) (one other : FetchAsked) → Awaits s one → Awaits s other → other ≡ one
+pub one_asked : {A : Type 0} (s : SessionState A) (one other : FetchAsked) → Awaits s one → Awaits s other → other ≡ one
 one_asked s one other waits also =
     let same : Some (Fetches other) ≡ Some (Fetches one) = sym also ∙ waits in
     cc

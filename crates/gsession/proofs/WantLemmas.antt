@@ -9,8 +9,9 @@ use Rattle.gname.specs.Ids.{IsIdOf}
 use Rattle.gname.specs.declared.formats.Format.{Format}
 use Rattle.gobject.specs.declared.node.Entry.{Entry}
 use Rattle.gobject.specs.Objects.{IdsDiffer, entry_of, place_of}
+use Rattle.ghistory.specs.Graphs.{Holds}
 use Rattle.ghistory.specs.Laws.{DistinctAreOnce, PlacesAreNodes}
-use Rattle.ghistory.specs.Reach.{IsFull, Reaches}
+use Rattle.ghistory.specs.Reach.{IsFull, Reaches, here}
 use Rattle.ghistory.specs.Walks.{Misses}
 use Rattle.gwalk.specs.Marks.{AreFull}
 use Rattle.grepo.specs.declared.ask.Ask.{Ask}
@@ -46,6 +47,11 @@ module _ {A : Type 0} where
       let from = lost.0 in
       let path : Reaches g a b = subst (λ c. Reaches g c b) (sym (only_one a from.0 from.1)) from.2 in
       (λ none. absurd (true≢false (sym none)), λ full. absurd (true≢false (sym (full b path) ∙ ap is_some lost.1)))
+
+  -- an id that is not held
+  pub unheld_not_full : (g : List (Entry A)) (a : List ℕ) (held : Bool) → IsTrue held ↔ Holds g a → held ≡ false → IsTrue false ↔ IsFull g a
+  unheld_not_full g a held is out =
+      (λ none. absurd (true≢false (sym none)), λ full. absurd (true≢false (sym (is.1 (full a here)) ∙ out)))
 
   -- the wants have the format of the asks
   pub want_ids : DistinctAreOnce → (g : List (Entry A)) (asks : List (Ask A)) (wants : List (List ℕ)) → AreWants g asks wants

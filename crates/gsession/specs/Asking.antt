@@ -21,6 +21,7 @@ use Rattle.grepo.specs.Asks.{asked_ids, with_ask}
 abbrev pub ask_of : {A : Type 0} → Refspec → RefLine → Ask A
 ask_of spec line = record { name = destination_of spec line.name; id = line.id; forced = spec.forced }
 
+-- whether a refspec matches the name of a line
 abbrev pub line_matches : Refspec → RefLine → Bool
 line_matches spec line = matches spec line.name
 

@@ -1,4 +1,5 @@
--- A session: a client's conversation with one server, from the request for refs to the refs here that move.
+-- A session: a client's conversation with one server, from the request for refs to the refs here that move. The order
+-- of requests is that of gitprotocol-v2(5), "Command Request"; what a session keeps is our own.
 use Rattle.std.specs.Prelude.{◌≡◌, ℕ, ◌+◌, ◌≤◌, ◌<◌, Bool, true, false, List, [], ◌++◌, length, All, Contains, codes}
 use Rattle.std.specs.Prelude.{if◌then◌else◌, Option, Some, None, Result, Ok, Err}
 use Rattle.std.specs.List.{IsDistinct}
@@ -71,6 +72,8 @@ pub record AreCommons (format : Format) (commons : List (List ℕ)) : Type 0 whe
   pub few : length commons ≤ max_haves
   pub once : IsDistinct bytes_eq commons
 
+-- what each session keeps: its lists have ids of its format and are not too long, it offers no id twice, it asked for
+-- objects at most once more than it offered ids, and the request that waits goes with its stage
 pub record IsSession {A : Type 0} (s : SessionState A) : Type 0 where
   pub few_specs : length s.refspecs ≤ max_specs
   pub tips : All (IsIdOf s.format) s.tips
@@ -112,6 +115,7 @@ no_memory = Repo (repo.Graph graph.Memory)
 
 -- ---- beginning
 
+-- a session as it begins
 abbrev pub new_session : {A : Type 0} → Format → List Refspec → ℕ → Ends → List (List ℕ) → SessionState A
 new_session format refspecs limit ends tips = record {
   format = format;

@@ -1,4 +1,4 @@
--- Settling at the end of a session.
+-- Settling at the end of a session. When it is time for it is our own rule.
 use Rattle.std.specs.Prelude.{◌≡◌, ◌≢◌, List, [], Result, Ok, Err}
 use Rattle.grepo.specs.declared.ask.Ask.{Ask}
 use Rattle.grepo.specs.declared.ask.RefUpdate.{RefUpdate}

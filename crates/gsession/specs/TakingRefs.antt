@@ -1,4 +1,4 @@
--- Taking the reply to ls-refs.
+-- Taking the reply to ls-refs (gitprotocol-v2(5), "ls-refs").
 use Rattle.std.specs.Prelude.{◌≡◌, ◌⊎◌, ℕ, ◌<◌, ◌≤◌, List, [], ◌∷◌, length, Option, Some, None, Result, Ok, Err}
 use Rattle.gpkt.specs.Change.{Change}
 use Rattle.gpkt.specs.Packets.{Packet}

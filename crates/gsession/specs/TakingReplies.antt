@@ -1,6 +1,6 @@
--- Taking the reply to fetch. A pack is indexed as it comes, and its objects come to the graph once the reply was read
--- to its end.
-use Rattle.std.specs.Prelude.{◌≡◌, false, ℕ, List, [], ◌∷◌, ◌++◌, length, All, Contains, Some, None, Result, Ok}
+-- Taking the reply to fetch (gitprotocol-v2(5), "fetch"). A pack is indexed as it comes, and its objects come to the
+-- graph once the reply was read to its end.
+use Rattle.std.specs.Prelude.{◌≡◌, true, false, ℕ, List, [], ◌∷◌, ◌++◌, length, All, Contains, Some, None, Result, Ok}
 use Rattle.std.specs.Prelude.{Err}
 use Rattle.gpkt.specs.Change.{Change}
 use Rattle.gpkt.specs.Packets.{Packet}
@@ -41,7 +41,8 @@ HasPack (Acks ids) = ⊥
 HasPack (Ready ids pack) = Unit {0}
 HasPack (Pack pack) = Unit {0}
 
--- the id is the first of those acknowledged that the request did not name
+-- the id is the first of those acknowledged that the request did not name; the manual has a server acknowledge only ids
+-- that were sent as haves (gitprotocol-v2(5), "fetch": `ACK`)
 pub record IsFirstStrange (haves acks : List (List ℕ)) (id : List ℕ) : Type 0 where
   pub front : List (List ℕ)
   pub rest : List (List ℕ)
@@ -179,3 +180,9 @@ module _ {A : Type 0} (indexes : Indexes A) (index_fails : IndexFails) where
       (old one other : SessionState A) (s repo_one repo_other : RepoState A) (bytes left also : List ℕ)
       (result : Result Taken (ClientFault A)) → TakesReply old s (known bytes left) one repo_one result
       → TakesReply old s (known bytes also) other repo_other result → one ≡ other
+
+  -- once the reply to a request with `done` is taken, no more objects are asked for
+  abbrev pub DoneIsLast : Type 0
+  DoneIsLast =
+      (old new : SessionState A) (s repo_new : RepoState A) (change : Change) (asked : FetchAsked) (taken : Taken)
+      → Awaits old asked → asked.done ≡ true → TakesReply old s change new repo_new (Ok taken) → new.stage ≡ Settling

@@ -18,7 +18,8 @@ pub(crate) fn first_strange<A: Allocator + Copy>(
     haves: &[Oid],
     acks: &[Oid],
 ) -> Result<Option<Oid>, AllocError>
-    ensures { IfOk result (λ found. MatchOption found (All (Contains haves.now) acks.now) (IsFirstStrange haves.now acks.now)) }
+    ensures { IfOk result (λ found. MatchOption found (All (Contains haves.now) acks.now)
+        (IsFirstStrange haves.now acks.now)) }
 {
     let offered = set_of(alloc, haves)?;
     for id in acks {

@@ -6,6 +6,7 @@ ghost use Rattle.gname.specs.Ids.{IsIdOf};
 ghost use Rattle.gname.specs.declared.formats.Format.{Format};
 ghost use Rattle.glsreply.specs.WellFormed.{IsRefLine};
 ghost use Rattle.ghistory.specs.Reach.{IsFull};
+ghost use Rattle.ghistory.specs.Walks.{Misses};
 ghost use Rattle.ghistory.specs.declared.fault.GraphFault.TheVariants.{Memory};
 ghost use Rattle.gsession.specs.Asking.{AddsAsks, AreWants, FindsAsks, asks_by, takes_head, unborn_told};
 
@@ -24,7 +25,8 @@ pub(crate) fn asks_of<A: Allocator + Copy>(
     reply: &LsReply<A>,
 ) -> Result<Asks<A>, NameFault>
     ensures asks { FindsAsks specs.now reply.now.lines result }
-    ensures ids { IfOk result (λ asks. (format : Format) → All (IsRefLine format) reply.now.lines → All (λ ask. IsIdOf format ask.id) asks) }
+    ensures ids { IfOk result (λ asks. (format : Format) → All (IsRefLine format) reply.now.lines
+        → All (λ ask. IsIdOf format ask.id) asks) }
 {
     let mut asks = Asks::new(alloc);
     for spec in specs {
@@ -75,7 +77,8 @@ pub(crate) fn wants_of<A: Allocator + Copy>(
     asks: &Asks<A>,
 ) -> Result<Vec<Oid, A>, GraphFault>
     ensures wants { IfOk result (λ wants. AreWants repo.now.graph.entries asks.now wants.items) }
-    ensures ids { IfOk result (λ wants. (format : Format) → All (λ ask. IsIdOf format ask.id) asks.now → All (IsIdOf format) wants.items) }
+    ensures ids { IfOk result (λ wants. (format : Format) → All (λ ask. IsIdOf format ask.id) asks.now
+        → All (IsIdOf format) wants.items) }
     ensures fault { IfErr result (λ fault. fault ≡ Memory) }
 {
     distinct_are_once();
@@ -91,15 +94,32 @@ pub(crate) fn wants_of<A: Allocator + Copy>(
     Ok(wants)
 }
 
-// Whether the whole ancestry of an id is held. What the refs here reach is marked, and needs no walk.
+// Whether the whole ancestry of an id is held. An id that is not held, and one that the refs here reach, need no walk.
 fn is_full<A: Allocator + Copy>(repo: &Repo<A>, id: &Oid) -> Result<bool, GraphFault>
     ensures full { IfOk result (λ full. IsTrue full ↔ IsFull repo.now.graph.entries id.now) }
     ensures fault { IfErr result (λ fault. fault ≡ Memory) }
 {
+    if !repo.graph().contains(id) {
+        return Ok(false);
+    }
     if is_known(repo, id) {
         return Ok(true);
     }
-    Ok(missing(repo.graph(), &[*id])?.is_none())
+    Ok(missing_of(repo, id)?.is_none())
+}
+
+// What is missing of the ancestry of an id. Where parents came first it is only looked up; else the walk does not go on
+// from marked objects.
+fn missing_of<A: Allocator + Copy>(repo: &Repo<A>, id: &Oid) -> Result<Option<Oid>, GraphFault>
+    ensures answer { IfOk result (Misses repo.now.graph.entries (id.now ∷ [])) }
+    ensures fault { IfErr result (λ fault. fault ≡ Memory) }
+{
+    let ids = [*id];
+    if repo.graph().is_ordered() {
+        missing(repo.graph(), &ids)
+    } else {
+        repo.missing(&ids)
+    }
 }
 
 // Whether the id is marked as one whose whole ancestry is held.

@@ -17,7 +17,7 @@ use thiserror::Error;
 /// Why a call of a session was refused. Its number tells it apart.
 #[derive(Debug, Drop, Error)]
 pub enum ClientFault<A: Allocator + Copy = Global> {
-    /// 20 to 54: the reply was refused, at one of its packets.
+    /// 20 to 25, 29, 30 and 41 to 54: the reply was refused, at one of its packets.
     #[error("{0}")]
     Message(MessageFault),
     /// 66: the indexer refused the pack.

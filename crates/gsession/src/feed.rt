@@ -33,9 +33,13 @@ impl<'k, K: Indexer<A>, A: Allocator + Copy> PackFeed<'k, K, A> {
     /// The entries of the pack that was fed, or the indexer's first fault.
     pub(crate) fn finish(self) -> Result<Vec<Entry<A>, A>, IndexFault>
         ensures { MatchResult result
-            (λ entries. ((bytes : List ℕ) → MayHaveFed (K.fed self.entry.indexer.now) (K.index_fails self.entry.indexer.now) self.entry.feed bytes
+            (λ entries. ((bytes : List ℕ)
+            → MayHaveFed (K.fed self.entry.indexer.now) (K.index_fails self.entry.indexer.now)
+            self.entry.feed bytes
             → K.indexes self.entry.indexer.now bytes entries.items))
-            (λ fault. ((bytes : List ℕ) → MayHaveFed (K.fed self.entry.indexer.now) (K.index_fails self.entry.indexer.now) self.entry.feed bytes
+            (λ fault. ((bytes : List ℕ)
+            → MayHaveFed (K.fed self.entry.indexer.now) (K.index_fails self.entry.indexer.now)
+            self.entry.feed bytes
             → K.index_fails self.entry.indexer.now bytes fault)) }
     {
         let PackFeed {
@@ -53,9 +57,13 @@ impl<'k, K: Indexer<A>, A: Allocator + Copy> PackFeed<'k, K, A> {
     fn add(&mut self, bytes: &[u8]) -> Result<(), IndexFault>
         ensures indexer { self.new.indexer.now ≡ self.old.indexer.now }
         ensures fed { MatchResult result
-            (λ _. ((before : List ℕ) → MayHaveFed (K.fed self.old.indexer.now) (K.index_fails self.old.indexer.now) self.old.feed before
-            → MayHaveFed (K.fed self.old.indexer.now) (K.index_fails self.old.indexer.now) self.new.feed (before ++ bytes.now)))
-            (λ fault. ((before more : List ℕ) → MayHaveFed (K.fed self.old.indexer.now) (K.index_fails self.old.indexer.now) self.old.feed before
+            (λ _. ((before : List ℕ) → MayHaveFed (K.fed self.old.indexer.now) (K.index_fails self.old.indexer.now)
+            self.old.feed before
+            → MayHaveFed (K.fed self.old.indexer.now) (K.index_fails self.old.indexer.now)
+            self.new.feed (before ++ bytes.now)))
+            (λ fault. ((before more : List ℕ)
+            → MayHaveFed (K.fed self.old.indexer.now) (K.index_fails self.old.indexer.now)
+            self.old.feed before
             → K.index_fails self.old.indexer.now ((before ++ bytes.now) ++ more) fault)) }
     {
         match &mut self.feed {
@@ -66,7 +74,8 @@ impl<'k, K: Indexer<A>, A: Allocator + Copy> PackFeed<'k, K, A> {
 }
 
 impl<K: Indexer<A>, A: Allocator + Copy> PackSink for PackFeed<'_, K, A> {
-    ghost taken = { λ feed bytes. MayHaveFed (K.fed feed.indexer.now) (K.index_fails feed.indexer.now) feed.feed bytes };
+    ghost taken = { λ feed bytes.
+        MayHaveFed (K.fed feed.indexer.now) (K.index_fails feed.indexer.now) feed.feed bytes };
 
     ghost same = { λ one other. one.indexer.now ≡ other.indexer.now };
 

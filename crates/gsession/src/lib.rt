@@ -21,26 +21,33 @@
 //!   session, and leaves objects and refs as they were; every later call is then refused.
 //! - A reader of replies goes on after a reply that was read to its end, and is as reading left it where one was
 //!   refused.
-//! - Where the bytes to come are known, they and the answer decide the session after a reply to fetch; and a session asks
-//!   for objects at most once more than there are ids that its tips reach ([`laws`]).
+//! - Where the bytes to come are known, they and the answer decide the session after a reply to fetch. Each request
+//!   without `done` names an id that none before it offered, and none follows one with `done`; so a session asks for
+//!   objects at most once more than there are ids that its tips reach ([`laws`]).
 //! - Each fault has the number and the name of its row. No call panics, overflows or reads out of bounds, and each
 //!   returns where the reader's calls return.
 //!
 //! # Only tested
 //!
-//! Whole conversations with the bytes of a peer; that a pack may come in any pieces; that memory which is there is used;
-//! the texts of the faults.
+//! Whole conversations with the bytes of a peer; that a pack may come in any pieces, and goes to the indexer before its
+//! reply has ended; that memory which is there is used.
 //!
 //! # What a body can still get away with
 //!
 //! It may report out of memory as often as it likes. It may keep all of a pack and feed it once, take as long as it
-//! likes, and more memory than it needs.
+//! likes, and more memory than it needs. The texts of faults are neither proved nor tested.
+//!
+//! # What it costs
+//!
+//! A request for objects walks from the tips anew. Of the ids that are asked for, one that is not held, one that the
+//! refs reach, and each one in a graph in which parents came first is only looked up; any other costs a walk, which
+//! stops at what the refs reach. Acknowledged ids are looked up in a set.
 //!
 //! # Stands on
 //!
 //! `gspec` for refspecs, `grepo` for the repository, `grequest`, `glsreply`, `gfetchreply` and `ghello` for messages,
 //! `ggraph` and `gwalk` for what is offered, `gobject` for indexers, `indexmap` for sets of ids, `thiserror` for the
-//! texts of faults; in tests `bumpalo`, for memory that ends.
+//! texts of faults.
 #![tactic(auto)]
 
 mod acks;

@@ -57,7 +57,8 @@ fn add_prefix<A: Allocator + Copy>(
     request: &mut LsRefsRequest<A>,
 ) -> Result<(), AllocError>
     requires { length request.old.prefixes < max_prefixes }
-    ensures { OnOk result (request.new ≡ record request.old { prefixes = with_prefix request.old.prefixes prefix.now }) }
+    ensures { OnOk result (request.new
+        ≡ record request.old { prefixes = with_prefix request.old.prefixes prefix.now }) }
 {
     if has_prefix(request.prefixes(), prefix) {
         return Ok(());
@@ -91,7 +92,8 @@ pub(crate) fn objects_request<A: Allocator + Copy>(
     requires commons { All (IsIdOf format) commons.now }
     requires batch { All (IsIdOf format) batch.now }
     requires room { length commons.now + length batch.now ≤ max_haves }
-    ensures asked { IfOk result (λ request. asked_by_request request ≡ Fetches (fetch_request wants.now commons.now batch.now)) }
+    ensures asked { IfOk result (λ request. asked_by_request request
+        ≡ Fetches (fetch_request wants.now commons.now batch.now)) }
     ensures format { IfOk result (λ request. ids_format request ≡ Some format) }
 {
     let mut request = FetchRequest::new(alloc, format);
@@ -110,7 +112,9 @@ fn add_wants<A: Allocator + Copy>(
 ) -> Result<(), AllocError>
     requires ids { All (IsIdOf request.old.format) wants.now }
     requires room { length request.old.asked.wants + length wants.now ≤ max_wants }
-    ensures { OnOk result (request.new ≡ record request.old { asked = record request.old.asked { wants = request.old.asked.wants ++ wants.now } }) }
+    ensures { OnOk result (request.new ≡ record request.old {
+      asked = record request.old.asked { wants = request.old.asked.wants ++ wants.now };
+    }) }
 {
     for id in wants {
         match request.push_want(*id) {
@@ -127,7 +131,9 @@ fn add_haves<A: Allocator + Copy>(
 ) -> Result<(), AllocError>
     requires ids { All (IsIdOf request.old.format) haves.now }
     requires room { length request.old.asked.haves + length haves.now ≤ max_haves }
-    ensures { OnOk result (request.new ≡ record request.old { asked = record request.old.asked { haves = request.old.asked.haves ++ haves.now } }) }
+    ensures { OnOk result (request.new ≡ record request.old {
+      asked = record request.old.asked { haves = request.old.asked.haves ++ haves.now };
+    }) }
 {
     for id in haves {
         match request.push_have(*id) {

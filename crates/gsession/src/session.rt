@@ -32,8 +32,8 @@ use std::mem;
 pub const MAX_SPECS: usize = 16;
 
 /// A client's conversation with one server: it asks for refs, then for the objects that are wanted, as often as the
-/// server only acknowledges, and at last moves refs here. Who has the connection sends each request, and hands the reader
-/// of the replies to the session.
+/// server only acknowledges, and at last moves refs here. Who has the connection sends each request, and hands the
+/// reader of the replies to the session.
 #[derive(Debug, Drop)]
 pub struct Session<A: Allocator + Copy = Global> {
     format: Format,
@@ -209,8 +209,8 @@ impl<A: Allocator + Copy> Session<A> {
     /// to stand at the asked id, all at once, where the whole ancestry of each asked id is held. Answers what became of
     /// each ask. The session is over then.
     ///
-    /// It fails with `NoOpenRequest` before a pack is taken, unless nothing is wanted, and nothing changes then. Else the
-    /// session is over, and the repository as before: with `Repo`, as `Repo::settle` fails.
+    /// It fails with `NoOpenRequest` before a pack is taken, unless nothing is wanted, and nothing changes then. Else
+    /// the session is over, and the repository as before: with `Repo`, as `Repo::settle` fails.
     pub fn settle(&mut self, repo: &mut Repo<A>) -> Result<Settled<A>, ClientFault<A>>
         ensures { MatchResult result
             (λ settled. SettlesSession self.old repo.old self.new repo.new (Ok (settled.asks, settled.updates.items)))

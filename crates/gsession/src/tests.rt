@@ -2,5 +2,6 @@
 mod bounds;
 mod makers;
 mod order;
+mod pieces;
 mod refused;
 mod talks;

@@ -5,6 +5,8 @@ use super::samples::{
 };
 use crate::RefUpdate;
 use ggrammar::Ends;
+use std::alloc::Global;
+use std::process::Abort;
 use std::test::Fail;
 
 // A client and what it fetches; what is read and written, one after the other; what becomes of the asks, and how often
@@ -303,28 +305,34 @@ fn an_unborn_head_is_known(rt: HostRuntime) -> Result<(), Fail> {
     Ok(())
 }
 
-// A pack in band 1 packets of one byte each, and of seven.
+// What is read where the pack comes in pieces of so many bytes.
+fn input_in(rt: &impl Abort, alloc: Global, size: usize) -> Result<Vec<u8>, Fail> {
+    assert!(rt; size > 0);
+    let mut input = joined(
+        alloc,
+        &[
+            ADVERT,
+            REFS,
+            b"0014acknowledgments\n0031ACK {a}\n000aready\n0001000dpackfile\n",
+        ],
+    )?;
+    let pack = spelled(alloc, b"GPK1\nc {b} {a}\nc {c} {b}\nend 2\n")?;
+    for piece in pack.as_slice().chunks(size) {
+        let count = piece.len().saturating_add(5);
+        let digits = format!(in alloc; "{count:04x}")?;
+        input.extend_from_slice(digits.as_bytes())?;
+        input.push(1)?;
+        input.extend_from_slice(piece)?;
+    }
+    input.extend_from_slice(b"0000")?;
+    Ok(input)
+}
+
 #[test]
 fn packs_come_in_pieces(rt: HostRuntime) -> Result<(), Fail> {
     let alloc = rt.alloc();
-    let pack = spelled(alloc, b"GPK1\nc {b} {a}\nc {c} {b}\nend 2\n")?;
-    for size in [1usize, 7, 179] {
-        let mut input = joined(
-            alloc,
-            &[
-                ADVERT,
-                REFS,
-                b"0014acknowledgments\n0031ACK {a}\n000aready\n0001000dpackfile\n",
-            ],
-        )?;
-        for piece in pack.as_slice().chunks(size) {
-            let count = piece.len().saturating_add(5);
-            let digits = format!(in alloc; "{count:04x}")?;
-            input.extend_from_slice(digits.as_bytes())?;
-            input.push(1)?;
-            input.extend_from_slice(piece)?;
-        }
-        input.extend_from_slice(b"0000")?;
+    for size in [1, 7, 179] {
+        let input = input_in(&rt, alloc, size)?;
         let held = hold(alloc, CLIENT, MAIN, Ends::Plain, input.as_slice())?;
         check_fetched(&rt, &held.fetched, &[RefUpdate::Moved], 1);
         assert_eq!(rt;

@@ -137,3 +137,26 @@ fn a_cut_comes_before_the_indexer(rt: HostRuntime) -> Result<(), Fail> {
     }
     Ok(())
 }
+
+// Of a reply without a pack nothing of the indexer is told: the next reply is asked for, and read.
+#[test]
+fn an_indexer_may_fail_where_no_pack_comes(rt: HostRuntime) -> Result<(), Fail> {
+    let alloc = rt.alloc();
+    let input = joined(
+        alloc,
+        &[
+            ADVERT,
+            REFS,
+            b"0014acknowledgments\n0008NAK\n0000",
+            b"000dpackfile\n0010\x01GPK1\nend 0\n0000",
+        ],
+    )?;
+    let mut repo = repo(alloc, CLIENT)?;
+    let mut source = SliceSource::new(input.as_slice());
+    let mut sink = VecSink::new(alloc);
+    let lie = Lie::FailsFirst;
+    let fetched = fetch_with(alloc, &mut repo, &mut source, &mut sink, &lie, MAIN)?;
+    assert_eq!(rt; fetched.as_ref().err().map(|fault| fault.code()), Some(66));
+    assert!(rt; source.rest().is_empty());
+    Ok(())
+}

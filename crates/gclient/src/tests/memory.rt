@@ -1,5 +1,5 @@
-//! Memory that ends: in an arena with a little more room each time, each allocation of a conversation is at some time the
-//! first that is refused. The requests that were sent before stand, and the refs stay.
+//! Memory that ends: in an arena with a little more room each time, each allocation of a conversation is at some time
+//! the first that is refused. The requests that were sent before stand, and the refs stay.
 use super::samples::{
     ADVERT, ASK, ASK_REFS, CLIENT, END, MAIN, PACK, REFS, joined, repo_in, specs_in,
 };
@@ -15,9 +15,9 @@ use std::process::Abort;
 use std::test::Fail;
 
 // The room that is tried: in steps of so many bytes, from none to more than a conversation takes.
-const STEP: usize = 256;
+const STEP: usize = 16;
 
-const STEPS: usize = 48;
+const STEPS: usize = 768;
 
 // The room of the arena.
 const CAPACITY: usize = 120_000;
@@ -110,6 +110,6 @@ fn memory_ends(rt: HostRuntime) -> Result<(), Fail> {
             fetched += 1;
         }
     }
-    assert!(rt; seen[0] > 0 && seen[3] > 0 && fetched > 0);
+    assert!(rt; seen[0] > 0 && seen[1] > 0 && seen[2] > 0 && seen[3] > fetched && fetched > 0);
     Ok(())
 }

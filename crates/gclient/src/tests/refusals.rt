@@ -1,10 +1,13 @@
 //! Conversations that fail: which fault, at which packet, what was written, and the repository afterwards.
 use super::samples::{
     ADVERT, ADVERT_SHA256, ASK, ASK_ALL, ASK_REFS, CLIENT, EMPTY, EMPTY_SHA256, END, MAIN, PACK,
-    PACK_ALL, REFS, fault_of, hold, joined, spelled,
+    PACK_ALL, REFS, fault_of, hold, hold_within, joined, spelled,
 };
-use crate::{ClientFault, FetchFault};
+use crate::{ClientFault, FetchFault, RepoFault};
+use gfetchreply::PackLimit;
 use ggrammar::{Ends, Why};
+use ggraph::GraphFault;
+use gname::Oid;
 use std::alloc::Global;
 use std::process::Abort;
 use std::test::Fail;
@@ -96,6 +99,15 @@ const REPLIES_REFUSED: &[(&'static [&'static [u8]], Fault)] = &[
             b"0014acknowledgments\n000aready\n0001000dpackfile\n0064\x01GPK1xc {c} {b}\nend 1\n",
         ],
         (54, Some(5)),
+    ),
+    // The pack is wrong at its end, and its first object at odds with what is held.
+    (
+        &[
+            ADVERT,
+            REFS,
+            b"0014acknowledgments\n000aready\n0001000dpackfile\n0064\x01GPK1\nc {a} {d}\nend 2\n0000",
+        ],
+        (66, None),
     ),
     (
         &[
@@ -281,22 +293,78 @@ fn a_fault_has_the_words_of_the_peer(rt: HostRuntime) -> Result<(), Fail> {
     Ok(())
 }
 
-// What is missing, and what was acknowledged, goes with the fault.
+// The id that goes with a fault.
+fn id_of(fault: &FetchFault) -> Option<Oid> {
+    match fault {
+        FetchFault::Client(ClientFault::StrangeAck { id }) => Some(*id),
+        FetchFault::Client(ClientFault::Repo(RepoFault::NotConnected { missing })) => Some(
+            *missing,
+        ),
+        FetchFault::Client(ClientFault::Repo(RepoFault::Graph(GraphFault::Conflict { id }))) => {
+            Some(*id)
+        }
+        _ => None,
+    }
+}
+
+// Replies, and which id is strange, at odds with what is held, or missing.
+const IDS: [(&[u8], u8); 3] = [
+    (b"0014acknowledgments\n0031ACK {d}\n0000", b'd'),
+    (
+        b"0014acknowledgments\n000aready\n0001000dpackfile\n0064\x01GPK1\nc {a} {d}\nend 1\n0000",
+        b'a',
+    ),
+    (
+        b"0014acknowledgments\n000aready\n0001000dpackfile\n0064\x01GPK1\nc {c} {b}\nend 1\n0000",
+        b'b',
+    ),
+];
+
 #[test]
 fn a_fault_has_its_id(rt: HostRuntime) -> Result<(), Fail> {
     let alloc = rt.alloc();
-    let input = joined(
-        alloc,
-        &[ADVERT, REFS, b"0014acknowledgments\n0031ACK {d}\n0000"],
-    )?;
-    let held = hold(alloc, CLIENT, MAIN, Ends::Plain, input.as_slice())?;
-    match &held.fetched {
-        Err(FetchFault::Client(ClientFault::StrangeAck { id })) => {
-            let mut digits = [0; 64];
-            let count = id.to_hex(&mut digits);
-            assert_eq!(rt; &digits[..count], [b'd'; 40].as_slice());
-        }
-        _ => assert!(rt; false),
+    for (reply, digit) in IDS {
+        let input = joined(alloc, &[ADVERT, REFS, reply])?;
+        let held = hold(alloc, CLIENT, MAIN, Ends::Plain, input.as_slice())?;
+        let id = held.fetched.as_ref().err().and_then(id_of);
+        assert_eq!(rt; id, Some(Oid::from_hex(&[digit; 40])?));
+    }
+    Ok(())
+}
+
+// The pack of the reply has 179 bytes.
+#[test]
+fn packs_have_a_limit(rt: HostRuntime) -> Result<(), Fail> {
+    let alloc = rt.alloc();
+    let input = joined(alloc, &[ADVERT, REFS, PACK])?;
+    for (bytes, fault) in [
+        (179usize, None),
+        (178, Some((48, Some(5)))),
+        (0, Some((48, Some(5)))),
+    ] {
+        let limit = PackLimit::new(bytes).expect(&rt, "a limit");
+        let held = hold_within(alloc, CLIENT, MAIN, limit, Ends::Plain, input.as_slice())?;
+        assert_eq!(rt; held.fetched.as_ref().err().map(fault_of), fault);
+    }
+    Ok(())
+}
+
+// The end of its own that a reply has on some connections is missing, or another packet.
+const UNENDED: &[(&'static [&'static [u8]], Fault)] = &[
+    (&[ADVERT, REFS], (54, Some(2))),
+    (&[ADVERT, REFS, b"0000"], (41, Some(2))),
+    (&[ADVERT, REFS, b"0002", PACK], (54, Some(7))),
+    (&[ADVERT, REFS, b"0002", PACK, b"0001"], (41, Some(7))),
+];
+
+#[test]
+fn replies_need_their_end(rt: HostRuntime) -> Result<(), Fail> {
+    let alloc = rt.alloc();
+    for (read, fault) in UNENDED {
+        let input = joined(alloc, read)?;
+        let held = hold(alloc, CLIENT, MAIN, Ends::Response, input.as_slice())?;
+        assert_eq!(rt; held.fetched.as_ref().err().map(fault_of), Some(*fault));
+        assert_eq!(rt; held.repo.as_slice(), spelled(alloc, CLIENT)?.as_slice());
     }
     Ok(())
 }
@@ -380,28 +448,37 @@ fn replies_with_objects_are_cut(rt: HostRuntime) -> Result<(), Fail> {
     )
 }
 
-// Each byte of a reply is another one. The ref moves where all of its ancestry has come, and stays else.
+// How the client ends: with its ref moved, or as it was.
+const MOVED: &[u8] = b"c {b} {a}\nc {c} {b}\nr {c} refs/remotes/origin/main\nh none\nend\n";
+
+const KEPT: &[u8] = b"r {a} refs/remotes/origin/main\nh none\nend\n";
+
+// One byte of what is read is another one. The ref moves where all of its ancestry has come, and stays else.
+fn check_changed(
+    rt: &(impl Abort + AllocGlobal),
+    input: &[u8],
+    place: usize,
+    change: u8,
+) -> Result<(), Fail> {
+    let alloc = rt.alloc();
+    assert!(rt; place < input.len());
+    let mut changed = Vec::from_slice(alloc, input)?;
+    changed[place] ^= change;
+    let held = hold(alloc, CLIENT, MAIN, Ends::Plain, changed.as_slice())?;
+    let ends = if held.fetched.is_ok() { MOVED } else { KEPT };
+    let ends = spelled(alloc, ends)?;
+    assert!(rt; held.repo.as_slice().ends_with(ends.as_slice()), "{place}");
+    Ok(())
+}
+
+// Each byte of a reply is another one.
 #[test]
 fn replies_are_changed(rt: HostRuntime) -> Result<(), Fail> {
-    let alloc = rt.alloc();
-    let mut input = joined(alloc, &[ADVERT, REFS, PACK])?;
+    let input = joined(rt.alloc(), &[ADVERT, REFS, PACK])?;
     let begin = input.len().saturating_sub(PACK_END);
-    let kept = spelled(alloc, b"r {a} refs/remotes/origin/main\nh none\nend\n")?;
-    let moved = spelled(
-        alloc,
-        b"c {b} {a}\nc {c} {b}\nr {c} refs/remotes/origin/main\nh none\nend\n",
-    )?;
     for place in begin..input.len() {
-        for change in [1u8, 32] {
-            input[place] ^= change;
-            let held = hold(alloc, CLIENT, MAIN, Ends::Plain, input.as_slice())?;
-            input[place] ^= change;
-            let ends = if held.fetched.is_ok() {
-                moved.as_slice()
-            } else {
-                kept.as_slice()
-            };
-            assert!(rt; held.repo.as_slice().ends_with(ends), "{place}");
+        for change in [1, 32] {
+            check_changed(&rt, input.as_slice(), place, change)?;
         }
     }
     Ok(())
@@ -438,13 +515,15 @@ fn destinations_are_names(rt: HostRuntime) -> Result<(), Fail> {
     let specs: &[&[u8]] = &[b"refs/heads/*:refs/remotes/origin/*"];
     let mut input = joined(alloc, &[ADVERT, b"0415{c} refs/heads/"])?;
     input.extend_from_slice(&[b'x'; 988])?;
-    input.extend_from_slice(b"\n0000")?;
-    let held = hold(alloc, CLIENT, specs, Ends::Plain, input.as_slice())?;
-    assert_eq!(rt;
-        held.fetched.as_ref().err().map(fault_of),
-        Some((47, Some(1)))
-    );
-    assert_eq!(rt; held.repo.as_slice(), spelled(alloc, CLIENT)?.as_slice());
+    input.extend_from_slice(b"\n00000002")?;
+    for (ends, frame) in [(Ends::Plain, 1), (Ends::Response, 2)] {
+        let held = hold(alloc, CLIENT, specs, ends, input.as_slice())?;
+        assert_eq!(rt;
+            held.fetched.as_ref().err().map(fault_of),
+            Some((47, Some(frame)))
+        );
+        assert_eq!(rt; held.repo.as_slice(), spelled(alloc, CLIENT)?.as_slice());
+    }
     Ok(())
 }
 

@@ -54,7 +54,7 @@ fn chain(alloc: Global, count: usize) -> Result<Repo, Fail> {
 }
 
 // A server that has nothing of a chain of so many commits is asked so often.
-const CHAINS: [(usize, usize); 5] = [(0, 1), (1, 2), (16, 2), (17, 3), (100, 4)];
+const CHAINS: [(usize, usize); 6] = [(0, 1), (1, 2), (16, 2), (17, 3), (100, 4), (5_000, 24)];
 
 #[test]
 fn rounds_go_with_the_length_of_a_chain(rt: HostRuntime) -> Result<(), Fail> {

@@ -165,6 +165,18 @@ pub(super) fn hold(
     ends: Ends,
     input: &[u8],
 ) -> Result<Held, Fail> {
+    hold_within(alloc, client, specs, PackLimit::default(), ends, input)
+}
+
+/// Holds a conversation over bytes, with a limit of packs.
+pub(super) fn hold_within(
+    alloc: Global,
+    client: &[u8],
+    specs: &[&[u8]],
+    limit: PackLimit,
+    ends: Ends,
+    input: &[u8],
+) -> Result<Held, Fail> {
     let mut repo = repo(alloc, client)?;
     let mut source = SliceSource::new(input);
     let mut sink = VecSink::new(alloc);
@@ -175,7 +187,7 @@ pub(super) fn hold(
         &mut sink,
         &PlainPack,
         specs.as_slice(),
-        PackLimit::default(),
+        limit,
         ends,
     );
     Ok(Held {

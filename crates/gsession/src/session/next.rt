@@ -44,7 +44,8 @@ impl<A: Allocator + Copy> Session<A> {
     fn make_request(&mut self, repo: &Repo<A>) -> Result<Request<A>, ClientFault<A>>
         ensures requests { MatchResult result
             (λ request. Requests self.old repo.now.graph.entries self.new (Ok (asked_by_request request)))
-            (λ fault. Requests self.old repo.now.graph.entries (after_fault self.old fault) (Err fault) × (self.new ≡ self.old)) }
+            (λ fault. Requests self.old repo.now.graph.entries (after_fault self.old fault) (Err fault)
+            × (self.new ≡ self.old)) }
         ensures format { IfOk result (IsOfFormat self.old.format) }
     {
         if self.pending.is_some() {

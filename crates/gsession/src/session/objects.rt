@@ -34,10 +34,10 @@ impl<A: Allocator + Copy> Session<A> {
     /// the reply was read to its end, each acknowledged id must be one of the request's haves, and is common from then
     /// on; and all objects of the pack come to the repository, or none.
     ///
-    /// It fails with `NoOpenRequest` where no such reply is due, and nothing is read then. Else the session is over, and
-    /// the repository as before: with `Message` where the reply is refused, with `StrangeAck`, with `Index` where the
-    /// indexer refused the pack, and with `Repo` where the graph refuses its objects, or there is no memory. The first of
-    /// these is reported; for a reply without a pack nothing of the indexer's.
+    /// It fails with `NoOpenRequest` where no such reply is due, and nothing is read then. Else the session is over,
+    /// and the repository as before: with `Message` where the reply is refused, with `StrangeAck`, with `Index` where
+    /// the indexer refused the pack, and with `Repo` where the graph refuses its objects, or there is no memory. The
+    /// first of these is reported; for a reply without a pack nothing of the indexer's.
     pub fn take_reply<S: Source, K: Indexer<A>, B: Allocator + Copy>(
         &mut self,
         repo: &mut Repo<A>,
@@ -83,7 +83,8 @@ impl<A: Allocator + Copy> Session<A> {
     fn reading(&self) -> Option<FetchReading>
         ensures { MatchOption result
             (¬ (AwaitsObjects self.now))
-            (λ reading. (asked : FetchAsked) × Awaits self.now asked × (reading_in reading ≡ reading_for self.now asked)) }
+            (λ reading. (asked : FetchAsked) × Awaits self.now asked
+            × (reading_in reading ≡ reading_for self.now asked)) }
     {
         match &self.pending {
             Some(Request::Fetch(asked)) => Some(FetchReading {
@@ -105,7 +106,8 @@ impl<A: Allocator + Copy> Session<A> {
     ) -> Result<Taken, ClientFault<A>>
         requires { (asked : FetchAsked) × Awaits self.old asked × FitsHead asked (head_in head) }
         ensures { (asked : FetchAsked) (reply : FetchReply) → Awaits self.old asked → head_in head ≡ head_of reply
-            → MayHaveFed (K.fed feed.entry.indexer.now) (K.index_fails feed.entry.indexer.now) feed.entry.feed (pack_of reply)
+            → MayHaveFed (K.fed feed.entry.indexer.now) (K.index_fails feed.entry.indexer.now) feed.entry.feed
+            (pack_of reply)
             → AnswersRead (K.indexes feed.entry.indexer.now) (K.index_fails feed.entry.indexer.now) asked.haves
             self.old repo.old reply self.new repo.new result }
     {
@@ -140,8 +142,10 @@ impl<A: Allocator + Copy> Session<A> {
         feed: PackFeed<'_, K, A>,
     ) -> Result<Taken, ClientFault<A>>
         requires { AwaitsObjects self.old }
-        ensures { (asked : FetchAsked) (reply : FetchReply) → Awaits self.old asked → acks_of reply ≡ acks.now → HasPack reply
-            → MayHaveFed (K.fed feed.entry.indexer.now) (K.index_fails feed.entry.indexer.now) feed.entry.feed (pack_of reply)
+        ensures { (asked : FetchAsked) (reply : FetchReply) → Awaits self.old asked → acks_of reply ≡ acks.now
+            → HasPack reply
+            → MayHaveFed (K.fed feed.entry.indexer.now) (K.index_fails feed.entry.indexer.now) feed.entry.feed
+            (pack_of reply)
             → AnswersRead (K.indexes feed.entry.indexer.now) (K.index_fails feed.entry.indexer.now) asked.haves
             self.old repo.old reply self.new repo.new result }
     {
@@ -158,7 +162,8 @@ impl<A: Allocator + Copy> Session<A> {
     fn commons_with(&self, acks: &[Oid]) -> Result<Vec<Oid, A>, ClientFault<A>>
         requires { AwaitsObjects self.now }
         ensures counts { (asked : FetchAsked) → Awaits self.now asked → MatchResult result
-            (λ commons. All (Contains asked.haves) acks.now × (commons.items ≡ distinct_of (self.now.commons ++ acks.now)))
+            (λ commons. All (Contains asked.haves) acks.now
+            × (commons.items ≡ distinct_of (self.now.commons ++ acks.now)))
             (IsAcksFault asked.haves acks.now) }
         ensures commons { IfOk result (λ commons. AreCommons self.now.format commons.items) }
     {

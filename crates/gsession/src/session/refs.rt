@@ -31,15 +31,16 @@ impl<A: Allocator + Copy> Session<A> {
     /// target of an unborn `HEAD`. An ask is for the ref to which a refspec takes a name; of several asks for one ref
     /// the first counts. Wanted is each asked id whose whole ancestry is not held.
     ///
-    /// It fails with `NoOpenRequest` where no such reply is due, and nothing is read then. Else the session is over: with
-    /// `Message` where the reply is refused, or, at its last packet, where a ref that is asked for can't have its name;
-    /// with `TooManyWants` over 1,024; and where there is no memory.
+    /// It fails with `NoOpenRequest` where no such reply is due, and nothing is read then. Else the session is over:
+    /// with `Message` where the reply is refused, or, at its last packet, where a ref that is asked for can't have
+    /// its name; with `TooManyWants` over 1,024; and where there is no memory.
     pub fn take_ls<S: Source, B: Allocator + Copy>(
         &mut self,
         repo: &Repo<A>,
         reader: &mut LineReader<S, B>,
     ) -> Result<LsTaken<A>, ClientFault<A>>
-        ensures takes { TakesLs self.old repo.now.graph.entries (change_of S.remaining reader.old.source reader.new.source) self.new result }
+        ensures takes { TakesLs self.old repo.now.graph.entries
+            (change_of S.remaining reader.old.source reader.new.source) self.new result }
         ensures reader { LeavesReplies S.is_down reader.old reader.new result }
         ensures loans { S.loans reader.new.source ≡ S.loans reader.old.source }
     {
@@ -55,7 +56,8 @@ impl<A: Allocator + Copy> Session<A> {
         repo: &Repo<A>,
         reader: &mut LineReader<S, B>,
     ) -> Result<LsTaken<A>, ClientFault<A>>
-        ensures takes { AnswersLs self.old repo.now.graph.entries (change_of S.remaining reader.old.source reader.new.source) self.new result }
+        ensures takes { AnswersLs self.old repo.now.graph.entries
+            (change_of S.remaining reader.old.source reader.new.source) self.new result }
         ensures reader { LeavesReplies S.is_down reader.old reader.new result }
         ensures loans { S.loans reader.new.source ≡ S.loans reader.old.source }
     {
@@ -111,7 +113,12 @@ impl<A: Allocator + Copy> Session<A> {
         requires waits { AwaitsRefs self.old }
         requires ids { All (IsIdOf self.old.format) wants.items }
         requires few { length wants.items ≤ max_wants }
-        ensures { self.new ≡ record self.old { stage = stage_for wants.items; pending = None; asks = asks; wants = wants.items } }
+        ensures { self.new ≡ record self.old {
+          stage = stage_for wants.items;
+          pending = None;
+          asks = asks;
+          wants = wants.items;
+        } }
     {
         self.stage = stage_for(wants.as_slice());
         self.pending = None;

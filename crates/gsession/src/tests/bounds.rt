@@ -117,31 +117,42 @@ fn acknowledged(rt: &(impl Abort + AllocGlobal), session: &Session) -> Vec<u8> {
     reply
 }
 
-// Asks until the client is done, of a server that has all that is offered: how often, and how many ids are common.
-fn rounds_of_refs(rt: &(impl Abort + AllocGlobal), count: usize) -> (usize, usize) {
+// How many haves the request has that waits.
+fn haves_of(session: &Session) -> usize {
+    match session.pending() {
+        Some(Request::Fetch(asked)) => asked.haves().len(),
+        _ => 0,
+    }
+}
+
+// Asks until the client is done, of a server that has all that is offered: how often, and how many haves the last two
+// requests have.
+fn rounds_of_refs(rt: &(impl Abort + AllocGlobal), count: usize) -> (usize, usize, usize) {
     let mut repo = refs_only(rt, count);
     let mut session = begun(rt, &repo, &[b"refs/heads/main:refs/remotes/origin/main"]);
     asked(rt, &mut session, &repo).expect(rt, "a request");
     let reply = b"003dE refs/heads/main\n0000";
     assert_eq!(rt; take_ls(rt, &mut session, &repo, reply), Ok((1, 1)));
+    let mut before = 0;
     for round in 1..64 {
         asked(rt, &mut session, &repo).expect(rt, "a request");
+        let haves = haves_of(&session);
         let reply = acknowledged(rt, &session);
         match take_bytes(rt, &mut session, &mut repo, reply.as_slice()) {
-            Ok(Taken::Round { .. }) => {}
-            Ok(Taken::PackTaken { .. }) => return (round, session.common().len()),
-            Err(_) => return (0, 0),
+            Ok(Taken::Round { .. }) => before = haves,
+            Ok(Taken::PackTaken { .. }) => return (round, before, haves),
+            Err(_) => return (0, 0, 0),
         }
     }
-    (0, 0)
+    (0, 0, 0)
 }
 
 #[test]
 fn a_request_may_be_full(rt: HostRuntime) {
-    assert_eq!(rt; rounds_of_refs(&rt, 4_096), (21, 4_096));
+    assert_eq!(rt; rounds_of_refs(&rt, 4_096), (21, 4_096, 4_096));
 }
 
 #[test]
 fn a_client_is_done_where_a_request_would_be_too_full(rt: HostRuntime) {
-    assert_eq!(rt; rounds_of_refs(&rt, 4_097), (20, 4_080));
+    assert_eq!(rt; rounds_of_refs(&rt, 4_097), (20, 4_080, 4_080));
 }

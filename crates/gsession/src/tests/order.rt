@@ -8,6 +8,7 @@ use ggraph::PlainPack;
 use ghello::Advert;
 use gpkt::LineReader;
 use gpkt::memory::SliceSource;
+use std::process::Abort;
 
 // Two replies, and what comes after them.
 const REPLIES: &[u8] =
@@ -48,26 +49,28 @@ const PIECES: [(usize, &[u8], &[u8]); 3] = [
     (179, b"00b8\x01", b"00b8\x01"),
 ];
 
+// A reply whose pack comes in pieces of so many bytes.
+fn reply_in(rt: &(impl Abort + AllocGlobal), size: usize, piece: &[u8], last: &[u8]) -> Vec<u8> {
+    assert!(rt; size > 0);
+    let mut reply = spelt(rt, HEADING);
+    let pack = spelt(rt, PACK);
+    for part in pack.as_slice().chunks(size) {
+        let before = if part.len() < size { last } else { piece };
+        reply.extend_from_slice(before).expect(rt, "memory");
+        reply.extend_from_slice(part).expect(rt, "memory");
+    }
+    reply.extend_from_slice(b"0000").expect(rt, "memory");
+    reply
+}
+
 #[test]
 fn a_pack_may_come_in_any_pieces(rt: HostRuntime) {
-    let pack = spelt(&rt, PACK);
     for (size, piece, last) in PIECES {
-        assert!(rt; size > 0);
-        let mut reply = spelt(&rt, HEADING);
-        for (place, byte) in pack.as_slice().iter().enumerate() {
-            if place % size == 0 {
-                let left = pack.len().saturating_sub(place);
-                let before = if left < size { last } else { piece };
-                reply.extend_from_slice(before).expect(&rt, "memory");
-            }
-            reply.push(*byte).expect(&rt, "memory");
-        }
-        reply.extend_from_slice(b"0000").expect(&rt, "memory");
+        let reply = reply_in(&rt, size, piece, last);
         let mut repo = client_a(&rt);
         let mut session = waiting(&rt, &repo);
-        let taken = take_bytes(&rt, &mut session, &mut repo, reply.as_slice()).map_err(
-            |fault| fault.code(),
-        );
+        let taken = take_bytes(&rt, &mut session, &mut repo, reply.as_slice());
+        let taken = taken.map_err(|fault| fault.code());
         assert_eq!(rt; taken, Ok(Taken::PackTaken { added: 2 }));
         assert!(rt; settled(&mut session, &mut repo).is_ok());
         check_ref(&rt, &repo, MAIN, b'c');

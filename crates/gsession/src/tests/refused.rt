@@ -113,26 +113,32 @@ fn number_id(rt: &impl Abort, number: usize) -> Oid {
     Oid::from_hex(&text).expect(rt, "an id")
 }
 
+// A line for so many refs, each at an id of its own.
+fn refs_reply(rt: &(impl Abort + AllocGlobal), count: usize) -> Vec<u8> {
+    let mut reply = Vec::new(rt.alloc());
+    for number in 0..count {
+        let mut digits = [0; 64];
+        let long = number_id(rt, number).to_hex(&mut digits);
+        reply.extend_from_slice(b"003c").expect(rt, "memory");
+        reply
+            .extend_from_slice(&digits[..long])
+            .expect(rt, "memory");
+        reply
+            .extend_from_slice(b" refs/heads/")
+            .expect(rt, "memory");
+        reply.extend_from_slice(&digits[..4]).expect(rt, "memory");
+    }
+    reply.extend_from_slice(b"0000").expect(rt, "memory");
+    reply
+}
+
 #[test]
 fn too_many_wants_are_refused(rt: HostRuntime) {
     for (count, answer) in [(1_024usize, Ok((1_024, 1_024))), (1_025, Err(86))] {
         let repo = client_a(&rt);
         let mut session = begun(&rt, &repo, &[b"refs/heads/*:refs/remotes/*"]);
         asked(&rt, &mut session, &repo).expect(&rt, "a request");
-        let mut reply = Vec::new(rt.alloc());
-        for number in 0..count {
-            let mut digits = [0; 64];
-            let long = number_id(&rt, number).to_hex(&mut digits);
-            reply.extend_from_slice(b"003c").expect(&rt, "memory");
-            reply
-                .extend_from_slice(&digits[..long])
-                .expect(&rt, "memory");
-            reply
-                .extend_from_slice(b" refs/heads/")
-                .expect(&rt, "memory");
-            reply.extend_from_slice(&digits[..4]).expect(&rt, "memory");
-        }
-        reply.extend_from_slice(b"0000").expect(&rt, "memory");
+        let reply = refs_reply(&rt, count);
         let taken = take_ls_bytes(&rt, &mut session, &repo, reply.as_slice())
             .map(|taken| (taken.asks, taken.wants))
             .map_err(|fault| fault.code());

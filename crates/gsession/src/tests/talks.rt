@@ -72,6 +72,7 @@ fn what_is_missing_is_fetched_by_the_next_session(rt: HostRuntime) {
         Ok(Taken::PackTaken { added: 1 })
     );
     assert_eq!(rt; settled(&mut session, &mut repo).err(), Some(85));
+    assert_eq!(rt; settled(&mut session, &mut repo).err(), Some(83));
     check_ref(&rt, &repo, MAIN, b'a');
     assert_eq!(rt; repo.graph().len(), 2);
     let mut next = begun(&rt, &repo, &[SPEC]);
@@ -82,6 +83,23 @@ fn what_is_missing_is_fetched_by_the_next_session(rt: HostRuntime) {
         &mut next,
         &repo,
         b"0012command=fetch\n00010010no-progress\n0010include-tag\n0032want C\n0032have A\n0000",
+    );
+}
+
+#[test]
+fn an_id_that_is_acknowledged_twice_counts_once(rt: HostRuntime) {
+    let mut repo = client_a(&rt);
+    let mut session = waiting(&rt, &repo);
+    let reply = b"0014acknowledgments\n0031ACK A\n0031ACK A\n0000";
+    assert_eq!(rt;
+        take(&rt, &mut session, &mut repo, reply),
+        Ok(Taken::Round { common: 1 })
+    );
+    check_asked(
+        &rt,
+        &mut session,
+        &repo,
+        b"0012command=fetch\n00010010no-progress\n0010include-tag\n0032want C\n0032have A\n0009done\n0000",
     );
 }
 
