@@ -12,7 +12,7 @@ use Rattle.ghistory.specs.Graphs.{History}
 use Rattle.ghistory.specs.Reach.{Grows}
 use Rattle.gobject.specs.Packs.{Indexes, IndexFails}
 use Rattle.gobject.specs.PlainPackText.{IndexRefuses, IsPack}
-use Rattle.gpkt.specs.Sending.{Input, Output, IsUnread, IsUnwritten, Sends, SendsSome}
+use Rattle.gpkt.specs.Sending.{Input, Output, IsUnread, IsUnwritten, Sends}
 use Rattle.grefs.specs.RefLists.{RefList}
 use Rattle.grefs.specs.declared.head.Head.{Head}
 use Rattle.grefs.specs.declared.head.Head.TheVariants as head
@@ -26,6 +26,7 @@ use Rattle.gclient.specs.Conversations.{FetchesOver, start_of}
 use Rattle.gclient.specs.declared.fault.FetchFault.{FetchFault}
 use Rattle.gclient.specs.declared.fault.FetchFault.TheVariants as fetch
 use Rattle.gclient.specs.declared.fetched.Fetched.{Fetched}
+use Rattle.gcmd.specs.Outputs.{BreaksOff}
 use Rattle.gcmd.specs.Programs.{Outcome}
 use Rattle.gcmd.specs.Reporting.{fetch_report}
 use Rattle.gcmd.specs.declared.fault.ProgramFault.{ProgramFault}
@@ -110,10 +111,10 @@ abbrev pub IsNewFile : {A : Type 0} → RepoState A → RepoState A → Fetched 
 IsNewFile old new fetched None = ⊥
 IsNewFile old new fetched (Some text) = NamesClient text new × IsFetchedInto old new fetched
 
--- what reporting answers: the report is passed on; or its sink failed; or there is no memory for it
+-- what reporting answers: the report is written and passed on; or its sink failed; or there is no memory for it
 abbrev pub Reports : {A : Type 0} → Fetched A → Output → Outcome A → Type 0
 Reports fetched report (Ok done) = Sends report (fetch_report fetched)
-Reports fetched report (Err program.WriteFailed) = SendsSome report (fetch_report fetched)
+Reports fetched report (Err program.WriteFailed) = BreaksOff report (fetch_report fetched)
 Reports fetched report (Err program.Memory) = IsUnwritten report
 Reports fetched report (Err _) = ⊥
 

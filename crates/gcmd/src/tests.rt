@@ -2,6 +2,7 @@
 //! every fault.
 mod clients;
 mod connections;
+mod cuts;
 mod devices;
 mod faults;
 mod fetched;
@@ -15,4 +16,5 @@ mod rows;
 mod samples;
 mod scarce;
 mod serving;
+mod sinks;
 mod turns;
