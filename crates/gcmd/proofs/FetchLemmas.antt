@@ -15,7 +15,17 @@ use Rattle.ggraph.specs.Saving.{IsFirstOther, SaveRefuses, named_ids, ref_ids}
 use Rattle.ggraph.specs.declared.fault.SaveFault.{SaveFault}
 use Rattle.ggraph.specs.declared.fault.SaveFault.TheVariants.{Memory, OtherFormat}
 use Rattle.grepo.specs.Repos.{IsWhole, RepoState}
-use Rattle.gcmd.specs.Fetching.{no_head}
+use Rattle.ggraph.specs.RepositoryText.{repository_text, IsLoadable}
+use Rattle.ggraph.specs.declared.text.Order.TheVariants.{Any}
+use Rattle.grefs.specs.RefLists.{RefList}
+use Rattle.grefs.specs.declared.head.Head.{Head}
+use Rattle.grepo.specs.Changes.{Opens}
+use Rattle.grepo.specs.declared.fault.RepoFault.{RepoFault}
+use Rattle.gsession.specs.declared.fault.ClientFault.TheVariants as client
+use Rattle.gclient.specs.declared.fault.FetchFault.TheVariants as fetch
+use Rattle.gcmd.specs.Fetching.{NamesClient, RefusesClient, no_head}
+use Rattle.gcmd.specs.declared.fault.ProgramFault.{ProgramFault}
+use Rattle.gcmd.specs.declared.fault.ProgramFault.TheVariants as program
 
 -- what holds of each element holds of one among them
 all_among : {X : Type 0} (P : X → Type 0) (front : List X) (x : X) (rest : List X) → All P (front ++ x ∷ rest) → P x
@@ -52,3 +62,35 @@ module _ {A : Type 0} where
       → SaveRefuses repo.graph.format repo.refs (no_head {A = A}) fault → fault ≡ Memory
   only_memory places repo Memory graph whole refused = refl
   only_memory places repo (OtherFormat id) graph whole refused = absurd (none_other places repo id graph whole refused)
+
+-- ---- the file
+
+module _ {A : Type 0} (file : List ℕ) (graph : History A) (refs : RefList) (head : Head A)
+    (text : file ≡ repository_text graph refs head) (loadable : IsLoadable Any graph refs head)
+  where
+    -- a client is made of what the file names
+    pub names_client : (repo : RepoState A) → head ≡ no_head → Opens graph refs (Ok repo) → IsWhole repo → NamesClient file repo
+    names_client repo none opens whole = record {
+      text =
+          text ∙ ap (λ (h : Head A). repository_text graph refs h) none
+          ∙ ap (λ (g : History A). repository_text g refs (no_head {A = A})) (sym opens.0)
+          ∙ ap (λ (r : RefList). repository_text repo.graph r (no_head {A = A})) (sym opens.1);
+      loadable =
+          subst (λ (r : RefList). IsLoadable Any repo.graph r (no_head {A = A})) (sym opens.1)
+          (subst (λ (g : History A). IsLoadable Any g refs (no_head {A = A})) (sym opens.0)
+          (subst (λ (h : Head A). IsLoadable Any graph refs h) none loadable));
+      whole = whole;
+    }
+
+    -- or none is
+    pub refuses_unsafe : (cause : RepoFault A) (fault : ProgramFault A) → head ≡ no_head → Opens graph refs (Err cause)
+        → fault ≡ program.Fetch (fetch.Client (client.Repo cause)) → RefusesClient file fault
+    refuses_unsafe cause fault none opens same =
+        subst (RefusesClient file) (sym same)
+        (record {
+          graph = graph;
+          refs = refs;
+          text = text ∙ ap (λ (h : Head A). repository_text graph refs h) none;
+          loadable = subst (λ (h : Head A). IsLoadable Any graph refs h) none loadable;
+          cause = opens;
+        })

@@ -1,7 +1,7 @@
 -- The lines of a report, and refspecs of words, one more at a time.
 use Rattle.std.proofs.Common.{◌≡◌, ℕ, ◌+◌, ◌≤◌, ◌<◌, List, [], ◌∷◌, ◌++◌, length, take, drop, get_or, map, slice_get, All, Some, Err, refl, sym, ap, subst, ◌∙◌, append_assoc, arith}
 use Rattle.std.specs.List.{AllZip}
-use Rattle.std.specs.String.{String, string_bytes}
+use Rattle.std.specs.Prelude.{String, string_bytes}
 use Rattle.std.proofs.lemmas.List.{append-nil, length-take-le, map-append, take_all, take_more, take-append-drop}
 use Rattle.std.proofs.lemmas.List.Elements.{All-cons, All-nil}
 use Rattle.std.proofs.lemmas.Option.{get_or_from_slice_get}
@@ -10,7 +10,7 @@ use Rattle.gspec.specs.declared.fault.SpecFault.{SpecFault}
 use Rattle.grepo.specs.Asks.{IsAskAt}
 use Rattle.grepo.specs.declared.ask.Ask.{Ask}
 use Rattle.grepo.specs.declared.ask.RefUpdate.{RefUpdate}
-use Rattle.gcmd.specs.Fetching.{RefusesWord}
+use Rattle.gcmd.specs.Fetching.{IsSpecText, RefusesWord}
 use Rattle.gcmd.specs.Reporting.{update_line, update_lines}
 
 -- ---- the report
@@ -72,10 +72,10 @@ zip_push R (a ∷ xs) [] x y all is = absurd all
 zip_push R (a ∷ xs) (b ∷ ys) x y all is = (all.0, zip_push R xs ys x y all.1 is)
 
 each_spec : (texts : List (List ℕ)) (specs : List Refspec) → AllZip IsSpec texts specs
-    → All (λ text. (spec : Refspec) × IsSpec text spec) texts
-each_spec [] specs all = All-nil _
+    → All IsSpecText texts
+each_spec [] specs all = All-nil IsSpecText
 each_spec (text ∷ texts) [] all = absurd all
-each_spec (text ∷ texts) (spec ∷ specs) all = All-cons _ text texts (spec, all.0) (each_spec texts specs all.1)
+each_spec (text ∷ texts) (spec ∷ specs) all = All-cons IsSpecText text texts (spec, all.0) (each_spec texts specs all.1)
 
 module _ {Z : Type 0} (words : List (String Z)) (place : ℕ) (word : String Z) (specs : List Refspec)
     (inside : place < length words) (is : word ≡ get_or words place word)

@@ -34,13 +34,17 @@ use Rattle.gcmd.specs.declared.fault.ProgramFault.TheVariants as program
 
 -- ---- the words
 
+-- the text is that of a refspec
+abbrev pub IsSpecText : List ℕ → Type 0
+IsSpecText text = (spec : Refspec) × IsSpec text spec
+
 -- the first word that is no refspec; or one that is, where there is no memory to keep it
 pub record RefusesWord (words : List (List ℕ)) (fault : SpecFault) : Type 0 where
   pub front : List (List ℕ)
   pub word : List ℕ
   pub back : List (List ℕ)
   pub parts : words ≡ front ++ word ∷ back
-  pub before : All (λ text. (spec : Refspec) × IsSpec text spec) front
+  pub before : All IsSpecText front
   pub refused : Reads (IsSpec word) (Err fault)
 
 -- what reading words answers: a refspec for each
@@ -111,12 +115,16 @@ abbrev pub IsNewFile : {A : Type 0} → RepoState A → RepoState A → Fetched 
 IsNewFile old new fetched None = ⊥
 IsNewFile old new fetched (Some text) = NamesClient text new × IsFetchedInto old new fetched
 
--- what reporting answers: the report is written and passed on; or its sink failed; or there is no memory for it
+-- the report is written and passed on; or its sink failed
+abbrev pub SendsReport : {A : Type 0} → List ℕ → Output → Outcome A → Type 0
+SendsReport bytes report (Ok done) = Sends report bytes
+SendsReport bytes report (Err program.WriteFailed) = BreaksOff report bytes
+SendsReport bytes report (Err _) = ⊥
+
+-- what reporting answers: that; or there is no memory for the report
 abbrev pub Reports : {A : Type 0} → Fetched A → Output → Outcome A → Type 0
-Reports fetched report (Ok done) = Sends report (fetch_report fetched)
-Reports fetched report (Err program.WriteFailed) = BreaksOff report (fetch_report fetched)
-Reports fetched report (Err program.Memory) = IsUnwritten report
-Reports fetched report (Err _) = ⊥
+Reports fetched report outcome =
+    SendsReport (fetch_report fetched) report outcome ⊎ ((outcome ≡ Err program.Memory) × IsUnwritten report)
 
 -- how the program ends once the refs are settled: there is a new file, and that is reported; or there is no memory for
 -- the new file, and nothing is

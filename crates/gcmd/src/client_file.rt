@@ -39,11 +39,12 @@ pub(crate) fn open_client<A: Allocator + Copy>(
     ensures { OpensClient file.now result }
 {
     let repository = load(alloc, file, Order::Any)?;
-    if !is_none(&repository.head) {
+    if is_none(&repository.head) {
+        Ok(Repo::new(repository.graph, repository.refs)?)
+    } else {
         let line = line_of_head(&repository);
-        return Err(ProgramFault::Text(LoadFault::Text { line }));
+        Err(ProgramFault::Text(LoadFault::Text { line }))
     }
-    Ok(Repo::new(repository.graph, repository.refs)?)
 }
 
 fn is_none<A: Allocator + Copy>(head: &Head<A>) -> bool

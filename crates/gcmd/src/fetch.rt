@@ -4,7 +4,7 @@ ghost use Rattle.std.specs.Prelude.{◌≡◌, ℕ, List, MatchResult, length, o
 ghost use Rattle.ggraph.specs.declared.fault.SaveFault.TheVariants.{Memory};
 ghost use Rattle.gpkt.specs.Sending.{input_of, output_of};
 ghost use Rattle.grepo.specs.Repos.{RepoState};
-ghost use Rattle.gcmd.specs.Fetching.{Concludes, FetchesFile, IsFetched, IsFetchedInto, NamesClient, Reports};
+ghost use Rattle.gcmd.specs.Fetching.{Concludes, FetchesFile, IsFetched, IsFetchedInto, NamesClient, Reports, SendsReport};
 ghost use Rattle.gcmd.specs.Programs.{Runs};
 
 use crate::client_file::open_client;
@@ -158,10 +158,20 @@ fn send_report<A: Allocator + Copy, R: Sink>(
     ensures reports { Reports fetched.now (output_of R.contents R.passed_on R.is_down report.old report.new) result }
     ensures loans { R.loans report.new ≡ R.loans report.old }
 {
-    let Ok(text) = report_of(alloc, fetched) else {
-        return Err(ProgramFault::Memory);
-    };
-    match send(text.as_slice(), report) {
+    match report_of(alloc, fetched) {
+        Ok(text) => send_text(text.as_slice(), report),
+        Err(_) => Err(ProgramFault::Memory),
+    }
+}
+
+fn send_text<A: Allocator + Copy, R: Sink>(
+    text: &[u8],
+    report: &mut R,
+) -> Result<(), ProgramFault<A>>
+    ensures sends { SendsReport {A = A} text.now (output_of R.contents R.passed_on R.is_down report.old report.new) result }
+    ensures loans { R.loans report.new ≡ R.loans report.old }
+{
+    match send(text, report) {
         Ok(()) => Ok(()),
         Err(_) => Err(ProgramFault::WriteFailed),
     }

@@ -1,6 +1,6 @@
 use Rattle.std.proofs.Common.{take, map}
 use Rattle.std.specs.List.{AllZip}
-use Rattle.std.specs.String.{string_bytes}
+use Rattle.std.specs.Prelude.{string_bytes}
 use Rattle.gspec.specs.Refspecs.{IsSpec}
 use Rattle.gcmd.proofs.client_file.read_specs.Given as goal
 
