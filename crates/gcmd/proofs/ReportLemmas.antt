@@ -10,8 +10,10 @@ use Rattle.gspec.specs.declared.fault.SpecFault.{SpecFault}
 use Rattle.grepo.specs.Asks.{IsAskAt}
 use Rattle.grepo.specs.declared.ask.Ask.{Ask}
 use Rattle.grepo.specs.declared.ask.RefUpdate.{RefUpdate}
-use Rattle.gcmd.specs.Fetching.{IsSpecText, RefusesWord}
+use Rattle.gcmd.specs.Fetching.{IsSpecText, ReadsSpecs, RefusesWord}
 use Rattle.gcmd.specs.Reporting.{update_line, update_lines}
+use Rattle.gcmd.specs.declared.fault.ProgramFault.{ProgramFault}
+use Rattle.gcmd.specs.declared.fault.ProgramFault.TheVariants as program
 
 -- ---- the report
 
@@ -107,3 +109,8 @@ module _ {Z : Type 0} (words : List (String Z)) (place : ℕ) (word : String Z) 
       before = each_spec (map string_bytes (take place words)) specs so_far;
       refused = refused;
     }
+
+-- so is what is answered
+pub refuses_specs : {A : Type 0} (words : List (List ℕ)) (cause : SpecFault) (fault : ProgramFault A) → RefusesWord words cause
+    → fault ≡ program.Spec cause → ReadsSpecs words (Err fault)
+refuses_specs {A} words cause fault refused same = subst (λ (f : ProgramFault A). ReadsSpecs words (Err f)) (sym same) refused

@@ -1,6 +1,7 @@
 //! The repository that is fetched into, from its file, and what is fetched, from words.
 
-ghost use Rattle.std.specs.Prelude.{◌≡◌, ◌↔◌, ◌+◌, IsTrue, MatchResult, Ok, Err, length, map, string_bytes};
+ghost use Rattle.std.specs.Prelude.{◌≡◌, ◌↔◌, ◌+◌, ◌++◌, ◌∷◌, [], IfErr, IsTrue, MatchResult, OnOk, Ok, Err, length, map, string_bytes};
+ghost use Rattle.gspec.specs.declared.fault.SpecFault.TheVariants.{Memory};
 ghost use Rattle.gcmd.specs.Fetching.{OpensClient, ReadsSpecs, no_head};
 
 use crate::fault::ProgramFault;
@@ -21,11 +22,20 @@ pub fn read_specs<A: Allocator + Copy>(
     let mut specs = Vec::new(alloc);
     for word in words {
         let spec = Spec::parse(alloc, word.as_bytes())?;
-        if specs.push(spec).is_err() {
-            return Err(ProgramFault::Spec(SpecFault::Memory));
-        }
+        keep(&mut specs, spec)?;
     }
     Ok(specs)
+}
+
+// Keeps one refspec more.
+fn keep<A: Allocator + Copy>(specs: &mut Vec<Spec<A>, A>, spec: Spec<A>) -> Result<(), SpecFault>
+    ensures kept { OnOk result (specs.new.items ≡ specs.old.items ++ spec ∷ []) }
+    ensures fault { IfErr result (λ fault. fault ≡ Memory) }
+{
+    match specs.push(spec) {
+        Ok(()) => Ok(()),
+        Err(_) => Err(SpecFault::Memory),
+    }
 }
 
 /// The client's repository whose text is `file`, of either object format.

@@ -124,8 +124,8 @@ fn conclude<A: Allocator + Copy, R: Sink>(
     report: &mut R,
 ) -> (Result<(), ProgramFault<A>>, Option<Vec<u8, A>>)
     requires { length fetched.now.settled.updates.items ≡ length fetched.now.settled.asks }
-    ensures concludes { (old : RepoState A) → IsFetchedInto old repo.now fetched.now
-        → Concludes old repo.now fetched.now (output_of R.contents R.passed_on R.is_down report.old report.new)
+    ensures concludes { (before : RepoState A) → IsFetchedInto before repo.now fetched.now
+        → Concludes before repo.now fetched.now (output_of R.contents R.passed_on R.is_down report.old report.new)
         (option_map (λ text. text.items) result.1) result.0 }
     ensures loans { R.loans report.new ≡ R.loans report.old }
 {

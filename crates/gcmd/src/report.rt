@@ -61,8 +61,8 @@ fn put_update<A: Allocator + Copy>(
     id: &Oid,
     update: RefUpdate,
 ) -> Result<(), AllocError>
-    ensures { OnOk result ((ask : Ask A) → ask.name ≡ name.now → ask.id ≡ id.now
-        → text.new.items ≡ text.old.items ++ update_line ask update) }
+    ensures { OnOk result (((ask : Ask A) → ask.name ≡ name.now → ask.id ≡ id.now
+        → text.new.items ≡ text.old.items ++ update_line ask update)) }
 {
     match update {
         RefUpdate::Moved => {
