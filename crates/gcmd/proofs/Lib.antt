@@ -3,3 +3,5 @@ pub mod ProgramLemmas
 pub mod ServingLemmas
 pub mod OutputLemmas
 pub mod LinesLemmas
+pub mod ReportLemmas
+pub mod FetchLemmas

@@ -43,11 +43,22 @@ fn take_turn(calls: &mut usize, hindrance: Hindrance) -> io::Result<usize> {
     Ok(hindrance.most)
 }
 
+/// What is still to be read.
 #[derive(Drop)]
-struct Reader<'a> {
-    rest: &'a [u8],
+pub(super) struct Reader<'a> {
+    pub(super) rest: &'a [u8],
     hindrance: Hindrance,
     calls: usize,
+}
+
+impl<'a> Reader<'a> {
+    pub(super) fn new(bytes: &'a [u8], hindrance: Hindrance) -> Reader<'a> {
+        Reader {
+            rest: bytes,
+            hindrance,
+            calls: 0,
+        }
+    }
 }
 
 impl Read for Reader<'_> {
@@ -68,7 +79,7 @@ pub(super) struct Writer {
 }
 
 impl Writer {
-    fn new(alloc: Global, hindrance: Hindrance) -> Writer {
+    pub(super) fn new(alloc: Global, hindrance: Hindrance) -> Writer {
         Writer {
             written: Vec::new(alloc),
             passed_on: 0,
@@ -165,11 +176,7 @@ pub(super) fn run(
     input: &[u8],
     [read, write, print]: Hindrances,
 ) -> Ran {
-    let mut reader = Reader {
-        rest: input,
-        hindrance: read,
-        calls: 0,
-    };
+    let mut reader = Reader::new(input, read);
     let mut output = Writer::new(alloc, write);
     let mut errors = Writer::new(alloc, print);
     let mut source = FromRead::new(&mut reader);

@@ -149,9 +149,9 @@ fn calls_at_once(bytes: &[u8]) -> usize {
     if bytes.is_empty() { 0 } else { 2 }
 }
 
-// How many bytes stand written, and how many were passed on, where so many calls wrote a byte or passed on a piece
-// before one failed.
-fn standing(ends: &[usize], calls: usize) -> (usize, usize) {
+/// How many bytes stand written, and how many were passed on, where so many calls wrote a byte or passed on a piece
+/// before one failed. The pieces end at these places.
+pub(super) fn standing(ends: &[usize], calls: usize) -> (usize, usize) {
     let mut passed_on = 0;
     for (flushes, end) in ends.iter().enumerate() {
         let written = calls.saturating_sub(flushes);

@@ -1,0 +1,97 @@
+//! The report of a fetch.
+
+ghost use Rattle.std.specs.Prelude.{◌≡◌, ◌<◌, ◌++◌, IfOk, OnOk, Some, length, slice_get};
+ghost use Rattle.gname.specs.Ids.{id_text};
+ghost use Rattle.grepo.specs.declared.ask.Ask.{Ask};
+ghost use Rattle.gcmd.specs.Reporting.{fetch_report, update_line, update_lines};
+
+use gclient::{Asks, Fetched, RefUpdate};
+use gname::{MAX_ID_TEXT, Oid, RefName};
+use std::alloc::{AllocError, Allocator};
+
+/// The lines of the report: what became of each ask, in their order, and where an unborn HEAD of the server points. It
+/// fails where there is no memory.
+pub(crate) fn report_of<A: Allocator + Copy>(
+    alloc: A,
+    fetched: &Fetched<A>,
+) -> Result<Vec<u8, A>, AllocError>
+    requires { length fetched.now.settled.updates.items ≡ length fetched.now.settled.asks }
+    ensures { IfOk result (λ text. text.items ≡ fetch_report fetched.now) }
+{
+    let mut text = Vec::new(alloc);
+    put_updates(
+        &mut text,
+        &fetched.settled.asks,
+        fetched.settled.updates.as_slice(),
+    )?;
+    if let Some(name) = &fetched.unborn {
+        put_named(&mut text, b"unborn ", name)?;
+        text.extend_from_slice(b"\n")?;
+    }
+    Ok(text)
+}
+
+// What became of each ask.
+fn put_updates<A: Allocator + Copy>(
+    text: &mut Vec<u8, A>,
+    asks: &Asks<A>,
+    updates: &[RefUpdate],
+) -> Result<(), AllocError>
+    requires { length updates.now ≡ length asks.now }
+    ensures { OnOk result (text.new.items ≡ text.old.items ++ update_lines asks.now updates.now) }
+{
+    for place in 0..asks.len() {
+        let (name, id) = asks.at(place).unwrap();
+        put_update(text, name, &id, update_at(updates, place))?;
+    }
+    Ok(())
+}
+
+fn update_at(updates: &[RefUpdate], place: usize) -> RefUpdate
+    requires { place < length updates.now }
+    ensures { slice_get updates.now place ≡ Some result }
+{
+    updates[place]
+}
+
+// What became of an ask for a ref to stand at an id.
+fn put_update<A: Allocator + Copy>(
+    text: &mut Vec<u8, A>,
+    name: &RefName<A>,
+    id: &Oid,
+    update: RefUpdate,
+) -> Result<(), AllocError>
+    ensures { OnOk result (((ask : Ask A) → ask.name ≡ name.now → ask.id ≡ id.now
+        → text.new.items ≡ text.old.items ++ update_line ask update)) }
+{
+    match update {
+        RefUpdate::Moved => {
+            put_named(text, b"moved ", name)?;
+            text.extend_from_slice(b" ")?;
+            put_id(text, id)?;
+        }
+        RefUpdate::Same => put_named(text, b"same ", name)?,
+        RefUpdate::NotForward => put_named(text, b"notforward ", name)?,
+    }
+    text.extend_from_slice(b"\n")
+}
+
+// A word, and the name of a ref.
+fn put_named<A: Allocator + Copy>(
+    text: &mut Vec<u8, A>,
+    word: &[u8],
+    name: &RefName<A>,
+) -> Result<(), AllocError>
+    ensures { OnOk result (text.new.items ≡ text.old.items ++ (word.now ++ name.now)) }
+{
+    text.extend_from_slice(word)?;
+    text.extend_from_slice(name.as_bytes())
+}
+
+fn put_id<A: Allocator + Copy>(text: &mut Vec<u8, A>, id: &Oid) -> Result<(), AllocError>
+    ensures { OnOk result (text.new.items ≡ text.old.items ++ id_text id.now) }
+{
+    let mut digits = [0; MAX_ID_TEXT];
+    let count = id.to_hex(&mut digits);
+    text.extend_from_slice(&digits[..count])
+}
