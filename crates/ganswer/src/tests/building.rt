@@ -62,29 +62,25 @@ fn what_is_missing_is_reported(rt: HostRuntime) -> Result<(), Fail> {
     Ok(())
 }
 
+// What is reported where a ref is set to the id of a digit.
+fn set_ref_reports(
+    alloc: Global,
+    server: &mut Server,
+    text: &str,
+    digit: u8,
+) -> Result<Vec<u8>, Fail> {
+    match server.set_ref(name(alloc, text)?, id(digit)?) {
+        Ok(()) => Ok(Vec::new(alloc)),
+        Err(fault) => reported(alloc, &fault),
+    }
+}
+
 // A ref at a missing object is reported by its name, and not as if there were no memory for that.
 #[test]
 fn a_missing_ref_is_named(rt: HostRuntime) -> Result<(), Fail> {
-    let text = spelled(
-        rt.alloc(),
-        b"gitv2 1\nc {a}\nr {b} refs/heads/b\nh none\nend\n",
-    )?;
-    let parts = load(rt.alloc(), text.as_slice(), Order::Any)?;
-    match Server::new(parts.graph, parts.refs, parts.head) {
-        Err(BuildFault::RefMissing { name }) => {
-            assert_eq!(rt; name.as_bytes(), b"refs/heads/b".as_slice());
-        }
-        Err(fault) => assert_eq!(rt; fault.name(), "RefMissing"),
-        Ok(_) => assert!(rt; false, "a ref at a missing object"),
-    }
     let mut server = server(rt.alloc(), SERVER)?;
-    match server.set_ref(name(rt.alloc(), "refs/heads/x")?, id(b'd')?) {
-        Err(BuildFault::RefMissing { name }) => {
-            assert_eq!(rt; name.as_bytes(), b"refs/heads/x".as_slice());
-        }
-        Err(fault) => assert_eq!(rt; fault.name(), "RefMissing"),
-        Ok(()) => assert!(rt; false, "a ref at a missing object"),
-    }
+    let named = set_ref_reports(rt.alloc(), &mut server, "refs/heads/x", b'd')?;
+    assert_eq!(rt; named.as_slice(), b"refs/heads/x".as_slice());
     Ok(())
 }
 
