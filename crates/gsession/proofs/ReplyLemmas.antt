@@ -103,13 +103,13 @@ module _ {A : Type 0} where
   grows_on : (f g h : List (Entry A)) → Grows f g → Grows g h → Grows f h
   grows_on f g h first next = (first.0 ++ next.0, next.1 ∙ ap (λ (l : List (Entry A)). l ++ next.0) first.1 ∙ append_assoc f first.0 next.0)
 
-  grows_to : (g h : List (Entry A)) → h ≡ g → Grows g h
+  pub grows_to : (g h : List (Entry A)) → h ≡ g → Grows g h
   grows_to g h same = ([], same ∙ sym (append-nil g))
 
   comes_grows : (format : Format) (old : List (Entry A)) (entry : Entry A) (new : List (Entry A)) → ComesIn format old entry new → Grows old new
   comes_grows format old entry new comes = elim comes.comes [ inl held ↦ grows_to old new held.1 | inr added ↦ (entry ∷ [], added.1) ]
 
-  inserts_grow : (format : Format) (old entries new : List (Entry A)) → Inserts format old entries new → Grows old new
+  pub inserts_grow : (format : Format) (old entries new : List (Entry A)) → Inserts format old entries new → Grows old new
   inserts_grow format old [] new inserts = grows_to old new inserts
   inserts_grow format old (entry ∷ entries) new inserts =
       grows_on old inserts.0 new (comes_grows format old entry inserts.0 inserts.1) (inserts_grow format inserts.0 entries new inserts.2)
