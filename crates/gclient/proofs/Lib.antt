@@ -4,3 +4,5 @@ pub mod TurnLemmas
 pub mod TalkLemmas
 pub mod RoundLemmas
 pub mod KeptLemmas
+pub mod CountLemmas
+pub mod EndLemmas

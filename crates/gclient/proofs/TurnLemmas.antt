@@ -205,7 +205,7 @@ module _ {A : Type 0} (indexes : Indexes A) (index_fails : IndexFails) where
 grows_none : {A : Type 0} (g h : List (Entry A)) → h ≡ g → Grows g h
 grows_none g h is = ([], is ∙ sym (append-nil g))
 
-grows_on : {A : Type 0} (g h k : List (Entry A)) → Grows g h → Grows h k → Grows g k
+pub grows_on : {A : Type 0} (g h k : List (Entry A)) → Grows g h → Grows h k → Grows g k
 grows_on {A} g h k first next =
     (first.0 ++ next.0, next.1 ∙ (ap (λ (xs : List (Entry A)). xs ++ next.0) first.1 ∙ append_assoc g first.0 next.0))
 

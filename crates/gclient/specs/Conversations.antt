@@ -2,7 +2,6 @@
 -- bytes that are read (gitprotocol-v2(5), "Initial Client Request" and "Command Request").
 use Rattle.std.specs.Prelude.{◌≡◌, ◌⊎◌, ℕ, ◌≤◌, false, List, [], ◌∷◌, ◌++◌, length, Option, None, Some, Result, Ok, Err}
 use Rattle.std.specs.List.{flat_map}
-use Rattle.std.specs.Map.{values_of}
 use Rattle.gname.specs.declared.formats.Format.{Format}
 use Rattle.gpkt.specs.Devices.{KeepsPassed}
 use Rattle.gpkt.specs.LineReading.{ReadsLines}
@@ -14,7 +13,6 @@ use Rattle.ggrammar.specs.declared.ends.Ends.{Ends}
 use Rattle.ggrammar.specs.declared.fault.MessageFault.{MessageFault}
 use Rattle.ghello.specs.Adverts as advert
 use Rattle.ghello.specs.Offers.{check_fault}
-use Rattle.ghistory.specs.Levels.{distinct_of}
 use Rattle.gobject.specs.Packs.{Indexes, IndexFails}
 use Rattle.gspec.specs.Refspecs.{Refspec}
 use Rattle.grepo.specs.Changes.{SettlesAsks}
@@ -23,6 +21,7 @@ use Rattle.grepo.specs.declared.fault.RepoFault.{RepoFault}
 use Rattle.grequest.specs.Asked.{Asked, Empty}
 use Rattle.grequest.specs.RequestWriting.{canonical_request}
 use Rattle.gsession.specs.Requesting.{Requests}
+pub use Rattle.gsession.specs.Sessions.{tips_of}
 use Rattle.gsession.specs.Sessions.{SessionState, Begins, max_specs, new_session, no_memory, tells_unborn}
 use Rattle.gsession.specs.declared.stage.Stage.TheVariants.{Settling}
 use Rattle.gsession.specs.declared.fault.ClientFault.{ClientFault}
@@ -103,10 +102,7 @@ pub record IsLeft (rest : Input) : Type 0 where
 
 -- ---- a conversation so far
 
--- the tips: the distinct ids of the refs
-abbrev pub tips_of : {A : Type 0} → RepoState A → List (List ℕ)
-tips_of repo = distinct_of (values_of repo.refs)
-
+-- what a conversation over this repository begins with
 abbrev pub start_of : {A : Type 0} → RepoState A → List Refspec → ℕ → Ends → Start A
 start_of repo refspecs limit ends = record { repo = repo; refspecs = refspecs; limit = limit; ends = ends }
 

@@ -1,6 +1,7 @@
 pub mod Turns
 pub mod Conversations
 pub mod Steps
+pub mod Laws
 pub mod Faults
 pub use Rattle.gsession.specs.Sessions
 pub use Rattle.gsession.specs.Asking
@@ -12,3 +13,10 @@ pub use Rattle.gsession.specs.Bounds
 pub use Rattle.grepo.specs.Changes
 pub use Rattle.grepo.specs.Repos
 pub use Rattle.grepo.specs.Settling
+pub use Rattle.gpkt.specs.Sending
+pub use Rattle.ghistory.specs.Reach
+pub use Rattle.ghistory.specs.Walks
+pub use Rattle.ggrammar.specs.MessageReading
+pub use Rattle.ghello.specs.Adverts
+pub use Rattle.ghello.specs.Offers
+pub use Rattle.grequest.specs.RequestWriting

@@ -66,6 +66,7 @@ Closes session old output new (Err fault.WriteFailed) =
     SendsSome output (request_bytes old.graph.format Empty) × KeepsPassed output.passed_on × (new ≡ old)
 Closes session old output new (Err _) = ⊥
 
+-- a client by its parts
 abbrev pub client_of : {A : Type 0} → SessionState A → RepoState A → Option (List ℕ) → ClientState A
 client_of session repo unborn = record { session = session; repo = repo; unborn = unborn }
 

@@ -90,6 +90,7 @@ module _ {A : Type 0} (indexes : Indexes A) (index_fails : IndexFails) where
   IsUntaken waiting (Fetches asked) repo change cause =
       IsTakeFault indexes index_fails waiting repo change cause
 
+  -- the reply to a request is not taken, and the fault is the source's exactly where that is down
   pub record Refuses (waiting : SessionState A) (asked : Asked) (repo : RepoState A) (input : Input)
       (cause : ClientFault A) : Type 0 where
     pub untaken : IsUntaken waiting asked repo input.read cause

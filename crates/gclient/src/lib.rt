@@ -15,8 +15,8 @@
 //! - Where the sink fails, the requests before are passed on, and a beginning of what was due next stands.
 //! - After every fault the refs are as they were. In all cases to the graph objects only came, and the whole ancestry
 //!   of each ref is held.
-//! - A conversation asks for objects at most once more than there are ids that the refs reached when it began. So it
-//!   ends where each call of its devices returns, whatever the server says.
+//! - A conversation asks for objects at most once more than there are ids that the refs reached when it began, also
+//!   where it fails ([`laws`]). So it ends where each call of its devices returns, whatever the server says.
 //! - Each fault has the number and the name of its row.
 //!
 //! # Only tested
@@ -41,6 +41,7 @@
 mod conversation;
 mod fault;
 mod fetched;
+pub mod laws;
 mod send;
 #[cfg(test)]
 mod tests;

@@ -10,3 +10,7 @@ pub mod ReplyLemmas
 pub mod LsLemmas
 pub mod TakingLaws
 pub mod NextLaws
+pub mod CallLemmas
+pub mod LastLemmas
+pub mod NamedLemmas
+pub mod LawLemmas

@@ -103,13 +103,13 @@ module _ {A : Type 0} where
   grows_on : (f g h : List (Entry A)) → Grows f g → Grows g h → Grows f h
   grows_on f g h first next = (first.0 ++ next.0, next.1 ∙ ap (λ (l : List (Entry A)). l ++ next.0) first.1 ∙ append_assoc f first.0 next.0)
 
-  grows_to : (g h : List (Entry A)) → h ≡ g → Grows g h
+  pub grows_to : (g h : List (Entry A)) → h ≡ g → Grows g h
   grows_to g h same = ([], same ∙ sym (append-nil g))
 
   comes_grows : (format : Format) (old : List (Entry A)) (entry : Entry A) (new : List (Entry A)) → ComesIn format old entry new → Grows old new
   comes_grows format old entry new comes = elim comes.comes [ inl held ↦ grows_to old new held.1 | inr added ↦ (entry ∷ [], added.1) ]
 
-  inserts_grow : (format : Format) (old entries new : List (Entry A)) → Inserts format old entries new → Grows old new
+  pub inserts_grow : (format : Format) (old entries new : List (Entry A)) → Inserts format old entries new → Grows old new
   inserts_grow format old [] new inserts = grows_to old new inserts
   inserts_grow format old (entry ∷ entries) new inserts =
       grows_on old inserts.0 new (comes_grows format old entry inserts.0 inserts.1) (inserts_grow format inserts.0 entries new inserts.2)
@@ -162,8 +162,8 @@ module _ {A : Type 0} where
     read_fault : (s : SessionState A) (repo_old : RepoState A) (change : Change) (asked : FetchAsked) (reply : FetchReply) (fault : ClientFault A)
         → Awaits s asked → ReadsFetch (reading_for s asked) change reply → IsReplyFault indexes index_fails asked.haves repo_old reply fault
         → IsTakeFault indexes index_fails s repo_old change fault
-    read_fault s repo_old change asked reply NoOpenRequest waits reads is = absurd is.2
-    read_fault s repo_old change asked reply (Message fault) waits reads is = absurd is.2
+    read_fault s repo_old change asked reply NoOpenRequest waits reads is = absurd is
+    read_fault s repo_old change asked reply (Message fault) waits reads is = absurd is
     read_fault s repo_old change asked reply (Index fault) waits reads is = (asked, waits, (reply, reads, is))
     read_fault s repo_old change asked reply TooManySpecs waits reads is = (asked, waits, (reply, reads, is))
     read_fault s repo_old change asked reply (StrangeAck id) waits reads is = (asked, waits, (reply, reads, is))
@@ -182,8 +182,8 @@ module _ {A : Type 0} where
     read_leaves : {S : Type 0} (is_down : S → Bool) (was now : Reader S) (haves : List (List ℕ)) (s : RepoState A) (reply : FetchReply) (fault : ClientFault A)
         → LeavesReader {M = Unit {0}} is_down was now (Ok tt) → IsReplyFault indexes index_fails haves s reply fault
         → LeavesReplies {T = Taken} is_down was now (Err fault)
-    read_leaves is_down was now haves s reply NoOpenRequest leaves is = absurd is.2
-    read_leaves is_down was now haves s reply (Message fault) leaves is = absurd is.2
+    read_leaves is_down was now haves s reply NoOpenRequest leaves is = absurd is
+    read_leaves is_down was now haves s reply (Message fault) leaves is = absurd is
     read_leaves is_down was now haves s reply _ leaves is = leaves
 
     pub answer_leaves : {S : Type 0} (is_down : S → Bool) (was now : Reader S) (haves : List (List ℕ)) (old : SessionState A) (repo_old : RepoState A) (reply : FetchReply)

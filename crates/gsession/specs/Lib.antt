@@ -4,7 +4,9 @@ pub mod Requesting
 pub mod TakingRefs
 pub mod TakingReplies
 pub mod SettlingRefs
+pub mod Calls
 pub mod Bounds
+pub mod Laws
 pub mod Feeding
 pub mod Faults
 pub use Rattle.gspec.specs.Refspecs
@@ -13,3 +15,14 @@ pub use Rattle.grepo.specs.Repos
 pub use Rattle.grepo.specs.Settling
 pub use Rattle.grequest.specs.Asked
 pub use Rattle.ghistory.specs.Offer
+pub use Rattle.ghistory.specs.Reach
+pub use Rattle.ghistory.specs.Levels
+pub use Rattle.ghistory.specs.Insert
+pub use Rattle.gobject.specs.Packs
+pub use Rattle.gpkt.specs.Change
+pub use Rattle.gpkt.specs.LineReading
+pub use Rattle.ggrammar.specs.MessageReading
+pub use Rattle.ghello.specs.Offers
+pub use Rattle.glsreply.specs.LsReplies
+pub use Rattle.gfetchreply.specs.FetchReplies
+pub use Rattle.gfetchreply.specs.FetchHeads

@@ -115,6 +115,10 @@ no_memory = Repo (repo.Graph graph.Memory)
 
 -- ---- beginning
 
+-- the tips: the distinct ids of the refs
+abbrev pub tips_of : {A : Type 0} → RepoState A → List (List ℕ)
+tips_of repo = distinct_of (values_of repo.refs)
+
 -- a session as it begins
 abbrev pub new_session : {A : Type 0} → Format → List Refspec → ℕ → Ends → List (List ℕ) → SessionState A
 new_session format refspecs limit ends tips = record {
@@ -138,7 +142,7 @@ abbrev pub Begins : {A : Type 0} → RepoState A → List Refspec → ℕ → En
     → Result (SessionState A) (ClientFault A) → Type 0
 Begins r refspecs limit ends (Ok session) =
     (length refspecs ≤ max_specs)
-    × (session ≡ new_session r.graph.format refspecs limit ends (distinct_of (values_of r.refs)))
+    × (session ≡ new_session r.graph.format refspecs limit ends (tips_of r))
 Begins r refspecs limit ends (Err TooManySpecs) = max_specs < length refspecs
 Begins r refspecs limit ends (Err (Repo (repo.Graph graph.Memory))) = length refspecs ≤ max_specs
 Begins r refspecs limit ends (Err _) = ⊥

@@ -103,6 +103,5 @@ AnswersLs old g change new (Err fault) = IsLsFault old g change fault × (new �
 -- what taking a reply answers: a whole one is read, and its refs are taken; or why not
 abbrev pub TakesLs : {A : Type 0} → SessionState A → List (Entry A) → Change → SessionState A
     → Result (LsTaken A) (ClientFault A) → Type 0
-TakesLs old g change new (Ok taken) =
-    AwaitsRefs old × ((reply : LsReply) × ReadsRefs old change reply × TakesLines old g reply new taken)
+TakesLs old g change new (Ok taken) = AnswersLs old g change new (Ok taken)
 TakesLs old g change new (Err fault) = IsLsFault old g change fault × (new ≡ after_fault old fault)

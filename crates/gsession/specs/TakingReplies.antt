@@ -77,19 +77,16 @@ module _ {A : Type 0} (indexes : Indexes A) (index_fails : IndexFails) where
   RefusesPack s pack fault =
       (entries : List (Entry A)) × indexes pack entries × IsRefused s.graph.format s.graph.entries entries fault
 
-  -- why a pack is not taken: the indexer refuses it, or the graph its objects
-  abbrev pub IsPackFault : RepoState A → List ℕ → ClientFault A → Type 0
-  IsPackFault s pack (Index fault) = index_fails pack fault
-  IsPackFault s pack (Repo (repo.Graph fault)) = RefusesPack s pack fault
-  IsPackFault s pack _ = ⊥
-
-  -- why a reply is not taken that was read: an id is acknowledged that the request did not name; or else its pack is not
-  -- taken; or there is no memory
+  -- why a reply is not taken that was read: an id is acknowledged that the request did not name; or else the indexer
+  -- refuses its pack, or the graph the pack's objects; or there is no memory
   abbrev pub IsReplyFault : List (List ℕ) → RepoState A → FetchReply → ClientFault A → Type 0
   IsReplyFault haves s reply (StrangeAck id) = IsFirstStrange haves (acks_of reply) id
   IsReplyFault haves s reply (Repo (repo.Graph graph.Memory)) = Unit {0}
-  IsReplyFault haves s reply fault =
-      All (Contains haves) (acks_of reply) × HasPack reply × IsPackFault s (pack_of reply) fault
+  IsReplyFault haves s reply (Repo (repo.Graph fault)) =
+      All (Contains haves) (acks_of reply) × HasPack reply × RefusesPack s (pack_of reply) fault
+  IsReplyFault haves s reply (Index fault) =
+      All (Contains haves) (acks_of reply) × HasPack reply × index_fails (pack_of reply) fault
+  IsReplyFault haves s reply _ = ⊥
 
   -- what taking a reply changes that was read: with acknowledgments alone only the common ids; with a pack the objects,
   -- too
@@ -167,10 +164,7 @@ module _ {A : Type 0} (indexes : Indexes A) (index_fails : IndexFails) where
   -- what taking a reply answers: a whole one is read and taken; or why not, and the repository stays
   abbrev pub TakesReply : SessionState A → RepoState A → Change → SessionState A → RepoState A
       → Result Taken (ClientFault A) → Type 0
-  TakesReply old repo_old change new repo_new (Ok taken) =
-      (asked : FetchAsked) × Awaits old asked
-      × ((reply : FetchReply) × ReadsFetch (reading_for old asked) change reply
-      × TakesRead indexes index_fails asked.haves old repo_old reply new repo_new taken)
+  TakesReply old repo_old change new repo_new (Ok taken) = AnswersReply old repo_old change new repo_new (Ok taken)
   TakesReply old repo_old change new repo_new (Err fault) =
       IsTakeFault old repo_old change fault × (new ≡ after_fault old fault) × (repo_new ≡ repo_old)
 
