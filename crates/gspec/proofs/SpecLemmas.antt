@@ -1,23 +1,22 @@
 -- Facts on the texts of refspecs.
-use Rattle.std.proofs.Common.{◌≡◌, ◌≢◌, ℕ, ◌+◌, ◌<◌, ◌≤◌, zero, suc, Bool, true, false, ◌==◌, cond, nat_lt, List, [], ◌∷◌, ◌++◌, length, take, drop, get_or, Option, None, Some, Result, Ok, Err, refl, sym, ap, ◌∙◌, subst, arith, inl, inr, ◌⊎◌, append_assoc}
-use Rattle.std.specs.Prelude.{All, codes, nat_eq, position, IsTrue}
-use Rattle.std.specs.List.{ends_with, starts_with, position_or_len}
-use Rattle.std.specs.Str.{bytes_eq}
-use Rattle.std.proofs.lemmas.Bool.{lt-ltb, le-ltb, ne_eqb, eqb-true, cases_Bool, false≢true}
-use Rattle.std.proofs.lemmas.Bool.Decides.{nat_tests, Decides-eqb}
-use Rattle.std.proofs.lemmas.List.{append_cancel_left, append_cancel_right, append-nil, take_at, drop_at, length-append, get_or_at, get_or_append_left, take-append-drop, drop_more}
+use Rattle.std.proofs.Common.{◌≡◌, ◌≢◌, ℕ, ◌+◌, ◌<◌, Bool, true, false, ◌==◌, nat_lt, List, [], ◌∷◌, ◌++◌, length, take, drop, get_or, None, Some, Result, Ok, Err, refl, sym, ap, ◌∙◌, subst, arith, append_assoc}
+use Rattle.std.specs.Prelude.{All, codes, nat_eq, position}
+use Rattle.std.specs.List.{starts_with, position_or_len}
+use Rattle.std.proofs.lemmas.Bool.{lt-ltb, ne_eqb, eqb-true, false≢true}
+use Rattle.std.proofs.lemmas.Bool.Decides.{Decides-eqb}
+use Rattle.std.proofs.lemmas.List.{append_cancel_right, take_at, drop_at, length-append, get_or_at, get_or_append_left, take-append-drop, drop_more}
 use Rattle.std.proofs.lemmas.List.Elements.{All-append, All-weaker, All-cons, All-nil}
 use Rattle.std.proofs.lemmas.List.Quantifiers.{position-Some}
-use Rattle.std.proofs.lemmas.List.Sums.{position_or_len_is, split_at_first}
+use Rattle.std.proofs.lemmas.List.Sums.{position_or_len_is}
 use Rattle.std.proofs.lemmas.Option.{none-some, same_Some}
-use Rattle.std.proofs.lemmas.Slice.Eq.{bytes_eq-Decides, starts_is, ends_is}
-use Rattle.gname.specs.Names.{IsRefName, Owns, empty, head_name, is_bad_byte, max_name, name_fault, too_long}
-use Rattle.gname.specs.Laws.{NameFacts, NamesAreClean}
+use Rattle.std.proofs.lemmas.Slice.Eq.{starts_is}
+use Rattle.gname.specs.Names.{IsRefName, empty, head_name, is_bad_byte, max_name, name_fault, too_long}
+use Rattle.gname.specs.Laws.{NamesAreClean}
 use Rattle.gname.specs.declared.faults.NameFault.TheVariants.{TooLong}
 use Rattle.grefs.specs.RefLists.{IsBelowRefs}
 use Rattle.gspec.specs.declared.fault.SpecFault.{SpecFault}
 use Rattle.gspec.specs.declared.fault.SpecFault.TheVariants.{BadSpec, Memory}
-use Rattle.gspec.specs.Refspecs.{Refspec, AreSides, IsRefspec, IsSpec, IsStem, OneReading, Reads, force_text, side_text, sides_text, spec_text}
+use Rattle.gspec.specs.Refspecs.{Refspec, AreSides, IsRefspec, IsSpec, IsStem, OneReading, Reads, force_text, side_text, sides_text}
 use Rattle.gspec.specs.Parsing.{HasSides, HasTexts, IsRest, is_colon}
 
 -- a text with more bytes than a name has is too long for one, and that comes first

@@ -3,7 +3,7 @@ use Rattle.std.specs.Prelude.{◌≡◌, ℕ, Bool, true, false, ◌&&◌, List,
 use Rattle.std.specs.Prelude.{if◌then◌else◌, Option, None, Some, Result, Ok, Err}
 use Rattle.std.specs.List.{ends_with, starts_with}
 use Rattle.std.specs.Str.{bytes_eq}
-use Rattle.gname.specs.Names.{IsRefName, Owns, head_name, name_fault}
+use Rattle.gname.specs.Names.{IsRefName, Owns, name_fault}
 use Rattle.gname.specs.declared.faults.NameFault.{NameFault}
 use Rattle.grefs.specs.RefLists.{IsBelowRefs}
 use Rattle.gspec.specs.declared.fault.SpecFault.{SpecFault}

@@ -1,4 +1,4 @@
-use Rattle.std.proofs.Common.{sym, ◌∙◌, ◌+◌}
+use Rattle.std.proofs.Common.{sym, ◌+◌}
 use Rattle.std.proofs.lemmas.List.{take_rest}
 use Rattle.gspec.proofs.SpecLemmas.{with_colon, without_colon}
 use Rattle.gspec.proofs.parse.read_rest.Goals as goal
