@@ -1,5 +1,5 @@
 -- Bytes that were put, and are passed on.
-use Rattle.std.proofs.Common.{◌≡◌, ℕ, Bool, List, ◌++◌, Option, Some, None, Ok, Err, Result, refl, sym, ap, ◌∙◌, inr}
+use Rattle.std.proofs.Common.{◌≡◌, ℕ, Bool, List, ◌++◌, Option, Some, None, Ok, Err, Result, refl, ap, ◌∙◌, inr}
 use Rattle.std.specs.Prelude.{IsSome, OnErr, OnOk, is_err}
 use Rattle.std.proofs.lemmas.Bool.{false≢true}
 use Rattle.std.proofs.KnownBytes.{Appends-kept}

@@ -1,5 +1,5 @@
-//! Connections of several requests, as `upload` serves them (gitprotocol-v2(5), "Command Request"): whole, and cut after
-//! each of their bytes.
+//! Connections of several requests, as `upload` serves them (gitprotocol-v2(5), "Command Request"): whole, and cut
+//! after each of their bytes.
 use crate::tests::cuts::{Request, ends_within, request_len, spelled_len};
 use crate::tests::devices::{FREE, Program, SLOW};
 use crate::tests::programs::Run;
@@ -46,8 +46,8 @@ const CLONE_REPLY: &[u8] = b"000dpackfile\n00e3\x01GPK1\nc {a}\nc {b} {a}\nc {c}
 /// The lone flush by which a client ends the connection.
 const END: Request<'static> = &[b"0000"];
 
-// The requests one after the other; what is written: the advertisement, and then for each of them; and what is printed at
-// the end.
+// The requests one after the other; what is written: the advertisement, and then for each of them; and what is printed
+// at the end.
 type Connection = (
     &'static [Request<'static>],
     &'static [&'static [u8]],
@@ -261,16 +261,20 @@ fn check_long_cut(
     Ok(())
 }
 
-// Such a request is cut where each packet begins, within its length, and before its last byte; one with a want too many
-// up to that want.
+// Packets of such a request: those before its wants, some wants, the last that may be, and the one that is too many.
+const CUT: [usize; 9] = [0, 1, 2, 3, 4, 700, 1_025, 1_026, 1_027];
+
+// It is cut where each of these begins, within its length, and before its last byte.
 #[test]
 fn requests_with_many_wants_are_cut(rt: HostRuntime) -> Result<(), Fail> {
     let packets = wants(rt.alloc(), 1_025)?;
     let mut begin = 0usize;
-    for packet in packets.iter().take(1_028) {
+    for (place, packet) in packets.iter().enumerate() {
         let end = begin.saturating_add(spelled_len(packet));
-        for cut in [begin, begin.saturating_add(2), end.saturating_sub(1)] {
-            check_long_cut(&rt, rt.alloc(), packets.as_slice(), cut)?;
+        if CUT.contains(&place) {
+            for cut in [begin, begin.saturating_add(2), end.saturating_sub(1)] {
+                check_long_cut(&rt, rt.alloc(), packets.as_slice(), cut)?;
+            }
         }
         begin = end;
     }

@@ -22,8 +22,8 @@ pub(super) fn packets_within(request: Request<'_>, len: usize) -> (usize, bool) 
     (request.len(), true)
 }
 
-/// The bytes of a request. Ids are written out: each brace of the text stands for no byte, and the digit between two for
-/// forty or sixty-four.
+/// The bytes of a request. Ids are written out: each brace of the text stands for no byte, and the digit between two
+/// for forty or sixty-four.
 pub(super) fn request_len(request: Request<'_>) -> usize {
     let mut len = 0usize;
     for packet in request {
@@ -47,8 +47,8 @@ pub(super) fn spelled_len(packet: &[u8]) -> usize {
     len
 }
 
-/// The input ends after so many bytes of the request: where there are some, that is written, and printed with the packet
-/// in which it ends.
+/// The input ends after so many bytes of the request: where there are some, that is written, and printed with the
+/// packet in which it ends.
 pub(super) fn ends_within(
     alloc: Global,
     request: Request<'_>,

@@ -1,5 +1,5 @@
-//! Memory that ends: programs are run in an arena that has eight bytes more each time. They have the outcomes of a table,
-//! in its order, and no others.
+//! Memory that ends: programs are run in an arena that has eight bytes more each time. They have the outcomes of a
+//! table, in its order, and no others.
 use crate::tests::devices::{Program, start};
 use crate::tests::samples::{ADVERT, NO_MEMORY, TAGGED, TAGGED_ROOT, joined, spelled};
 use bumpalo::Bump;
