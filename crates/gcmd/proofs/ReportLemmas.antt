@@ -11,7 +11,7 @@ use Rattle.grepo.specs.Asks.{IsAskAt}
 use Rattle.grepo.specs.declared.ask.Ask.{Ask}
 use Rattle.grepo.specs.declared.ask.RefUpdate.{RefUpdate}
 use Rattle.gcmd.specs.Fetching.{IsSpecText, ReadsSpecs, RefusesWord}
-use Rattle.gcmd.specs.Reporting.{update_line, update_lines}
+use Rattle.gcmd.specs.Reporting.{update_line, update_lines, update_text}
 use Rattle.gcmd.specs.declared.fault.ProgramFault.{ProgramFault}
 use Rattle.gcmd.specs.declared.fault.ProgramFault.TheVariants as program
 
@@ -27,14 +27,25 @@ module _ {A : Type 0} where
       ap (λ (t : List ℕ). update_line a b ++ t) (lines_push xs ys x y (omega (arith, same)))
       ∙ sym (append_assoc (update_line a b) (update_lines xs ys) (update_line x y))
 
-  -- what became of one ask more
-  pub updates_more : (asks : List (Ask A)) (updates : List RefUpdate) (place : ℕ) (name id : List ℕ) (update : RefUpdate)
-      (first old new : List ℕ) → length updates ≡ length asks → place < length asks → IsAskAt asks place name id
+  -- what became of the ask at a place
+  pub put_standing : (asks : List (Ask A)) (place : ℕ) (name id : List ℕ) (update : RefUpdate) (old new : List ℕ)
+      → IsAskAt asks place name id → new ≡ old ++ update_text name id update
+      → (ask : Ask A) × (slice_get asks place ≡ Some ask) × (new ≡ old ++ update_line ask update)
+  put_standing asks place name id update old new at put = (
+    at.0,
+    at.1,
+    put ∙ ap (λ (n : List ℕ). old ++ update_text n id update) (sym at.2)
+        ∙ ap (λ (i : List ℕ). old ++ update_text at.0.name i update) (sym at.3),
+  )
+
+  -- and of one more
+  pub updates_more : (asks : List (Ask A)) (updates : List RefUpdate) (place : ℕ) (update : RefUpdate)
+      (first old new : List ℕ) → length updates ≡ length asks → place < length asks
       → slice_get updates place ≡ Some update → old ≡ first ++ update_lines (take place asks) (take place updates)
-      → ((ask : Ask A) → ask.name ≡ name → ask.id ≡ id → new ≡ old ++ update_line ask update)
+      → ((ask : Ask A) × (slice_get asks place ≡ Some ask) × (new ≡ old ++ update_line ask update))
       → new ≡ first ++ update_lines (take (place + 1) asks) (take (place + 1) updates)
-  updates_more asks updates place name id update first old new same inside at got so_far put =
-      let ask : Ask A = at.0 in
+  updates_more asks updates place update first old new same inside got so_far put =
+      let ask : Ask A = put.0 in
       let lines = update_lines (take place asks) (take place updates) in
       let within : place < length updates = omega (arith, same, inside) in
       let low : place ≤ length asks = omega (arith, inside) in
@@ -43,11 +54,11 @@ module _ {A : Type 0} where
       length-take-le place asks low ∙ sym (length-take-le place updates low_too) in
       let next_ask : take (place + 1) asks ≡ take place asks ++ ask ∷ [] =
       take_more asks place ask inside
-      ∙ ap (λ (a : Ask A). take place asks ++ a ∷ []) (get_or_from_slice_get asks place ask ask at.1) in
+      ∙ ap (λ (a : Ask A). take place asks ++ a ∷ []) (get_or_from_slice_get asks place ask ask put.1) in
       let next_update : take (place + 1) updates ≡ take place updates ++ update ∷ [] =
       take_more updates place update within
       ∙ ap (λ (u : RefUpdate). take place updates ++ u ∷ []) (get_or_from_slice_get updates place update update got) in
-      put ask at.2 at.3
+      put.2
       ∙ ap (λ (t : List ℕ). t ++ update_line ask update) so_far
       ∙ append_assoc first lines (update_line ask update)
       ∙ ap (λ (t : List ℕ). first ++ t) (sym (lines_push (take place asks) (take place updates) ask update long))

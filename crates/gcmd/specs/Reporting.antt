@@ -6,11 +6,15 @@ use Rattle.grepo.specs.declared.ask.RefUpdate.{RefUpdate}
 use Rattle.grepo.specs.declared.ask.RefUpdate.TheVariants.{Moved, NotForward, Same}
 use Rattle.gclient.specs.declared.fetched.Fetched.{Fetched}
 
+-- what became of a ref that was to stand at an id
+abbrev pub update_text : (name id : List ℕ) → RefUpdate → List ℕ
+update_text name id Moved = codes "moved " ++ (name ++ (codes " " ++ (id_text id ++ codes "\n")))
+update_text name id Same = codes "same " ++ (name ++ codes "\n")
+update_text name id NotForward = codes "notforward " ++ (name ++ codes "\n")
+
 -- what became of an ask
 abbrev pub update_line : {A : Type 0} → Ask A → RefUpdate → List ℕ
-update_line ask Moved = codes "moved " ++ (ask.name ++ (codes " " ++ (id_text ask.id ++ codes "\n")))
-update_line ask Same = codes "same " ++ (ask.name ++ codes "\n")
-update_line ask NotForward = codes "notforward " ++ (ask.name ++ codes "\n")
+update_line ask update = update_text ask.name ask.id update
 
 -- what became of each
 abbrev pub update_lines : {A : Type 0} → List (Ask A) → List RefUpdate → List ℕ

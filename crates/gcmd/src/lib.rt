@@ -49,8 +49,9 @@
 //! # Stands on
 //!
 //! `gserve` for connections and `ganswer` for the server, `gclient` for the client, `gfetchreply` for the limit of a
-//! pack, `ggraph` for repositories' texts and plain packs, `ggrammar` for how replies end, `gpkt` for packet lines and devices, `gname` for ids, `arrayvec` for texts of bounded length, `hex` for
-//! digits, `itoa` for numbers, `thiserror` for the texts of faults; in tests `bumpalo`, for memory that ends.
+//! pack, `ggraph` for repositories' texts and plain packs, `ggrammar` for how replies end, `gpkt` for packet lines and
+//! devices, `gname` for ids, `arrayvec` for texts of bounded length, `hex` for digits, `itoa` for numbers, `thiserror` for
+//! the texts of faults; in tests `bumpalo`, for memory that ends.
 #![tactic(auto)]
 
 mod check;

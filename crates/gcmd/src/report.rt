@@ -1,9 +1,10 @@
 //! The report of a fetch.
 
-ghost use Rattle.std.specs.Prelude.{◌≡◌, ◌<◌, ◌++◌, IfOk, OnOk, Some, length, slice_get};
+ghost use Rattle.std.specs.Prelude.{◌≡◌, ◌<◌, ◌++◌, IfOk, OnOk, Some, codes, length, slice_get};
 ghost use Rattle.gname.specs.Ids.{id_text};
 ghost use Rattle.grepo.specs.declared.ask.Ask.{Ask};
-ghost use Rattle.gcmd.specs.Reporting.{fetch_report, update_line, update_lines};
+ghost use Rattle.grepo.specs.declared.ask.RefUpdate.TheVariants.{Moved};
+ghost use Rattle.gcmd.specs.Reporting.{fetch_report, unborn_line, update_line, update_lines, update_text};
 
 use gclient::{Asks, Fetched, RefUpdate};
 use gname::{MAX_ID_TEXT, Oid, RefName};
@@ -24,10 +25,7 @@ pub(crate) fn report_of<A: Allocator + Copy>(
         &fetched.settled.asks,
         fetched.settled.updates.as_slice(),
     )?;
-    if let Some(name) = &fetched.unborn {
-        put_named(&mut text, b"unborn ", name)?;
-        text.extend_from_slice(b"\n")?;
-    }
+    put_unborn(&mut text, &fetched.unborn)?;
     Ok(text)
 }
 
@@ -41,8 +39,7 @@ fn put_updates<A: Allocator + Copy>(
     ensures { OnOk result (text.new.items ≡ text.old.items ++ update_lines asks.now updates.now) }
 {
     for place in 0..asks.len() {
-        let (name, id) = asks.at(place).unwrap();
-        put_update(text, name, &id, update_at(updates, place))?;
+        put_ask(text, asks, place, update_at(updates, place))?;
     }
     Ok(())
 }
@@ -54,6 +51,23 @@ fn update_at(updates: &[RefUpdate], place: usize) -> RefUpdate
     updates[place]
 }
 
+// What became of the ask at a place.
+fn put_ask<A: Allocator + Copy>(
+    text: &mut Vec<u8, A>,
+    asks: &Asks<A>,
+    place: usize,
+    update: RefUpdate,
+) -> Result<(), AllocError>
+    requires { place < length asks.now }
+    ensures { OnOk result ((ask : Ask A) × (slice_get asks.now place ≡ Some ask)
+        × (text.new.items ≡ text.old.items ++ update_line ask update)) }
+{
+    match asks.at(place) {
+        Some((name, id)) => put_update(text, name, &id, update),
+        None => unreachable!(),
+    }
+}
+
 // What became of an ask for a ref to stand at an id.
 fn put_update<A: Allocator + Copy>(
     text: &mut Vec<u8, A>,
@@ -61,18 +75,50 @@ fn put_update<A: Allocator + Copy>(
     id: &Oid,
     update: RefUpdate,
 ) -> Result<(), AllocError>
-    ensures { OnOk result (((ask : Ask A) → ask.name ≡ name.now → ask.id ≡ id.now
-        → text.new.items ≡ text.old.items ++ update_line ask update)) }
+    ensures { OnOk result (text.new.items ≡ text.old.items ++ update_text name.now id.now update) }
 {
     match update {
-        RefUpdate::Moved => {
-            put_named(text, b"moved ", name)?;
-            text.extend_from_slice(b" ")?;
-            put_id(text, id)?;
-        }
-        RefUpdate::Same => put_named(text, b"same ", name)?,
-        RefUpdate::NotForward => put_named(text, b"notforward ", name)?,
+        RefUpdate::Moved => put_moved(text, name, id),
+        RefUpdate::Same => put_line(text, b"same ", name),
+        RefUpdate::NotForward => put_line(text, b"notforward ", name),
     }
+}
+
+fn put_moved<A: Allocator + Copy>(
+    text: &mut Vec<u8, A>,
+    name: &RefName<A>,
+    id: &Oid,
+) -> Result<(), AllocError>
+    ensures { OnOk result (text.new.items ≡ text.old.items ++ update_text name.now id.now Moved) }
+{
+    put_named(text, b"moved ", name)?;
+    text.extend_from_slice(b" ")?;
+    put_id(text, id)?;
+    text.extend_from_slice(b"\n")
+}
+
+// Where an unborn HEAD of the server points.
+fn put_unborn<A: Allocator + Copy>(
+    text: &mut Vec<u8, A>,
+    unborn: &Option<RefName<A>>,
+) -> Result<(), AllocError>
+    ensures { OnOk result (text.new.items ≡ text.old.items ++ unborn_line unborn.now) }
+{
+    match unborn {
+        Some(name) => put_line(text, b"unborn ", name),
+        None => Ok(()),
+    }
+}
+
+// A line of a word and the name of a ref.
+fn put_line<A: Allocator + Copy>(
+    text: &mut Vec<u8, A>,
+    word: &[u8],
+    name: &RefName<A>,
+) -> Result<(), AllocError>
+    ensures { OnOk result (text.new.items ≡ text.old.items ++ (word.now ++ (name.now ++ codes "\n"))) }
+{
+    put_named(text, word, name)?;
     text.extend_from_slice(b"\n")
 }
 

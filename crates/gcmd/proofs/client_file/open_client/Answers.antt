@@ -13,15 +13,15 @@ returns-in_err-new g c =
     (refuses_unsafe c.args.file.now it.graph it.refs it.head loaded.0 loaded.1 c.in_err-new.field-0.0 p.0
     (c.is_none.ensures.0 c.if-is_none.true) c.in_err-new.ensures.opens p.2)
 
-pub returns : goal.returns
-returns g c =
+pub returns-in_ok-new : goal.returns-in_ok-new
+returns-in_ok-new g c =
     let it = c.in_ok-repository.repository in
     let loaded = c.in_ok-repository.ensures.ok in
     names_client c.args.file.now it.graph it.refs it.head loaded.0 loaded.1 c.in_ok-new.field-0
     (c.is_none.ensures.0 c.if-is_none.true) c.in_ok-new.ensures.opens c.in_ok-new.ensures.whole
 
-pub returns-2 : goal.returns-2
-returns-2 g c =
+pub returns-else-is_none : goal.returns-else-is_none
+returns-else-is_none g c =
     let it = c.in_ok-repository.repository in
     let loaded = c.in_ok-repository.ensures.ok in
     inr (

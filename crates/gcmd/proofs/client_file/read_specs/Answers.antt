@@ -1,4 +1,4 @@
-use Rattle.std.proofs.Common.{◌≡◌, ◌<◌, length, Err, sym, subst, arith}
+use Rattle.std.proofs.Common.{◌≡◌, ◌<◌, ℕ, List, length, Err, sym, subst, arith}
 use Rattle.std.specs.Prelude.{string_bytes}
 use Rattle.std.proofs.lemmas.Result.{err_from_is_err_and}
 use Rattle.gspec.specs.Refspecs.{IsSpec, Reads}
@@ -11,7 +11,8 @@ loop-word-preserved g c =
     let inside : c.loop-word.word-index < length c.args.words.now = omega arith in
     rw c.in_ok-keep.ensures.kept
     (specs_more c.args.words.now c.loop-word.word-index c.word-item.result c.loop-word.specs.items inside c.word-item.is
-    c.loop-word.invariant c.in_ok-spec.spec c.in_ok-spec.ensures)
+    c.loop-word.invariant c.in_ok-spec.spec
+    (subst (λ (text : List ℕ). IsSpec text c.in_ok-spec.spec) c.as_bytes.ensures.value c.in_ok-spec.ensures))
 
 pub returns-in_err-spec : goal.returns-in_err-spec
 returns-in_err-spec g c =
@@ -20,7 +21,8 @@ returns-in_err-spec g c =
     rw p.1
     (refuses_specs _ c.in_err-spec.field-0.0 p.0
     (refuses_word c.args.words.now c.loop-word.word-index c.word-item.result c.loop-word.specs.items inside c.word-item.is
-    c.loop-word.invariant c.in_err-spec.field-0.0 c.in_err-spec.ensures)
+    c.loop-word.invariant c.in_err-spec.field-0.0
+    (subst (λ (text : List ℕ). Reads (IsSpec text) (Err c.in_err-spec.field-0.0)) c.as_bytes.ensures.value c.in_err-spec.ensures))
     p.2)
 
 pub returns-in_err-keep : goal.returns-in_err-keep
@@ -32,5 +34,5 @@ returns-in_err-keep g c =
     (refuses_specs _ c.in_err-keep.field-0.0 p.0
     (refuses_word c.args.words.now c.loop-word.word-index c.word-item.result c.loop-word.specs.items inside c.word-item.is
     c.loop-word.invariant c.in_err-keep.field-0.0
-    (subst kept (sym c.in_err-keep.ensures.fault) (c.in_ok-spec.spec, c.in_ok-spec.ensures)))
+    (subst kept (sym c.in_err-keep.ensures.fault) (c.in_ok-spec.spec, subst (λ (text : List ℕ). IsSpec text c.in_ok-spec.spec) c.as_bytes.ensures.value c.in_ok-spec.ensures)))
     p.2)

@@ -5,8 +5,9 @@ use Rattle.gcmd.proofs.report.put_updates.Goals as goal
 pub loop-place-preserved : goal.loop-place-preserved
 loop-place-preserved g c =
     let inside : c.loop-place.place < length c.args.asks.now = let n = c.len-place-end.ensures.count in omega (arith, c.loop-place-test.true) in
-    updates_more c.args.asks.now c.args.updates.now c.loop-place.place _ _ c.update_at.result c.args.text.now.items c.loop-place.text.items
-    c.put_update.new.text.items c.requires inside c.at.ensures c.update_at.ensures c.loop-place.invariant c.in_ok-put_update.ensures
+    updates_more c.args.asks.now c.args.updates.now c.loop-place.place c.update_at.result c.args.text.now.items
+    c.loop-place.text.items c.put_ask.new.text.items c.requires inside c.update_at.ensures c.loop-place.invariant
+    c.in_ok-put_ask.ensures
 
 pub returns : goal.returns
 returns g c =
