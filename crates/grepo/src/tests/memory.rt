@@ -2,8 +2,8 @@
 use super::makers::{far_commit, far_id};
 use crate::{Ask, Asks, Repo};
 use bumpalo::Bump;
-use ggraph::{Entry, Graph, Kind, Node, Parents, Refs, missing_counted};
-use gname::{Oid, RefName};
+use ggraph::{Graph, Refs, missing_counted};
+use gname::RefName;
 use std::alloc::{Allocator, Global};
 use std::process::Abort;
 use std::test::Fail;
@@ -16,33 +16,20 @@ fn fill(alloc: Global, arena: &Bump, room: usize) -> Result<(), Fail> {
     Ok(())
 }
 
-fn id(rt: &impl Abort, digit: u8) -> Oid {
-    Oid::from_hex(&[digit; 40]).expect(rt, "an id")
-}
-
 fn name<A: Allocator + Copy>(rt: &impl Abort, alloc: A, text: &str) -> RefName<A> {
     RefName::new(alloc, text.as_bytes()).expect(rt, "a name")
 }
 
-// A and B above it, and a ref at A.
+// A commit and one above it, and a ref at the first.
 fn repo<A: Allocator + Copy>(rt: &impl Abort, alloc: A) -> Option<Repo<A>> {
     let mut graph = Graph::new(alloc);
-    for (digit, above) in [(b'a', None), (b'b', Some(b'a'))] {
-        let mut parents = Parents::new(alloc);
-        if let Some(parent) = above {
-            parents.push(id(rt, parent)).expect(rt, "memory");
-        }
-        let kind = Kind::Commit;
-        let node = Node { kind, parents };
+    for number in 0..2usize {
         graph
-            .insert(Entry {
-                id: id(rt, digit),
-                node,
-            })
+            .insert(far_commit(rt, alloc, number))
             .expect(rt, "a commit");
     }
     let mut refs = Refs::new(alloc);
-    refs.set(name(rt, alloc, "refs/x"), id(rt, b'a'))
+    refs.set(name(rt, alloc, "refs/x"), far_id(rt, 0))
         .expect(rt, "a ref");
     Repo::new(graph, refs).ok()
 }
@@ -55,7 +42,7 @@ fn settles_in(rt: &(impl Abort + AllocGlobal), room: usize) -> Result<bool, Fail
     for text in ["refs/x", "refs/y"] {
         asks.add(Ask {
             name: name(rt, &arena, text),
-            id: id(rt, b'b'),
+            id: far_id(rt, 1),
             forced: false,
         })?;
     }
@@ -68,7 +55,7 @@ fn settles_in(rt: &(impl Abort + AllocGlobal), room: usize) -> Result<bool, Fail
     assert!(rt; code == 0 || code == 64, "{code} {room}");
     assert_eq!(rt;
         repo.refs().get(&last),
-        Some(id(rt, if code == 0 { b'b' } else { b'a' })),
+        Some(far_id(rt, if code == 0 { 1 } else { 0 })),
         "{room}"
     );
     assert_eq!(rt; repo.refs().len(), if code == 0 { 2usize } else { 1usize });
@@ -96,7 +83,7 @@ fn asks_stay_where_there_is_no_memory(rt: HostRuntime) -> Result<(), Fail> {
     let mut asks = Asks::new(&arena);
     let first = Ask {
         name: name(&rt, &arena, "refs/x"),
-        id: id(&rt, b'a'),
+        id: far_id(&rt, 0),
         forced: false,
     };
     fill(rt.alloc(), &arena, 0)?;
