@@ -2,8 +2,8 @@
 use super::makers::{far_commit, far_id};
 use crate::{Ask, Asks, Repo};
 use bumpalo::Bump;
-use ggraph::{Graph, Refs, missing_counted};
-use gname::RefName;
+use ggraph::{Entry, Graph, Kind, Node, Parents, Refs, missing_counted};
+use gname::{Oid, RefName};
 use std::alloc::{Allocator, Global};
 use std::process::Abort;
 use std::test::Fail;
@@ -16,20 +16,33 @@ fn fill(alloc: Global, arena: &Bump, room: usize) -> Result<(), Fail> {
     Ok(())
 }
 
+fn id(rt: &impl Abort, digit: u8) -> Oid {
+    Oid::from_hex(&[digit; 40]).expect(rt, "an id")
+}
+
 fn name<A: Allocator + Copy>(rt: &impl Abort, alloc: A, text: &str) -> RefName<A> {
     RefName::new(alloc, text.as_bytes()).expect(rt, "a name")
 }
 
-// A commit and one above it, and a ref at the first.
+// A and B above it, and a ref at A.
 fn repo<A: Allocator + Copy>(rt: &impl Abort, alloc: A) -> Option<Repo<A>> {
     let mut graph = Graph::new(alloc);
-    for number in 0..2usize {
+    for (digit, above) in [(b'a', None), (b'b', Some(b'a'))] {
+        let mut parents = Parents::new(alloc);
+        if let Some(parent) = above {
+            parents.push(id(rt, parent)).expect(rt, "memory");
+        }
+        let kind = Kind::Commit;
+        let node = Node { kind, parents };
         graph
-            .insert(far_commit(rt, alloc, number))
+            .insert(Entry {
+                id: id(rt, digit),
+                node,
+            })
             .expect(rt, "a commit");
     }
     let mut refs = Refs::new(alloc);
-    refs.set(name(rt, alloc, "refs/x"), far_id(rt, 0))
+    refs.set(name(rt, alloc, "refs/x"), id(rt, b'a'))
         .expect(rt, "a ref");
     Repo::new(graph, refs).ok()
 }
@@ -42,7 +55,7 @@ fn settles_in(rt: &(impl Abort + AllocGlobal), room: usize) -> Result<bool, Fail
     for text in ["refs/x", "refs/y"] {
         asks.add(Ask {
             name: name(rt, &arena, text),
-            id: far_id(rt, 1),
+            id: id(rt, b'b'),
             forced: false,
         })?;
     }
@@ -55,7 +68,7 @@ fn settles_in(rt: &(impl Abort + AllocGlobal), room: usize) -> Result<bool, Fail
     assert!(rt; code == 0 || code == 64, "{code} {room}");
     assert_eq!(rt;
         repo.refs().get(&last),
-        Some(far_id(rt, if code == 0 { 1 } else { 0 })),
+        Some(id(rt, if code == 0 { b'b' } else { b'a' })),
         "{room}"
     );
     assert_eq!(rt; repo.refs().len(), if code == 0 { 2usize } else { 1usize });
@@ -83,7 +96,7 @@ fn asks_stay_where_there_is_no_memory(rt: HostRuntime) -> Result<(), Fail> {
     let mut asks = Asks::new(&arena);
     let first = Ask {
         name: name(&rt, &arena, "refs/x"),
-        id: far_id(&rt, 0),
+        id: id(&rt, b'a'),
         forced: false,
     };
     fill(rt.alloc(), &arena, 0)?;
