@@ -4,6 +4,7 @@ use super::makers::{
 };
 use crate::{RefUpdate, Repo, RepoFault};
 use ggraph::{Count, Graph, Refs, missing_counted, missing_known};
+use gname::Oid;
 use std::process::Abort;
 
 const LENGTH: usize = 1000;
@@ -45,6 +46,14 @@ fn a_walk_stops_at_what_is_known(rt: HostRuntime) {
     assert_eq!(rt; repo.missing(&top), Ok(None));
 }
 
+// The id of which a fault says that it is missing of what was asked.
+fn missing_of(fault: &RepoFault) -> Option<Oid> {
+    match fault {
+        RepoFault::NotConnected { missing } => Some(*missing),
+        _ => None,
+    }
+}
+
 // The pack of C alone, whose parent B is not there.
 #[test]
 fn a_taken_pack_is_not_marked(rt: HostRuntime) {
@@ -52,11 +61,12 @@ fn a_taken_pack_is_not_marked(rt: HostRuntime) {
     let pack = commits(&rt, &[(b'c', b"b")]);
     assert_eq!(rt; repo.insert_all(pack.as_slice()), Ok(1));
     check_marks(&rt, &repo, &[true, false]);
-    assert_eq!(rt; repo.missing(&[id(&rt, b'c')]), Ok(Some(id(&rt, b'b'))));
+    let tops = [id(&rt, b'c')];
+    assert_eq!(rt; repo.missing(&tops), Ok(Some(id(&rt, b'b'))));
     let asks = asks_of(&rt, &[(MAIN, b'c', true)]);
     match repo.settle(&asks) {
-        Err(RepoFault::NotConnected { missing }) => assert_eq!(rt; missing, id(&rt, b'b')),
-        _ => panic!(rt; "nothing was missing"),
+        Ok(_) => panic!(rt; "nothing was missing"),
+        Err(fault) => assert_eq!(rt; missing_of(&fault), Some(id(&rt, b'b'))),
     }
     check_refs(&rt, &repo, &[(MAIN, b'a')]);
     check_marks(&rt, &repo, &[true, false]);
