@@ -2,10 +2,9 @@
 ghost use Rattle.std.specs.Prelude.{◌≡◌, None, [], false};
 
 use super::samples::{
-    ADVERT, ASK, ASK_REFS, CLIENT, CLIENT_AT_C, END, MAIN, PACK, REFS, check_fetched, fetch_with,
-    joined, repo, spelled, text_of,
+    ADVERT, CLIENT, CLIENT_AT_C, MAIN, PACK, REFS, fetch_with, joined, repo, request_count,
+    requests, spelled, text_of,
 };
-use crate::{FetchFault, Fetched, RefUpdate, Repo};
 use ggraph::PlainPack;
 use gpkt::memory::{Limited, SliceSource, VecSink};
 use gpkt::{Down, Sink, Source};
@@ -17,125 +16,148 @@ fn input(alloc: Global) -> Result<Vec<u8>, Fail> {
     joined(alloc, &[ADVERT, REFS, PACK])
 }
 
-fn output(alloc: Global) -> Result<Vec<u8>, Fail> {
-    joined(alloc, &[ASK_REFS, ASK, END])
-}
-
+// Fetches: the number of the fault, and the client afterwards.
 fn fetch_plain<S: Source, W: Sink>(
     alloc: Global,
-    repo: &mut Repo,
     source: &mut S,
     sink: &mut W,
-) -> Result<Result<Fetched, FetchFault>, Fail> {
-    fetch_with(alloc, repo, source, sink, &PlainPack, MAIN)
+) -> Result<(Option<u32>, Vec<u8>), Fail> {
+    let mut repo = repo(alloc, CLIENT)?;
+    let fetched = fetch_with(alloc, &mut repo, source, sink, &PlainPack, MAIN)?;
+    let code = fetched.as_ref().err().map(|fault| fault.code());
+    Ok((code, text_of(alloc, &repo)?))
 }
 
-fn check_repo(rt: &(impl Abort + AllocGlobal), repo: &Repo, text: &[u8]) -> Result<(), Fail> {
+// What came of a conversation: the number of its fault, what was written, how many requests were passed on, and the
+// client afterwards.
+#[derive(Drop)]
+struct Outcome {
+    code: Option<u32>,
+    written: Vec<u8>,
+    passed: usize,
+    repo: Vec<u8>,
+}
+
+// The source and the sink take so many bytes a call.
+fn fetch_by(rt: &(impl Abort + AllocGlobal), most: usize) -> Result<Outcome, Fail> {
     let alloc = rt.alloc();
-    assert_eq!(rt;
-        text_of(alloc, repo)?.as_slice(),
-        spelled(alloc, text)?.as_slice()
-    );
+    let input = input(alloc)?;
+    let mut source = Limited::new(SliceSource::new(input.as_slice())).with_most(most);
+    let mut sink = Limited::new(VecSink::new(alloc)).with_most(most);
+    let (code, repo) = fetch_plain(alloc, &mut source, &mut sink)?;
+    outcome_of(rt, code, sink.into_inner(), repo)
+}
+
+// The source fails after so many calls.
+fn fetch_reading(rt: &(impl Abort + AllocGlobal), calls: usize) -> Result<Outcome, Fail> {
+    let alloc = rt.alloc();
+    let input = input(alloc)?;
+    let mut source = Limited::new(SliceSource::new(input.as_slice())).failing_after(calls);
+    let mut sink = VecSink::new(alloc);
+    let (code, repo) = fetch_plain(alloc, &mut source, &mut sink)?;
+    outcome_of(rt, code, sink, repo)
+}
+
+// The sink fails after so many calls.
+fn fetch_writing(rt: &(impl Abort + AllocGlobal), calls: usize) -> Result<Outcome, Fail> {
+    let alloc = rt.alloc();
+    let input = input(alloc)?;
+    let mut source = SliceSource::new(input.as_slice());
+    let mut sink = Limited::new(VecSink::new(alloc)).failing_after(calls);
+    let (code, repo) = fetch_plain(alloc, &mut source, &mut sink)?;
+    outcome_of(rt, code, sink.into_inner(), repo)
+}
+
+fn outcome_of(
+    rt: &(impl Abort + AllocGlobal),
+    code: Option<u32>,
+    sink: VecSink,
+    repo: Vec<u8>,
+) -> Result<Outcome, Fail> {
+    let passed = request_count(rt, sink.passed_on())?;
+    Ok(Outcome {
+        code,
+        written: sink.into_written(),
+        passed,
+        repo,
+    })
+}
+
+// A fault of this number comes where not all is passed on.
+fn check_code(rt: &impl Abort, outcome: &Outcome, code: u32) {
+    let due = if outcome.passed < 3 { Some(code) } else { None };
+    assert_eq!(rt; outcome.code, due);
+}
+
+// The client's text ends so where not all is passed on, and else with the ref moved.
+fn check_end(rt: &(impl Abort + AllocGlobal), outcome: &Outcome, kept: &[u8]) -> Result<(), Fail> {
+    let end = if outcome.passed < 3 {
+        kept
+    } else {
+        CLIENT_AT_C
+    };
+    let end = spelled(rt.alloc(), end)?;
+    assert!(rt; outcome.repo.as_slice().ends_with(end.as_slice()));
     Ok(())
 }
 
 // One byte a call changes nothing.
 #[test]
 fn bytes_come_and_go_one_by_one(rt: HostRuntime) -> Result<(), Fail> {
-    let alloc = rt.alloc();
-    let input = input(alloc)?;
-    let mut repo = repo(alloc, CLIENT)?;
-    let mut source = Limited::new(SliceSource::new(input.as_slice())).with_most(1);
-    let mut sink = Limited::new(VecSink::new(alloc)).with_most(1);
-    let fetched = fetch_plain(alloc, &mut repo, &mut source, &mut sink)?;
-    check_fetched(&rt, &fetched, &[RefUpdate::Moved], 1);
-    assert_eq!(rt; sink.into_inner().passed_on(), output(alloc)?.as_slice());
-    check_repo(&rt, &repo, CLIENT_AT_C)
+    let outcome = fetch_by(&rt, 1)?;
+    assert_eq!(rt; outcome.code, None);
+    assert_eq!(rt; outcome.passed, 3);
+    check_end(&rt, &outcome, CLIENT)
 }
 
 // The most calls that are tried; each conversation takes fewer.
 const CALLS: usize = 60;
 
-// Each read fails at some time. The requests that were sent before stand, and nothing is written after it.
+// The requests that were sent before stand, nothing is written after the read that fails, and the client is as it was.
+fn check_reading(rt: &(impl Abort + AllocGlobal), calls: usize) -> Result<usize, Fail> {
+    let outcome = fetch_reading(rt, calls)?;
+    let sent = requests(rt.alloc(), outcome.passed)?;
+    assert_eq!(rt; outcome.written.as_slice(), sent.as_slice());
+    check_code(rt, &outcome, 24);
+    check_end(rt, &outcome, CLIENT)?;
+    Ok(outcome.passed)
+}
+
+// Each read fails at some time.
 #[test]
 fn reads_fail(rt: HostRuntime) -> Result<(), Fail> {
-    let alloc = rt.alloc();
-    let input = input(alloc)?;
-    let outputs = [
-        joined(alloc, &[])?,
-        joined(alloc, &[ASK_REFS])?,
-        joined(alloc, &[ASK_REFS, ASK])?,
-        output(alloc)?,
-    ];
-    let mut seen = [0; 4];
+    let mut last = 0;
     for calls in 0..CALLS {
-        let mut repo = repo(alloc, CLIENT)?;
-        let mut source = Limited::new(SliceSource::new(input.as_slice())).failing_after(calls);
-        let mut sink = VecSink::new(alloc);
-        let fetched = fetch_plain(alloc, &mut repo, &mut source, &mut sink)?;
-        let sent = outputs
-            .iter()
-            .position(|output| output.as_slice() == sink.passed_on())
-            .unwrap_or(0);
-        assert_eq!(rt; sink.written(), outputs[sent].as_slice(), "{calls}");
-        match &fetched {
-            Err(fault) => {
-                assert_eq!(rt; fault.code(), 24);
-                assert!(rt; sent < 3);
-                check_repo(&rt, &repo, CLIENT)?;
-            }
-            Ok(_) => {
-                assert_eq!(rt; sent, 3);
-                check_repo(&rt, &repo, CLIENT_AT_C)?;
-            }
-        }
-        seen[sent] += 1;
+        let passed = check_reading(&rt, calls)?;
+        assert!(rt; matches!(passed.checked_sub(last), Some(0 | 1)));
+        last = passed;
     }
-    assert!(rt; seen[0] > 0 && seen[1] > 0 && seen[2] > 0 && seen[3] > 0);
+    assert_eq!(rt; last, 3);
     Ok(())
 }
 
-// Each write fails at some time. A beginning of the output stands, what was asked before is passed on, and the refs stay.
+const KEPT: &[u8] = b"r {a} refs/remotes/origin/main\nh none\nend\n";
+
+// A beginning of the output stands, what was asked before is passed on, and the refs stay.
+fn check_writing(rt: &(impl Abort + AllocGlobal), calls: usize) -> Result<usize, Fail> {
+    let outcome = fetch_writing(rt, calls)?;
+    let output = requests(rt.alloc(), 3)?;
+    assert!(rt; output.as_slice().starts_with(outcome.written.as_slice()));
+    check_code(rt, &outcome, 27);
+    check_end(rt, &outcome, KEPT)?;
+    Ok(outcome.passed)
+}
+
+// Each write fails at some time.
 #[test]
 fn writes_fail(rt: HostRuntime) -> Result<(), Fail> {
-    let alloc = rt.alloc();
-    let input = input(alloc)?;
-    let output = output(alloc)?;
-    let passed = [
-        joined(alloc, &[])?,
-        joined(alloc, &[ASK_REFS])?,
-        joined(alloc, &[ASK_REFS, ASK])?,
-        joined(alloc, &[ASK_REFS, ASK, END])?,
-    ];
-    let mut seen = [0; 4];
+    let mut last = 0;
     for calls in 0..CALLS {
-        let mut repo = repo(alloc, CLIENT)?;
-        let mut source = SliceSource::new(input.as_slice());
-        let mut sink = Limited::new(VecSink::new(alloc)).failing_after(calls);
-        let fetched = fetch_plain(alloc, &mut repo, &mut source, &mut sink)?;
-        let sink = sink.into_inner();
-        assert!(rt; output.as_slice().starts_with(sink.written()), "{calls}");
-        let sent = passed
-            .iter()
-            .position(|output| output.as_slice() == sink.passed_on())
-            .unwrap_or(0);
-        assert_eq!(rt; sink.passed_on(), passed[sent].as_slice(), "{calls}");
-        assert_eq!(rt;
-            fetched.as_ref().err().map(|fault| fault.code()),
-            (sent < 3).then_some(27)
-        );
-        let refs = repo.refs().at(0);
-        assert!(rt; refs.is_some());
-        if sent < 3 {
-            let text = text_of(alloc, &repo)?;
-            let kept = spelled(alloc, b"r {a} refs/remotes/origin/main\nh none\nend\n")?;
-            assert!(rt; text.as_slice().ends_with(kept.as_slice()), "{calls}");
-        } else {
-            check_repo(&rt, &repo, CLIENT_AT_C)?;
-        }
-        seen[sent] += 1;
+        let passed = check_writing(&rt, calls)?;
+        assert!(rt; matches!(passed.checked_sub(last), Some(0 | 1)));
+        last = passed;
     }
-    assert!(rt; seen[0] > 0 && seen[1] > 0 && seen[2] > 0 && seen[3] > 0);
+    assert_eq!(rt; last, 3);
     Ok(())
 }
 
@@ -172,26 +194,29 @@ impl Sink for Unflushed {
     }
 }
 
+// The flush fails behind so many that do not: the number of the fault, and how much is not read.
+fn fetch_flushing(alloc: Global, flushes_left: usize) -> Result<(Option<u32>, usize), Fail> {
+    let input = input(alloc)?;
+    let mut source = SliceSource::new(input.as_slice());
+    let mut sink = Unflushed {
+        flushes_left,
+        is_down: false,
+    };
+    let (code, _) = fetch_plain(alloc, &mut source, &mut sink)?;
+    Ok((code, source.rest().len()))
+}
+
 // Each request is passed on before its reply is read.
 #[test]
 fn flushes_fail(rt: HostRuntime) -> Result<(), Fail> {
-    let alloc = rt.alloc();
-    let input = input(alloc)?;
     for (flushes_left, code, left) in [
         (0, Some(27), 349),
         (1, Some(27), 284),
         (2, Some(27), 0),
         (3, None, 0),
     ] {
-        let mut repo = repo(alloc, CLIENT)?;
-        let mut source = SliceSource::new(input.as_slice());
-        let mut sink = Unflushed {
-            flushes_left,
-            is_down: false,
-        };
-        let fetched = fetch_plain(alloc, &mut repo, &mut source, &mut sink)?;
-        assert_eq!(rt; fetched.as_ref().err().map(|fault| fault.code()), code);
-        assert_eq!(rt; source.rest().len(), left);
+        let outcome = fetch_flushing(rt.alloc(), flushes_left)?;
+        assert_eq!(rt; outcome, (code, left));
     }
     Ok(())
 }

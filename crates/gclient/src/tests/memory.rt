@@ -1,9 +1,7 @@
-//! Memory that ends: in an arena with a little more room each time, each allocation of a conversation is at some time
-//! the first that is refused. The requests that were sent before stand, and the refs stay.
-use super::samples::{
-    ADVERT, ASK, ASK_REFS, CLIENT, END, MAIN, PACK, REFS, joined, repo_in, specs_in,
-};
-use crate::{ClientFault, FetchFault, fetch_over};
+//! Memory that ends: in an arena with a little more room each time, a conversation comes a little further before an
+//! allocation is refused. The requests that were sent before stand, and the refs stay.
+use super::samples::{ADVERT, CLIENT, MAIN, PACK, REFS, joined, repo_in, request_count, specs_in};
+use crate::{ClientFault, FetchFault, Repo, fetch_over};
 use bumpalo::Bump;
 use gfetchreply::PackLimit;
 use ggrammar::Ends;
@@ -15,9 +13,9 @@ use std::process::Abort;
 use std::test::Fail;
 
 // The room that is tried: in steps of so many bytes, from none to more than a conversation takes.
-const STEP: usize = 16;
+const STEP: usize = 48;
 
-const STEPS: usize = 768;
+const STEPS: usize = 256;
 
 // The room of the arena.
 const CAPACITY: usize = 120_000;
@@ -45,6 +43,14 @@ fn memory_fault<A: Allocator + Copy>(rt: &impl Abort, fault: &FetchFault<A>) -> 
     fault.code()
 }
 
+// Where the first ref stands.
+fn first_ref<A: Allocator + Copy>(repo: &Repo<A>) -> Option<Oid> {
+    match repo.refs().at(0) {
+        Some((_, id)) => Some(id),
+        None => None,
+    }
+}
+
 // Fetches with so much room, and answers the fault, what was sent, and what was read.
 fn fetch_within(
     rt: &(impl Abort + AllocGlobal),
@@ -70,9 +76,8 @@ fn fetch_within(
     let read = input.len().saturating_sub(source.rest().len());
     let code = fetched.as_ref().err().map(|fault| memory_fault(rt, fault));
     assert_eq!(rt; sink.written(), sink.passed_on());
-    let stands = repo.refs().at(0).map(|(_, id)| id);
     let digit = if code.is_some() { b'a' } else { b'c' };
-    assert_eq!(rt; stands, Some(Oid::from_hex(&[digit; 40])?));
+    assert_eq!(rt; first_ref(&repo), Some(Oid::from_hex(&[digit; 40])?));
     Ok((code, sink.into_written(), read))
 }
 
@@ -88,28 +93,25 @@ fn a_conversation_cannot_begin(rt: HostRuntime) -> Result<(), Fail> {
     Ok(())
 }
 
+// How many requests are sent with so much room; one more where the refs moved, too.
+fn steps_within(rt: &(impl Abort + AllocGlobal), room: usize) -> Result<usize, Fail> {
+    let (fault, written, _) = fetch_within(rt, room)?;
+    let sent = request_count(rt, written.as_slice())?;
+    if fault.is_some() {
+        return Ok(sent);
+    }
+    assert_eq!(rt; sent, 3);
+    Ok(4)
+}
+
 #[test]
 fn memory_ends(rt: HostRuntime) -> Result<(), Fail> {
-    let alloc = rt.alloc();
-    let outputs = [
-        joined(alloc, &[])?,
-        joined(alloc, &[ASK_REFS])?,
-        joined(alloc, &[ASK_REFS, ASK])?,
-        joined(alloc, &[ASK_REFS, ASK, END])?,
-    ];
-    let mut seen = [0; 4];
-    let mut fetched = 0;
+    let mut seen = [false; 5];
     for step in 0..STEPS {
-        let (fault, written, _) = fetch_within(&rt, BUFFER + STEP * step)?;
-        let sent = outputs
-            .iter()
-            .position(|output| output.as_slice() == written.as_slice());
-        assert!(rt; sent.is_some());
-        seen[sent.unwrap_or(0)] += 1;
-        if fault.is_none() {
-            fetched += 1;
-        }
+        let steps = steps_within(&rt, BUFFER + STEP * step)?;
+        assert!(rt; steps < 5);
+        seen[steps] = true;
     }
-    assert!(rt; seen[0] > 0 && seen[1] > 0 && seen[2] > 0 && seen[3] > fetched && fetched > 0);
+    assert_eq!(rt; seen, [true; 5]);
     Ok(())
 }

@@ -384,16 +384,16 @@ const PACK_END: usize = 284;
 
 // The number of the packet that is cut, and where.
 fn fault_at(cut: usize, packets: &[usize]) -> (u32, Option<u64>) {
-    let mut frame = 0;
-    for begin in packets {
+    let mut last = None;
+    for (frame, begin) in packets.iter().enumerate() {
         if *begin == cut {
-            return (54, Some(frame));
+            return (54, Some(frame as u64));
         }
         if *begin < cut {
-            frame += 1;
+            last = Some(frame as u64);
         }
     }
-    (23, Some(frame.saturating_sub(1)))
+    (23, last)
 }
 
 fn check_cut(

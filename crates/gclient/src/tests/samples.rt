@@ -91,6 +91,23 @@ pub(super) fn joined(alloc: Global, texts: &[&[u8]]) -> Result<Vec<u8>, Fail> {
     Ok(bytes)
 }
 
+/// What a client that has the first commit writes: the first so many of its requests.
+pub(super) fn requests(alloc: Global, count: usize) -> Result<Vec<u8>, Fail> {
+    let texts: [&[u8]; 3] = [ASK_REFS, ASK, END];
+    joined(alloc, &texts[..count.min(3)])
+}
+
+/// How many of those requests these bytes are.
+pub(super) fn request_count(rt: &(impl Abort + AllocGlobal), bytes: &[u8]) -> Result<usize, Fail> {
+    let mut found = None;
+    for count in 0..4usize {
+        if requests(rt.alloc(), count)?.as_slice() == bytes {
+            found = Some(count);
+        }
+    }
+    Ok(found.expect(rt, "whole requests"))
+}
+
 /// The repository of a text, whose memory comes from an allocator.
 pub(super) fn repo_in<A: Allocator + Copy>(
     alloc: Global,

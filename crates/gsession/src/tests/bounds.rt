@@ -1,8 +1,8 @@
 //! How often a session asks for objects.
-use super::makers::{asked, begun, commit, name, spelt, take, take_bytes, take_ls};
+use super::makers::{asked, begun, commit, name, number_id, spelt, take, take_bytes, take_ls};
 use crate::{Session, Taken};
 use ggraph::{Graph, Refs};
-use gname::{Oid, RefName};
+use gname::RefName;
 use grepo::Repo;
 use grequest::Request;
 use std::process::Abort;
@@ -11,16 +11,6 @@ const E_ALONE: &[u8] = b"000dpackfile\n003b\x01GPK1\nc E\nend 1\n0000";
 
 const NOTHING: &[u8] = b"0014acknowledgments\n0008NAK\n0000";
 
-fn number_id(rt: &impl Abort, number: usize) -> Oid {
-    let mut text = [b'0'; 40];
-    let mut left = number;
-    for digit in text.iter_mut() {
-        *digit = b'0' + (left % 10) as u8;
-        left /= 10;
-    }
-    Oid::from_hex(&text).expect(rt, "an id")
-}
-
 // A chain of so many commits, with a ref at its end.
 fn chain(rt: &(impl Abort + AllocGlobal), count: usize) -> Repo {
     let mut graph = Graph::new(rt.alloc());
@@ -28,11 +18,7 @@ fn chain(rt: &(impl Abort + AllocGlobal), count: usize) -> Repo {
     let mut entries = Vec::new(rt.alloc());
     for number in 0..count {
         let parent = [number_id(rt, number.saturating_sub(1))];
-        let parents = if number == 0 {
-            [].as_slice()
-        } else {
-            parent.as_slice()
-        };
+        let parents = &parent[..number.min(1)];
         let entry = commit(rt, number_id(rt, number), parents);
         entries.push(entry).expect(rt, "memory");
     }

@@ -1,4 +1,6 @@
 //! Repositories, refspecs and messages for tests. An id is one hexadecimal digit, forty times.
+ghost use Rattle.grequest.specs.RequestValues.{IsOfFormat};
+
 use crate::{ClientFault, LsTaken, Session, Taken};
 use gfetchreply::PackLimit;
 use ggrammar::Ends;
@@ -7,7 +9,7 @@ use gname::{Format, Oid, RefName};
 use gpkt::memory::{SliceSource, VecSink};
 use gpkt::{LineReader, LineWriter};
 use grepo::{RefUpdate, Repo};
-use grequest::write_request;
+use grequest::{Request, write_request};
 use gspec::Spec;
 use std::process::Abort;
 
@@ -22,6 +24,17 @@ pub(super) const MAIN_AT_C: &[u8] = b"003dC refs/heads/main\n0000";
 
 pub(super) fn id(rt: &impl Abort, digit: u8) -> Oid {
     Oid::from_hex(&[digit; 40]).expect(rt, "an id")
+}
+
+// The id of a number: its decimal digits, the last one first.
+pub(super) fn number_id(rt: &impl Abort, number: usize) -> Oid {
+    let mut text = [b'0'; 40];
+    let mut left = number;
+    for digit in text.iter_mut() {
+        *digit = b'0' + (left % 10) as u8;
+        left /= 10;
+    }
+    Oid::from_hex(&text).expect(rt, "an id")
 }
 
 pub(super) fn name(rt: &(impl Abort + AllocGlobal), text: &str) -> RefName {
@@ -96,6 +109,16 @@ pub(super) fn spelt(rt: &(impl Abort + AllocGlobal), text: &[u8]) -> Vec<u8> {
     bytes
 }
 
+// The format of a request's ids.
+fn format_of(request: &Request) -> Format
+    ensures { IsOfFormat result request.now }
+{
+    match request {
+        Request::Fetch(asked) => asked.format(),
+        Request::Empty | Request::Ls(_) => Format::Sha1,
+    }
+}
+
 // The bytes of the next request.
 pub(super) fn asked(
     rt: &(impl Abort + AllocGlobal),
@@ -104,7 +127,7 @@ pub(super) fn asked(
 ) -> Result<Vec<u8>, u32> {
     let request = session.request(repo).map_err(|fault| fault.code())?;
     let mut writer = LineWriter::new(VecSink::new(rt.alloc()));
-    write_request(&request, Format::Sha1, &mut writer).expect(rt, "written");
+    write_request(&request, format_of(&request), &mut writer).expect(rt, "written");
     Ok(writer.into_inner().into_written())
 }
 

@@ -1,12 +1,11 @@
 //! Replies that are refused, and the state after them.
 use super::makers::{
-    MAIN, asked, begun, check_ref, client_a, repo_of, settled, spelt, take, take_bytes, take_ls,
-    take_ls_bytes, waiting,
+    MAIN, asked, begun, check_ref, client_a, number_id, repo_of, settled, spelt, take, take_bytes,
+    take_ls, take_ls_bytes, waiting,
 };
 use crate::{ClientFault, Session};
 use gfetchreply::PackLimit;
 use ggrammar::Ends;
-use gname::Oid;
 use grepo::Repo;
 use gspec::Spec;
 use std::process::Abort;
@@ -84,33 +83,25 @@ fn other_calls_change_nothing(rt: HostRuntime) {
     assert!(rt; take(&rt, &mut session, &mut repo, READY).is_ok());
 }
 
+// The number of a fault of a message, and its packet.
+fn packet_of(fault: &ClientFault) -> Option<(u32, u64)> {
+    match fault {
+        ClientFault::Message(cause) => Some((cause.code(), cause.frame)),
+        _ => None,
+    }
+}
+
 #[test]
 fn refs_can_have_no_bad_names(rt: HostRuntime) {
     let repo = client_a(&rt);
     let mut session = begun(&rt, &repo, &[b"refs/heads/*:refs/remotes/*"]);
     asked(&rt, &mut session, &repo).expect(&rt, "a request");
     let mut reply = spelt(&rt, b"0415C refs/heads/");
-    while reply.len() < 1045 {
-        reply.push(b'x').expect(&rt, "memory");
-    }
+    reply.extend_from_slice(&[b'x'; 989]).expect(&rt, "memory");
     reply.extend_from_slice(b"0000").expect(&rt, "memory");
-    match take_ls_bytes(&rt, &mut session, &repo, reply.as_slice()) {
-        Err(ClientFault::Message(fault)) => {
-            assert_eq!(rt; (fault.code(), fault.frame), (47, 1));
-        }
-        _ => assert!(rt; false, "a bad name"),
-    }
-}
-
-// The id of a number: forty digits.
-fn number_id(rt: &impl Abort, number: usize) -> Oid {
-    let mut text = [b'0'; 40];
-    let mut left = number;
-    for digit in text.iter_mut() {
-        *digit = b'0' + (left % 10) as u8;
-        left /= 10;
-    }
-    Oid::from_hex(&text).expect(rt, "an id")
+    let taken = take_ls_bytes(&rt, &mut session, &repo, reply.as_slice());
+    let refused = taken.err().and_then(|fault| packet_of(&fault));
+    assert_eq!(rt; refused, Some((47, 1)));
 }
 
 // A line for so many refs, each at an id of its own.

@@ -1,195 +1,251 @@
 //! Whole sessions, with the bytes of a peer.
 use super::makers::{
-    MAIN, MAIN_AT_C, SPEC, asked, begun, check_asked, check_ref, client_a, repo_of, settled, take,
-    take_ls, take_ls_bytes, waiting,
+    MAIN, MAIN_AT_C, Row, SPEC, asked, begun, check_asked, check_ref, repo_of, settled, take,
+    take_ls, take_ls_bytes,
 };
-use crate::Taken;
+use crate::{Session, Taken};
 use ggrammar::{Capability, MessageFault};
 use ghello::Advert;
-use grepo::RefUpdate;
+use grepo::{RefUpdate, Repo};
+use std::process::Abort;
+
+// A call of a session, and what comes of it.
+#[derive(Drop)]
+enum Turn {
+    // What is asked.
+    Asks(&'static [u8]),
+    // A reply to ls-refs: how many asks and wants it brings.
+    Lists(&'static [u8], (usize, usize)),
+    // A reply to fetch, and what it brings.
+    Takes(&'static [u8], Taken),
+    // What becomes of the asks.
+    Settles(&'static [RefUpdate]),
+    // The numbers of faults.
+    AsksNot(u32),
+    SettlesNot(u32),
+}
+
+// A client and what it fetches, its sessions one after the other, and where its refs stand then.
+#[derive(Drop)]
+struct Talk {
+    rows: &'static [Row],
+    refs: &'static [(&'static str, u8)],
+    specs: &'static [&'static [u8]],
+    sessions: &'static [&'static [Turn]],
+    after: &'static [(&'static str, u8)],
+}
+
+const ASK_REFS: &[u8] = b"0014command=ls-refs\n0001001fref-prefix refs/heads/main\n0000";
+
+const ASK: &[u8] =
+    b"0012command=fetch\n00010010no-progress\n0010include-tag\n0032want C\n0032have A\n0000";
 
 const READY: &[u8] =
     b"0014acknowledgments\n0031ACK A\n000aready\n0001000dpackfile\n00b8\x01GPK1\nc B A\nc C B\nend 2\n0000";
 
-const C_ALONE: &[u8] =
-    b"0014acknowledgments\n000aready\n0001000dpackfile\n0064\x01GPK1\nc C B\nend 1\n0000";
-
-#[test]
-fn a_ref_moves_forward(rt: HostRuntime) {
-    let mut repo = client_a(&rt);
-    let mut session = begun(&rt, &repo, &[SPEC]);
-    check_asked(
-        &rt,
-        &mut session,
-        &repo,
-        b"0014command=ls-refs\n0001001fref-prefix refs/heads/main\n0000",
-    );
-    assert_eq!(rt; take_ls(&rt, &mut session, &repo, MAIN_AT_C), Ok((1, 1)));
-    check_asked(
-        &rt,
-        &mut session,
-        &repo,
-        b"0012command=fetch\n00010010no-progress\n0010include-tag\n0032want C\n0032have A\n0000",
-    );
-    assert_eq!(rt;
-        take(&rt, &mut session, &mut repo, READY),
-        Ok(Taken::PackTaken { added: 2 })
-    );
-    assert_eq!(rt; session.common().len(), 1);
-    let updates = settled(&mut session, &mut repo).expect(&rt, "settled");
-    assert_eq!(rt; updates.as_slice(), [RefUpdate::Moved].as_slice());
-    check_ref(&rt, &repo, MAIN, b'c');
-    assert_eq!(rt; settled(&mut session, &mut repo).err(), Some(83));
-}
-
-#[test]
-fn a_clone_is_done_at_once(rt: HostRuntime) {
-    let mut repo = repo_of(&rt, &[], &[]);
-    let mut session = begun(&rt, &repo, &[SPEC]);
-    asked(&rt, &mut session, &repo).expect(&rt, "a request");
-    assert_eq!(rt; take_ls(&rt, &mut session, &repo, MAIN_AT_C), Ok((1, 1)));
-    check_asked(
-        &rt,
-        &mut session,
-        &repo,
-        b"0012command=fetch\n00010010no-progress\n0010include-tag\n0032want C\n0009done\n0000",
-    );
-    let pack = b"000dpackfile\n00e3\x01GPK1\nc A\nc B A\nc C B\nend 3\n0000";
-    assert_eq!(rt;
-        take(&rt, &mut session, &mut repo, pack),
-        Ok(Taken::PackTaken { added: 3 })
-    );
-    let updates = settled(&mut session, &mut repo).expect(&rt, "settled");
-    assert_eq!(rt; updates.as_slice(), [RefUpdate::Moved].as_slice());
-}
-
-#[test]
-fn what_is_missing_is_fetched_by_the_next_session(rt: HostRuntime) {
-    let mut repo = client_a(&rt);
-    let mut session = waiting(&rt, &repo);
-    assert_eq!(rt;
-        take(&rt, &mut session, &mut repo, C_ALONE),
-        Ok(Taken::PackTaken { added: 1 })
-    );
-    assert_eq!(rt; settled(&mut session, &mut repo).err(), Some(85));
-    assert_eq!(rt; settled(&mut session, &mut repo).err(), Some(83));
-    check_ref(&rt, &repo, MAIN, b'a');
-    assert_eq!(rt; repo.graph().len(), 2);
-    let mut next = begun(&rt, &repo, &[SPEC]);
-    asked(&rt, &mut next, &repo).expect(&rt, "a request");
-    assert_eq!(rt; take_ls(&rt, &mut next, &repo, MAIN_AT_C), Ok((1, 1)));
-    check_asked(
-        &rt,
-        &mut next,
-        &repo,
-        b"0012command=fetch\n00010010no-progress\n0010include-tag\n0032want C\n0032have A\n0000",
-    );
-}
-
-#[test]
-fn an_id_that_is_acknowledged_twice_counts_once(rt: HostRuntime) {
-    let mut repo = client_a(&rt);
-    let mut session = waiting(&rt, &repo);
-    let reply = b"0014acknowledgments\n0031ACK A\n0031ACK A\n0000";
-    assert_eq!(rt;
-        take(&rt, &mut session, &mut repo, reply),
-        Ok(Taken::Round { common: 1 })
-    );
-    check_asked(
-        &rt,
-        &mut session,
-        &repo,
-        b"0012command=fetch\n00010010no-progress\n0010include-tag\n0032want C\n0032have A\n0009done\n0000",
-    );
-}
+const E_MAIN: &[u8] = b"003dE refs/heads/main\n0000";
 
 const CYCLE: &[u8] =
     b"0014acknowledgments\n000aready\n0001000dpackfile\n00b8\x01GPK1\nc E F\nc F E\nend 2\n0000";
 
-const FORCED: [(&[u8], RefUpdate, u8); 2] = [
-    (
-        b"+refs/heads/main:refs/remotes/origin/main",
-        RefUpdate::Moved,
-        b'e',
-    ),
-    (SPEC, RefUpdate::NotForward, b'a'),
+const ASK_E: &[u8] =
+    b"0012command=fetch\n00010010no-progress\n0010include-tag\n0032want E\n0032have A\n0000";
+
+const A: &[Row] = &[(b'a', b"")];
+
+const TALKS: &[Talk] = &[
+    // A ref moves forward.
+    Talk {
+        rows: A,
+        refs: &[(MAIN, b'a')],
+        specs: &[SPEC],
+        sessions: &[&[
+            Turn::Asks(ASK_REFS),
+            Turn::Lists(MAIN_AT_C, (1, 1)),
+            Turn::Asks(ASK),
+            Turn::Takes(READY, Taken::PackTaken { added: 2 }),
+            Turn::Settles(&[RefUpdate::Moved]),
+            Turn::SettlesNot(83),
+        ]],
+        after: &[(MAIN, b'c')],
+    },
+    // A clone is done at once.
+    Talk {
+        rows: &[],
+        refs: &[],
+        specs: &[SPEC],
+        sessions: &[&[
+            Turn::Asks(ASK_REFS),
+            Turn::Lists(MAIN_AT_C, (1, 1)),
+            Turn::Asks(
+                b"0012command=fetch\n00010010no-progress\n0010include-tag\n0032want C\n0009done\n0000",
+            ),
+            Turn::Takes(
+                b"000dpackfile\n00e3\x01GPK1\nc A\nc B A\nc C B\nend 3\n0000",
+                Taken::PackTaken { added: 3 },
+            ),
+            Turn::Settles(&[RefUpdate::Moved]),
+        ]],
+        after: &[(MAIN, b'c')],
+    },
+    // What is missing is fetched by the next session.
+    Talk {
+        rows: A,
+        refs: &[(MAIN, b'a')],
+        specs: &[SPEC],
+        sessions: &[
+            &[
+                Turn::Asks(ASK_REFS),
+                Turn::Lists(MAIN_AT_C, (1, 1)),
+                Turn::Asks(ASK),
+                Turn::Takes(
+                    b"0014acknowledgments\n000aready\n0001000dpackfile\n0064\x01GPK1\nc C B\nend 1\n0000",
+                    Taken::PackTaken { added: 1 },
+                ),
+                Turn::SettlesNot(85),
+                Turn::SettlesNot(83),
+            ],
+            &[
+                Turn::Asks(ASK_REFS),
+                Turn::Lists(MAIN_AT_C, (1, 1)),
+                Turn::Asks(ASK),
+            ],
+        ],
+        after: &[(MAIN, b'a')],
+    },
+    // An id that is acknowledged twice counts once.
+    Talk {
+        rows: A,
+        refs: &[(MAIN, b'a')],
+        specs: &[SPEC],
+        sessions: &[&[
+            Turn::Asks(ASK_REFS),
+            Turn::Lists(MAIN_AT_C, (1, 1)),
+            Turn::Asks(ASK),
+            Turn::Takes(
+                b"0014acknowledgments\n0031ACK A\n0031ACK A\n0000",
+                Taken::Round { common: 1 },
+            ),
+            Turn::Asks(
+                b"0012command=fetch\n00010010no-progress\n0010include-tag\n0032want C\n0032have A\n0009done\n0000",
+            ),
+        ]],
+        after: &[(MAIN, b'a')],
+    },
+    // A ref moves aside by force alone.
+    Talk {
+        rows: A,
+        refs: &[(MAIN, b'a')],
+        specs: &[b"+refs/heads/main:refs/remotes/origin/main"],
+        sessions: &[&[
+            Turn::Asks(ASK_REFS),
+            Turn::Lists(E_MAIN, (1, 1)),
+            Turn::Asks(ASK_E),
+            Turn::Takes(CYCLE, Taken::PackTaken { added: 2 }),
+            Turn::Settles(&[RefUpdate::Moved]),
+        ]],
+        after: &[(MAIN, b'e')],
+    },
+    Talk {
+        rows: A,
+        refs: &[(MAIN, b'a')],
+        specs: &[SPEC],
+        sessions: &[&[
+            Turn::Asks(ASK_REFS),
+            Turn::Lists(E_MAIN, (1, 1)),
+            Turn::Asks(ASK_E),
+            Turn::Takes(CYCLE, Taken::PackTaken { added: 2 }),
+            Turn::Settles(&[RefUpdate::NotForward]),
+        ]],
+        after: &[(MAIN, b'a')],
+    },
+    // Two refspecs share a source.
+    Talk {
+        rows: &[(b'a', b""), (b'b', b"a"), (b'c', b"b")],
+        refs: &[("refs/remotes/x/main", b'c'), ("refs/remotes/y/main", b'c')],
+        specs: &[
+            b"+refs/heads/main:refs/remotes/x/main",
+            b"refs/heads/main:refs/remotes/y/main",
+        ],
+        sessions: &[&[
+            Turn::Asks(ASK_REFS),
+            Turn::Lists(E_MAIN, (2, 1)),
+            Turn::Asks(
+                b"0012command=fetch\n00010010no-progress\n0010include-tag\n0032want E\n0032have C\n0032have B\n0032have A\n0000",
+            ),
+            Turn::Takes(
+                b"0014acknowledgments\n0031ACK C\n0031ACK B\n0031ACK A\n000aready\n0001000dpackfile\n0064\x01GPK1\nc E B\nend 1\n0000",
+                Taken::PackTaken { added: 1 },
+            ),
+            Turn::Settles(&[RefUpdate::Moved, RefUpdate::NotForward]),
+        ]],
+        after: &[("refs/remotes/x/main", b'e'), ("refs/remotes/y/main", b'c')],
+    },
+    // Nothing is fetched of an empty server.
+    Talk {
+        rows: &[],
+        refs: &[],
+        specs: &[SPEC],
+        sessions: &[&[
+            Turn::Asks(ASK_REFS),
+            Turn::Lists(b"0000", (0, 0)),
+            Turn::AsksNot(83),
+            Turn::Settles(&[]),
+        ]],
+        after: &[],
+    },
 ];
 
-#[test]
-fn a_ref_moves_aside_by_force_alone(rt: HostRuntime) {
-    for (spec, update, stands) in FORCED {
-        let mut repo = client_a(&rt);
-        let mut session = begun(&rt, &repo, &[spec]);
-        asked(&rt, &mut session, &repo).expect(&rt, "a request");
-        assert_eq!(rt;
-            take_ls(&rt, &mut session, &repo, b"003dE refs/heads/main\n0000"),
-            Ok((1, 1))
-        );
-        asked(&rt, &mut session, &repo).expect(&rt, "a request");
-        assert_eq!(rt;
-            take(&rt, &mut session, &mut repo, CYCLE),
-            Ok(Taken::PackTaken { added: 2 })
-        );
-        let updates = settled(&mut session, &mut repo).expect(&rt, "settled");
-        assert_eq!(rt; updates.as_slice(), [update].as_slice());
-        check_ref(&rt, &repo, MAIN, stands);
+fn check_turn(
+    rt: &(impl Abort + AllocGlobal),
+    session: &mut Session,
+    repo: &mut Repo,
+    turn: &Turn,
+) {
+    match turn {
+        Turn::Asks(text) => check_asked(rt, session, repo, text),
+        Turn::Lists(text, counts) => {
+            assert_eq!(rt; take_ls(rt, session, repo, text), Ok(*counts));
+        }
+        Turn::Takes(text, taken) => {
+            assert_eq!(rt; take(rt, session, repo, text), Ok(*taken));
+        }
+        Turn::Settles(updates) => {
+            let settled = settled(session, repo).expect(rt, "settled");
+            assert_eq!(rt; settled.as_slice(), *updates);
+        }
+        Turn::AsksNot(code) => assert_eq!(rt; asked(rt, session, repo).err(), Some(*code)),
+        Turn::SettlesNot(code) => assert_eq!(rt; settled(session, repo).err(), Some(*code)),
+    }
+}
+
+fn check_session(
+    rt: &(impl Abort + AllocGlobal),
+    repo: &mut Repo,
+    specs: &[&[u8]],
+    turns: &[Turn],
+) {
+    let mut session = begun(rt, repo, specs);
+    for turn in turns {
+        check_turn(rt, &mut session, repo, turn);
+    }
+}
+
+fn check_talk(rt: &(impl Abort + AllocGlobal), talk: &Talk) {
+    let mut repo = repo_of(rt, talk.rows, talk.refs);
+    for turns in talk.sessions {
+        check_session(rt, &mut repo, talk.specs, turns);
+    }
+    for (name, digit) in talk.after {
+        check_ref(rt, &repo, name, *digit);
     }
 }
 
 #[test]
-fn two_refspecs_share_a_source(rt: HostRuntime) {
-    let rows = [
-        (b'a', b"".as_slice()),
-        (b'b', b"a".as_slice()),
-        (b'c', b"b".as_slice()),
-    ];
-    let refs = [("refs/remotes/x/main", b'c'), ("refs/remotes/y/main", b'c')];
-    let mut repo = repo_of(&rt, &rows, &refs);
-    let specs: [&[u8]; 2] = [
-        b"+refs/heads/main:refs/remotes/x/main",
-        b"refs/heads/main:refs/remotes/y/main",
-    ];
-    let mut session = begun(&rt, &repo, &specs);
-    check_asked(
-        &rt,
-        &mut session,
-        &repo,
-        b"0014command=ls-refs\n0001001fref-prefix refs/heads/main\n0000",
-    );
-    assert_eq!(rt;
-        take_ls(&rt, &mut session, &repo, b"003dE refs/heads/main\n0000"),
-        Ok((2, 1))
-    );
-    check_asked(
-        &rt,
-        &mut session,
-        &repo,
-        b"0012command=fetch\n00010010no-progress\n0010include-tag\n0032want E\n0032have C\n0032have B\n0032have A\n0000",
-    );
-    let reply =
-        b"0014acknowledgments\n0031ACK C\n0031ACK B\n0031ACK A\n000aready\n0001000dpackfile\n0064\x01GPK1\nc E B\nend 1\n0000";
-    assert_eq!(rt;
-        take(&rt, &mut session, &mut repo, reply),
-        Ok(Taken::PackTaken { added: 1 })
-    );
-    let updates = settled(&mut session, &mut repo).expect(&rt, "settled");
-    assert_eq!(rt;
-        updates.as_slice(),
-        [RefUpdate::Moved, RefUpdate::NotForward].as_slice()
-    );
-    check_ref(&rt, &repo, "refs/remotes/x/main", b'e');
-    check_ref(&rt, &repo, "refs/remotes/y/main", b'c');
-}
-
-#[test]
-fn nothing_is_fetched_of_an_empty_server(rt: HostRuntime) {
-    let mut repo = repo_of(&rt, &[], &[]);
-    let mut session = begun(&rt, &repo, &[SPEC]);
-    asked(&rt, &mut session, &repo).expect(&rt, "a request");
-    assert_eq!(rt; take_ls(&rt, &mut session, &repo, b"0000"), Ok((0, 0)));
-    assert_eq!(rt; asked(&rt, &mut session, &repo).err(), Some(83));
-    let updates = settled(&mut session, &mut repo).expect(&rt, "settled");
-    assert!(rt; updates.is_empty());
+fn sessions_are_held(rt: HostRuntime) {
+    for talk in TALKS {
+        check_talk(&rt, talk);
+    }
 }
 
 #[test]
