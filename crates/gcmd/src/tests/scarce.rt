@@ -145,10 +145,12 @@ fn is_met(alloc: Global, brought: &Brought, file: &[u8], outcome: &Outcome) -> R
     } else {
         brought.status == 1 && brought.report.is_empty()
     };
-    Ok(is_file
-        && is_reported
-        && brought.written.as_slice() == written.as_slice()
-        && brought.printed.as_slice() == printed)
+    Ok(
+        is_file
+            && is_reported
+            && brought.written.as_slice() == written.as_slice()
+            && brought.printed.as_slice() == printed,
+    )
 }
 
 // How much room is tried, in steps of eight bytes: with none for the buffer of a reader, and with some.
