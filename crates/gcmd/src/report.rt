@@ -63,7 +63,7 @@ fn put_ask<A: Allocator + Copy>(
         × (text.new.items ≡ text.old.items ++ update_line ask update)) }
 {
     match asks.at(place) {
-        Some((name, id)) => put_update(text, name, &id, update),
+        Some(pair) => put_update(text, pair.0, pair.1, update),
         None => unreachable!(),
     }
 }
@@ -72,13 +72,13 @@ fn put_ask<A: Allocator + Copy>(
 fn put_update<A: Allocator + Copy>(
     text: &mut Vec<u8, A>,
     name: &RefName<A>,
-    id: &Oid,
+    id: Oid,
     update: RefUpdate,
 ) -> Result<(), AllocError>
-    ensures { OnOk result (text.new.items ≡ text.old.items ++ update_text name.now id.now update) }
+    ensures { OnOk result (text.new.items ≡ text.old.items ++ update_text name.now id update) }
 {
     match update {
-        RefUpdate::Moved => put_moved(text, name, id),
+        RefUpdate::Moved => put_moved(text, name, &id),
         RefUpdate::Same => put_line(text, b"same ", name),
         RefUpdate::NotForward => put_line(text, b"notforward ", name),
     }

@@ -1,6 +1,7 @@
-//! Fetches with memory that ends: in an arena with a little more room each time.
+//! Fetches with memory that ends: in an arena that has eight bytes more each time. They have the outcomes of a table, in
+//! its order, and no others.
 use crate::tests::clients::{
-    ASK, ASK_REFS, CLIENT, CLIENT_AT_C, END, MAIN, OLD_ADVERT, PACK, REFS,
+    ASK, ASK_ALL, ASK_REFS, CLIENT, CLIENT_AT_C, END, MAIN, OLD_ADVERT, PACK, PACK_ALL, REFS,
 };
 use crate::tests::samples::{joined, spelled};
 use crate::{PackLimit, Spec, cmd_fetch};
@@ -10,6 +11,70 @@ use gpkt::memory::{SliceSource, VecSink};
 use std::alloc::Global;
 use std::process::Abort;
 use std::test::Fail;
+
+// What is written, whether there is a new file, and what is printed.
+type Outcome = (&'static [&'static [u8]], bool, &'static [u8]);
+
+// A client, what it reads, its new file, and its outcomes.
+type Case = (
+    &'static [u8],
+    &'static [&'static [u8]],
+    &'static [u8],
+    &'static [Outcome],
+);
+
+// The last outcomes in the order in which memory is taken: for settling the refs and for the file, for the report, and
+// with enough of it.
+const SETTLED: &[u8] = b"gitv2: fault 64 Memory\n";
+
+// For the repository, for the reader's buffer, for each line of the advertisement, for the prefixes, for the refs, for
+// the wants and the haves, for what is acknowledged, and for the pack.
+//
+// The common ids are joined before the pack's fault is reported, and an arena that has ended has no memory for them.
+const ROUND: Case = (
+    CLIENT,
+    &[OLD_ADVERT, REFS, PACK],
+    CLIENT_AT_C,
+    &[
+        (&[], false, b"gitv2: fault 64 Memory\n"),
+        (&[], false, b"gitv2: fault 28 Memory\n"),
+        (&[], false, b"gitv2: fault 53 Memory frame 1\n"),
+        (&[], false, b"gitv2: fault 53 Memory frame 2\n"),
+        (&[], false, b"gitv2: fault 53 Memory frame 3\n"),
+        (&[], false, b"gitv2: fault 53 Memory frame 4\n"),
+        (&[], false, b"gitv2: fault 64 Memory\n"),
+        (&[ASK_REFS], false, b"gitv2: fault 53 Memory frame 0\n"),
+        (&[ASK_REFS], false, b"gitv2: fault 64 Memory\n"),
+        (&[ASK_REFS, ASK], false, b"gitv2: fault 53 Memory frame 1\n"),
+        (&[ASK_REFS, ASK], false, b"gitv2: fault 64 Memory\n"),
+        (&[ASK_REFS, ASK, END], false, SETTLED),
+        (&[ASK_REFS, ASK, END], true, SETTLED),
+        (&[ASK_REFS, ASK, END], true, b""),
+    ],
+);
+
+// The same of a client that has nothing: no id is acknowledged, and the pack's fault is seen.
+const DIRECT: Case = (
+    b"gitv2 1\nh none\nend\n",
+    &[OLD_ADVERT, REFS, PACK_ALL],
+    CLIENT_AT_C,
+    &[
+        (&[], false, b"gitv2: fault 64 Memory\n"),
+        (&[], false, b"gitv2: fault 28 Memory\n"),
+        (&[], false, b"gitv2: fault 53 Memory frame 1\n"),
+        (&[], false, b"gitv2: fault 53 Memory frame 2\n"),
+        (&[], false, b"gitv2: fault 53 Memory frame 3\n"),
+        (&[], false, b"gitv2: fault 53 Memory frame 4\n"),
+        (&[], false, b"gitv2: fault 64 Memory\n"),
+        (&[ASK_REFS], false, b"gitv2: fault 53 Memory frame 0\n"),
+        (&[ASK_REFS], false, b"gitv2: fault 64 Memory\n"),
+        (&[ASK_REFS, ASK_ALL], false, b"gitv2: fault 66 Index\n"),
+        (&[ASK_REFS, ASK_ALL], false, b"gitv2: fault 64 Memory\n"),
+        (&[ASK_REFS, ASK_ALL, END], false, SETTLED),
+        (&[ASK_REFS, ASK_ALL, END], true, SETTLED),
+        (&[ASK_REFS, ASK_ALL, END], true, b""),
+    ],
+);
 
 // An arena with room for so many bytes more, beside some refspecs.
 fn leave(alloc: Global, arena: &Bump, room: usize) -> Result<(), Fail> {
@@ -30,15 +95,15 @@ struct Brought {
 }
 
 // Fetches with so much room.
-fn fetch_within(alloc: Global, room: usize) -> Result<Brought, Fail> {
+fn fetch_within(alloc: Global, case: &Case, room: usize) -> Result<Brought, Fail> {
     let arena = Bump::try_with_capacity(alloc, 120_000)?;
     let mut specs = Vec::new(&arena);
     for word in MAIN {
         specs.push(Spec::parse(&arena, word)?)?;
     }
     leave(alloc, &arena, room)?;
-    let file = spelled(alloc, CLIENT)?;
-    let input = joined(alloc, &[OLD_ADVERT, REFS, PACK])?;
+    let file = spelled(alloc, case.0)?;
+    let input = joined(alloc, case.1)?;
     let mut output = VecSink::new(alloc);
     let mut report = VecSink::new(alloc);
     let mut errors = VecSink::new(alloc);
@@ -66,54 +131,61 @@ fn fetch_within(alloc: Global, room: usize) -> Result<Brought, Fail> {
     })
 }
 
-// The lines of the faults of memory.
-const LINES: [&[u8]; 4] = [
-    b"gitv2: fault 28 Memory\n",
-    b"gitv2: fault 53 Memory frame ",
-    b"gitv2: fault 64 Memory\n",
-    b"gitv2: fault 66 Index\n",
-];
-
-// What is written in the end, and the requests before.
-fn check_written(rt: &impl Abort, alloc: Global, brought: &Brought) -> Result<(), Fail> {
-    let due = joined(alloc, &[ASK_REFS, ASK, END])?;
-    assert!(rt; due.as_slice().starts_with(brought.written.as_slice()));
-    Ok(())
-}
-
-// Where the file is new, it is the right one, and the report is there or there is no memory for it. Else nothing is
-// reported.
-fn check_brought(rt: &impl Abort, alloc: Global, brought: &Brought) -> Result<(), Fail> {
-    check_written(rt, alloc, brought)?;
-    let due = spelled(alloc, CLIENT_AT_C)?;
-    if let Some(text) = &brought.file {
-        assert!(rt; text.as_slice() == due.as_slice());
-    }
-    let printed = brought.printed.as_slice();
-    if brought.status == 0 {
-        let report = spelled(alloc, b"moved refs/remotes/origin/main {c}\n")?;
-        assert!(rt; printed.is_empty() && brought.file.is_some());
-        assert!(rt; brought.report.as_slice() == report.as_slice());
-        return Ok(());
-    }
-    assert!(rt; brought.report.is_empty());
-    let line = LINES.iter().position(|line| printed.starts_with(line));
-    let line = line.ok_or("another fault")?;
-    assert!(rt; brought.file.is_none() || line == 2);
-    Ok(())
+// Whether it is this outcome; the report is there where nothing is printed.
+fn is_met(alloc: Global, brought: &Brought, file: &[u8], outcome: &Outcome) -> Result<bool, Fail> {
+    let (written, is_new, printed) = *outcome;
+    let written = joined(alloc, written)?;
+    let report = spelled(alloc, b"moved refs/remotes/origin/main {c}\n")?;
+    let is_file = match &brought.file {
+        Some(text) => is_new && text.as_slice() == file,
+        None => !is_new,
+    };
+    let is_reported = if printed.is_empty() {
+        brought.status == 0 && brought.report.as_slice() == report.as_slice()
+    } else {
+        brought.status == 1 && brought.report.is_empty()
+    };
+    Ok(
+        is_file
+            && is_reported
+            && brought.written.as_slice() == written.as_slice()
+            && brought.printed.as_slice() == printed,
+    )
 }
 
 // How much room is tried, in steps of eight bytes: with none for the buffer of a reader, and with some.
-const ROOMS: [(usize, usize); 2] = [(0, 2_000), (65_600, 80_000)];
+const ROOMS: [(usize, usize); 2] = [(0, 1_000), (65_600, 75_000)];
 
-#[test]
-fn memory_ends_in_a_fetch(rt: HostRuntime) -> Result<(), Fail> {
-    let alloc = rt.alloc();
+// More room never ends a fetch earlier, and no outcome is passed over.
+fn check(rt: &impl Abort, alloc: Global, case: &Case) -> Result<(), Fail> {
+    let file = spelled(alloc, case.2)?;
+    let mut met = 0usize;
     for (least, most) in ROOMS {
         for step in 0..most.saturating_sub(least) / 8 {
-            let brought = fetch_within(alloc, least + 8 * step)?;
-            check_brought(&rt, alloc, &brought)?;
+            let room = least + 8 * step;
+            let brought = fetch_within(alloc, case, room)?;
+            let now = case.3.get(met.saturating_sub(1)).ok_or("no outcome")?;
+            if met > 0 && is_met(alloc, &brought, file.as_slice(), now)? {
+                continue;
+            }
+            let next = case.3.get(met).ok_or("one outcome too many")?;
+            let is_next = is_met(alloc, &brought, file.as_slice(), next)?;
+            let printed = brought.printed.as_slice();
+            let shown = std::str::from_utf8(printed).unwrap();
+            assert!(rt; is_next, "outcome {met} at {room}: {shown}");
+            met = met.saturating_add(1);
         }
     }
+    assert_eq!(rt; met, case.3.len());
     Ok(())
+}
+
+#[test]
+fn memory_ends_in_a_round(rt: HostRuntime) -> Result<(), Fail> {
+    check(&rt, rt.alloc(), &ROUND)
+}
+
+#[test]
+fn memory_ends_in_a_direct_fetch(rt: HostRuntime) -> Result<(), Fail> {
+    check(&rt, rt.alloc(), &DIRECT)
 }

@@ -1,4 +1,4 @@
-use Rattle.std.proofs.Common.{◌≡◌, ◌<◌, ℕ, List, length, Err, sym, subst, arith}
+use Rattle.std.proofs.Common.{◌<◌, ℕ, List, length, Err, sym, subst, arith}
 use Rattle.std.specs.Prelude.{string_bytes}
 use Rattle.std.proofs.lemmas.Result.{err_from_is_err_and}
 use Rattle.gspec.specs.Refspecs.{IsSpec, Reads}
