@@ -1,0 +1,2 @@
+P=[('head_goes_into_the_map', 'ref_map::RefMap::set', [('src/ref_map.rt', '        if name.is_head() {\n            return Err(RefsFault::Refs);\n        }\n', '        if name.is_head() && !self.has_room(&name) {\n            return Err(RefsFault::Refs);\n        }\n')]),
+('updates_turned_round', 'settling::settled', [('src/settling.rt', '    let new = new.into_refs(alloc)?;\n', '    let new = new.into_refs(alloc)?;\n    updates.as_mut_slice().reverse();\n')])]
