@@ -63,6 +63,17 @@ impl<A: Allocator + Copy> Graph<A> {
         Graph::new_in(alloc, Format::Sha1)
     }
 
+    /// Makes room for so many more nodes, where there is memory for it; where there is not, it gives back what it took.
+    /// Adding as many then moves none.
+    pub fn make_room(&mut self, more: usize)
+        ensures { self.new ≡ self.old }
+    {
+        let before = self.nodes.capacity();
+        if self.nodes.reserve(more).is_err() {
+            self.nodes.shrink_to(before);
+        }
+    }
+
     /// The format of the graph's ids.
     pub fn format(&self) -> Format
         ensures { result ≡ self.now.format }
