@@ -63,6 +63,13 @@ impl<A: Allocator + Copy> Graph<A> {
         Graph::new_in(alloc, Format::Sha1)
     }
 
+    /// Makes room for more nodes, where there is memory for it. Adding as many then moves none.
+    pub fn make_room(&mut self, more: usize)
+        ensures { self.new ≡ self.old }
+    {
+        let _ = self.nodes.reserve(more);
+    }
+
     /// The format of the graph's ids.
     pub fn format(&self) -> Format
         ensures { result ≡ self.now.format }

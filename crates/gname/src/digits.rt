@@ -1,8 +1,10 @@
 //! The hexadecimal digits of bytes.
 #![tactic(auto)]
 
-ghost use Rattle.std.specs.Prelude.{◌≡◌, ◌*◌, ◌/◌, ◌%◌, length, slice_index};
-ghost use Rattle.hex.specs.Hex.{encode_lower, lower_digits};
+ghost use Rattle.std.specs.Prelude.{◌≡◌, ◌+◌, ◌*◌, ◌/◌, ◌%◌, ◌^◌, ◌<◌, length, slice_index, unwrap_or};
+ghost use Rattle.hex.specs.Hex.{decode_sized, encode_lower, hex_digit_value, lower_digits, pair_value, value_at};
+
+use hex::FromHexError;
 
 // The two digits of each byte, from `00` to `ff`. Writing both at once is what makes the texts of
 // ids cheap: a list of refs is mostly such texts.
@@ -35,4 +37,72 @@ pub(crate) fn write_digits(bytes: &[u8], out: &mut [u8])
         out[2 * i] = high;
         out[2 * i + 1] = low;
     }
+}
+
+// What each byte is worth as a hexadecimal digit, in either case; 16 where it is none. Looking it up takes as long for
+// each digit, and no branch hangs on whether it is a letter: this makes ids cheap to read.
+const DIGIT_VALUES: &[u8; 256] = b"\
+    \x10\x10\x10\x10\x10\x10\x10\x10\x10\x10\x10\x10\x10\x10\x10\x10\
+    \x10\x10\x10\x10\x10\x10\x10\x10\x10\x10\x10\x10\x10\x10\x10\x10\
+    \x10\x10\x10\x10\x10\x10\x10\x10\x10\x10\x10\x10\x10\x10\x10\x10\
+    \x00\x01\x02\x03\x04\x05\x06\x07\x08\x09\x10\x10\x10\x10\x10\x10\
+    \x10\x0a\x0b\x0c\x0d\x0e\x0f\x10\x10\x10\x10\x10\x10\x10\x10\x10\
+    \x10\x10\x10\x10\x10\x10\x10\x10\x10\x10\x10\x10\x10\x10\x10\x10\
+    \x10\x0a\x0b\x0c\x0d\x0e\x0f\x10\x10\x10\x10\x10\x10\x10\x10\x10\
+    \x10\x10\x10\x10\x10\x10\x10\x10\x10\x10\x10\x10\x10\x10\x10\x10\
+    \x10\x10\x10\x10\x10\x10\x10\x10\x10\x10\x10\x10\x10\x10\x10\x10\
+    \x10\x10\x10\x10\x10\x10\x10\x10\x10\x10\x10\x10\x10\x10\x10\x10\
+    \x10\x10\x10\x10\x10\x10\x10\x10\x10\x10\x10\x10\x10\x10\x10\x10\
+    \x10\x10\x10\x10\x10\x10\x10\x10\x10\x10\x10\x10\x10\x10\x10\x10\
+    \x10\x10\x10\x10\x10\x10\x10\x10\x10\x10\x10\x10\x10\x10\x10\x10\
+    \x10\x10\x10\x10\x10\x10\x10\x10\x10\x10\x10\x10\x10\x10\x10\x10\
+    \x10\x10\x10\x10\x10\x10\x10\x10\x10\x10\x10\x10\x10\x10\x10\x10\
+    \x10\x10\x10\x10\x10\x10\x10\x10\x10\x10\x10\x10\x10\x10\x10\x10";
+
+// What a byte is worth as a digit, or 16.
+fn digit_value(byte: u8) -> u8
+    ensures { result ≡ unwrap_or (hex_digit_value byte) 16 }
+{
+    DIGIT_VALUES[byte as usize]
+}
+
+// The value of the digit at this place.
+#[tactic(auto, using(crate::proofs::DigitLemmas::good_digit, crate::proofs::DigitLemmas::bad_digit))]
+fn digit_at(byte: u8, at: usize) -> Result<u8, FromHexError>
+    ensures { result ≡ value_at byte at }
+{
+    let value = digit_value(byte);
+    if value < 16 {
+        Ok(value)
+    } else {
+        Err(FromHexError::InvalidHexCharacter {
+            c: char::from(byte),
+            index: at,
+        })
+    }
+}
+
+// The byte of two digits, the first of them at this place.
+fn byte_of(high: u8, low: u8, at: usize) -> Result<u8, FromHexError>
+    requires { at + 1 < 2 ^ 64 }
+    ensures { result ≡ pair_value high low at }
+{
+    Ok(digit_at(high, at)? * 16 + digit_at(low, at + 1)?)
+}
+
+/// Reads so many bytes from their digits, in either case.
+pub(crate) fn read_digits<const N: usize>(text: &[u8]) -> Result<[u8; N], FromHexError>
+    ensures { result ≡ decode_sized text.now N }
+{
+    if text.len() % 2 != 0 {
+        return Err(FromHexError::OddLength);
+    }
+    if text.len() / 2 != N {
+        return Err(FromHexError::InvalidStringLength);
+    }
+    let mut out = [0u8; N];
+    'bytes: for i in 0..N {
+        out[i] = byte_of(text[2 * i], text[2 * i + 1], 2 * i)?;
+    }
+    Ok(out)
 }

@@ -13,9 +13,9 @@ ghost use Rattle.gname.specs.Formats.{id_text_length};
 ghost use Rattle.gname.specs.Ids.{IsId, IsIdOf, IsIdText, ReadsId, format_of, id_cmp, id_fault_of, id_text};
 ghost use Rattle.gname.specs.Faults.{id_fault_row};
 
-use crate::digits::write_digits;
+use crate::digits::{read_digits, write_digits};
 use crate::formats::Format;
-use hex::{FromHex, FromHexError};
+use hex::FromHexError;
 use std::cmp::Ordering;
 use std::hash::{Hash, Hasher};
 use std::marker::Model;
@@ -69,8 +69,8 @@ impl Oid {
         ensures { ReadsId format text.now result }
     {
         let digest = match format {
-            Format::Sha1 => Digest::Sha1(FromHex::from_hex(text)?),
-            Format::Sha256 => Digest::Sha256(FromHex::from_hex(text)?),
+            Format::Sha1 => Digest::Sha1(read_digits::<20>(text)?),
+            Format::Sha256 => Digest::Sha256(read_digits::<32>(text)?),
         };
         Ok(Oid { digest })
     }

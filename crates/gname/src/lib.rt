@@ -34,7 +34,7 @@
 //!
 //! # Stands on
 //!
-//! `hex` for reading digits, `memchr` for searches in a name, `thiserror` for the texts of faults; in
+//! `hex` for what digits mean, `memchr` for searches in a name, `thiserror` for the texts of faults; in
 //! tests `bumpalo`, for memory that ends.
 #![tactic(auto)]
 

@@ -53,18 +53,20 @@ pub(crate) fn take_spaced(format: Format, text: &[u8]) -> Option<(Oid, &[u8])>
     take_id(format, text.strip_prefix(b" ")?)
 }
 
-/// Room for the ids of a node's parents. A text has one for all of its lines.
+/// What a text needs for all of its lines: room for the ids of a node's parents, and how many nodes are expected.
 #[derive(Drop)]
-pub(crate) struct ParentRoom {
+pub(crate) struct Room {
     ids: [Oid; MAX_PARENTS],
+    pub nodes: usize,
 }
 
-impl ParentRoom {
-    /// Room whose ids say nothing yet.
-    pub(crate) fn new() -> ParentRoom {
+impl Room {
+    /// Room for a text that seems to have so many nodes. Its ids say nothing yet.
+    pub(crate) fn new(nodes: usize) -> Room {
         let blank = Oid::from_hex(&[b'0'; 40]).unwrap();
-        ParentRoom {
+        Room {
             ids: [blank; MAX_PARENTS],
+            nodes,
         }
     }
 
