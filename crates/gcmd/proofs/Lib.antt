@@ -1,4 +1,5 @@
 pub mod ReadingLemmas
 pub mod ProgramLemmas
 pub mod ServingLemmas
+pub mod OutputLemmas
 pub mod LinesLemmas

@@ -1,5 +1,6 @@
 pub mod Faults
 pub mod Printing
+pub mod Outputs
 pub mod Programs
 pub mod Serving
 pub mod Checking

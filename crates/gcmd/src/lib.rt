@@ -9,12 +9,14 @@
 //! - Every program ends with status 0 and prints nothing, or with 1, and then exactly the line of the fault that was met
 //!   is printed and passed on, or a beginning of it where the errors' sink fails (`specs/Programs.antt`). [`cmd_failed`]
 //!   does so for the fault that it is given.
+//! - Where a sink fails at a report, at shown lines or at the line of a fault, what had been passed on stays so; where it
+//!   failed at a write, nothing more is passed on (`specs/Outputs.antt`).
 //! - [`cmd_upload`] serves one connection as `gserve` says, from the repository that its file names, with plain packs,
 //!   and [`cmd_ls`] one request (`specs/Serving.antt`). The work is done where the client ended the connection, the request
 //!   was answered or was a lone flush, the input ended before a request, or the connection had as many requests as may be;
-//!   else the fault is that of the refusal, or of the output. Of a file that is no text of a repository in which each
-//!   parent comes before its children, and each ref, and HEAD by its id, stands at an object that is there, nothing is
-//!   read or written; the fault is that of the text, of the ref or of HEAD.
+//!   else the fault is that of the refusal, or of the output. Of a file that is no text of a repository in which each parent
+//!   comes before its children, and each ref, and HEAD by its id, stands at an object that is there, nothing is read or
+//!   written; the fault is that of the text, of the ref or of HEAD.
 //! - [`cmd_check`] writes its one line, with the counts, and whether the graph is closed and the refs are
 //!   safe, and passes it on; where the sink fails, a beginning of it stands. Of a file that is no repository
 //!   nothing is written.
@@ -27,15 +29,14 @@
 //!
 //! The short texts of faults (`Display`). That memory, where there is some, is found. How the devices that
 //! `gpkt` makes of std's readers and writers behave under a program: one byte a call, a failure at each call
-//! in turn, a flush that fails, a reply of more bytes than any buffer has. That a report, and the line of a
-//! fault, is written in one call.
+//! in turn, a flush that fails, a reply of more bytes than any buffer has. That a sink is not called again after it
+//! failed, that a report, and the line of a fault, is written in one call, and shown digits in as few as may be.
 //!
 //! # What a body can still get away with
 //!
 //! A call that takes memory can answer that there is none, wherever the crates below may. Of an output whose
-//! bytes are not known no clause says what is written to it; but one body serves every output. After a flush
-//! that failed nothing is said of what was passed on to the errors' sink, or by `check` and `lines`. How often a device
-//! is called is not said, nor how long anything takes.
+//! bytes are not known no clause says what is written to it; but one body serves every output. How often a device is called
+//! is not said, nor how long anything takes.
 //!
 //! # Stands on
 //!

@@ -5,7 +5,8 @@ ghost use Rattle.std.specs.Prelude.{◌≡◌, ◌+◌, ◌≤◌, ◌++◌, len
 ghost use Rattle.std.specs.Option.{option_copied};
 ghost use Rattle.gcmd.specs.Faults.{id_in_build, id_in_graph, id_in_request, frame_in_request, line_in_text, printed_of, printed_of_build, printed_of_request, printed_of_text, ref_in_build, said_in, said_in_request};
 ghost use Rattle.gcmd.specs.Printing.{max_decimal, max_fault_line, max_fault_name, max_subject, number_part, printed_line, row_view, shown, subject_part, IsShort, IsShortText};
-ghost use Rattle.gpkt.specs.Sending.{output_of, HasSent};
+ghost use Rattle.gpkt.specs.Sending.{output_of};
+ghost use Rattle.gcmd.specs.Outputs.{IsSent};
 
 use crate::compose::{add, add_id, add_number};
 use crate::fault::ProgramFault;
@@ -126,7 +127,7 @@ impl<'a> FaultLine<'a> {
     /// sink is down.
     pub(crate) fn print<E: Sink>(&self, errors: &mut E) -> Result<(), Down>
         requires { IsShort self.now }
-        ensures sent { HasSent (output_of E.contents E.passed_on E.is_down errors.old errors.new) result (printed_line (row_view self.now)) }
+        ensures sent { IsSent (output_of E.contents E.passed_on E.is_down errors.old errors.new) result (printed_line (row_view self.now)) }
         ensures loans { E.loans errors.new ≡ E.loans errors.old }
     {
         let mut text = ArrayVec::new();

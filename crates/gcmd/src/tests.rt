@@ -1,6 +1,7 @@
 //! What no clause says: whole runs whose bytes were written by hand, devices and memory at their worst, and the text of
 //! every fault.
 mod connections;
+mod cuts;
 mod devices;
 mod faults;
 mod files;
@@ -10,3 +11,4 @@ mod programs;
 mod rows;
 mod samples;
 mod serving;
+mod sinks;

@@ -1,8 +1,8 @@
 // Readers and writers of std that move some bytes a call, fail at a chosen call, and count what comes after it.
 use crate::{ProgramFault, cmd_check, cmd_failed, cmd_lines, cmd_ls, cmd_upload};
 use ggrammar::Ends;
-use gpkt::{FromRead, Sink, ToWrite};
-use std::alloc::Global;
+use gpkt::{FromRead, Sink, Source, ToWrite};
+use std::alloc::{Allocator, Global};
 use std::io;
 use std::io::{ErrorKind, Read, Write};
 
@@ -138,11 +138,26 @@ pub(super) enum Program {
     NoMemory,
 }
 
-fn fail<E: Sink>(fault: ProgramFault<Global>, errors: &mut E) -> u8 {
-    cmd_failed(fault, errors)
+/// Runs a program over devices.
+pub(super) fn start<A: Allocator + Copy, S: Source, W: Sink, E: Sink>(
+    alloc: A,
+    program: Program,
+    file: &[u8],
+    input: &mut S,
+    output: &mut W,
+    errors: &mut E,
+) -> u8 {
+    match program {
+        Program::Ls => cmd_ls(alloc, file, input, output, errors),
+        Program::Upload(ends) => cmd_upload(alloc, file, ends, input, output, errors),
+        Program::Check => cmd_check(alloc, file, output, errors),
+        Program::Lines => cmd_lines(alloc, input, output, errors),
+        Program::NoFile => cmd_failed(ProgramFault::<A>::File, errors),
+        Program::NoMemory => cmd_failed(ProgramFault::<A>::Memory, errors),
+    }
 }
 
-/// Runs a program over a file and an input.
+/// Runs a program over a file and an input, which readers and writers of std give and take.
 pub(super) fn run(
     alloc: Global,
     program: Program,
@@ -160,14 +175,7 @@ pub(super) fn run(
     let mut source = FromRead::new(&mut reader);
     let mut sink = ToWrite::new(&mut output);
     let mut report = ToWrite::new(&mut errors);
-    let status = match program {
-        Program::Ls => cmd_ls(alloc, file, &mut source, &mut sink, &mut report),
-        Program::Upload(ends) => cmd_upload(alloc, file, ends, &mut source, &mut sink, &mut report),
-        Program::Check => cmd_check(alloc, file, &mut sink, &mut report),
-        Program::Lines => cmd_lines(alloc, &mut source, &mut sink, &mut report),
-        Program::NoFile => fail(ProgramFault::File, &mut report),
-        Program::NoMemory => fail(ProgramFault::Memory, &mut report),
-    };
+    let status = start(alloc, program, file, &mut source, &mut sink, &mut report);
     Ran {
         status,
         output,

@@ -37,6 +37,13 @@ impl Run {
         })
     }
 
+    /// These packets are read, after all before them.
+    pub(super) fn reads(&mut self, alloc: Global, packets: &[&[u8]]) -> Result<(), Fail> {
+        let packets = joined(alloc, packets)?;
+        self.input.extend_from_slice(packets.as_slice())?;
+        Ok(())
+    }
+
     /// This is written and passed on, after all before it.
     pub(super) fn writes(&mut self, alloc: Global, piece: &[u8]) -> Result<(), Fail> {
         let piece = spelled(alloc, piece)?;
