@@ -36,8 +36,7 @@
 //! many requests were answered, how it ended, and whether a device has failed is said all the same. Where the sink
 //! fails, a shorter beginning may stand written, and more than the replies that count may have been passed on. It may
 //! report out of memory in the place of any reply, and in that of the advertisement by the fault of a reader or of a
-//! server as it likes; it may take as long as it likes, and flush more often. [`err_text`] may write anything into the
-//! buffer after the text.
+//! server as it likes; it may take as long as it likes, and flush more often.
 //!
 //! # Stands on
 //!
