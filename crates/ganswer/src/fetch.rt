@@ -21,7 +21,7 @@ use grequest::FetchRequest;
 use std::alloc::Allocator;
 
 impl<A: Allocator + Copy> Server<A> {
-    /// The answer to a request for objects, as [`Server::answer`] gives it. The packer is asked exactly once where a
+    /// The answer to a request for objects, as [`Server::answer`] gives it. The packer is asked once where a
     /// pack is sent or a fault of its own is reported, and else it is not asked.
     ///
     /// So where it fails, that fault is reported, and `Memory` says that memory ended before it was asked.
