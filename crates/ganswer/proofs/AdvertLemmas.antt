@@ -1,12 +1,15 @@
 -- The capabilities that are advertised have their form.
-use Rattle.std.proofs.Common.{◌≡◌, true, refl}
+use Rattle.std.proofs.Common.{◌≡◌, [], ◌∷◌, All, true, None, refl, arith}
 use Rattle.std.specs.Prelude.{codes}
+use Rattle.std.proofs.lemmas.List.Elements.{All-cons, All-nil}
 use Rattle.gname.specs.Formats.{format_name}
 use Rattle.gname.specs.declared.formats.Format.{Format}
 use Rattle.gname.specs.declared.formats.Format.TheVariants.{Sha1, Sha256}
-use Rattle.ggrammar.specs.Capabilities.{is_key, is_value}
+use Rattle.ggrammar.specs.Capabilities.{Capability, IsWellFormed, is_key, is_value}
 use Rattle.ghello.specs.Adverts.{is_capability}
-use Rattle.ganswer.specs.Adverts.{key, key_with}
+use Rattle.ghello.specs.Offers.{check_fault, has_feature}
+use Rattle.ganswer.specs.Adverts.{advertised, key, key_with}
+use Rattle.ganswer.specs.Laws.{AdvertsWelcome}
 
 pub agent : is_capability (key_with (codes "agent") (codes "gitv2/1")) ≡ true
 unfolding is_key is_value
@@ -24,3 +27,46 @@ pub object_format : (format : Format) → is_capability (key_with (codes "object
 unfolding is_key is_value
 object_format Sha1 = refl
 object_format Sha256 = refl
+
+-- ---- the law
+
+agent_form : IsWellFormed (key_with (codes "agent") (codes "gitv2/1"))
+unfolding is_key is_value
+agent_form = record { key = refl; value = refl }
+
+ls_refs_form : IsWellFormed (key_with (codes "ls-refs") (codes "unborn"))
+unfolding is_key is_value
+ls_refs_form = record { key = refl; value = refl }
+
+fetch_form : IsWellFormed (key (codes "fetch"))
+unfolding is_key is_value
+fetch_form = record { key = refl; value = tt }
+
+format_form : (format : Format) → IsWellFormed (key_with (codes "object-format") (format_name format))
+unfolding is_key is_value
+format_form Sha1 = record { key = refl; value = refl }
+format_form Sha256 = record { key = refl; value = refl }
+
+all_well_formed : (format : Format) → All IsWellFormed (advertised format)
+all_well_formed format =
+    let last : Capability = key_with (codes "object-format") (format_name format) in
+    let third : Capability = key (codes "fetch") in
+    let second : Capability = key_with (codes "ls-refs") (codes "unborn") in
+    let first : Capability = key_with (codes "agent") (codes "gitv2/1") in
+    All-cons IsWellFormed first (second ∷ third ∷ last ∷ []) agent_form
+    (All-cons IsWellFormed second (third ∷ last ∷ []) ls_refs_form
+    (All-cons IsWellFormed third (last ∷ []) fetch_form (All-cons IsWellFormed last [] (format_form format) (All-nil IsWellFormed))))
+
+goes_on : (format : Format) → check_fault format (advertised format) ≡ None
+goes_on Sha1 = refl
+goes_on Sha256 = refl
+
+lists_unborn : (format : Format) → has_feature (codes "ls-refs") (codes "unborn") (advertised format) ≡ true
+lists_unborn format = refl
+
+pub adverts_welcome : AdvertsWelcome
+adverts_welcome format = record {
+  form = record { each = all_well_formed format; few = omega arith };
+  goes_on = goes_on format;
+  unborn = lists_unborn format;
+}

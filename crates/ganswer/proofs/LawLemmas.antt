@@ -21,7 +21,7 @@ use Rattle.ganswer.specs.Laws.{AcksAreCommon, AreCommon, LsAnswersAreHeld, Packs
 use Rattle.ganswer.specs.LsAnswers.{all_refs}
 use Rattle.ganswer.specs.Servers.{Server}
 use Rattle.ganswer.specs.declared.fault.BuildFault.{BuildFault}
-use Rattle.ganswer.specs.declared.fault.BuildFault.TheVariants as fault
+use Rattle.ganswer.specs.declared.fault.BuildFault.TheVariants as build
 use Rattle.ganswer.specs.declared.fault.ServeFault.TheVariants as serve
 use Rattle.ganswer.proofs.FormatLemmas.{all_held, lines_held, some_is}
 
@@ -110,9 +110,10 @@ module _ {A : Type 0} where
   stays : (old new : Server A) → new ≡ old → Grows old.graph.entries new.graph.entries
   stays old new same = ([], ap (λ (s : Server A). s.graph.entries) same ∙ sym (append-nil old.graph.entries))
 
-  adding : (old new : Server A) (entry : Entry A) (result : Result (Unit {0}) (BuildFault A)) → Adds old entry new result → Grows old.graph.entries new.graph.entries
-  adding old new entry (Ok done) adds = comes_at_end old.graph.entries new.graph.entries entry old.graph.format adds.comes
-  adding old new entry (Err cause) adds = stays old new adds.0
+  adding : (old new : Server A) (entry : Entry A) (result : Result (Unit {0}) (BuildFault A)) → Adds old entry new result
+      → (new.graph.format ≡ old.graph.format) × Grows old.graph.entries new.graph.entries
+  adding old new entry (Ok done) adds = (adds.format, comes_at_end old.graph.entries new.graph.entries entry old.graph.format adds.comes)
+  adding old new entry (Err cause) adds = (ap (λ (s : Server A). s.graph.format) adds.0, stays old new adds.0)
 
   setting : (old new : Server A) (name id : List ℕ) (result : Result (Unit {0}) (BuildFault A)) → Sets old name id new result → new.graph ≡ old.graph
   setting old new name id (Ok done) sets = sets.graph
@@ -120,13 +121,13 @@ module _ {A : Type 0} where
 
   setting_head : (old new : Server A) (head : Head A) (result : Result (Unit {0}) (BuildFault A)) → SetsHead old head new result → new.graph ≡ old.graph
   setting_head old new head (Ok done) sets = ap (λ (s : Server A). s.graph) sets.1
-  setting_head old new head (Err fault.HeadMissing) sets = ap (λ (s : Server A). s.graph) sets.0
-  setting_head old new head (Err (fault.Graph cause)) sets = absurd sets
-  setting_head old new head (Err (fault.Refs cause)) sets = absurd sets
-  setting_head old new head (Err (fault.NotClosed id)) sets = absurd sets
-  setting_head old new head (Err (fault.RefMissing name)) sets = absurd sets
-  setting_head old new head (Err (fault.MissingParent id)) sets = absurd sets
-  setting_head old new head (Err fault.Memory) sets = absurd sets
+  setting_head old new head (Err build.HeadMissing) sets = ap (λ (s : Server A). s.graph) sets.0
+  setting_head old new head (Err (build.Graph cause)) sets = absurd sets
+  setting_head old new head (Err (build.Refs cause)) sets = absurd sets
+  setting_head old new head (Err (build.NotClosed id)) sets = absurd sets
+  setting_head old new head (Err (build.RefMissing name)) sets = absurd sets
+  setting_head old new head (Err (build.MissingParent id)) sets = absurd sets
+  setting_head old new head (Err build.Memory) sets = absurd sets
 
   pub servers_grow : ServersGrow A
   servers_grow = record { adding = adding; setting = setting; setting_head = setting_head }

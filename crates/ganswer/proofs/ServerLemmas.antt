@@ -12,9 +12,10 @@ use Rattle.ghistory.specs.Graphs.{Holds, IsFirstAbsent}
 use Rattle.ghistory.specs.Laws.{PlacesAreNodes}
 use Rattle.ghistory.specs.Reach.{IsClosed}
 use Rattle.grefs.specs.RefLists.{RefList}
-use Rattle.ganswer.specs.Servers.{HoldsRefs, IsFirstDangling, ChecksRefs, ReportsRef, parents_in}
+use Rattle.ganswer.specs.Servers.{HoldsRefs, IsFirstDangling, parents_in}
+use Rattle.ganswer.specs.Steps.{ChecksRefs, ReportsRef}
 use Rattle.ganswer.specs.declared.fault.BuildFault.{BuildFault}
-use Rattle.ganswer.specs.declared.fault.BuildFault.TheVariants as fault
+use Rattle.ganswer.specs.declared.fault.BuildFault.TheVariants as build
 
 pub none_is : {X : Type 0} (o : Option X) → ¬ (IsSome o) → o ≡ None
 none_is None h = refl
@@ -100,10 +101,10 @@ module _ {A : Type 0} where
   }
 
   pub dangling : (g : List (Entry A)) (refs : RefList) (name : List ℕ) (cause : BuildFault A) → IsFirstDangling g refs name → ReportsRef name cause → ChecksRefs g refs (Err cause)
-  dangling g refs name (fault.RefMissing missing) first is = subst (IsFirstDangling g refs) (sym is) first
-  dangling g refs name fault.Memory first is = (name, first)
-  dangling g refs name (fault.Graph other) first is = absurd is
-  dangling g refs name (fault.Refs other) first is = absurd is
-  dangling g refs name (fault.NotClosed id) first is = absurd is
-  dangling g refs name fault.HeadMissing first is = absurd is
-  dangling g refs name (fault.MissingParent id) first is = absurd is
+  dangling g refs name (build.RefMissing missing) first is = subst (IsFirstDangling g refs) (sym is) first
+  dangling g refs name build.Memory first is = (name, first)
+  dangling g refs name (build.Graph other) first is = absurd is
+  dangling g refs name (build.Refs other) first is = absurd is
+  dangling g refs name (build.NotClosed id) first is = absurd is
+  dangling g refs name build.HeadMissing first is = absurd is
+  dangling g refs name (build.MissingParent id) first is = absurd is

@@ -1,19 +1,19 @@
 -- What a server answers to a request (gitprotocol-v2(5), "Command Request").
-use Rattle.std.specs.Prelude.{◌≡◌, ◌≢◌, ⊤, ℕ, List, [], All, Result, Ok, Err}
+use Rattle.std.specs.Prelude.{◌≡◌, ⊤, []}
 use Rattle.gname.specs.declared.formats.Format.{Format}
 use Rattle.gobject.specs.Packs.{PackFails, Packs}
-use Rattle.ghistory.specs.Graphs.{Holds, IsFirstAbsent}
+use Rattle.ghistory.specs.Graphs.{IsFirstAbsent}
 use Rattle.grequest.specs.Asked.{Asked, FetchAsked, Empty, Ls as LsAsked, Fetches}
 use Rattle.glsreply.specs.LsReplies.{LsReply}
 use Rattle.gfetchreply.specs.FetchReplies.{FetchReply}
 use Rattle.gfetchreply.specs.Views.{IsReplyOf, reply_in}
 use Rattle.ganswer.specs.Servers.{Server}
 use Rattle.ganswer.specs.LsAnswers.{LsAnswer}
-use Rattle.ganswer.specs.FetchAnswers.{CanServe, FailsToPack, FetchAnswer, IsPackDue, SendsPack}
+use Rattle.ganswer.specs.FetchAnswers.{CanServe, FailsToPack, FetchAnswer, IsPackDue}
 use Rattle.ganswer.specs.declared.answer.Reply as value
 use Rattle.ganswer.specs.declared.answer.Reply.TheVariants as values
 use Rattle.ganswer.specs.declared.fault.ServeFault.{ServeFault}
-use Rattle.ganswer.specs.declared.fault.ServeFault.TheVariants as fault
+use Rattle.ganswer.specs.declared.fault.ServeFault.TheVariants as serve
 
 -- what a reply says
 pub data Reply : Type 0 where
@@ -41,29 +41,15 @@ Answers server packs asked reply = ⊥
 -- Why fetch is not answered: nothing is wanted; else the first want that is not held; else, where a pack is due, what
 -- the packer may refuse of the objects to send; or there is no memory.
 abbrev pub FetchRefuses : {A : Type 0} → Server A → PackFails A → FetchAsked → ServeFault → Type 0
-FetchRefuses server fails asked fault.NoWants = asked.wants ≡ []
-FetchRefuses server fails asked (fault.NotOurs id) = IsFirstAbsent server.graph.entries asked.wants id
-FetchRefuses server fails asked (fault.Pack cause) =
+FetchRefuses server fails asked serve.NoWants = asked.wants ≡ []
+FetchRefuses server fails asked (serve.NotOurs id) = IsFirstAbsent server.graph.entries asked.wants id
+FetchRefuses server fails asked (serve.Pack cause) =
     CanServe server asked × IsPackDue server asked × FailsToPack server fails asked cause
-FetchRefuses server fails asked fault.Memory = CanServe server asked
+FetchRefuses server fails asked serve.Memory = CanServe server asked
 FetchRefuses server fails asked _ = ⊥
-
--- what looking at the wants answers
-abbrev pub ChecksWants : {A : Type 0} → Server A → List (List ℕ) → Result (Unit {0}) ServeFault → Type 0
-ChecksWants server wants (Ok _) = (wants ≢ []) × All (Holds server.graph.entries) wants
-ChecksWants server wants (Err fault.NoWants) = wants ≡ []
-ChecksWants server wants (Err (fault.NotOurs id)) = IsFirstAbsent server.graph.entries wants id
-ChecksWants server wants (Err _) = ⊥
-
--- what packing the objects to send answers
-abbrev pub PacksFor : {A : Type 0} → Server A → Packs A → PackFails A → FetchAsked → Result (List ℕ) ServeFault → Type 0
-PacksFor server packs fails asked (Ok pack) = SendsPack server packs asked pack
-PacksFor server packs fails asked (Err (fault.Pack cause)) = FailsToPack server fails asked cause
-PacksFor server packs fails asked (Err fault.Memory) = ⊤
-PacksFor server packs fails asked (Err _) = ⊥
 
 -- why a request is not answered; the empty one always is
 abbrev pub Refuses : {A : Type 0} → Server A → PackFails A → Asked → ServeFault → Type 0
 Refuses server fails Empty cause = ⊥
-Refuses server fails (LsAsked asked) cause = cause ≡ fault.Memory
+Refuses server fails (LsAsked asked) cause = cause ≡ serve.Memory
 Refuses server fails (Fetches asked) cause = FetchRefuses server fails asked cause

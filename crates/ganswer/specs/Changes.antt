@@ -1,4 +1,5 @@
--- Changes of a server: an object is added, a ref is set, HEAD is set. After a refusal the server is as it was.
+-- Changes of a server: an object is added, a ref is set (git-update-ref(1)), HEAD is set (git-symbolic-ref(1)). After a
+-- refusal the server is as it was.
 use Rattle.std.specs.Prelude.{◌≡◌, ℕ, List, None, Result, Ok, Err}
 use Rattle.gobject.specs.declared.node.Entry.{Entry}
 use Rattle.gobject.specs.Objects.{node_at}
@@ -10,14 +11,14 @@ use Rattle.grefs.specs.declared.fault.RefsFault.TheVariants as refs
 use Rattle.grefs.specs.declared.head.Head.{Head}
 use Rattle.ganswer.specs.Servers.{Server, HoldsHead}
 use Rattle.ganswer.specs.declared.fault.BuildFault.{BuildFault}
-use Rattle.ganswer.specs.declared.fault.BuildFault.TheVariants as fault
+use Rattle.ganswer.specs.declared.fault.BuildFault.TheVariants as build
 
 -- ---- an object
 
 -- why an object is not added: a parent is missing, the first that is; else what a graph refuses of it
 abbrev pub IsNotAdded : {A : Type 0} → Server A → Entry A → BuildFault A → Type 0
-IsNotAdded server entry (fault.MissingParent id) = IsFirstAbsent server.graph.entries entry.node.parents id
-IsNotAdded server entry (fault.Graph cause) =
+IsNotAdded server entry (build.MissingParent id) = IsFirstAbsent server.graph.entries entry.node.parents id
+IsNotAdded server entry (build.Graph cause) =
     HoldsParents server.graph.entries entry × IsCause server.graph.format server.graph.entries entry cause
 IsNotAdded server entry _ = ⊥
 
@@ -42,8 +43,8 @@ IsNotTaken list name refs.Memory = (ref_at list name ≡ None) × ¬ (CannotSet 
 
 -- why a ref is not set: the id is not held; else what the refs refuse
 abbrev pub IsNotSet : {A : Type 0} → Server A → List ℕ → List ℕ → BuildFault A → Type 0
-IsNotSet server name id (fault.RefMissing missing) = (missing ≡ name) × (node_at server.graph.entries id ≡ None)
-IsNotSet server name id (fault.Refs cause) = Holds server.graph.entries id × IsNotTaken server.refs name cause
+IsNotSet server name id (build.RefMissing missing) = (missing ≡ name) × (node_at server.graph.entries id ≡ None)
+IsNotSet server name id (build.Refs cause) = Holds server.graph.entries id × IsNotTaken server.refs name cause
 IsNotSet server name id _ = ⊥
 
 -- only the refs change: the name stands at the id
@@ -62,5 +63,5 @@ Sets old name id new (Err fault) = (new ≡ old) × IsNotSet old name id fault
 -- HEAD stands as it is handed in, or it is refused where that is at an id which is not held
 abbrev pub SetsHead : {A : Type 0} → Server A → Head A → Server A → Result (Unit {0}) (BuildFault A) → Type 0
 SetsHead old head new (Ok _) = HoldsHead old.graph.entries head × (new ≡ record old { head = head })
-SetsHead old head new (Err fault.HeadMissing) = (new ≡ old) × ¬ (HoldsHead old.graph.entries head)
+SetsHead old head new (Err build.HeadMissing) = (new ≡ old) × ¬ (HoldsHead old.graph.entries head)
 SetsHead old head new (Err _) = ⊥

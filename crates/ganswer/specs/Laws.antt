@@ -1,5 +1,5 @@
 -- What follows from the definitions of answers and of changes.
-use Rattle.std.specs.Prelude.{◌≡◌, ◌⊎◌, ◌≤◌, ℕ, List, length, All, Contains, Result}
+use Rattle.std.specs.Prelude.{◌≡◌, ◌⊎◌, ◌≤◌, ℕ, true, List, length, codes, All, Contains, None, Result}
 use Rattle.std.specs.List.{IsDistinct}
 use Rattle.std.specs.Str.{bytes_eq}
 use Rattle.gname.specs.declared.formats.Format.{Format}
@@ -17,6 +17,10 @@ use Rattle.glsreply.specs.WellFormed.{IsLsReplyIn}
 use Rattle.gfetchreply.specs.FetchHeads.{pack_of}
 use Rattle.gfetchreply.specs.FetchReplies.{FetchReply, Reading}
 use Rattle.gfetchreply.specs.WellFormed.{IsReplyIn}
+use Rattle.ggrammar.specs.Capabilities.{Capability}
+use Rattle.ghello.specs.Adverts.{AreCapabilities}
+use Rattle.ghello.specs.Offers.{check_fault, has_feature}
+use Rattle.ganswer.specs.Adverts.{advertised}
 use Rattle.ganswer.specs.Answers.{FetchRefuses}
 use Rattle.ganswer.specs.Changes.{Adds, Sets, SetsHead}
 use Rattle.ganswer.specs.FetchAnswers.{CanServe, FetchAnswer, SendsPack, acks_of}
@@ -24,7 +28,20 @@ use Rattle.ganswer.specs.LsAnswers.{LsAnswer}
 use Rattle.ganswer.specs.Servers.{Server, IsServer}
 use Rattle.ganswer.specs.declared.fault.BuildFault.{BuildFault}
 use Rattle.ganswer.specs.declared.fault.ServeFault.{ServeFault}
-use Rattle.ganswer.specs.declared.fault.ServeFault.TheVariants as fault
+use Rattle.ganswer.specs.declared.fault.ServeFault.TheVariants as serve
+
+-- ---- what is advertised
+
+-- The capabilities can be sent, a client of this format goes on, and it may ask for a HEAD on a branch that is not
+-- there yet (gitprotocol-v2(5), "ls-refs").
+pub record Welcomes (format : Format) (capabilities : List Capability) : Type 0 where
+  pub form : AreCapabilities capabilities
+  pub goes_on : check_fault format capabilities ≡ None
+  pub unborn : has_feature (codes "ls-refs") (codes "unborn") capabilities ≡ true
+
+-- a server welcomes each client of its own object format
+abbrev pub AdvertsWelcome : Type 0
+AdvertsWelcome = (format : Format) → Welcomes format (advertised format)
 
 -- ---- refs
 
@@ -97,15 +114,15 @@ abbrev pub ServesWhatIsHeld : (A : Type 0) → PackFails A → Type 0
 ServesWhatIsHeld A fails =
     (server : Server A) (asked : FetchAsked) (cause : ServeFault)
     → IsServer server → CanServe server asked → FetchRefuses server fails asked cause
-    → (cause ≡ fault.Memory)
-    ⊎ ((list : List (Entry A)) × (why : PackFault) × (cause ≡ fault.Pack why) × AreEntries list × fails list why)
+    → (cause ≡ serve.Memory)
+    ⊎ ((list : List (Entry A)) × (why : PackFault) × (cause ≡ serve.Pack why) × AreEntries list × fails list why)
 
 -- ---- changes
 
--- objects only come to a server, and only where one is added
+-- objects only come to a server, and only where one is added; their ids stay of one format
 pub record ServersGrow (A : Type 0) : Type 0 where
   pub adding : (old new : Server A) (entry : Entry A) (result : Result (Unit {0}) (BuildFault A)) →
-      Adds old entry new result → Grows old.graph.entries new.graph.entries
+      Adds old entry new result → (new.graph.format ≡ old.graph.format) × Grows old.graph.entries new.graph.entries
   pub setting : (old new : Server A) (name id : List ℕ) (result : Result (Unit {0}) (BuildFault A)) →
       Sets old name id new result → new.graph ≡ old.graph
   pub setting_head : (old new : Server A) (head : Head A) (result : Result (Unit {0}) (BuildFault A)) →

@@ -7,7 +7,9 @@ pub mod FetchAnswers
 pub mod Laws
 pub mod LsAnswers
 pub mod LsBuilding
+pub mod OnePack
 pub mod Servers
+pub mod Steps
 pub use Rattle.gobject.specs.Objects
 pub use Rattle.gobject.specs.Packs
 pub use Rattle.ghistory.specs.Graphs
@@ -22,3 +24,4 @@ pub use Rattle.grequest.specs.RequestValues
 pub use Rattle.glsreply.specs.LsReplies
 pub use Rattle.gfetchreply.specs.FetchReplies
 pub use Rattle.ghello.specs.Adverts as Capabilities
+pub use Rattle.ghello.specs.Offers

@@ -1,4 +1,5 @@
--- What a server has: a graph, refs and HEAD, none of which leads to an object that is not there.
+-- What a server has: a graph, refs and HEAD (gitglossary(7), "ref", "HEAD"), none of which leads to an object that is
+-- not there.
 use Rattle.std.specs.Prelude.{◌≡◌, ◌⊎◌, ⊤, ℕ, List, ◌∷◌, ◌++◌, All, None, Result, Ok, Err}
 use Rattle.std.specs.List.{flat_map}
 use Rattle.std.specs.Map.{values_of}
@@ -10,7 +11,7 @@ use Rattle.grefs.specs.RefLists.{RefList, IsBelowRefs, IsRefs}
 use Rattle.grefs.specs.declared.head.Head.{Head}
 use Rattle.grefs.specs.declared.head.Head.TheVariants as heads
 use Rattle.ganswer.specs.declared.fault.BuildFault.{BuildFault}
-use Rattle.ganswer.specs.declared.fault.BuildFault.TheVariants as fault
+use Rattle.ganswer.specs.declared.fault.BuildFault.TheVariants as build
 
 -- a repository that is served
 pub record Server (A : Type 0) : Type 0 where
@@ -25,7 +26,8 @@ served graph refs head = record { graph = graph; refs = refs; head = head }
 abbrev pub HoldsRefs : {A : Type 0} → List (Entry A) → RefList → Type 0
 HoldsRefs g refs = All (Holds g) (values_of refs)
 
--- so is the one at which HEAD stands by its id; a ref that HEAD points at need not be there
+-- so is the one at which HEAD stands by its id ("detached HEAD"); a ref that HEAD points at need not be there
+-- ("unborn")
 abbrev pub HoldsHead : {A : Type 0} → List (Entry A) → Head A → Type 0
 HoldsHead g heads.None = ⊤
 HoldsHead g (heads.Id id) = Holds g id
@@ -64,30 +66,17 @@ pub record IsFirstDangling {A : Type 0} (g : List (Entry A)) (refs : RefList) (n
 -- why there is no such server: a missing parent comes first, then a ref, then HEAD; of several the first. For the name
 -- of a ref, and for that of HEAD, there may be no memory.
 abbrev pub IsUnserved : {A : Type 0} → Server A → BuildFault A → Type 0
-IsUnserved server (fault.NotClosed id) = IsFirstAbsent server.graph.entries (parents_in server.graph.entries) id
-IsUnserved server (fault.RefMissing name) =
+IsUnserved server (build.NotClosed id) = IsFirstAbsent server.graph.entries (parents_in server.graph.entries) id
+IsUnserved server (build.RefMissing name) =
     IsClosed server.graph.entries × IsFirstDangling server.graph.entries server.refs name
-IsUnserved server fault.HeadMissing =
+IsUnserved server build.HeadMissing =
     IsClosed server.graph.entries × HoldsRefs server.graph.entries server.refs
     × ¬ (HoldsHead server.graph.entries server.head)
-IsUnserved server fault.Memory =
+IsUnserved server build.Memory =
     IsClosed server.graph.entries
     × (((name : List ℕ) × IsFirstDangling server.graph.entries server.refs name)
     ⊎ (HoldsRefs server.graph.entries server.refs × HoldsHead server.graph.entries server.head))
 IsUnserved server _ = ⊥
-
--- what looking the refs up answers: the object of each is held, or why there is no such server
-abbrev pub ChecksRefs : {A : Type 0} → List (Entry A) → RefList → Result (Unit {0}) (BuildFault A) → Type 0
-ChecksRefs g refs (Ok _) = HoldsRefs g refs
-ChecksRefs g refs (Err (fault.RefMissing name)) = IsFirstDangling g refs name
-ChecksRefs g refs (Err fault.Memory) = (name : List ℕ) × IsFirstDangling g refs name
-ChecksRefs g refs (Err _) = ⊥
-
--- the fault of a ref that stands at no object, for whose name there may be no memory
-abbrev pub ReportsRef : {A : Type 0} → List ℕ → BuildFault A → Type 0
-ReportsRef name (fault.RefMissing missing) = missing ≡ name
-ReportsRef name fault.Memory = ⊤
-ReportsRef name _ = ⊥
 
 -- what making a server of some parts answers: one of exactly these, or why there is none
 abbrev pub Makes : {A : Type 0} → Server A → Result (Server A) (BuildFault A) → Type 0

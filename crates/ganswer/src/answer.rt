@@ -5,6 +5,7 @@ ghost use Rattle.grequest.specs.RequestValues.{asked_by_request};
 ghost use Rattle.ganswer.specs.Answers.{Answers, HasFormat, Refuses, reply_of};
 
 use crate::fault::ServeFault;
+use crate::one_pack::OnePack;
 use crate::server::Server;
 use gfetchreply::FetchReply;
 use ggraph::Packer;
@@ -26,9 +27,10 @@ pub enum Reply<A: Allocator + Copy> {
 impl<A: Allocator + Copy> Server<A> {
     /// The answer to a request (gitprotocol-v2(5), "ls-refs" and "fetch").
     ///
-    /// Refs: HEAD first, then the names in byte order; those that begin with one of the prefixes, or all where there
-    /// is none. With `symrefs` a HEAD that points at a ref has its target, and with `peel` the id of a tag the commit to
-    /// which it leads. With `unborn` comes the name of a ref that HEAD points at and that is not there, where HEAD is asked for.
+    /// Refs: HEAD first, then the names in byte order; those that begin with one of the prefixes, or all where there is
+    /// none. With `symrefs` a HEAD that points at a ref has its target, and with `peel` the id of a tag the commit to
+    /// which it leads. With `unborn` comes the name of a ref that HEAD points at and that is not there, where HEAD is
+    /// asked for.
     ///
     /// Objects: with `done`, or without haves, the pack of those that a want reaches and no common id does; the common
     /// ids are the distinct haves that are here, in the order in which each came first. Else, where each want reaches
@@ -50,7 +52,10 @@ impl<A: Allocator + Copy> Server<A> {
         match request {
             Request::Empty => Ok(Reply::Nothing),
             Request::Ls(asked) => Ok(Reply::Ls(self.answer_ls(asked)?)),
-            Request::Fetch(asked) => Ok(Reply::Fetch(self.answer_fetch(asked, packer)?)),
+            Request::Fetch(asked) => {
+                let mut packer = OnePack::new(packer);
+                Ok(Reply::Fetch(self.answer_fetch(asked, &mut packer)?))
+            }
         }
     }
 }

@@ -3,11 +3,15 @@
 ghost use Rattle.std.specs.Prelude.{◌≡◌, ◌↔◌, IfOk, IfErr, IsTrue, MatchResult};
 ghost use Rattle.ghistory.specs.declared.fault.GraphFault.TheVariants.{Memory as OutOfMemory};
 ghost use Rattle.gfetchreply.specs.Views.{IsReplyOf, reply_in};
-ghost use Rattle.ganswer.specs.Answers.{ChecksWants, FetchRefuses, PacksFor};
+ghost use Rattle.ganswer.specs.Answers.{FetchRefuses};
 ghost use Rattle.ganswer.specs.FetchAnswers.{FetchAnswer, IsReadyFor, IsSent, commons_of};
+ghost use Rattle.ganswer.specs.OnePack.{packing_of_fault, packing_of_reply};
+ghost use Rattle.ganswer.specs.Steps.{ChecksWants, PacksFor};
 ghost use Rattle.ganswer.specs.declared.fault.ServeFault.TheVariants.{Memory};
+ghost use Rattle.ganswer.specs.declared.one_pack.Packing.TheVariants as packing;
 
 use crate::fault::ServeFault;
+use crate::one_pack::OnePack;
 use crate::server::Server;
 use gfetchreply::{Acks, FetchReply, PackBytes};
 use ggraph::graph_laws::places_are_nodes;
@@ -17,16 +21,24 @@ use grequest::FetchRequest;
 use std::alloc::Allocator;
 
 impl<A: Allocator + Copy> Server<A> {
-    // The reply to a request for objects.
-    pub(crate) fn answer_fetch<K: Packer<A>>(
+    /// The answer to a request for objects, as [`Server::answer`] gives it. The packer is asked once where a
+    /// pack is sent or a fault of its own is reported, and else it is not asked.
+    ///
+    /// So where it fails, that fault is reported, and `Memory` says that memory ended before it was asked.
+    pub fn answer_fetch<K: Packer<A>>(
         &self,
         asked: &FetchRequest<A>,
-        packer: &K,
+        packer: &mut OnePack<'_, K>,
     ) -> Result<FetchReply<A>, ServeFault>
+        requires { packer.old.answered ≡ packing.Unasked }
         ensures answer { MatchResult result
-            (λ reply. FetchAnswer self.now (K.packs packer.now) asked.now.asked (reply_in reply))
-            (FetchRefuses self.now (K.pack_fails packer.now) asked.now.asked) }
+            (λ reply. FetchAnswer self.now (K.packs packer.old.packer) asked.now.asked (reply_in reply))
+            (FetchRefuses self.now (K.pack_fails packer.old.packer) asked.now.asked) }
         ensures format { IfOk result (IsReplyOf self.now.graph.format) }
+        ensures packing { MatchResult result
+            (λ reply. packer.new.answered ≡ packing_of_reply (reply_in reply))
+            (λ fault. packer.new.answered ≡ packing_of_fault fault) }
+        ensures packer { packer.new.packer ≡ packer.old.packer }
     {
         self.check_wants(asked.wants())?;
         let commons = self.commons(asked)?;
@@ -91,10 +103,15 @@ impl<A: Allocator + Copy> Server<A> {
         &self,
         asked: &FetchRequest<A>,
         commons: &[Oid],
-        packer: &K,
+        packer: &mut OnePack<'_, K>,
     ) -> Result<PackBytes<A>, ServeFault>
-        requires { commons.now ≡ commons_of self.now asked.now.asked }
-        ensures { PacksFor self.now (K.packs packer.now) (K.pack_fails packer.now) asked.now.asked result }
+        requires commons { commons.now ≡ commons_of self.now asked.now.asked }
+        requires unasked { packer.old.answered ≡ packing.Unasked }
+        ensures pack { PacksFor self.now (K.packs packer.old.packer) (K.pack_fails packer.old.packer) asked.now.asked result }
+        ensures packing { MatchResult result
+            (λ _. packer.new.answered ≡ packing.Packed)
+            (λ fault. packer.new.answered ≡ packing_of_fault fault) }
+        ensures packer { packer.new.packer ≡ packer.old.packer }
     {
         let list = self.objects(asked, commons)?;
         let bytes = packer.pack(self.graph().allocator(), list.as_slice())?;

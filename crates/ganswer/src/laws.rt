@@ -1,6 +1,6 @@
 //! Laws of answers and of changes. A call does nothing, and gives its caller's proof the law.
 
-ghost use Rattle.ganswer.specs.Laws.{AcksAreCommon, FetchAnswersFit, LsAnswersAreHeld, LsAnswersAreOne, LsAnswersFit, LsRequestsHaveAnswers, PacksAreEnough, ServersGrow, ServesWhatIsHeld};
+ghost use Rattle.ganswer.specs.Laws.{AcksAreCommon, AdvertsWelcome, FetchAnswersFit, LsAnswersAreHeld, LsAnswersAreOne, LsAnswersFit, LsRequestsHaveAnswers, PacksAreEnough, ServersGrow, ServesWhatIsHeld};
 
 use ggraph::Packer;
 use ggraph::graph_laws::{
@@ -8,6 +8,12 @@ use ggraph::graph_laws::{
 };
 use gname::laws::head_is_a_name;
 use std::alloc::Allocator;
+
+/// What a server advertises can be sent, a client of the same object format goes on with it, and finds that it may ask
+/// for a HEAD on a branch that is not there yet (gitprotocol-v2(5), "Capability Advertisement").
+pub fn adverts_welcome()
+    ensures { AdvertsWelcome }
+{}
 
 /// A server has one answer to each request for refs.
 pub fn ls_requests_have_one_answer<A: Allocator + Copy>()
@@ -33,28 +39,25 @@ pub fn ls_answers_are_held<A: Allocator + Copy>()
 
 /// An answer to a request for objects has the form of its message. A client reads it with the format of the server's
 /// ids, as direct exactly where its request was, and where the pack is within its limit.
-pub fn fetch_answers_fit<A: Allocator + Copy, K: Packer<A>>(packer: &K)
-    ensures { FetchAnswersFit A (K.packs packer.now) }
+pub fn fetch_answers_fit<A: Allocator + Copy, K: Packer<A>>()
+    ensures { (packer : K) → FetchAnswersFit A (K.packs packer) }
 {
-    let _ = packer;
     places_are_nodes::<A>();
 }
 
 /// The ids that an answer acknowledges are haves of the request that the server holds, each once.
-pub fn acks_are_common<A: Allocator + Copy, K: Packer<A>>(packer: &K)
-    ensures { AcksAreCommon A (K.packs packer.now) }
+pub fn acks_are_common<A: Allocator + Copy, K: Packer<A>>()
+    ensures { (packer : K) → AcksAreCommon A (K.packs packer) }
 {
-    let _ = packer;
     commons_are_held::<A>();
 }
 
 /// A pack that is sent is one of entries of the server's graph. Where they are inserted into the graph of a client
 /// that has the whole ancestries of the haves of its request, and agrees with the server on what both hold, the
 /// client's has those of the wants, and all that these reach at the server.
-pub fn packs_are_enough<A: Allocator + Copy, K: Packer<A>>(packer: &K)
-    ensures { PacksAreEnough A (K.packs packer.now) }
+pub fn packs_are_enough<A: Allocator + Copy, K: Packer<A>>()
+    ensures { (packer : K) → PacksAreEnough A (K.packs packer) }
 {
-    let _ = packer;
     commons_are_held::<A>();
     sent_are_entries::<A>();
     sending_is_enough::<A>();
@@ -62,10 +65,9 @@ pub fn packs_are_enough<A: Allocator + Copy, K: Packer<A>>(packer: &K)
 
 /// A request whose wants the server holds is refused only where the packer fails for some entries as a graph has
 /// them, or out of memory.
-pub fn held_wants_are_served<A: Allocator + Copy, K: Packer<A>>(packer: &K)
-    ensures { ServesWhatIsHeld A (K.pack_fails packer.now) }
+pub fn held_wants_are_served<A: Allocator + Copy, K: Packer<A>>()
+    ensures { (packer : K) → ServesWhatIsHeld A (K.pack_fails packer) }
 {
-    let _ = packer;
     sent_are_entries::<A>();
 }
 

@@ -4,35 +4,41 @@
 //! # Proved
 //!
 //! - A [`Server`] has exactly the graph, the refs and the HEAD that it was given. In its type: no parent of an object
-//!   is missing, and each ref, and HEAD by its id, stands at an object that is there. [`Server::new`] refuses other parts
-//!   for the first that is missing, in a fixed order.
+//!   is missing, and each ref, and HEAD by its id, stands at an object that is there. [`Server::new`] refuses other
+//!   parts for the first that is missing, in a fixed order.
 //! - [`Server::add`], [`Server::set_ref`] and [`Server::set_head`] change that one thing and nothing else, or are
 //!   refused for their first cause and change nothing.
-//! - [`Server::answer`] gives an answer to the request (`specs/Answers.antt`), for any packer: to ls-refs the refs
-//!   that are asked for, HEAD first and then in the byte order of their names, with the attributes that are asked for; to
+//! - [`Server::answer`] gives an answer to the request (`specs/Answers.antt`), for any packer: to ls-refs the refs that
+//!   are asked for, HEAD first and then in the byte order of their names, with the attributes that are asked for; to
 //!   fetch the common ids, the pack of the objects to send, or both. It refuses a fetch exactly where nothing is
 //!   wanted, or with the first want that is not here; where the packer may refuse the objects to send; or out of
 //!   memory. The ids of an answer have the format of the graph, and an answer is never refused for its length.
+//! - [`Server::answer_fetch`] takes one answer of the packer where a pack is sent, and where a fault of the packer is
+//!   reported, which is the one that it answered; else it takes none. So there out of memory never hides such a fault.
 //! - [`Server::write_ls_answer`] writes the answer to ls-refs, or a beginning of it where the sink fails.
 //! - [`Server::advert`] fails only when out of memory, and else advertises `agent=gitv2/1`, `ls-refs=unborn`,
 //!   `fetch`, and the format of the graph's ids.
-//! - [`laws`]: a server has one answer to each request for refs, whose lines stand at objects that it has. What an
-//!   answer acknowledges are haves of the request that the server has, too. A pack that is sent completes the
-//!   ancestries of the wants at a client that has those of its haves. Wants that are here are refused only for the
-//!   packer, or out of memory. Answers have the forms of their messages, so that what is written of them can be read by a
-//!   client of the same object format. Objects only come to a server.
+//! - [`laws`]: what is advertised can be read by each client, and one of the same object format goes on with it. A
+//!   server has one answer to each request for refs, whose lines stand at objects that it has. What an answer
+//!   acknowledges are haves of the request that the server has, too. A pack that is sent completes the ancestries of
+//!   the wants at a client that has those of its haves. Wants that are here are refused only for the packer, or out of
+//!   memory. Answers have the forms of their messages, so that what is written of them can be read by a client of the
+//!   same object format. Objects only come to a server, and their ids stay of one format.
 //! - Each fault has the number and the name of its row, and the words for a client.
 //! - No call panics, overflows or reads out of bounds, and each returns.
 //!
 //! # Only tested
 //!
-//! The texts of the faults; that memory which is there is used; that `write_ls_answer` takes none.
+//! The texts of the faults; that memory which is there is used; that `write_ls_answer` takes none; that `OnePack` calls
+//! its packer once for the one answer.
 //!
 //! # What a body can still get away with
 //!
-//! It may report out of memory: `answer` for any request but the empty one and a fetch that it refuses for its wants;
-//! `advert` at any time; `new` for the name of a ref that it reports, or where nothing is missing; `add` for an object
-//! that is new, and `set_ref` for a name that is. A call may take as long as it likes, and more memory than it needs.
+//! It may report out of memory: `answer` for any request but the empty one and a fetch that it refuses for its wants,
+//! even where the packer failed for another cause; `answer_fetch` for a fetch whose wants are all here, but not once it
+//! has asked the packer; `advert` at any time; `new` for the name of a ref that it reports, or where nothing is
+//! missing; `add` for an object that is new, and `set_ref` for a name that is. `answer` may ask the packer again, and
+//! send another of its packs. A call may take as long as it likes, and more memory than it needs.
 //!
 //! # Stands on
 //!
@@ -47,6 +53,7 @@ mod fault;
 mod fetch;
 pub mod laws;
 mod ls;
+mod one_pack;
 mod server;
 #[cfg(test)]
 mod tests;
@@ -54,4 +61,5 @@ mod write;
 
 pub use crate::answer::Reply;
 pub use crate::fault::{BuildFault, ServeFault};
+pub use crate::one_pack::{OnePack, Packing};
 pub use crate::server::Server;

@@ -6,9 +6,9 @@ ghost use Rattle.ghistory.specs.Graphs.{Holds, IsFirstAbsent};
 ghost use Rattle.ghistory.specs.Reach.{Grows, IsClosed};
 ghost use Rattle.grefs.specs.RefLists.{IsRefs};
 ghost use Rattle.ganswer.specs.Changes.{Adds, Sets, SetsHead};
-ghost use Rattle.ganswer.specs.Servers.{ChecksRefs, HoldsHead, IsServer, IsUnserved, Makes, PointsBelowRefs, ReportsRef, parents_in, served};
+ghost use Rattle.ganswer.specs.Servers.{HoldsHead, IsServer, IsUnserved, Makes, PointsBelowRefs, parents_in, served};
+ghost use Rattle.ganswer.specs.Steps.{ChecksRefs, ReportsRef};
 ghost use Rattle.gname.specs.Names.{head_name};
-ghost use Rattle.ganswer.specs.declared.fault.BuildFault.TheVariants as fault;
 
 use crate::fault::BuildFault;
 use ggraph::graph_laws::{closed_stays, ordered_is_closed, places_are_nodes};
@@ -43,10 +43,10 @@ impl<A: Allocator + Copy> Model for Server<A> {
 impl<A: Allocator + Copy> Server<A> {
     /// A server of these parts.
     ///
-    /// It fails with `NotClosed` where the parent of an object is not there, and reports the first in the order of
-    /// the objects and of their parents; else with `RefMissing` where the object of a ref is not there, and reports the
-    /// first by name; else with `HeadMissing` where HEAD stands at the id of no object; and with `Memory` where there is none
-    /// for that name, or for the name HEAD.
+    /// It fails with `NotClosed` where the parent of an object is not there, and reports the first in the order of the
+    /// objects and of their parents; else with `RefMissing` where the object of a ref is not there, and reports the
+    /// first by name; else with `HeadMissing` where HEAD stands at the id of no object; and with `Memory` where there
+    /// is none for that name, or for the name HEAD.
     pub fn new(graph: Graph<A>, refs: Refs<A>, head: Head<A>) -> Result<Server<A>, BuildFault<A>>
         ensures { Makes (served graph refs head) result }
     {
@@ -90,6 +90,7 @@ impl<A: Allocator + Copy> Server<A> {
     /// `Graph::insert` does. Nothing changes then.
     pub fn add(&mut self, entry: Entry<A>) -> Result<(), BuildFault<A>>
         ensures adds { Adds self.old entry self.new result }
+        ensures format { self.new.graph.format ≡ self.old.graph.format }
         ensures grows { Grows self.old.graph.entries self.new.graph.entries }
         ensures server { IsServer self.new }
     {

@@ -19,8 +19,8 @@ use grequest::LsRefsRequest;
 use std::alloc::Allocator;
 
 impl<A: Allocator + Copy> Server<A> {
-    /// Writes the answer to a request for refs (gitprotocol-v2(5), "ls-refs"), the one that [`Server::answer`] gives. The
-    /// server lends the names, so it takes no memory.
+    /// Writes the answer to a request for refs (gitprotocol-v2(5), "ls-refs"), the one that [`Server::answer`] gives.
+    /// The server lends the names, so it takes no memory.
     ///
     /// It fails with `Io` where the sink fails, and then a beginning of the answer stands written; with `Failed` where
     /// the writer had failed before.

@@ -1,20 +1,22 @@
 -- Bytes put one after the other, and lines shown one after the other.
 use Rattle.std.proofs.Common.{◌≡◌, ℕ, ◌+◌, ◌-◌, ◌<◌, Bool, List, [], ◌∷◌, ◌++◌, length, take, drop, Option, Some, None, Ok, Err, Result, true, false, refl, sym, ap, ◌∙◌, inl, inr, subst, append_assoc, append-nil, take-append-drop, arith, codes}
-use Rattle.std.specs.Prelude.{IsSome, slice_index, ◌/◌, ◌%◌, ◌==◌}
+use Rattle.std.specs.Prelude.{slice_index, ◌/◌, ◌%◌, ◌==◌}
 use Rattle.std.proofs.lemmas.Bool.{false≢true}
 use Rattle.std.proofs.lemmas.List.{length_push, take_rest}
 use Rattle.std.proofs.KnownBytes.{Appends-nil, Appends-trans, Appends-kept, Keeps-refl, Keeps-trans}
 use Rattle.std.specs.Io.KnownBytes.{Keeps}
 use Rattle.hex.specs.Hex.{encode_with, encode_lower, lower_digits}
 use Rattle.gpkt.specs.Change.{change_of}
-use Rattle.gpkt.specs.Devices.{PassesAll}
+use Rattle.gpkt.specs.Devices.{KeepsPassed, PassesAll}
 use Rattle.gpkt.specs.Laws.{ReadsNone, ReadsNext}
 use Rattle.gpkt.specs.Packets.{Packet}
 use Rattle.gpkt.specs.LineReading.{Reader, HasRead, ReadsLines}
 use Rattle.gpkt.specs.declared.device.Down.{Down}
 use Rattle.gpkt.specs.declared.fault.LineFault.{LineFault}
 use Rattle.gcmd.specs.Lines.{digits_part, max_lines, shown_line, shown_lines, ShowsEach, ShowsSome, HasPassed}
-use Rattle.gpkt.specs.Sending.{Input, input_of, output_of, HasPut}
+use Rattle.gpkt.specs.Sending.{Input, Output, input_of, output_of}
+use Rattle.gcmd.specs.Outputs.{IsPut}
+use Rattle.gcmd.proofs.OutputLemmas.{IsSome-kept, KeepsPassed-after}
 use Rattle.gcmd.proofs.ReadingLemmas.{read_failure}
 
 -- ---- bytes
@@ -34,84 +36,84 @@ pub digits_part-some : (payload : List ℕ) → (length payload == 0) ≡ false 
 digits_part-some [] some = absurd (false≢true (sym some))
 digits_part-some (byte ∷ bytes) some = refl
 
--- bytes that were known and are kept are known
-IsSome-kept : (a b : Option (List ℕ)) → Keeps a b → IsSome a → IsSome b
-IsSome-kept None b kept known = absurd (false≢true known)
-IsSome-kept (Some x) None kept known = absurd kept
-IsSome-kept (Some x) (Some y) kept known = refl
-
 module _ {W : Type 0} (contents passed_on : W → Option (List ℕ)) (is_down : W → Bool) where
   -- nothing is put
-  pub HasPut-nil : (a : W) → HasPut (output_of contents passed_on is_down a a) (Ok tt) []
-  HasPut-nil a = (Appends-nil (contents a), Keeps-refl (passed_on a))
+  pub IsPut-nil : (a : W) → IsPut (output_of contents passed_on is_down a a) (Ok tt) []
+  IsPut-nil a = (Appends-nil (contents a), Keeps-refl (passed_on a))
 
   -- after bytes that were put, others are put, or a beginning of them
-  pub HasPut-after : (a b c : W) (xs ys : List ℕ) (result : Result (Unit {0}) Down)
-      → HasPut (output_of contents passed_on is_down a b) (Ok tt) xs → HasPut (output_of contents passed_on is_down b c) result ys
-      → HasPut (output_of contents passed_on is_down a c) result (xs ++ ys)
-  HasPut-after a b c xs ys (Ok done) first next = (Appends-trans _ _ _ xs ys first.0 next.0, Keeps-trans _ _ _ first.1 next.1)
-  HasPut-after a b c xs ys (Err fault) first next = record {
-    front = xs ++ next.front;
-    rest = next.rest;
-    parts = ap (λ bytes. xs ++ bytes) next.parts ∙ sym (append_assoc xs next.front next.rest);
-    written = Appends-trans _ _ _ xs next.front first.0 next.written;
-    down = next.down;
-  }
+  pub IsPut-after : (a b c : W) (xs ys : List ℕ) (result : Result (Unit {0}) Down)
+      → IsPut (output_of contents passed_on is_down a b) (Ok tt) xs → IsPut (output_of contents passed_on is_down b c) result ys
+      → IsPut (output_of contents passed_on is_down a c) result (xs ++ ys)
+  IsPut-after a b c xs ys (Ok done) first next = (Appends-trans _ _ _ xs ys first.0 next.0, Keeps-trans _ _ _ first.1 next.1)
+  IsPut-after a b c xs ys (Err fault) first next = (
+    record {
+      front = xs ++ next.0.front;
+      rest = next.0.rest;
+      parts = ap (λ bytes. xs ++ bytes) next.0.parts ∙ sym (append_assoc xs next.0.front next.0.rest);
+      written = Appends-trans _ _ _ xs next.0.front first.0 next.0.written;
+      down = next.0.down;
+    },
+    Keeps-trans _ _ _ first.1 next.1,
+  )
 
   -- a beginning of the bytes begins what is longer
-  pub HasPut-more : (a b : W) (xs ys : List ℕ) (fault : Down) → HasPut (output_of contents passed_on is_down a b) (Err fault) xs
-      → HasPut (output_of contents passed_on is_down a b) (Err fault) (xs ++ ys)
-  HasPut-more a b xs ys fault some = record {
-    front = some.front;
-    rest = some.rest ++ ys;
-    parts = ap (λ bytes. bytes ++ ys) some.parts ∙ append_assoc some.front some.rest ys;
-    written = some.written;
-    down = some.down;
-  }
+  pub IsPut-more : (a b : W) (xs ys : List ℕ) (fault : Down) → IsPut (output_of contents passed_on is_down a b) (Err fault) xs
+      → IsPut (output_of contents passed_on is_down a b) (Err fault) (xs ++ ys)
+  IsPut-more a b xs ys fault some = (
+    record {
+      front = some.0.front;
+      rest = some.0.rest ++ ys;
+      parts = ap (λ bytes. bytes ++ ys) some.0.parts ∙ append_assoc some.0.front some.0.rest ys;
+      written = some.0.written;
+      down = some.0.down;
+    },
+    some.1,
+  )
 
   -- the digits of a beginning of the bytes are put, and these are the others
   pub record IsPutting (start now : W) (bytes rest : List ℕ) : Type 0 where
     pub front : List ℕ
     pub parts : bytes ≡ front ++ rest
-    pub put : HasPut (output_of contents passed_on is_down start now) (Ok tt) (encode_lower front)
+    pub put : IsPut (output_of contents passed_on is_down start now) (Ok tt) (encode_lower front)
 
   pub IsPutting-none : (start : W) (bytes : List ℕ) → IsPutting start start bytes bytes
   IsPutting-none start bytes = record {
     front = [];
     parts = refl;
-    put = subst (HasPut (output_of contents passed_on is_down start start) (Ok tt)) (sym encode_lower-nil) (HasPut-nil start);
+    put = subst (IsPut (output_of contents passed_on is_down start start) (Ok tt)) (sym encode_lower-nil) (IsPut-nil start);
   }
 
   pub IsPutting-next : (start now next : W) (bytes rest : List ℕ) (n : ℕ) → IsPutting start now bytes rest
-      → HasPut (output_of contents passed_on is_down now next) (Ok tt) (encode_lower (take n rest))
+      → IsPut (output_of contents passed_on is_down now next) (Ok tt) (encode_lower (take n rest))
       → IsPutting start next bytes (take (length rest - n) (drop n rest))
   IsPutting-next start now next bytes rest n putting put =
-      let joined = HasPut-after start now next (encode_lower putting.front) (encode_lower (take n rest)) (Ok tt) putting.put put in
+      let joined = IsPut-after start now next (encode_lower putting.front) (encode_lower (take n rest)) (Ok tt) putting.put put in
       let same = sym (encode_with-append lower_digits putting.front (take n rest)) in
       record {
         front = putting.front ++ take n rest;
         parts =
             putting.parts ∙ ap (λ l. putting.front ++ l) (sym (take-append-drop n rest)) ∙ sym (append_assoc putting.front (take n rest) (drop n rest))
             ∙ ap (λ l. (putting.front ++ take n rest) ++ l) (sym (take_rest rest n));
-        put = subst (HasPut (output_of contents passed_on is_down start next) (Ok tt)) same joined;
+        put = subst (IsPut (output_of contents passed_on is_down start next) (Ok tt)) same joined;
       }
 
   pub IsPutting-failed : (start now next : W) (bytes rest : List ℕ) (n : ℕ) (fault : Down) → IsPutting start now bytes rest
-      → HasPut (output_of contents passed_on is_down now next) (Err fault) (encode_lower (take n rest))
-      → HasPut (output_of contents passed_on is_down start next) (Err fault) (encode_lower bytes)
+      → IsPut (output_of contents passed_on is_down now next) (Err fault) (encode_lower (take n rest))
+      → IsPut (output_of contents passed_on is_down start next) (Err fault) (encode_lower bytes)
   IsPutting-failed start now next bytes rest n fault putting put =
       let chunk = encode_lower (take n rest) in
-      let more = HasPut-more now next chunk (encode_lower (drop n rest)) fault put in
-      let last = subst (HasPut (output_of contents passed_on is_down now next) (Err fault)) (sym (encode_with-append lower_digits (take n rest) (drop n rest)) ∙ ap encode_lower (take-append-drop n rest)) more in
-      let joined = HasPut-after start now next (encode_lower putting.front) (encode_lower rest) (Err fault) putting.put last in
+      let more = IsPut-more now next chunk (encode_lower (drop n rest)) fault put in
+      let last = subst (IsPut (output_of contents passed_on is_down now next) (Err fault)) (sym (encode_with-append lower_digits (take n rest) (drop n rest)) ∙ ap encode_lower (take-append-drop n rest)) more in
+      let joined = IsPut-after start now next (encode_lower putting.front) (encode_lower rest) (Err fault) putting.put last in
       let same = sym (encode_with-append lower_digits putting.front rest) ∙ ap encode_lower (sym putting.parts) in
-      subst (HasPut (output_of contents passed_on is_down start next) (Err fault)) same joined
+      subst (IsPut (output_of contents passed_on is_down start next) (Err fault)) same joined
 
   pub IsPutting-done : (start now : W) (bytes rest : List ℕ) → IsPutting start now bytes rest → rest ≡ []
-      → HasPut (output_of contents passed_on is_down start now) (Ok tt) (encode_lower bytes)
+      → IsPut (output_of contents passed_on is_down start now) (Ok tt) (encode_lower bytes)
   IsPutting-done start now bytes rest putting none =
       let same : putting.front ≡ bytes = sym (putting.parts ∙ ap (λ l. putting.front ++ l) none ∙ append-nil putting.front) in
-      subst (HasPut (output_of contents passed_on is_down start now) (Ok tt)) (ap encode_lower same) putting.put
+      subst (IsPut (output_of contents passed_on is_down start now) (Ok tt)) (ap encode_lower same) putting.put
 
   -- what was put is passed on
   pub HasPassed-all : (input : Input) (a b c : W) (ended : Result (Unit {0}) LineFault) → ShowsEach input (output_of contents passed_on is_down a b) (Ok ended)
@@ -122,18 +124,21 @@ module _ {W : Type 0} (contents passed_on : W → Option (List ℕ)) (is_down : 
 
   -- or it is not
   pub ShowsSome-all : (input : Input) (a b c : W) (ended : Result (Unit {0}) LineFault) → ShowsEach input (output_of contents passed_on is_down a b) (Ok ended)
-      → Keeps (contents b) (contents c) → is_down c ≡ true → ShowsSome input (output_of contents passed_on is_down a c)
-  ShowsSome-all input a b c ended (lines, read, put) kept down = (
+      → Keeps (contents b) (contents c) → KeepsPassed (change_of passed_on b c) → is_down c ≡ true
+      → ShowsSome input (output_of contents passed_on is_down a c)
+  ShowsSome-all input a b c ended (lines, read, put) kept passed down = (
     lines,
     inr (ended, read),
-    record {
-      front = shown_lines lines;
-      rest = [];
-      parts = sym (append-nil (shown_lines lines));
+    inr (record {
       written = Appends-kept _ _ _ (shown_lines lines) put.0 kept;
+      passed_on = KeepsPassed-after (passed_on a) (passed_on b) (passed_on c) put.1 passed;
       down = down;
-    },
+    }),
   )
+
+-- a write failed
+pub ShowsSome-failed : (input : Input) (output : Output) (down : Down) → ShowsEach input output (Err down) → ShowsSome input output
+ShowsSome-failed input output down (lines, read, put) = (lines, read, inl put)
 
 -- ---- lines
 
@@ -154,7 +159,7 @@ module _
       pub ready : now.failed ≡ false
       pub up : 0 < count → source_down now.source ≡ false
       pub read : ReadsLines (record { old = remaining start.source; new = remaining now.source }) lines
-      pub put : HasPut (output_of contents passed_on sink_down before after) (Ok tt) (shown_lines lines)
+      pub put : IsPut (output_of contents passed_on sink_down before after) (Ok tt) (shown_lines lines)
 
     pub IsShowing-none : ReadsNone → (start : Reader S) (sink : W) → start.failed ≡ false → IsShowing start start sink sink 0
     IsShowing-none none start sink ready = record {
@@ -163,22 +168,22 @@ module _
       ready = ready;
       up = λ some. absurd (omega (arith, some));
       read = none (remaining start.source);
-      put = HasPut-nil contents passed_on sink_down sink;
+      put = IsPut-nil contents passed_on sink_down sink;
     }
 
     module _ (start now next : Reader S) (before mid after : W) (count : ℕ) where
       put_next : (lines : List Packet) (packet : Packet) (result : Result (Unit {0}) Down)
-          → HasPut (output_of contents passed_on sink_down before mid) (Ok tt) (shown_lines lines)
-          → HasPut (output_of contents passed_on sink_down mid after) result (shown_line packet)
-          → HasPut (output_of contents passed_on sink_down before after) result (shown_lines (lines ++ packet ∷ []))
+          → IsPut (output_of contents passed_on sink_down before mid) (Ok tt) (shown_lines lines)
+          → IsPut (output_of contents passed_on sink_down mid after) result (shown_line packet)
+          → IsPut (output_of contents passed_on sink_down before after) result (shown_lines (lines ++ packet ∷ []))
       put_next lines packet result first put =
-          subst (HasPut (output_of contents passed_on sink_down before after) result) (sym (shown_lines-push lines packet))
-          (HasPut-after contents passed_on sink_down before mid after (shown_lines lines) (shown_line packet) result first put)
+          subst (IsPut (output_of contents passed_on sink_down before after) result) (sym (shown_lines-push lines packet))
+          (IsPut-after contents passed_on sink_down before mid after (shown_lines lines) (shown_line packet) result first put)
 
       -- the next line is shown
       pub IsShowing-next : ReadsNext → (packet : Packet) → IsShowing start now before mid count
           → HasRead remaining source_down source_loans now next (Ok (Some packet))
-          → HasPut (output_of contents passed_on sink_down mid after) (Ok tt) (shown_line packet)
+          → IsPut (output_of contents passed_on sink_down mid after) (Ok tt) (shown_line packet)
           → IsShowing start next before after (count + 1)
       IsShowing-next reads packet showing read put = record {
         lines = showing.lines ++ packet ∷ [];
@@ -192,7 +197,7 @@ module _
       -- the sink fails at it
       pub ShowsEach-failed : ReadsNext → (packet : Packet) (fault : Down) → IsShowing start now before mid count
           → HasRead remaining source_down source_loans now next (Ok (Some packet))
-          → HasPut (output_of contents passed_on sink_down mid after) (Err fault) (shown_line packet)
+          → IsPut (output_of contents passed_on sink_down mid after) (Err fault) (shown_line packet)
           → ShowsEach (input_of remaining source_down start.source next.source) (output_of contents passed_on sink_down before after) (Err fault)
       ShowsEach-failed reads packet fault showing read put = (
         showing.lines ++ packet ∷ [],

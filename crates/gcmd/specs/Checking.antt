@@ -7,7 +7,8 @@ use Rattle.ggraph.specs.Loading.{StopsAt}
 use Rattle.ggraph.specs.RepositoryText.{repository_text, IsLoadable}
 use Rattle.ggraph.specs.declared.text.Order.TheVariants.{Any}
 use Rattle.ggraph.specs.declared.text.Repository.{Repository}
-use Rattle.gpkt.specs.Sending.{Output, IsUnwritten, Sends, SendsSome}
+use Rattle.gpkt.specs.Sending.{Output, IsUnwritten, Sends}
+use Rattle.gcmd.specs.Outputs.{BreaksOff}
 use Rattle.gcmd.specs.Programs.{Outcome}
 use Rattle.gcmd.specs.declared.check.Report.{Report}
 use Rattle.gcmd.specs.declared.fault.ProgramFault.TheVariants as program
@@ -41,12 +42,12 @@ pub record IsReported (A : Type 0) (file : List ℕ) (report : Report) : Type 0 
   pub loadable : IsLoadable Any repo.graph repo.refs repo.head
   pub reports : IsReport repo report
 
--- what `check` does: the line is written; or a beginning of it, where the sink is down; or nothing, where the file is
--- no repository, or there is no memory to judge it
+-- what `check` does: the line is written and passed on; or a beginning of it is written, where the sink fails; or
+-- nothing, where the file is no repository, or there is no memory to judge it
 abbrev pub Checks : {A : Type 0} → List ℕ → Output → Outcome A → Type 0
 Checks {A} file output (Ok done) = (report : Report) × IsReported A file report × Sends output (report_line report)
 Checks {A} file output (Err program.WriteFailed) =
-    (report : Report) × IsReported A file report × SendsSome output (report_line report)
+    (report : Report) × IsReported A file report × BreaksOff output (report_line report)
 Checks {A} file output (Err (program.Text fault)) = StopsAt A Any file fault × IsUnwritten output
 Checks {A} file output (Err program.Memory) = IsRepository A file × IsUnwritten output
 Checks file output (Err _) = ⊥

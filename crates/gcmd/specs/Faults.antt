@@ -17,6 +17,16 @@ use Rattle.ganswer.specs.declared.fault.BuildFault.{BuildFault}
 use Rattle.ganswer.specs.declared.fault.BuildFault.TheVariants as build
 use Rattle.ganswer.specs.declared.fault.ServeFault.{ServeFault}
 use Rattle.ganswer.specs.declared.fault.ServeFault.TheVariants as serve
+use Rattle.gobject.specs.declared.fault.IndexFault.TheVariants as index
+use Rattle.gspec.specs.Faults.{spec_fault_row}
+use Rattle.grepo.specs.declared.fault.RepoFault.{RepoFault}
+use Rattle.grepo.specs.declared.fault.RepoFault.TheVariants as repo
+use Rattle.gsession.specs.Faults.{client_fault_row}
+use Rattle.gsession.specs.declared.fault.ClientFault.{ClientFault}
+use Rattle.gsession.specs.declared.fault.ClientFault.TheVariants as client
+use Rattle.gclient.specs.Faults.{fetch_fault_row}
+use Rattle.gclient.specs.declared.fault.FetchFault.{FetchFault}
+use Rattle.gclient.specs.declared.fault.FetchFault.TheVariants as fetch
 use Rattle.gcmd.specs.declared.fault.ProgramFault.{ProgramFault}
 use Rattle.gcmd.specs.declared.fault.ProgramFault.TheVariants as program
 
@@ -102,6 +112,50 @@ printed_of_request fault = record (plain (number_and_name (serve_fault_row fault
   text = said_in_request fault;
 }
 
+-- ---- fetching
+
+-- where a message was refused
+abbrev pub frame_in_client : {A : Type 0} → ClientFault A → Option ℕ
+frame_in_client (client.Message fault) = Some fault.frame
+frame_in_client _ = None
+
+-- the line of a pack that is wrong
+abbrev pub line_in_client : {A : Type 0} → ClientFault A → Option ℕ
+line_in_client (client.Index (index.Bad line)) = Some line
+line_in_client _ = None
+
+-- the id that is missing, that two objects have, or that is of another format
+abbrev pub id_in_repo : {A : Type 0} → RepoFault A → Option (List ℕ)
+id_in_repo (repo.MissingParent id) = Some id
+id_in_repo (repo.NotHeld missing) = Some missing
+id_in_repo (repo.NotConnected missing) = Some missing
+id_in_repo (repo.Graph cause) = id_in_graph cause
+id_in_repo _ = None
+
+-- and the id that was acknowledged and not offered
+abbrev pub id_in_client : {A : Type 0} → ClientFault A → Option (List ℕ)
+id_in_client (client.StrangeAck id) = Some id
+id_in_client (client.Repo cause) = id_in_repo cause
+id_in_client _ = None
+
+-- the ref whose ancestry is not held, or what a peer said
+abbrev pub text_in_client : {A : Type 0} → ClientFault A → Option (List ℕ)
+text_in_client (client.Message fault) = said_in fault.why
+text_in_client (client.Repo (repo.UnsafeRef name)) = Some name
+text_in_client _ = None
+
+abbrev pub printed_of_client : {A : Type 0} → ClientFault A → Printed
+printed_of_client fault = record (plain (client_fault_row fault)) {
+  frame = frame_in_client fault;
+  line = line_in_client fault;
+  id = id_in_client fault;
+  text = text_in_client fault;
+}
+
+abbrev pub printed_of_fetch : {A : Type 0} → FetchFault A → Printed
+printed_of_fetch (fetch.Client fault) = printed_of_client fault
+printed_of_fetch fault = plain (fetch_fault_row fault)
+
 -- ---- the table
 
 abbrev pub printed_of : {A : Type 0} → ProgramFault A → Printed
@@ -111,4 +165,6 @@ printed_of (program.Text fault) = printed_of_text fault
 printed_of (program.Build fault) = printed_of_build fault
 printed_of (program.Request fault) = printed_of_request fault
 printed_of (program.Line fault) = plain (line_fault_row fault)
+printed_of (program.Spec fault) = plain (spec_fault_row fault)
+printed_of (program.Fetch fault) = printed_of_fetch fault
 printed_of program.WriteFailed = plain (write_fault_row Io)

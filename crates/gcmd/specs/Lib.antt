@@ -1,9 +1,12 @@
 pub mod Faults
 pub mod Printing
+pub mod Outputs
 pub mod Programs
 pub mod Serving
 pub mod Checking
 pub mod Lines
+pub mod Reporting
+pub mod Fetching
 pub use Rattle.gname.specs.Names
 pub use Rattle.gpkt.specs.Packets
 pub use Rattle.gpkt.specs.LineReading
@@ -19,3 +22,8 @@ pub use Rattle.ganswer.specs.Answers
 pub use Rattle.ganswer.specs.Servers
 pub use Rattle.gserve.specs.Conversations
 pub use Rattle.gserve.specs.Exchanges
+pub use Rattle.gspec.specs.Refspecs
+pub use Rattle.grepo.specs.Repos
+pub use Rattle.grepo.specs.Changes
+pub use Rattle.grepo.specs.Settling
+pub use Rattle.gclient.specs.Turns

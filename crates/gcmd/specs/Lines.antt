@@ -9,9 +9,10 @@ use Rattle.gpkt.specs.LineReading.{Reads, ReadsLines}
 use Rattle.gpkt.specs.declared.device.Down.{Down}
 use Rattle.gpkt.specs.declared.fault.LineFault.{LineFault}
 use Rattle.gpkt.specs.declared.fault.LineFault.TheVariants.{Memory}
-use Rattle.gpkt.specs.Sending.{Input, Output, IsUnread, IsUnwritten, Sends, SendsSome, HasPut}
+use Rattle.gpkt.specs.Sending.{Input, Output, IsUnread, IsUnwritten, Sends}
 use Rattle.ggrammar.specs.MessageReading.{IsReadFailure}
 use Rattle.ggrammar.specs.declared.fault.Why.TheVariants as why
+use Rattle.gcmd.specs.Outputs.{BreaksOff, FailsAtWrite, IsPut}
 use Rattle.gcmd.specs.Programs.{Outcome}
 use Rattle.gcmd.specs.declared.fault.ProgramFault.TheVariants as program
 
@@ -70,7 +71,7 @@ ReadsSome input lines =
 
 -- the sink failed: a beginning of the lines that were read is shown
 abbrev pub ShowsSome : Input → Output → Type 0
-ShowsSome input output = (lines : List Packet) × ReadsSome input lines × SendsSome output (shown_lines lines)
+ShowsSome input output = (lines : List Packet) × ReadsSome input lines × BreaksOff output (shown_lines lines)
 
 -- the lines up to one that is refused are shown; or there is no memory for the buffer of the reader
 abbrev pub ShowsUntil : Input → Output → LineFault → Type 0
@@ -78,7 +79,7 @@ ShowsUntil input output fault =
     ((lines : List Packet) × ReadsEach input lines (Err fault) × Sends output (shown_lines lines))
     ⊎ ((fault ≡ Memory) × IsUnread input × IsUnwritten output)
 
--- all lines that are read are shown, up to one that is refused; or a beginning of them, where the sink is down
+-- all lines that are read are shown, up to one that is refused; or a beginning of them, where the sink fails
 abbrev pub ShowsLines : {A : Type 0} → Input → Output → Outcome A → Type 0
 ShowsLines input output (Ok done) =
     (lines : List Packet) × ReadsEach input lines (Ok tt) × Sends output (shown_lines lines)
@@ -91,8 +92,9 @@ ShowsLines input output (Err _) = ⊥
 -- the lines are shown
 abbrev pub ShowsEach : Input → Output → Result (Result (Unit {0}) LineFault) Down → Type 0
 ShowsEach input output (Ok ended) =
-    (lines : List Packet) × ReadsEach input lines ended × HasPut output (Ok tt) (shown_lines lines)
-ShowsEach input output (Err down) = ShowsSome input output
+    (lines : List Packet) × ReadsEach input lines ended × IsPut output (Ok tt) (shown_lines lines)
+ShowsEach input output (Err down) =
+    (lines : List Packet) × ReadsSome input lines × FailsAtWrite output (shown_lines lines)
 
 -- and passed on
 abbrev pub HasPassed : Input → Output → Result (Result (Unit {0}) LineFault) Down → Type 0

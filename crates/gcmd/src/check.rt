@@ -3,7 +3,8 @@
 ghost use Rattle.std.specs.Prelude.{◌≡◌, ◌≤◌, [], length, IfOk};
 ghost use Rattle.gcmd.specs.Checking.{report_line, yes_or_no, Checks, IsReport};
 ghost use Rattle.gcmd.specs.Programs.{Runs};
-ghost use Rattle.gpkt.specs.Sending.{output_of, HasSent};
+ghost use Rattle.gpkt.specs.Sending.{output_of};
+ghost use Rattle.gcmd.specs.Outputs.{IsSent};
 
 use crate::compose::{add, add_number};
 use crate::fault::ProgramFault;
@@ -78,7 +79,7 @@ fn report_of<A: Allocator + Copy>(repo: &Repository<A>) -> Result<Report, GraphF
 }
 
 fn send_report<W: Sink>(report: &Report, output: &mut W) -> Result<(), Down>
-    ensures sent { HasSent (output_of W.contents W.passed_on W.is_down output.old output.new) result (report_line report.now) }
+    ensures sent { IsSent (output_of W.contents W.passed_on W.is_down output.old output.new) result (report_line report.now) }
     ensures loans { W.loans output.new ≡ W.loans output.old }
 {
     let mut text = ArrayVec::new();

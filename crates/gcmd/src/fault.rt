@@ -2,10 +2,13 @@
 
 ghost use Rattle.std.specs.Prelude.{◌≡◌};
 ghost use Rattle.gcmd.specs.Faults.{printed_of};
+ghost use Rattle.gclient.specs.declared.fault.FetchFault.TheVariants.{Client};
 ghost use Rattle.gcmd.specs.declared.fault.ProgramFault.TheVariants as program;
+ghost use Rattle.gsession.specs.declared.fault.ClientFault.TheVariants.{Repo};
 
 use crate::print::FaultLine;
 use ganswer::{BuildFault, ServeFault};
+use gclient::{ClientFault, FetchFault, RepoFault, SpecFault};
 use ggraph::LoadFault;
 use gpkt::LineFault;
 use std::alloc::{Allocator, Global};
@@ -32,6 +35,12 @@ pub enum ProgramFault<A: Allocator + Copy = Global> {
     /// 20 to 24, 28: a packet line that was to be shown was refused, or there is no memory to read it.
     #[error("{0}")]
     Line(LineFault),
+    /// 87, 18: a word is no refspec, or there is no memory to keep those that are.
+    #[error("{0}")]
+    Spec(SpecFault),
+    /// 20 to 69, 75, 80, 82 and 84 to 86: a client's repository was refused, or fetching into it failed.
+    #[error("{0}")]
+    Fetch(FetchFault<A>),
     /// 27: the output failed.
     #[error("the output failed")]
     WriteFailed,
@@ -66,6 +75,22 @@ impl<A: Allocator + Copy> From<BuildFault<A>> for ProgramFault<A> {
 
     fn from(cause: BuildFault<A>) -> ProgramFault<A> {
         ProgramFault::Build(cause)
+    }
+}
+
+impl<A: Allocator + Copy> From<SpecFault> for ProgramFault<A> {
+    ghost from_gives = { λ cause fault. fault ≡ program.Spec cause };
+
+    fn from(cause: SpecFault) -> ProgramFault<A> {
+        ProgramFault::Spec(cause)
+    }
+}
+
+impl<A: Allocator + Copy> From<RepoFault<A>> for ProgramFault<A> {
+    ghost from_gives = { λ cause fault. fault ≡ program.Fetch (Client (Repo cause)) };
+
+    fn from(cause: RepoFault<A>) -> ProgramFault<A> {
+        ProgramFault::Fetch(FetchFault::Client(ClientFault::Repo(cause)))
     }
 }
 

@@ -1,5 +1,5 @@
 //! The programs of gitv2 as functions over bytes and devices: a repository's file is served, on a connection or for one
-//! request, or checked, and packet lines are shown.
+//! request, fetched into, or checked, and packet lines are shown.
 //!
 //! Where a promise below speaks of the bytes of a device, it holds where the device knows them, as those in
 //! memory do.
@@ -9,11 +9,21 @@
 //! - Every program ends with status 0 and prints nothing, or with 1, and then exactly the line of the fault that was met
 //!   is printed and passed on, or a beginning of it where the errors' sink fails (`specs/Programs.antt`). [`cmd_failed`]
 //!   does so for the fault that it is given.
+//! - Where a sink fails at a report, at shown lines or at the line of a fault, what had been passed on stays so; where it
+//!   failed at a write, nothing more is passed on (`specs/Outputs.antt`).
 //! - [`cmd_upload`] serves one connection as `gserve` says, from the repository that its file names, with plain packs,
 //!   and [`cmd_ls`] one request (`specs/Serving.antt`). The work is done where the client ended the connection, the request
 //!   was answered or was a lone flush, the input ended before a request, or the connection had as many requests as may be;
-//!   else the fault is that of the refusal, or of the output. Of a file that is no text of a repository in which each parent comes before its children, and each ref, and HEAD by
-//!   its id, stands at an object that is there, nothing is read or written; the fault is that of the text, of the ref or of HEAD.
+//!   else the fault is that of the refusal, or of the output. Of a file that is no text of a repository in which each parent
+//!   comes before its children, and each ref, and HEAD by its id, stands at an object that is there, nothing is read or
+//!   written; the fault is that of the text, of the ref or of HEAD.
+//! - [`cmd_fetch`] opens the client's repository that its file names, and holds a conversation as `gclient` says, with
+//!   plain packs (`specs/Fetching.antt`). Of a file that is no text of a repository whose HEAD stands at nothing, or of one
+//!   with a ref whose whole ancestry is not there, nothing is read or written. Where the refs were settled the new file is
+//!   the one text of the repository as the fetch left it: objects only came, the whole ancestry of each ref is there, and
+//!   the refs moved by the rule; and the report (`specs/Reporting.antt`) is written and passed on, or a beginning of it
+//!   stands where its sink fails. At every other fault there is no new file, and no report, save where there is no memory
+//!   for the report of a new file. [`read_specs`] reads words as refspecs, or answers the fault of the first that is none.
 //! - [`cmd_check`] writes its one line, with the counts, and whether the graph is closed and the refs are
 //!   safe, and passes it on; where the sink fails, a beginning of it stands. Of a file that is no repository
 //!   nothing is written.
@@ -26,40 +36,49 @@
 //!
 //! The short texts of faults (`Display`). That memory, where there is some, is found. How the devices that
 //! `gpkt` makes of std's readers and writers behave under a program: one byte a call, a failure at each call
-//! in turn, a flush that fails, a reply of more bytes than any buffer has. That a report, and the line of a
-//! fault, is written in one call.
+//! in turn, a flush that fails, a reply of more bytes than any buffer has. That a sink is not called again after it
+//! failed, that a report, and the line of a fault, is written in one call, and shown digits in as few as may be. A client and a
+//! server that answer each other turn by turn.
 //!
 //! # What a body can still get away with
 //!
 //! A call that takes memory can answer that there is none, wherever the crates below may. Of an output whose
-//! bytes are not known no clause says what is written to it; but one body serves every output. After a flush
-//! that failed nothing is said of what was passed on to the errors' sink, or by `check` and `lines`. How often a device
-//! is called is not said, nor how long anything takes.
+//! bytes are not known no clause says what is written to it; but one body serves every output. How often a device is called
+//! is not said, nor how long anything takes.
 //!
 //! # Stands on
 //!
-//! `gserve` for connections and `ganswer` for the server, `ggraph` for repositories' texts and plain packs, `ggrammar` for
-//! how replies end, `gpkt` for packet lines and devices, `gname` for ids, `arrayvec` for texts of bounded length, `hex` for
-//! digits, `itoa` for numbers, `thiserror` for the texts of faults; in tests `bumpalo`, for memory that ends.
+//! `gserve` for connections and `ganswer` for the server, `gclient` for the client, `gfetchreply` for the limit of a
+//! pack, `ggraph` for repositories' texts and plain packs, `ggrammar` for how replies end, `gpkt` for packet lines and
+//! devices, `gname` for ids, `arrayvec` for texts of bounded length, `hex` for digits, `itoa` for numbers, `thiserror` for
+//! the texts of faults; in tests `bumpalo`, for memory that ends.
 #![tactic(auto)]
 
 mod check;
+mod client_fault;
+mod client_file;
 mod compose;
 mod fault;
+mod fetch;
 mod lines;
 mod ls;
 mod print;
 mod program;
+mod report;
 mod repository;
 mod send;
 mod upload;
 
 pub use crate::check::cmd_check;
+pub use crate::client_file::read_specs;
 pub use crate::fault::ProgramFault;
+pub use crate::fetch::{FetchRun, cmd_fetch};
 pub use crate::lines::cmd_lines;
 pub use crate::ls::cmd_ls;
 pub use crate::program::cmd_failed;
 pub use crate::upload::cmd_upload;
+pub use gclient::Spec;
+pub use gfetchreply::PackLimit;
 pub use ggrammar::Ends;
 
 #[cfg(test)]

@@ -6,7 +6,8 @@ ghost use Rattle.hex.specs.Hex.{encode_lower};
 ghost use Rattle.gpkt.specs.Packets.{packet_of};
 ghost use Rattle.gcmd.specs.Lines.{chunk, digits_part, shown_line, ShowsEach, HasPassed, ShowsLines};
 ghost use Rattle.gcmd.specs.Programs.{Runs};
-ghost use Rattle.gpkt.specs.Sending.{input_of, output_of, HasPut};
+ghost use Rattle.gpkt.specs.Sending.{input_of, output_of};
+ghost use Rattle.gcmd.specs.Outputs.{IsPut};
 
 use crate::compose::{add, add_number};
 use crate::fault::ProgramFault;
@@ -110,7 +111,7 @@ fn show_each<A: Allocator + Copy, S: Source, W: Sink>(
 }
 
 fn show_line<W: Sink>(line: Line<'_>, output: &mut W) -> Result<(), Down>
-    ensures shown { HasPut (output_of W.contents W.passed_on W.is_down output.old output.new) result
+    ensures shown { IsPut (output_of W.contents W.passed_on W.is_down output.old output.new) result
         (shown_line (packet_of line.entry)) }
     ensures loans { W.loans output.new ≡ W.loans output.old }
 {
@@ -123,7 +124,7 @@ fn show_line<W: Sink>(line: Line<'_>, output: &mut W) -> Result<(), Down>
 }
 
 fn show_data<W: Sink>(payload: &[u8], output: &mut W) -> Result<(), Down>
-    ensures shown { HasPut (output_of W.contents W.passed_on W.is_down output.old output.new) result
+    ensures shown { IsPut (output_of W.contents W.passed_on W.is_down output.old output.new) result
         ((codes "data " ++ decimal (length payload.now)) ++ (digits_part payload.now ++ codes "\n")) }
     ensures loans { W.loans output.new ≡ W.loans output.old }
 {
@@ -145,7 +146,7 @@ fn compose_head(len: usize, head: &mut ArrayVec<u8, MAX_DATA_HEAD>)
 
 // A space and the digits, where there are some.
 fn show_digits<W: Sink>(payload: &[u8], output: &mut W) -> Result<(), Down>
-    ensures shown { HasPut (output_of W.contents W.passed_on W.is_down output.old output.new) result
+    ensures shown { IsPut (output_of W.contents W.passed_on W.is_down output.old output.new) result
         (digits_part payload.now) }
     ensures loans { W.loans output.new ≡ W.loans output.old }
 {
@@ -158,7 +159,7 @@ fn show_digits<W: Sink>(payload: &[u8], output: &mut W) -> Result<(), Down>
 
 // The digits, chunk by chunk.
 fn put_digits<W: Sink>(bytes: &[u8], output: &mut W) -> Result<(), Down>
-    ensures put { HasPut (output_of W.contents W.passed_on W.is_down output.old output.new) result
+    ensures put { IsPut (output_of W.contents W.passed_on W.is_down output.old output.new) result
         (encode_lower bytes.now) }
     ensures loans { W.loans output.new ≡ W.loans output.old }
 {
@@ -173,7 +174,7 @@ fn put_digits<W: Sink>(bytes: &[u8], output: &mut W) -> Result<(), Down>
 
 fn put_chunk<W: Sink>(bytes: &[u8], output: &mut W) -> Result<(), Down>
     requires { length bytes.now ≤ chunk }
-    ensures put { HasPut (output_of W.contents W.passed_on W.is_down output.old output.new) result
+    ensures put { IsPut (output_of W.contents W.passed_on W.is_down output.old output.new) result
         (encode_lower bytes.now) }
     ensures loans { W.loans output.new ≡ W.loans output.old }
 {

@@ -3,15 +3,18 @@
 
 ghost use Rattle.std.specs.Prelude.{◌≡◌, ◌+◌, ◌≤◌, ◌++◌, length, map, None, []};
 ghost use Rattle.std.specs.Option.{option_copied};
-ghost use Rattle.gcmd.specs.Faults.{id_in_build, id_in_graph, id_in_request, frame_in_request, line_in_text, printed_of, printed_of_build, printed_of_request, printed_of_text, ref_in_build, said_in, said_in_request};
+ghost use Rattle.gcmd.specs.Faults.{id_in_build, id_in_graph, id_in_request, frame_in_request, line_in_text, printed_of, printed_of_build, printed_of_client, printed_of_fetch, printed_of_request, printed_of_text, ref_in_build, said_in, said_in_request};
 ghost use Rattle.gcmd.specs.Printing.{max_decimal, max_fault_line, max_fault_name, max_subject, number_part, printed_line, row_view, shown, subject_part, IsShort, IsShortText};
-ghost use Rattle.gpkt.specs.Sending.{output_of, HasSent};
+ghost use Rattle.gpkt.specs.Sending.{output_of};
+ghost use Rattle.gcmd.specs.Outputs.{IsSent};
 
+use crate::client_fault::{frame_in_client, id_in_client, line_in_client, text_in_client};
 use crate::compose::{add, add_id, add_number};
 use crate::fault::ProgramFault;
 use crate::send::send;
 use arrayvec::ArrayVec;
 use ganswer::{BuildFault, ServeFault};
+use gclient::{ClientFault, FetchFault};
 use ggrammar::Why;
 use ggraph::{GraphFault, LoadFault};
 use gname::Oid;
@@ -49,6 +52,8 @@ impl<'a> FaultLine<'a> {
             ProgramFault::Build(fault) => FaultLine::of_build(fault),
             ProgramFault::Request(fault) => FaultLine::of_request(fault),
             ProgramFault::Line(fault) => FaultLine::plain(fault.code(), fault.name()),
+            ProgramFault::Spec(fault) => FaultLine::plain(fault.code(), fault.name()),
+            ProgramFault::Fetch(fault) => FaultLine::of_fetch(fault),
             ProgramFault::WriteFailed => FaultLine::plain(
                 WriteFault::Io.code(),
                 WriteFault::Io.name(),
@@ -110,6 +115,33 @@ impl<'a> FaultLine<'a> {
         }
     }
 
+    // A conversation that failed.
+    fn of_fetch<A: Allocator + Copy>(fault: &'a FetchFault<A>) -> FaultLine<'a>
+        ensures row { row_view result ≡ printed_of_fetch fault.now }
+        ensures short { IsShort result }
+    {
+        match fault {
+            FetchFault::Client(cause) => FaultLine::of_client(cause),
+            FetchFault::NoBuffer | FetchFault::WriteFailed => {
+                FaultLine::plain(fault.code(), fault.name())
+            }
+        }
+    }
+
+    // A session that was refused, with the packet, the line of a pack, the id, and the ref or what a peer said.
+    fn of_client<A: Allocator + Copy>(fault: &'a ClientFault<A>) -> FaultLine<'a>
+        ensures row { row_view result ≡ printed_of_client fault.now }
+        ensures short { IsShort result }
+    {
+        FaultLine {
+            frame: frame_in_client(fault),
+            line: line_in_client(fault),
+            id: id_in_client(fault),
+            text: text_in_client(fault),
+            ..FaultLine::plain(fault.code(), fault.name())
+        }
+    }
+
     pub(crate) fn number(&self) -> u32
         ensures { result ≡ (row_view self.now).number }
     {
@@ -126,7 +158,7 @@ impl<'a> FaultLine<'a> {
     /// sink is down.
     pub(crate) fn print<E: Sink>(&self, errors: &mut E) -> Result<(), Down>
         requires { IsShort self.now }
-        ensures sent { HasSent (output_of E.contents E.passed_on E.is_down errors.old errors.new) result (printed_line (row_view self.now)) }
+        ensures sent { IsSent (output_of E.contents E.passed_on E.is_down errors.old errors.new) result (printed_line (row_view self.now)) }
         ensures loans { E.loans errors.new ≡ E.loans errors.old }
     {
         let mut text = ArrayVec::new();
@@ -220,7 +252,8 @@ fn line_in_text(fault: &LoadFault) -> Option<usize>
     }
 }
 
-fn id_in_graph(fault: &GraphFault) -> Option<Oid>
+/// The id that two objects have, or that is of another format.
+pub(crate) fn id_in_graph(fault: &GraphFault) -> Option<Oid>
     ensures { result ≡ id_in_graph fault.now }
 {
     match fault {
@@ -278,7 +311,8 @@ fn said_in_request(fault: &ServeFault) -> Option<&[u8]>
     }
 }
 
-fn said_in(why: &Why) -> Option<&[u8]>
+/// What a peer said.
+pub(crate) fn said_in(why: &Why) -> Option<&[u8]>
     ensures text { option_copied result ≡ said_in why.now }
     ensures short { IsShortText (option_copied result) }
 {

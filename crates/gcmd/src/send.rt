@@ -1,16 +1,18 @@
 //! Bytes written to a sink, and passed on.
 
 ghost use Rattle.std.specs.Prelude.{◌≡◌};
-ghost use Rattle.gpkt.specs.Sending.{output_of, HasPut, HasSent};
+ghost use Rattle.gpkt.specs.Sending.{output_of};
+ghost use Rattle.gcmd.specs.Outputs.{IsPut, IsSent};
 
 use gpkt::{Down, Sink, write_all};
 
-/// Writes bytes and passes them on. At an error a beginning of them stands written, and the sink is down.
+/// Writes bytes and passes them on. At an error a beginning of them stands written, and the sink is down. Nothing more was
+/// passed on then, unless the flush itself failed.
 pub(crate) fn send<W: Sink>(bytes: &[u8], sink: &mut W) -> Result<(), Down>
-    ensures sent { HasSent (output_of W.contents W.passed_on W.is_down sink.old sink.new) result bytes.now }
+    ensures sent { IsSent (output_of W.contents W.passed_on W.is_down sink.old sink.new) result bytes.now }
     ensures loans { W.loans sink.new ≡ W.loans sink.old }
 {
-    match write_all(sink, bytes) {
+    match put(bytes, sink) {
         Ok(()) => sink.flush(),
         Err(down) => Err(down),
     }
@@ -18,11 +20,11 @@ pub(crate) fn send<W: Sink>(bytes: &[u8], sink: &mut W) -> Result<(), Down>
 
 /// Writes bytes, and passes nothing on. At an error a beginning of them stands written, and the sink is down.
 pub(crate) fn put<W: Sink>(bytes: &[u8], sink: &mut W) -> Result<(), Down>
-    ensures put { HasPut (output_of W.contents W.passed_on W.is_down sink.old sink.new) result bytes.now }
+    ensures put { IsPut (output_of W.contents W.passed_on W.is_down sink.old sink.new) result bytes.now }
     ensures loans { W.loans sink.new ≡ W.loans sink.old }
 {
     match write_all(sink, bytes) {
         Ok(()) => Ok(()),
-        Err(down) => Err(down),
+        Err(fault) => Err(fault),
     }
 }

@@ -8,8 +8,8 @@
 //! # Only tested
 //!
 //! What the words mean (`words.rt`), and one run of `ls` (`args`, `stdin`, `stdout`, `data/`). The other
-//! runs are tried by hand: no test sees which function `run` calls for `check`, `lines` and `upload`, or what a missing
-//! file gives.
+//! runs are tried by hand: no test sees which function `run` calls for `check`, `fetch`, `lines` and `upload`, what a
+//! missing file gives, or that `fetch` writes its file before it reports.
 //!
 //! # What a body can still get away with
 //!
@@ -22,9 +22,13 @@
 
 mod words;
 
-use crate::words::Command;
-use gcmd::{Ends, ProgramFault, cmd_check, cmd_failed, cmd_lines, cmd_ls, cmd_upload};
-use gpkt::{FromRead, Sink, ToWrite};
+use crate::words::{Command, Fetch};
+use gcmd::{
+    Ends, FetchRun, ProgramFault, cmd_check, cmd_failed, cmd_fetch, cmd_lines, cmd_ls, cmd_upload,
+    read_specs,
+};
+use gpkt::memory::VecSink;
+use gpkt::{Down, FromRead, Sink, ToWrite, write_all};
 use std::alloc::Global;
 use std::io::{BufReader, BufWriter, Write};
 use std::process::ExitCode;
@@ -54,6 +58,7 @@ where
 {
     match command {
         Command::Check { file } => check(rt, file.as_str(), errors),
+        Command::Fetch(asked) => fetch(rt, &asked, errors),
         Command::Lines => show_lines(rt, errors),
         Command::LsStdioServer { file } => serve(rt, Service::Request, file.as_str(), errors),
         Command::Upload { ends, file } => {
@@ -137,4 +142,64 @@ where
             cmd_upload(alloc, text, ends, &mut input, &mut output, errors)
         }
     }
+}
+
+// Fetches into the repository of a file.
+fn fetch<R, E>(rt: &R, asked: &Fetch, errors: &mut E) -> u8
+where
+    R: Files + Input + Print + AllocGlobal,
+    E: Sink,
+{
+    let alloc = rt.alloc();
+    let specs = match read_specs(alloc, asked.specs.as_slice()) {
+        Ok(specs) => specs,
+        Err(fault) => return fail(fault, errors),
+    };
+    let Ok(text) = fs::read(rt, asked.file.as_str()) else {
+        return fail(ProgramFault::File, errors);
+    };
+    let Ok(mut stdin) = BufReader::new(alloc, rt.reader()) else {
+        return fail(ProgramFault::Memory, errors);
+    };
+    let Ok(mut stdout) = BufWriter::new(alloc, io::writer(rt)) else {
+        return fail(ProgramFault::Memory, errors);
+    };
+    let mut input = FromRead::new(&mut stdin);
+    let mut output = ToWrite::new(&mut stdout);
+    let mut report = VecSink::new(alloc);
+    let run = cmd_fetch(
+        alloc,
+        text.as_slice(),
+        specs.as_slice(),
+        asked.limit,
+        asked.ends,
+        &mut input,
+        &mut output,
+        &mut report,
+        errors,
+    );
+    keep(rt, asked.file.as_str(), &run, report.written(), errors)
+}
+
+// Writes the file anew where it has a new text, and shows the report then.
+fn keep<R, E>(rt: &R, file: &str, run: &FetchRun, report: &[u8], errors: &mut E) -> u8
+where
+    R: Files,
+    E: Sink,
+{
+    let Some(text) = &run.file else {
+        return run.status;
+    };
+    if fs::write(rt, file, text.as_slice()).is_err() {
+        return fail(ProgramFault::File, errors);
+    }
+    if run.status == 0 && show(report, errors).is_err() {
+        return 1;
+    }
+    run.status
+}
+
+fn show<E: Sink>(report: &[u8], errors: &mut E) -> Result<(), Down> {
+    write_all(errors, report)?;
+    errors.flush()
 }

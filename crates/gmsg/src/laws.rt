@@ -17,7 +17,7 @@ ghost use Rattle.glsreply.specs.WellFormed as ls_reply_form;
 ghost use Rattle.gfetchreply.specs.FetchManual as fetch_reply_manual;
 ghost use Rattle.gfetchreply.specs.FetchReplies as fetch_reply;
 ghost use Rattle.gfetchreply.specs.WellFormed as fetch_reply_form;
-ghost use Rattle.gmsg.specs.Laws.{NoneBeginsAnother};
+ghost use Rattle.gmsg.specs.Laws.{NoneBeginsAnother, NoneBeginsAsBoth};
 
 /// Packets say at most one message of each kind.
 pub fn one_meaning()
@@ -46,6 +46,16 @@ pub fn prefix_free()
     grequest::laws::prefix_free();
     glsreply::laws::prefix_free();
     gfetchreply::laws::prefix_free();
+}
+
+/// No bytes begin with a reply to ls-refs and with a reply to fetch, however each is read. So what is delivered as the
+/// reply to a request of the other kind is refused, all of it or a beginning of it.
+pub fn replies_differ()
+    ensures { (format : Format) (ends : Ends) (reading : fetch_reply.Reading)
+        → NoneBeginsAsBoth (ls_reply.judge format ends) (fetch_reply.judge reading) }
+{
+    manual();
+    gpkt::laws::one_begins();
 }
 
 /// What a kind's table reads as a message is what the manual has, and says the same (gitprotocol-v2(5), "Capability

@@ -7,7 +7,7 @@
 //!   packets nor the bytes that spell them; what is read is what the manual has; the packets that are written of
 //!   a value say it, and each fits a packet line; a message is read exactly where the bytes begin with it, and
 //!   all bytes begin with one or are refused for a reason in them; and what is written of a value is read back,
-//!   whatever follows.
+//!   whatever follows. No bytes begin with a reply to ls-refs and with a reply to fetch.
 //!
 //! All else is proved where it stands, and the page of each library says what:
 //!
@@ -21,8 +21,8 @@
 //!
 //! # Only tested
 //!
-//! That a message of one kind is refused, at its first packet, by the readers of the others. The tests also read
-//! messages of several kinds one after the other.
+//! That a message of one kind is refused, at its first packet, by the readers of the others; of the two replies it is
+//! proved that it is refused. The tests also read messages of several kinds one after the other.
 //!
 //! # What a body can still get away with
 //!

@@ -18,11 +18,11 @@ use Rattle.gobject.specs.Packs.{PackFails, Packs}
 use Rattle.ganswer.specs.Adverts.{advertised}
 use Rattle.ganswer.specs.Servers.{Server}
 use Rattle.ganswer.specs.declared.fault.ServeFault.{ServeFault}
-use Rattle.ganswer.specs.declared.fault.ServeFault.TheVariants as fault
+use Rattle.ganswer.specs.declared.fault.ServeFault.TheVariants as serve
 use Rattle.gserve.specs.Refusals.{err_packets}
 use Rattle.gserve.specs.Exchanges.{Turn, Exchanges, IsDue, reply, refusal, IsRefused, IsTurn, ReadsEmpty, ReadsEnd, ReadsTurns, reply_packets}
 use Rattle.gserve.specs.Conversations.{advert_packets, talk, talk_bytes, CannotBegin, Converses, HasEnded, advert, refusal as refusal_first, Serves, max_requests, rest_of}
-use Rattle.gserve.specs.Steps.{Advertises, HasAnswered, HasPassed, RefusesFirst, end_after}
+use Rattle.gserve.specs.Steps.{Advertises, HasAnswered, PassesPackets, RefusesFirst, end_after}
 use Rattle.gserve.specs.declared.connection.End.{End}
 use Rattle.gserve.specs.declared.connection.End.TheVariants as end
 use Rattle.gserve.specs.declared.exchange.ExchangeEnd.{ExchangeEnd}
@@ -48,11 +48,11 @@ talk_more joins format ends turns turn =
 
 -- what is sent of the advertisement
 pub sent_advert : {E : Type 0} (format : Format) (capabilities : List Capability) (output : Output) (result : Result (Unit {0}) E)
-    → capabilities ≡ advertised format → HasPassed output result (canonical_advert capabilities)
-    → HasPassed output result (advert_packets format)
+    → capabilities ≡ advertised format → PassesPackets output result (canonical_advert capabilities)
+    → PassesPackets output result (advert_packets format)
 unfolding advert_packets
 sent_advert format capabilities output result is sent =
-    subst (λ (said : List Capability). HasPassed output result (canonical_advert said)) is sent
+    subst (λ (said : List Capability). PassesPackets output result (canonical_advert said)) is sent
 
 -- ---- what is read
 
@@ -75,7 +75,7 @@ module _ {A : Type 0} (server : Server A) (packs : Packs A) where
 
 -- whether the source was down before plays no part
 module _ {A : Type 0} (server : Server A) (packs : Packs A) (fails : PackFails A) (ends : Ends) (read : Change) (was before down : Bool) where
-  moved_empty : ReadsEmpty server.graph.format (record { read = read; was_down = was; is_down = down })
+  pub moved_empty : ReadsEmpty server.graph.format (record { read = read; was_down = was; is_down = down })
       → ReadsEmpty server.graph.format (record { read = read; was_down = before; is_down = down })
   moved_empty h = record { packets = h.packets; lines = h.lines; says = h.says; up = h.up }
 
@@ -83,18 +83,18 @@ module _ {A : Type 0} (server : Server A) (packs : Packs A) (fails : PackFails A
       → ReadsEnd (record { read = read; was_down = before; is_down = down })
   moved_end h = record { ended = h.ended; up = h.up }
 
-  moved_refused : (cause : ServeFault) → IsRefused server fails (record { read = read; was_down = was; is_down = down }) cause
+  pub moved_refused : (cause : ServeFault) → IsRefused server fails (record { read = read; was_down = was; is_down = down }) cause
       → IsRefused server fails (record { read = read; was_down = before; is_down = down }) cause
-  moved_refused (fault.Request cause) h = record { front = h.front; refused = h.refused; source = h.source; begun = h.begun }
-  moved_refused (fault.Reader cause) h =
+  moved_refused (serve.Request cause) h = record { front = h.front; refused = h.refused; source = h.source; begun = h.begun }
+  moved_refused (serve.Reader cause) h =
       record { packets = h.packets; asked = h.asked; lines = h.lines; says = h.says; refuses = h.refuses; up = h.up }
-  moved_refused fault.NoWants h =
+  moved_refused serve.NoWants h =
       record { packets = h.packets; asked = h.asked; lines = h.lines; says = h.says; refuses = h.refuses; up = h.up }
-  moved_refused (fault.NotOurs id) h =
+  moved_refused (serve.NotOurs id) h =
       record { packets = h.packets; asked = h.asked; lines = h.lines; says = h.says; refuses = h.refuses; up = h.up }
-  moved_refused (fault.Pack cause) h =
+  moved_refused (serve.Pack cause) h =
       record { packets = h.packets; asked = h.asked; lines = h.lines; says = h.says; refuses = h.refuses; up = h.up }
-  moved_refused fault.Memory h =
+  moved_refused serve.Memory h =
       record { packets = h.packets; asked = h.asked; lines = h.lines; says = h.says; refuses = h.refuses; up = h.up }
 
   moved_due : (due : List Packet) → IsDue server packs fails ends (record { read = read; was_down = was; is_down = down }) due
@@ -230,15 +230,15 @@ module _ {A S W : Type 0} (server : Server A) (packs : Packs A) (fails : PackFai
       → Serves server packs fails ends (input_of remaining source_down s s) (output_of contents passed_on sink_down a b) 0 last
   not_advertised s a b end.Closed h = absurd h
   not_advertised s a b end.Ended h = absurd h
-  not_advertised s a b (end.Refused reported) h = refused_first s a b fault.Memory (end.Refused reported) (unread s) h
-  not_advertised s a b end.WriteFailed (inl h) = refused_first s a b fault.Memory end.WriteFailed (unread s) h
+  not_advertised s a b (end.Refused reported) h = refused_first s a b serve.Memory (end.Refused reported) (unread s) h
+  not_advertised s a b end.WriteFailed (inl h) = refused_first s a b serve.Memory end.WriteFailed (unread s) h
   not_advertised s a b end.WriteFailed (inr h) =
       inr (advert_packets server.graph.format, refl, advert (unread s), h.0, h.1)
 
   -- there is no buffer
   pub no_buffer : (s : S) (a b : W) (cause : LineFault) (last : End) → cause ≡ NoBuffer
-      → RefusesFirst (fault.Reader cause) (output_of contents passed_on sink_down a b) last
+      → RefusesFirst (serve.Reader cause) (output_of contents passed_on sink_down a b) last
       → Serves server packs fails ends (input_of remaining source_down s s) (output_of contents passed_on sink_down a b) 0 last
   no_buffer s a b cause last is h =
-      refused_first s a b (fault.Reader cause) last
-      (subst (λ (f : LineFault). CannotBegin (input_of remaining source_down s s) (fault.Reader f)) (sym is) (unread s)) h
+      refused_first s a b (serve.Reader cause) last
+      (subst (λ (f : LineFault). CannotBegin (input_of remaining source_down s s) (serve.Reader f)) (sym is) (unread s)) h

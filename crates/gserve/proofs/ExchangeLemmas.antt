@@ -22,10 +22,10 @@ use Rattle.gobject.specs.Packs.{PackFails, Packs}
 use Rattle.ganswer.specs.Answers.{Answers, Refuses, Reply, Nothing, Ls, Fetch}
 use Rattle.ganswer.specs.Servers.{Server}
 use Rattle.ganswer.specs.declared.fault.ServeFault.{ServeFault}
-use Rattle.ganswer.specs.declared.fault.ServeFault.TheVariants as fault
+use Rattle.ganswer.specs.declared.fault.ServeFault.TheVariants as serve
 use Rattle.gserve.specs.Refusals.{err_packets}
 use Rattle.gserve.specs.Exchanges.{Turn, Exchanges, LacksBuffer, RefusesAtOnce, IsDue, reply as due_reply, refusal as due_refusal, IsRefused, ReadsTurn, RefusesToAnswer, RefusesToRead, reply_packets}
-use Rattle.gserve.specs.Steps.{HasPassed, IsDueFor, reply, refusal, Replies, ReportsRefusal, end_of_reply}
+use Rattle.gserve.specs.Steps.{PassesPackets, IsDueFor, reply, refusal, Replies, ReportsRefusal, end_of_reply}
 use Rattle.gserve.specs.declared.exchange.ExchangeEnd.{ExchangeEnd}
 use Rattle.gserve.specs.declared.exchange.ExchangeEnd.TheVariants as end
 
@@ -55,7 +55,7 @@ module _ {A : Type 0} (server : Server A) (packs : Packs A) where
 module _ {A : Type 0} (server : Server A) (packs : Packs A) (fails : PackFails A) (ends : Ends) (output : Output) where
   -- an answer is sent
   replied_by : {E : Type 0} (asked : Asked) (answer : Reply) (result : Result (Unit {0}) E) → asked ≢ Empty
-      → Answers server packs asked answer → HasPassed output result (reply_packets ends answer)
+      → Answers server packs asked answer → PassesPackets output result (reply_packets ends answer)
       → Replies server packs fails ends asked output (end_of_reply result)
   replied_by asked answer (Ok done) asks answers sent = (answer, asks, answers, sent)
   replied_by asked answer (Err fault) asks answers sent =
@@ -63,7 +63,7 @@ module _ {A : Type 0} (server : Server A) (packs : Packs A) (fails : PackFails A
 
   pub replied : {E : Type 0} (asked : Asked) (answer : Reply) (result : Result (Unit {0}) E) (how : ExchangeEnd)
       → how ≡ end_of_reply result → answer ≢ Nothing → Answers server packs asked answer
-      → HasPassed output result (reply_packets ends answer) → Replies server packs fails ends asked output how
+      → PassesPackets output result (reply_packets ends answer) → Replies server packs fails ends asked output how
   replied asked answer result how is other answers sent =
       subst (λ (e : ExchangeEnd). Replies server packs fails ends asked output e) (sym is)
       (replied_by asked answer result (asks_for_refs server packs asked answer other answers) answers sent)
@@ -92,7 +92,7 @@ reported_not_answered fault output end.WriteFailed h = λ is. cc
 
 -- no request that was read is refused as if it had not been
 never_reading : {A : Type 0} (server : Server A) (fails : PackFails A) (asked : Asked) (cause : MessageFault)
-    → Refuses server fails asked (fault.Request cause) → ⊥
+    → Refuses server fails asked (serve.Request cause) → ⊥
 never_reading server fails Empty cause h = h
 never_reading server fails (LsAsked asked) cause h = cc
 never_reading server fails (Fetches asked) cause h = h
@@ -100,12 +100,12 @@ never_reading server fails (Fetches asked) cause h = h
 module _ {A : Type 0} (server : Server A) (packs : Packs A) (fails : PackFails A) (ends : Ends) (input : Input) (output : Output) where
   -- a request that is read and not answered is refused
   refused_to_answer : (cause : ServeFault) → RefusesToAnswer server fails input cause → IsRefused server fails input cause
-  refused_to_answer (fault.Reader cause) h = h
-  refused_to_answer (fault.Request cause) h = absurd (never_reading server fails h.asked cause h.refuses)
-  refused_to_answer fault.NoWants h = h
-  refused_to_answer (fault.NotOurs id) h = h
-  refused_to_answer (fault.Pack cause) h = h
-  refused_to_answer fault.Memory h = h
+  refused_to_answer (serve.Reader cause) h = h
+  refused_to_answer (serve.Request cause) h = absurd (never_reading server fails h.asked cause h.refuses)
+  refused_to_answer serve.NoWants h = h
+  refused_to_answer (serve.NotOurs id) h = h
+  refused_to_answer (serve.Pack cause) h = h
+  refused_to_answer serve.Memory h = h
 
   -- a request that asks this was read, and the source is well
   record Took (asked : Asked) : Type 0 where
@@ -173,7 +173,7 @@ module _ {A : Type 0} (server : Server A) (packs : Packs A) (fails : PackFails A
 
   -- reading was refused, and that was reported
   pub reading_refused : (cause : MessageFault) (ended : ExchangeEnd) → RefusesToRead server.graph.format input cause
-      → ReportsRefusal (fault.Request cause) output ended → Exchanges server packs fails ends input output ended
+      → ReportsRefusal (serve.Request cause) output ended → Exchanges server packs fails ends input output ended
   reading_refused cause end.Answered refused h = absurd h
   reading_refused cause end.Closed refused h = absurd h
   reading_refused cause end.Ended refused h = absurd h
@@ -181,7 +181,7 @@ module _ {A : Type 0} (server : Server A) (packs : Packs A) (fails : PackFails A
       let P : ServeFault → Type 0 = λ f. IsRefused server fails input f × Passes output (canonical_all (err_packets f)) in
       subst P (sym h.0) (refused, h.1)
   reading_refused cause end.WriteFailed refused h =
-      (err_packets (fault.Request cause), due_refusal (fault.Request cause) refused, h.0, h.1)
+      (err_packets (serve.Request cause), due_refusal (serve.Request cause) refused, h.0, h.1)
 
 failed_is_answered : end.WriteFailed ≡ end.Answered → ⊥
 failed_is_answered is = cc
@@ -207,13 +207,13 @@ refused_to_read format own same input cause failed ready refused source begun = 
 -- ---- without a buffer
 
 pub refused_at_once : (input : Input) (output : Output) (cause : LineFault) (ended : ExchangeEnd) → cause ≡ NoBuffer → IsUnread input
-    → ReportsRefusal (fault.Reader cause) output ended → RefusesAtOnce input output ended
+    → ReportsRefusal (serve.Reader cause) output ended → RefusesAtOnce input output ended
 refused_at_once input output cause end.Answered is unread h = absurd h
 refused_at_once input output cause end.Closed is unread h = absurd h
 refused_at_once input output cause end.Ended is unread h = absurd h
 refused_at_once input output cause (end.Refused reported) is unread h =
     let P : ServeFault → Type 0 = λ f. LacksBuffer input f × Passes output (canonical_all (err_packets f)) in
-    let lacks : LacksBuffer input (fault.Reader cause) = subst (λ (f : LineFault). LacksBuffer input (fault.Reader f)) (sym is) unread in
+    let lacks : LacksBuffer input (serve.Reader cause) = subst (λ (f : LineFault). LacksBuffer input (serve.Reader f)) (sym is) unread in
     subst P (sym h.0) (lacks, h.1)
 refused_at_once input output cause end.WriteFailed is unread h =
-    (fault.Reader cause, subst (λ (f : LineFault). LacksBuffer input (fault.Reader f)) (sym is) unread, h.0, h.1)
+    (serve.Reader cause, subst (λ (f : LineFault). LacksBuffer input (serve.Reader f)) (sym is) unread, h.0, h.1)

@@ -1,4 +1,6 @@
 mod ConnectionLemmas
 mod ExchangeLemmas
+mod OneTalk
 mod PhraseLemmas
 mod SendingLemmas
+mod TalkLemmas

@@ -14,7 +14,7 @@ use Rattle.ggrammar.specs.Texts.{text_packet}
 use Rattle.ggrammar.specs.Writing.{WritesLines}
 use Rattle.ganswer.specs.declared.fault.ServeFault.{ServeFault}
 use Rattle.gserve.specs.Refusals.{err_packets, err_text, max_err_text}
-use Rattle.gserve.specs.Steps.{HasPassed}
+use Rattle.gserve.specs.Steps.{PassesPackets}
 
 -- ---- the line of a refusal
 
@@ -77,7 +77,7 @@ module _ {W : Type 0} (contents passed_on : W → Option (List ℕ)) (is_down : 
   pub passed_pushed : PushesWritten contents passed_on is_down loans → (a b c : Writer W) (packets : List Packet)
       (result : Result (Unit {0}) WriteFault) → WritesLines contents passed_on is_down loans a b (Ok tt) packets
       → HasPushed contents passed_on is_down loans b c result
-      → HasPassed (output_of contents passed_on is_down a.sink c.sink) result packets
+      → PassesPackets (output_of contents passed_on is_down a.sink c.sink) result packets
   passed_pushed pushes a b c packets (Ok done) wrote pushed =
       let all = pushes a b c (canonical_all packets) (Ok done) wrote.written pushed in
       record { written = all.0; passed_on = λ known. all.1; up = pushed.outcome.0.2 }
@@ -98,7 +98,7 @@ module _ {W : Type 0} (contents passed_on : W → Option (List ℕ)) (is_down : 
   -- a write that failed, and whose fault is answered
   pub passed_failed : (a b : Writer W) (packets : List Packet) (fault : WriteFault) (result : Result (Unit {0}) WriteFault)
       → a.failed ≡ false → WritesLines contents passed_on is_down loans a b (Err fault) packets
-      → IsErrAnd result (λ other. other ≡ fault) → HasPassed (output_of contents passed_on is_down a.sink b.sink) result packets
+      → IsErrAnd result (λ other. other ≡ fault) → PassesPackets (output_of contents passed_on is_down a.sink b.sink) result packets
   passed_failed a b packets fault (Ok done) ready wrote answered = absurd answered
   passed_failed a b packets Io (Err other) ready wrote answered = (
     record {

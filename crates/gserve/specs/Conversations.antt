@@ -12,7 +12,7 @@ use Rattle.gobject.specs.Packs.{PackFails, Packs}
 use Rattle.ganswer.specs.Adverts.{advertised}
 use Rattle.ganswer.specs.Servers.{Server}
 use Rattle.ganswer.specs.declared.fault.ServeFault.{ServeFault}
-use Rattle.ganswer.specs.declared.fault.ServeFault.TheVariants as fault
+use Rattle.ganswer.specs.declared.fault.ServeFault.TheVariants as serve
 use Rattle.gserve.specs.Refusals.{err_packets}
 use Rattle.gserve.specs.Exchanges.{Turn, IsDue, IsRefused, LacksBuffer, ReadsEmpty, ReadsEnd, ReadsTurns, reply_packets}
 use Rattle.gserve.specs.declared.connection.End.{End}
@@ -37,7 +37,7 @@ talk_bytes format ends turns = canonical_all (talk format ends turns)
 
 -- there is no memory to begin, and nothing is read
 abbrev pub CannotBegin : Input → ServeFault → Type 0
-CannotBegin input fault.Memory = IsUnread input
+CannotBegin input serve.Memory = IsUnread input
 CannotBegin input fault = LacksBuffer input fault
 
 -- what is due then: the advertisement, or the line of a refusal in its place

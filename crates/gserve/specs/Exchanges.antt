@@ -20,7 +20,7 @@ use Rattle.gobject.specs.Packs.{PackFails, Packs}
 use Rattle.ganswer.specs.Answers.{Answers, Refuses, Reply, Nothing, Ls, Fetch}
 use Rattle.ganswer.specs.Servers.{Server}
 use Rattle.ganswer.specs.declared.fault.ServeFault.{ServeFault}
-use Rattle.ganswer.specs.declared.fault.ServeFault.TheVariants as fault
+use Rattle.ganswer.specs.declared.fault.ServeFault.TheVariants as serve
 use Rattle.gserve.specs.Refusals.{err_packets}
 use Rattle.gserve.specs.declared.exchange.ExchangeEnd.{ExchangeEnd}
 use Rattle.gserve.specs.declared.exchange.ExchangeEnd.TheVariants as end
@@ -93,7 +93,7 @@ module _ {A : Type 0} (server : Server A) (fails : PackFails A) where
 
   -- why there is no answer
   abbrev pub IsRefused : Input → ServeFault → Type 0
-  IsRefused input (fault.Request cause) = RefusesToRead server.graph.format input cause
+  IsRefused input (serve.Request cause) = RefusesToRead server.graph.format input cause
   IsRefused input fault = RefusesToAnswer input fault
 
 -- ---- one request
@@ -121,7 +121,7 @@ module _ {A : Type 0} (server : Server A) (packs : Packs A) (fails : PackFails A
 
 -- there is no memory for the buffer of a reader, and nothing is read
 abbrev pub LacksBuffer : Input → ServeFault → Type 0
-LacksBuffer input (fault.Reader NoBuffer) = IsUnread input
+LacksBuffer input (serve.Reader NoBuffer) = IsUnread input
 LacksBuffer input _ = ⊥
 
 -- there is none, and the refusal is written, or a beginning of it stands

@@ -1,6 +1,10 @@
 pub mod Conversations
 pub mod Exchanges
+pub mod Laws
 pub mod Refusals
+pub mod Replies
 pub mod Steps
+pub mod Talks
+pub use Rattle.gpkt.specs.Sending
 pub use Rattle.ganswer.specs.Answers
 pub use Rattle.ganswer.specs.Servers

@@ -5,7 +5,7 @@ use Rattle.gpkt.specs.Packets.{Packet}
 use Rattle.ggrammar.specs.Texts.{text_packet}
 use Rattle.ganswer.specs.Faults.{serve_fault_row}
 use Rattle.ganswer.specs.declared.fault.ServeFault.{ServeFault}
-use Rattle.ganswer.specs.declared.fault.ServeFault.TheVariants as fault
+use Rattle.ganswer.specs.declared.fault.ServeFault.TheVariants as serve
 
 -- the most bytes of a refusal's text
 abbrev pub max_err_text : ℕ
@@ -23,7 +23,7 @@ max_detail = 65
 
 -- a want that is not held is named by its id
 abbrev pub detail_of : ServeFault → List ℕ
-detail_of (fault.NotOurs id) = codes " " ++ id_text id
+detail_of (serve.NotOurs id) = codes " " ++ id_text id
 detail_of _ = []
 
 -- the text of a refusal

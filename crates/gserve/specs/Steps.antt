@@ -10,7 +10,7 @@ use Rattle.gobject.specs.Packs.{PackFails, Packs}
 use Rattle.ganswer.specs.Answers.{Answers, Refuses, Reply}
 use Rattle.ganswer.specs.Servers.{Server}
 use Rattle.ganswer.specs.declared.fault.ServeFault.{ServeFault}
-use Rattle.ganswer.specs.declared.fault.ServeFault.TheVariants as fault
+use Rattle.ganswer.specs.declared.fault.ServeFault.TheVariants as serve
 use Rattle.gserve.specs.Refusals.{err_packets}
 use Rattle.gserve.specs.Exchanges.{Turn, ReadsTurns, reply_packets}
 use Rattle.gserve.specs.Conversations.{advert_packets, talk_bytes}
@@ -19,10 +19,11 @@ use Rattle.gserve.specs.declared.exchange.ExchangeEnd.TheVariants as exchange
 use Rattle.gserve.specs.declared.connection.End.{End}
 use Rattle.gserve.specs.declared.connection.End.TheVariants as end
 
--- what a call did that was to write these packets and to pass them on
-abbrev pub HasPassed : {E : Type 0} → Output → Result (Unit {0}) E → List Packet → Type 0
-HasPassed output (Ok done) packets = Passes output (canonical_all packets)
-HasPassed output (Err fault) packets = SendsSome output (canonical_all packets) × KeepsPassed output.passed_on
+-- What a call did that was to write these packets and to pass them on. (`Passes` is `Sends` with one premise more: it
+-- is known what was written before. So two of them, one after the other, are one.)
+abbrev pub PassesPackets : {E : Type 0} → Output → Result (Unit {0}) E → List Packet → Type 0
+PassesPackets output (Ok done) packets = Passes output (canonical_all packets)
+PassesPackets output (Err fault) packets = SendsSome output (canonical_all packets) × KeepsPassed output.passed_on
 
 -- the refusal is reported
 abbrev pub ReportsRefusal : ServeFault → Output → ExchangeEnd → Type 0
@@ -43,8 +44,8 @@ RefusesFirst fault output _ = ⊥
 -- the advertisement is sent, or the line that says that there is no memory for it
 abbrev pub Advertises : Format → Output → Result (Unit {0}) End → Type 0
 Advertises format output (Ok done) = Passes output (canonical_all (advert_packets format))
-Advertises format output (Err (end.Refused reported)) = RefusesFirst fault.Memory output (end.Refused reported)
-Advertises format output (Err end.WriteFailed) = RefusesFirst fault.Memory output end.WriteFailed
+Advertises format output (Err (end.Refused reported)) = RefusesFirst serve.Memory output (end.Refused reported)
+Advertises format output (Err end.WriteFailed) = RefusesFirst serve.Memory output end.WriteFailed
     ⊎ (SendsSome output (canonical_all (advert_packets format)) × KeepsPassed output.passed_on)
 Advertises format output (Err _) = ⊥
 

@@ -7,8 +7,10 @@
 //!   spell, in whatever pieces they come, and nothing after the last packet of a request is read. Each is answered as
 //!   `ganswer` says, for any packer. What is written is the advertisement and these replies in their one spelling, and
 //!   all of it is passed on. [`Served::requests`](Served) counts the replies.
-//! - It ends with the client's lone flush; where the input ends before a request, or there were [`MAX_REQUESTS`]; at the
-//!   first request that is refused, whose line is then the last thing written, and is passed on; or where the sink
+//! - All that is due is passed on before anything more is read: where the sink fails, also as it passes a reply on,
+//!   nothing after the request of that reply was read, and before the first request nothing at all.
+//! - It ends with the client's lone flush; where the input ends before a request, or there were [`MAX_REQUESTS`]; at
+//!   the first request that is refused, whose line is then the last thing written, and is passed on; or where the sink
 //!   fails. The fault is the one of the request's grammar, of the server's answer, or the source's.
 //! - Where there is no memory for the buffer or for the advertisement, the line that says so stands in the
 //!   advertisement's place, and nothing is read.
@@ -16,12 +18,17 @@
 //!   of a refusal that was due. Each reply that counts was passed on, and stays so.
 //! - At each end it is known whether the source and the sink have failed.
 //! - [`serve_one`] does the same for one request, with no advertisement (`specs/Exchanges.antt`).
-//! - [`err_text`] writes the text of a fault, at most 128 bytes.
+//! - [`write_reply`] writes a reply in its one list of packets, or a beginning of it where the sink fails.
+//! - [`err_text`] writes the text of a fault, at most 128 bytes, and nothing behind it.
+//! - [`laws`]: where bytes are known and no device has failed, a connection is a conversation over the bytes alone
+//!   (`specs/Talks.antt`). If each request has one answer, which is assumed there, the bytes of a client say what is
+//!   written to it and how the conversation ends, unless memory or the packer fails.
 //! - No call panics, overflows or reads out of bounds, and each returns where each call of its devices does.
 //!
 //! # Only tested
 //!
-//! That memory which is there is used; that the reply to a request for refs takes none, as the server lends the names.
+//! That memory which is there is used; that the reply to a request for refs takes none, as the server lends the names;
+//! that each part of a packet is written in one call, also the digits of an id.
 //!
 //! # What a body can still get away with
 //!
@@ -40,12 +47,15 @@
 
 mod connection;
 mod exchange;
+pub mod laws;
 mod refusal;
 mod send;
 #[cfg(test)]
 mod tests;
+mod write;
 
 pub use crate::connection::{End, MAX_REQUESTS, Served, serve};
 pub use crate::exchange::{ExchangeEnd, serve_one};
 pub use crate::refusal::{MAX_ERR_TEXT, err_text};
+pub use crate::write::write_reply;
 pub use ganswer::{BuildFault, Reply, ServeFault, Server};

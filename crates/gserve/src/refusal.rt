@@ -1,6 +1,6 @@
 //! What a client reads of a refusal (gitprotocol-pack(5), "error-line").
 
-ghost use Rattle.std.specs.Prelude.{◌≡◌, ◌≤◌, ◌+◌, ◌++◌, length, take};
+ghost use Rattle.std.specs.Prelude.{◌≡◌, ◌≤◌, ◌+◌, ◌++◌, drop, length, take};
 ghost use Rattle.gname.specs.Ids.{id_text};
 ghost use Rattle.ggrammar.specs.Writing.{WritesLines};
 ghost use Rattle.ganswer.specs.Faults.{serve_fault_row};
@@ -15,11 +15,12 @@ use gpkt::{LineWriter, Sink, WriteFault};
 /// The most bytes of a refusal's text.
 pub const MAX_ERR_TEXT: usize = 128;
 
-/// Writes the text of a refusal into the front of the buffer, and answers how many bytes that are. It
-/// takes no memory.
+/// Writes the text of a refusal into the front of the buffer, and answers how many bytes that are. The rest of the
+/// buffer stays as it is. It takes no memory.
 pub fn err_text(fault: &ServeFault, out: &mut [u8; MAX_ERR_TEXT]) -> usize
     ensures few { result ≤ max_err_text }
     ensures text { take result out.new ≡ err_text fault.now }
+    ensures rest { drop result out.new ≡ drop result out.old }
 {
     let text = text_of(fault);
     let len = text.len();

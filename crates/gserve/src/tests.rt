@@ -4,4 +4,5 @@ mod devices;
 mod memory;
 mod packers;
 mod refusals;
+mod replies;
 mod samples;

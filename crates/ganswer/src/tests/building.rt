@@ -62,6 +62,28 @@ fn what_is_missing_is_reported(rt: HostRuntime) -> Result<(), Fail> {
     Ok(())
 }
 
+// What is reported where a ref is set to the id of a digit.
+fn set_ref_reports(
+    alloc: Global,
+    server: &mut Server,
+    text: &str,
+    digit: u8,
+) -> Result<Vec<u8>, Fail> {
+    match server.set_ref(name(alloc, text)?, id(digit)?) {
+        Ok(()) => Ok(Vec::new(alloc)),
+        Err(fault) => reported(alloc, &fault),
+    }
+}
+
+// A ref at a missing object is reported by its name, and not as if there were no memory for that.
+#[test]
+fn a_missing_ref_is_named(rt: HostRuntime) -> Result<(), Fail> {
+    let mut server = server(rt.alloc(), SERVER)?;
+    let named = set_ref_reports(rt.alloc(), &mut server, "refs/heads/x", b'd')?;
+    assert_eq!(rt; named.as_slice(), b"refs/heads/x".as_slice());
+    Ok(())
+}
+
 // The text of what the server has.
 fn text_of(alloc: Global, server: &Server) -> Result<Vec<u8>, Fail> {
     Ok(save(alloc, server.graph(), server.refs(), server.head())?)

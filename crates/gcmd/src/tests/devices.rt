@@ -1,8 +1,8 @@
 // Readers and writers of std that move some bytes a call, fail at a chosen call, and count what comes after it.
 use crate::{ProgramFault, cmd_check, cmd_failed, cmd_lines, cmd_ls, cmd_upload};
 use ggrammar::Ends;
-use gpkt::{FromRead, Sink, ToWrite};
-use std::alloc::Global;
+use gpkt::{FromRead, Sink, Source, ToWrite};
+use std::alloc::{Allocator, Global};
 use std::io;
 use std::io::{ErrorKind, Read, Write};
 
@@ -43,11 +43,22 @@ fn take_turn(calls: &mut usize, hindrance: Hindrance) -> io::Result<usize> {
     Ok(hindrance.most)
 }
 
+/// What is still to be read.
 #[derive(Drop)]
-struct Reader<'a> {
-    rest: &'a [u8],
+pub(super) struct Reader<'a> {
+    pub(super) rest: &'a [u8],
     hindrance: Hindrance,
     calls: usize,
+}
+
+impl<'a> Reader<'a> {
+    pub(super) fn new(bytes: &'a [u8], hindrance: Hindrance) -> Reader<'a> {
+        Reader {
+            rest: bytes,
+            hindrance,
+            calls: 0,
+        }
+    }
 }
 
 impl Read for Reader<'_> {
@@ -68,7 +79,7 @@ pub(super) struct Writer {
 }
 
 impl Writer {
-    fn new(alloc: Global, hindrance: Hindrance) -> Writer {
+    pub(super) fn new(alloc: Global, hindrance: Hindrance) -> Writer {
         Writer {
             written: Vec::new(alloc),
             passed_on: 0,
@@ -138,11 +149,26 @@ pub(super) enum Program {
     NoMemory,
 }
 
-fn fail<E: Sink>(fault: ProgramFault<Global>, errors: &mut E) -> u8 {
-    cmd_failed(fault, errors)
+/// Runs a program over devices.
+pub(super) fn start<A: Allocator + Copy, S: Source, W: Sink, E: Sink>(
+    alloc: A,
+    program: Program,
+    file: &[u8],
+    input: &mut S,
+    output: &mut W,
+    errors: &mut E,
+) -> u8 {
+    match program {
+        Program::Ls => cmd_ls(alloc, file, input, output, errors),
+        Program::Upload(ends) => cmd_upload(alloc, file, ends, input, output, errors),
+        Program::Check => cmd_check(alloc, file, output, errors),
+        Program::Lines => cmd_lines(alloc, input, output, errors),
+        Program::NoFile => cmd_failed(ProgramFault::<A>::File, errors),
+        Program::NoMemory => cmd_failed(ProgramFault::<A>::Memory, errors),
+    }
 }
 
-/// Runs a program over a file and an input.
+/// Runs a program over a file and an input, which readers and writers of std give and take.
 pub(super) fn run(
     alloc: Global,
     program: Program,
@@ -150,24 +176,13 @@ pub(super) fn run(
     input: &[u8],
     [read, write, print]: Hindrances,
 ) -> Ran {
-    let mut reader = Reader {
-        rest: input,
-        hindrance: read,
-        calls: 0,
-    };
+    let mut reader = Reader::new(input, read);
     let mut output = Writer::new(alloc, write);
     let mut errors = Writer::new(alloc, print);
     let mut source = FromRead::new(&mut reader);
     let mut sink = ToWrite::new(&mut output);
     let mut report = ToWrite::new(&mut errors);
-    let status = match program {
-        Program::Ls => cmd_ls(alloc, file, &mut source, &mut sink, &mut report),
-        Program::Upload(ends) => cmd_upload(alloc, file, ends, &mut source, &mut sink, &mut report),
-        Program::Check => cmd_check(alloc, file, &mut sink, &mut report),
-        Program::Lines => cmd_lines(alloc, &mut source, &mut sink, &mut report),
-        Program::NoFile => fail(ProgramFault::File, &mut report),
-        Program::NoMemory => fail(ProgramFault::Memory, &mut report),
-    };
+    let status = start(alloc, program, file, &mut source, &mut sink, &mut report);
     Ran {
         status,
         output,

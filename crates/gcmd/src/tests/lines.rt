@@ -65,6 +65,11 @@ fn data_line(alloc: Global, payload: &[u8]) -> Result<(String, String), Fail> {
     Ok((format!(in alloc; "{:04x}", len.saturating_add(4))?, shown))
 }
 
+// How many calls show a payload at once, and pass it on: of the digits one for each 512 bytes.
+fn calls_of(len: usize) -> usize {
+    len.div_ceil(512).saturating_add(4)
+}
+
 fn check_payload(
     rt: &impl Abort,
     alloc: Global,
@@ -78,6 +83,9 @@ fn check_payload(
     let hindrances = [hindrance, hindrance, FREE];
     let ran = run(alloc, Program::Lines, b"", input.as_slice(), hindrances);
     assert!(rt; ran.has(shown.as_bytes(), b"", 0), "{len}");
+    if hindrance.most == usize::MAX {
+        assert_eq!(rt; ran.output.calls, calls_of(len));
+    }
     Ok(())
 }
 

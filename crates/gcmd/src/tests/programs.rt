@@ -37,6 +37,13 @@ impl Run {
         })
     }
 
+    /// These packets are read, after all before them.
+    pub(super) fn reads(&mut self, alloc: Global, packets: &[&[u8]]) -> Result<(), Fail> {
+        let packets = joined(alloc, packets)?;
+        self.input.extend_from_slice(packets.as_slice())?;
+        Ok(())
+    }
+
     /// This is written and passed on, after all before it.
     pub(super) fn writes(&mut self, alloc: Global, piece: &[u8]) -> Result<(), Fail> {
         let piece = spelled(alloc, piece)?;
@@ -142,9 +149,9 @@ fn calls_at_once(bytes: &[u8]) -> usize {
     if bytes.is_empty() { 0 } else { 2 }
 }
 
-// How many bytes stand written, and how many were passed on, where so many calls wrote a byte or passed on a piece
-// before one failed.
-fn standing(ends: &[usize], calls: usize) -> (usize, usize) {
+/// How many bytes stand written, and how many were passed on, where so many calls wrote a byte or passed on a piece
+/// before one failed. The pieces end at these places.
+pub(super) fn standing(ends: &[usize], calls: usize) -> (usize, usize) {
     let mut passed_on = 0;
     for (flushes, end) in ends.iter().enumerate() {
         let written = calls.saturating_sub(flushes);

@@ -1,9 +1,10 @@
 //! One request, as `ls` answers it, and `upload` after its advertisement: whole, cut after each of its bytes, and with
 //! each of its reads failing.
+use crate::tests::cuts::{ends_within, packets_within};
 use crate::tests::devices::{FREE, Program, SLOW, failing_at};
 use crate::tests::programs::Run;
 use crate::tests::rows::{ANSWERED, REFUSED, Row};
-use crate::tests::samples::{ADVERT, ADVERT_SHA256, ENDED_EARLY, READ_FAILED, SHA256};
+use crate::tests::samples::{ADVERT, ADVERT_SHA256, READ_FAILED, SHA256};
 use ggrammar::Ends;
 use std::alloc::Global;
 use std::process::Abort;
@@ -89,36 +90,6 @@ fn requests_are_read_to_their_end(rt: HostRuntime) -> Result<(), Fail> {
     Ok(())
 }
 
-// How many packets end within so many bytes of a request, and whether the last of them ends there. Ids are written out:
-// each brace of the text stands for no byte, and the digit between two for forty or sixty-four.
-fn packets_within(request: &[&[u8]], len: usize) -> (usize, bool) {
-    let mut end = 0usize;
-    for (frame, packet) in request.iter().enumerate() {
-        if end == len {
-            return (frame, true);
-        }
-        end = end.saturating_add(spelled_len(packet));
-        if len < end {
-            return (frame, false);
-        }
-    }
-    (request.len(), true)
-}
-
-fn spelled_len(packet: &[u8]) -> usize {
-    let mut len = 0usize;
-    for byte in packet {
-        let bytes = match *byte {
-            b'{' | b'[' => 0,
-            b'}' => 39,
-            b']' => 63,
-            _ => 1,
-        };
-        len = len.saturating_add(bytes);
-    }
-    len
-}
-
 // The request ends after so many bytes.
 fn check_cut(
     rt: &impl Abort,
@@ -129,13 +100,7 @@ fn check_cut(
 ) -> Result<(), Fail> {
     let mut run = begun(alloc, program, row)?;
     run.input.truncate(len);
-    if len > 0 {
-        let (frame, between) = packets_within(row.1, len);
-        let fault = if between { "54 Ended" } else { "23 Truncated" };
-        let printed = format!(in alloc; "gitv2: fault {fault} frame {frame}\n")?;
-        run.writes(alloc, ENDED_EARLY)?;
-        run.prints(alloc, printed.as_bytes())?;
-    }
+    ends_within(alloc, row.1, len, &mut run)?;
     run.check_whole(rt, alloc, [FREE, FREE, FREE]);
     Ok(())
 }

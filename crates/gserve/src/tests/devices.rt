@@ -176,3 +176,52 @@ fn flushes_fail(rt: HostRuntime) -> Result<(), Fail> {
     }
     Ok(())
 }
+
+// A sink that takes all, and counts the writes.
+#[derive(Drop)]
+struct Counted {
+    writes: usize,
+}
+
+impl Sink for Counted {
+    ghost contents = { λ _. None };
+
+    ghost passed_on = { λ _. None };
+
+    ghost is_down = { λ _. false };
+
+    ghost loans = { λ _. [] };
+
+    fn write(&mut self, buf: &[u8]) -> Result<usize, Down> {
+        self.writes = self.writes.saturating_add(1);
+        Ok(buf.len())
+    }
+
+    fn flush(&mut self) -> Result<(), Down> {
+        Ok(())
+    }
+}
+
+// The most parts of a packet: its digits, two pieces of a text, and a line feed.
+const PARTS: usize = 4;
+
+// Each part of a packet is written in one call, also the digits of an id. The replies have 6 packets, 2 and 7, and the
+// line of a refusal is one.
+#[test]
+fn a_packet_takes_few_writes(rt: HostRuntime) -> Result<(), Fail> {
+    let alloc = rt.alloc();
+    let not_ours = b"0012command=fetch\n00010032want {d}\n0009done\n0000".as_slice();
+    for (requests, packets) in [
+        (b"".as_slice(), 6),
+        (REFS, 6 + 2),
+        (FETCH, 6 + 7),
+        (not_ours, 6 + 1),
+    ] {
+        let input = joined(alloc, &[requests])?;
+        let mut source = SliceSource::new(input.as_slice());
+        let mut sink = Counted { writes: 0 };
+        let _served = serve_over(alloc, &mut source, &mut sink)?;
+        assert!(rt; sink.writes <= PARTS * packets, "{} writes", sink.writes);
+    }
+    Ok(())
+}

@@ -132,9 +132,10 @@ fn requests_are_cut(rt: HostRuntime) -> Result<(), Fail> {
 
 // A text is written for the fault.
 fn check_text(rt: &impl Abort, fault: &ServeFault, text: &[u8]) {
-    let mut out = [0; MAX_ERR_TEXT];
+    let mut out = [b'x'; MAX_ERR_TEXT];
     let len = err_text(fault, &mut out);
     assert_eq!(rt; &out[..len], text);
+    assert!(rt; out[len..].iter().all(|byte| *byte == b'x'));
 }
 
 // What a client reads of each fault of a request.

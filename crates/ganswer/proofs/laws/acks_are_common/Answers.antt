@@ -2,4 +2,4 @@ use Rattle.ganswer.proofs.LawLemmas.{acks_are_common}
 use Rattle.ganswer.proofs.laws.acks_are_common.Goals as goal
 
 pub returns : goal.returns
-returns g c = acks_are_common c.commons_are_held.ensures (g.K.Packer.packs c.args.packer.now)
+returns g c = λ packer. acks_are_common c.commons_are_held.ensures (g.K.Packer.packs packer)

@@ -2,5 +2,4 @@ use Rattle.ganswer.proofs.LawLemmas.{packs_are_enough}
 use Rattle.ganswer.proofs.laws.packs_are_enough.Goals as goal
 
 pub returns : goal.returns
-returns g c =
-    packs_are_enough c.commons_are_held.ensures c.sent_are_entries.ensures c.sending_is_enough.ensures (g.K.Packer.packs c.args.packer.now)
+returns g c = λ packer. packs_are_enough c.commons_are_held.ensures c.sent_are_entries.ensures c.sending_is_enough.ensures (g.K.Packer.packs packer)

@@ -1,0 +1,32 @@
+-- A packer that is asked for one pack at most. What it answered shows in the answer to fetch.
+use Rattle.std.specs.Prelude.{Result, Ok, Err}
+use Rattle.gobject.specs.declared.fault.PackFault.{PackFault}
+use Rattle.gfetchreply.specs.FetchReplies.{FetchReply, Acks, Ready, Pack}
+use Rattle.ganswer.specs.declared.fault.ServeFault.{ServeFault}
+use Rattle.ganswer.specs.declared.fault.ServeFault.TheVariants as serve
+use Rattle.ganswer.specs.declared.one_pack.Packing.{Packing}
+use Rattle.ganswer.specs.declared.one_pack.Packing.TheVariants as packing
+
+pub record OnePack (K : Type 0) : Type 0 where
+  pub packer : K
+  pub answered : Packing
+
+-- what is noted of its answer
+abbrev pub packing_of : {X : Type 0} → Result X PackFault → Packing
+packing_of (Ok pack) = packing.Packed
+packing_of (Err fault) = packing.Failed fault
+
+-- it packed where a reply has a pack, and was not asked where it has none
+abbrev pub packing_of_reply : FetchReply → Packing
+packing_of_reply (Acks commons) = packing.Unasked
+packing_of_reply (Ready commons pack) = packing.Packed
+packing_of_reply (Pack pack) = packing.Packed
+
+-- a fault of its own is reported as it is, and any other where it was not asked
+abbrev pub packing_of_fault : ServeFault → Packing
+packing_of_fault (serve.Reader fault) = packing.Unasked
+packing_of_fault (serve.Request fault) = packing.Unasked
+packing_of_fault serve.NoWants = packing.Unasked
+packing_of_fault (serve.NotOurs id) = packing.Unasked
+packing_of_fault (serve.Pack fault) = packing.Failed fault
+packing_of_fault serve.Memory = packing.Unasked

@@ -1,0 +1,83 @@
+//! A packer that is asked for one pack at most.
+
+ghost use Rattle.std.specs.Prelude.{◌≡◌, MatchResult};
+ghost use Rattle.gobject.specs.Packs.{MayPack};
+ghost use Rattle.ganswer.specs.OnePack.{packing_of};
+ghost use Rattle.ganswer.specs.declared.one_pack.Packing.TheVariants as packing;
+
+use ggraph::{Entry, PackFault, Packer};
+use std::alloc::Allocator;
+use std::marker::Model;
+
+/// What a packer has answered.
+#[derive(Clone, Copy, Debug, PartialEq, Eq, Drop)]
+pub enum Packing {
+    /// It was not asked.
+    Unasked,
+    /// A pack.
+    Packed,
+    /// The fault for which there is none.
+    Failed(PackFault),
+}
+
+/// A packer that is asked for one pack at most, and what it has answered.
+#[derive(Drop)]
+pub struct OnePack<'a, K> {
+    packer: &'a K,
+    answered: Packing,
+}
+
+impl<'a, K> Model for OnePack<'a, K> {
+    ghost use Rattle.ganswer.specs.OnePack.{OnePack};
+
+    ghost Value = { OnePack K };
+
+    ghost view = { λ once. record { packer = once.packer.now; answered = once.answered } };
+}
+
+impl<'a, K> OnePack<'a, K> {
+    /// The packer, before it is asked.
+    pub fn new(packer: &'a K) -> OnePack<'a, K>
+        ensures packer { result.packer ≡ packer.now }
+        ensures unasked { result.answered ≡ packing.Unasked }
+    {
+        OnePack {
+            packer,
+            answered: Packing::Unasked,
+        }
+    }
+
+    /// What it has answered.
+    pub fn answered(&self) -> Packing
+        ensures { result ≡ self.now.answered }
+    {
+        self.answered
+    }
+
+    // Asks for the pack of the entries.
+    pub(crate) fn pack<A: Allocator + Copy>(
+        &mut self,
+        alloc: A,
+        entries: &[Entry<A>],
+    ) -> Result<Vec<u8, A>, PackFault>
+    where
+        K: Packer<A>,
+        requires { self.old.answered ≡ packing.Unasked }
+        ensures pack { MatchResult result
+            (λ pack. MayPack (K.packs self.old.packer) entries.now pack.items)
+            (λ fault. K.pack_fails self.old.packer entries.now fault) }
+        ensures answered { self.new.answered ≡ packing_of result }
+        ensures packer { self.new.packer ≡ self.old.packer }
+    {
+        match self.packer.pack(alloc, entries) {
+            Ok(pack) => {
+                self.answered = Packing::Packed;
+                Ok(pack)
+            }
+            Err(fault) => {
+                self.answered = Packing::Failed(fault);
+                Err(fault)
+            }
+        }
+    }
+}

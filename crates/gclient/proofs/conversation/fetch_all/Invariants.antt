@@ -1,0 +1,32 @@
+-- Each reply so far was only of acknowledgments, and both the reader and the writer go on. There are at most as many rounds
+-- as objects.
+use Rattle.std.proofs.Common.{◌≡◌, ◌-◌, ℕ, List, length, false, Option, None}
+use Rattle.gpkt.specs.Sending.{input_of, output_of}
+use Rattle.gsession.specs.Bounds.{BeganOn}
+use Rattle.gsession.specs.declared.stage.Stage.TheVariants.{Fetching}
+use Rattle.gclient.specs.Conversations.{Start}
+use Rattle.gclient.specs.Steps.{HasTalked, client_of}
+use Rattle.gclient.proofs.conversation.fetch_all.Given as goal
+
+abbrev pub invariant-rounds : goal.invariant-rounds
+invariant-rounds g l = record {
+  talked : (start : Start g.row.A.Denot) (source : g.row.S.Denot) (sink : g.row.W.Denot) (unborn : Option (List ℕ))
+      → HasTalked (g.K.Indexer.indexes l.indexer) (g.K.Indexer.index_fails l.indexer) start
+      (input_of g.S.Source.remaining g.S.Source.is_down source l.initial.reader.source)
+      (output_of g.W.Sink.contents g.W.Sink.passed_on g.W.Sink.is_down sink l.initial.writer.sink) (client_of l.initial.session l.initial.repo unborn)
+      → HasTalked (g.K.Indexer.indexes l.indexer) (g.K.Indexer.index_fails l.indexer) start
+      (input_of g.S.Source.remaining g.S.Source.is_down source l.reader.source)
+      (output_of g.W.Sink.contents g.W.Sink.passed_on g.W.Sink.is_down sink l.writer.sink) (client_of l.session l.repo unborn);
+  reader : l.reader.failed ≡ false;
+  writer : l.writer.failed ≡ false;
+  stage : l.session.stage ≡ Fetching;
+  pending : l.session.pending ≡ None;
+  format : l.session.format ≡ l.repo.graph.format;
+  began : BeganOn l.initial.repo.graph.entries l.session;
+  repo : l.repo ≡ l.initial.repo;
+  source_loans : g.S.Source.loans l.reader.source ≡ g.S.Source.loans l.initial.reader.source;
+  sink_loans : g.W.Sink.loans l.writer.sink ≡ g.W.Sink.loans l.initial.writer.sink;
+}
+
+abbrev pub decreases-rounds : goal.decreases-rounds
+decreases-rounds g l = length l.repo.graph.entries - l.session.rounds

@@ -1,0 +1,200 @@
+-- A client's conversation with a server, from the advertisement to the refs here that move: what is written for the
+-- bytes that are read (gitprotocol-v2(5), "Initial Client Request" and "Command Request").
+use Rattle.std.specs.Prelude.{◌≡◌, ◌⊎◌, ℕ, ◌≤◌, false, List, [], ◌∷◌, ◌++◌, length, Option, None, Some, Result, Ok, Err}
+use Rattle.std.specs.List.{flat_map}
+use Rattle.gname.specs.declared.formats.Format.{Format}
+use Rattle.gpkt.specs.Devices.{KeepsPassed}
+use Rattle.gpkt.specs.LineReading.{ReadsLines}
+use Rattle.gpkt.specs.Packets.{Packet, canonical_all}
+use Rattle.gpkt.specs.Sending.{Input, Output, IsUnread, IsUnwritten, IsUp, Passes, SendsAndFails, SendsSome}
+use Rattle.ggrammar.specs.Capabilities.{Capability}
+use Rattle.ggrammar.specs.MessageReading.{IsReadFailure, ReadsRefused}
+use Rattle.ggrammar.specs.declared.ends.Ends.{Ends}
+use Rattle.ggrammar.specs.declared.fault.MessageFault.{MessageFault}
+use Rattle.ghello.specs.Adverts as advert
+use Rattle.ghello.specs.Offers.{check_fault}
+use Rattle.gobject.specs.Packs.{Indexes, IndexFails}
+use Rattle.gspec.specs.Refspecs.{Refspec}
+use Rattle.grepo.specs.Changes.{SettlesAsks}
+use Rattle.grepo.specs.Repos.{RepoState}
+use Rattle.grepo.specs.declared.fault.RepoFault.{RepoFault}
+use Rattle.grequest.specs.Asked.{Asked, Empty}
+use Rattle.grequest.specs.RequestWriting.{canonical_request}
+use Rattle.gsession.specs.Requesting.{Requests}
+pub use Rattle.gsession.specs.Sessions.{tips_of}
+use Rattle.gsession.specs.Sessions.{SessionState, Begins, max_specs, new_session, no_memory, tells_unborn}
+use Rattle.gsession.specs.declared.stage.Stage.TheVariants.{Settling}
+use Rattle.gsession.specs.declared.fault.ClientFault.{ClientFault}
+use Rattle.gsession.specs.declared.fault.ClientFault.TheVariants as client
+use Rattle.gclient.specs.Turns.{AreTurns, AsksNext, ClientState, Refuses, Turn}
+use Rattle.gclient.specs.declared.fault.FetchFault.{FetchFault}
+use Rattle.gclient.specs.declared.fault.FetchFault.TheVariants as fault
+use Rattle.gclient.specs.declared.fetched.Fetched.{Fetched}
+
+-- what a conversation begins with: the client's repository, what it fetches and how
+pub record Start (A : Type 0) : Type 0 where
+  pub repo : RepoState A
+  pub refspecs : List Refspec
+  pub limit : ℕ
+  pub ends : Ends
+
+-- ---- what is written
+
+-- the bytes of a request
+abbrev pub request_bytes : Format → Asked → List ℕ
+request_bytes format asked = canonical_all (canonical_request format asked)
+
+-- the bytes of the requests of some turns
+abbrev pub requests_bytes : Format → List Turn → List ℕ
+requests_bytes format turns = flat_map (λ turn. request_bytes format turn.asked) turns
+
+-- the requests of some turns were passed on; before the first nothing was written
+abbrev pub HasAsked : Format → Output → List Turn → Type 0
+HasAsked format output [] = IsUnwritten output
+HasAsked format output (turn ∷ turns) = Passes output (requests_bytes format (turn ∷ turns))
+
+-- and then the sink failed, and a beginning of the next request stands
+abbrev pub FailsToAsk : Format → Output → List Turn → List ℕ → Type 0
+FailsToAsk format output [] due = SendsSome output due × KeepsPassed output.passed_on
+FailsToAsk format output (turn ∷ turns) due = SendsAndFails output (requests_bytes format (turn ∷ turns)) due
+
+-- ---- what is read
+
+-- the packets are an advertisement of a server with which a client of this format can go on
+pub record Advertises (format : Format) (packets : List Packet) (capabilities : List Capability) : Type 0 where
+  pub says : advert.Says packets capabilities
+  pub fits : check_fault format capabilities ≡ None
+
+-- an advertisement is read, and the client can't go on with the server
+pub record Mismatches (format : Format) (input : Input) (cause : MessageFault) : Type 0 where
+  pub packets : List Packet
+  pub capabilities : List Capability
+  pub lines : ReadsLines input.read packets
+  pub says : advert.Says packets capabilities
+  pub why : check_fault format capabilities ≡ Some cause.why
+  pub frame : cause.frame ≡ 0
+  pub up : IsUp input
+
+-- it is refused as it is read, at the first packet that does not fit; the fault is the source's exactly where that is
+-- down
+pub record RefusesToRead (input : Input) (cause : MessageFault) : Type 0 where
+  pub front : List Packet
+  pub refused : ReadsRefused advert.judge advert.brings front input.read cause
+  pub source : IsReadFailure false input.is_down cause.why
+
+-- why the client does not begin to ask: the advertisement is refused as it is read, or the client can't go on with it
+abbrev pub RefusesAdvert : Format → Input → MessageFault → Type 0
+RefusesAdvert format input cause =
+    RefusesToRead input cause ⊎ Mismatches format input cause
+
+-- what is left of the input where so much of it is still to come
+abbrev pub rest_of : Input → Option (List ℕ) → Input
+rest_of input between = record {
+  read = record { old = between; new = input.read.new };
+  was_down = input.was_down;
+  is_down = input.is_down;
+}
+
+-- nothing more is read, and the source is well
+pub record IsLeft (rest : Input) : Type 0 where
+  pub unread : rest.read.new ≡ rest.read.old
+  pub up : IsUp rest
+
+-- ---- a conversation so far
+
+-- what a conversation over this repository begins with
+abbrev pub start_of : {A : Type 0} → RepoState A → List Refspec → ℕ → Ends → Start A
+start_of repo refspecs limit ends = record { repo = repo; refspecs = refspecs; limit = limit; ends = ends }
+
+module _ {A : Type 0} (start : Start A) where
+  -- the session as it begins
+  abbrev pub begun : SessionState A
+  begun =
+      new_session start.repo.graph.format start.refspecs start.limit start.ends (tips_of start.repo)
+
+  -- the client that has heard the server's advertisement
+  abbrev pub heard : List Capability → ClientState A
+  heard capabilities = record {
+    session = record begun { offers_unborn = tells_unborn capabilities };
+    repo = start.repo;
+    unborn = None;
+  }
+
+module _ {A : Type 0} (indexes : Indexes A) (index_fails : IndexFails) (start : Start A) where
+  -- The advertisement is read, and then the replies of these turns, which make the client this one; and this holds of
+  -- the rest of the input.
+  pub record Converses (input : Input) (talk : List Turn) (last : ClientState A) (Rest : Input → Type 0) : Type 0 where
+    pub few : length start.refspecs ≤ max_specs
+    pub packets : List Packet
+    pub capabilities : List Capability
+    pub advertises : Advertises start.repo.graph.format packets capabilities
+    pub each : AreTurns indexes index_fails (heard start capabilities) talk last
+    pub between : Option (List ℕ)
+    pub read : ReadsLines (record { old = input.read.old; new = between })
+        (packets ++ flat_map (λ turn. turn.reply) talk)
+    pub rest : Rest (rest_of input between)
+
+  -- ---- the whole
+
+  -- a lone flush ends the conversation, once there is nothing more to ask
+  abbrev pub talk_bytes : List Turn → List ℕ
+  talk_bytes talk =
+      requests_bytes start.repo.graph.format talk ++ request_bytes start.repo.graph.format Empty
+
+  -- All replies were taken, the requests and the lone flush are passed on, and the refs are settled. The count is that
+  -- of the requests for objects.
+  pub record Fetches (input : Input) (output : Output) (new : RepoState A) (fetched : Fetched A) : Type 0 where
+    pub talk : List Turn
+    pub last : ClientState A
+    pub converses : Converses input talk last IsLeft
+    pub over : last.session.stage ≡ Settling
+    pub passed : Passes output (talk_bytes talk)
+    pub asks : fetched.settled.asks ≡ last.session.asks
+    pub settles : SettlesAsks last.repo last.session.asks new (Ok fetched.settled.updates.items)
+    pub count : fetched.requests ≡ last.session.rounds
+    pub unborn : fetched.unborn ≡ last.unborn
+
+  -- what is to be written next: the next request, or the lone flush where there is none
+  pub data IsDue (last : ClientState A) : Asked → Type 0 where
+    request : (asked : Asked) (waiting : SessionState A) → AsksNext last asked waiting → IsDue last asked
+    ending : last.session.stage ≡ Settling → IsDue last Empty
+
+  -- Why a conversation failed. Each fault comes where all went well before it; the repository is then as the turns so
+  -- far left it.
+  pub data Fails (input : Input) (output : Output) (new : RepoState A) : FetchFault A → Type 0 where
+    -- the session can't begin, and nothing is read
+    cannot_begin : (cause : ClientFault A) → Begins start.repo start.refspecs start.limit start.ends (Err cause)
+        → IsUnread input → IsUnwritten output → new ≡ start.repo → Fails input output new (fault.Client cause)
+    -- there is no memory for the reader's buffer, and nothing is read
+    no_buffer : length start.refspecs ≤ max_specs → IsUnread input → IsUnwritten output → new ≡ start.repo
+        → Fails input output new fault.NoBuffer
+    -- the advertisement is refused
+    cannot_hear : (cause : MessageFault) → length start.refspecs ≤ max_specs
+        → RefusesAdvert start.repo.graph.format input cause → IsUnwritten output → new ≡ start.repo
+        → Fails input output new (fault.Client (client.Message cause))
+    -- there is no memory for the next request
+    cannot_ask : (talk : List Turn) (last : ClientState A) (after : SessionState A) → Converses input talk last IsLeft
+        → Requests last.session last.repo.graph.entries after (Err no_memory)
+        → HasAsked start.repo.graph.format output talk → new ≡ last.repo
+        → Fails input output new (fault.Client no_memory)
+    -- what is due next can't be written, or not be passed on
+    cannot_send : (talk : List Turn) (last : ClientState A) (asked : Asked) → Converses input talk last IsLeft
+        → IsDue last asked
+        → FailsToAsk start.repo.graph.format output talk (request_bytes start.repo.graph.format asked)
+        → new ≡ last.repo → Fails input output new fault.WriteFailed
+    -- the reply to a request is refused
+    cannot_take : (talk : List Turn) (last : ClientState A) (asked : Asked) (waiting : SessionState A)
+        (cause : ClientFault A) → AsksNext last asked waiting
+        → Converses input talk last (λ rest. Refuses indexes index_fails waiting asked last.repo rest cause)
+        → Passes output (requests_bytes start.repo.graph.format talk ++ request_bytes start.repo.graph.format asked)
+        → new ≡ last.repo → Fails input output new (fault.Client cause)
+    -- the refs can't be settled
+    cannot_settle : (talk : List Turn) (last : ClientState A) (cause : RepoFault A) → Converses input talk last IsLeft
+        → last.session.stage ≡ Settling → Passes output (talk_bytes talk)
+        → SettlesAsks last.repo last.session.asks new (Err cause)
+        → Fails input output new (fault.Client (client.Repo cause))
+
+  -- what a conversation answers, and what it did
+  abbrev pub FetchesOver : Input → Output → RepoState A → Result (Fetched A) (FetchFault A) → Type 0
+  FetchesOver input output new (Ok fetched) = Fetches input output new fetched
+  FetchesOver input output new (Err fault) = Fails input output new fault

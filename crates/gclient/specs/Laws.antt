@@ -1,0 +1,84 @@
+-- What holds of every conversation, whatever its end.
+use Rattle.std.specs.Prelude.{◌≡◌, ℕ, ◌+◌, ◌≤◌, List, [], ◌∷◌, ◌++◌, length, map, Result, OnErr}
+use Rattle.std.specs.List.{flat_map}
+use Rattle.std.specs.Io.KnownBytes.{Appends}
+use Rattle.gname.specs.declared.formats.Format.{Format}
+use Rattle.gpkt.specs.Sending.{Input, Output}
+use Rattle.ggrammar.specs.Capabilities.{Capability}
+use Rattle.ghistory.specs.Reach.{Grows}
+use Rattle.ghistory.specs.Walks.{CountsReached}
+use Rattle.gobject.specs.Packs.{Indexes, IndexFails}
+use Rattle.grepo.specs.Repos.{IsWhole, RepoState}
+use Rattle.grequest.specs.Asked.{Asked, Fetches}
+use Rattle.gsession.specs.Sessions.{SessionState, max_specs}
+use Rattle.gclient.specs.Conversations.{FetchesOver, Start, heard, request_bytes, tips_of}
+use Rattle.gclient.specs.Turns.{AreTurns, AsksNext, ClientState, Turn}
+use Rattle.gclient.specs.declared.fault.FetchFault.{FetchFault}
+use Rattle.gclient.specs.declared.fetched.Fetched.{Fetched}
+
+-- ---- how often objects are asked for
+
+-- whether a request asks for objects, as a number
+abbrev pub count_of : Asked → ℕ
+count_of (Fetches asked) = 1
+count_of asked = 0
+
+-- how many requests ask for objects
+abbrev pub objects_asked : List Asked → ℕ
+objects_asked [] = 0
+objects_asked (asked ∷ requests) = count_of asked + objects_asked requests
+
+-- the requests of some turns
+abbrev pub asked_in : List Turn → List Asked
+asked_in talk = map (λ turn. turn.asked) talk
+
+-- the turns ask for objects at most once more than there are ids that the refs reached at the beginning
+abbrev pub TalksAreFew : {A : Type 0} → Indexes A → IndexFails → Type 0
+TalksAreFew {A} indexes index_fails =
+    (start : Start A) (capabilities : List Capability) (talk : List Turn) (last : ClientState A) (held parents : ℕ)
+    → IsWhole start.repo → length start.refspecs ≤ max_specs
+    → AreTurns indexes index_fails (heard start capabilities) talk last
+    → CountsReached start.repo.graph.entries (tips_of start.repo) held parents
+    → objects_asked (asked_in talk) ≤ held + 1
+
+-- and so do they with the next request, whatever becomes of that
+abbrev pub NextIsFew : {A : Type 0} → Indexes A → IndexFails → Type 0
+NextIsFew {A} indexes index_fails =
+    (start : Start A) (capabilities : List Capability) (talk : List Turn) (last : ClientState A) (asked : Asked)
+    (waiting : SessionState A) (held parents : ℕ) → IsWhole start.repo → length start.refspecs ≤ max_specs
+    → AreTurns indexes index_fails (heard start capabilities) talk last → AsksNext last asked waiting
+    → CountsReached start.repo.graph.entries (tips_of start.repo) held parents
+    → objects_asked (asked_in talk ++ asked ∷ []) ≤ held + 1
+
+-- All that was written is a beginning of some requests, perhaps all of them; and of these so many at most ask for
+-- objects.
+pub record AsksAtMost (format : Format) (output : Output) (most : ℕ) : Type 0 where
+  pub requests : List Asked
+  pub few : objects_asked requests ≤ most
+  pub front : List ℕ
+  pub rest : List ℕ
+  pub parts : flat_map (request_bytes format) requests ≡ front ++ rest
+  pub written : Appends output.written.old output.written.new front
+
+-- so it is at every end of a conversation, also where it failed
+abbrev pub EndsAreFew : {A : Type 0} → Indexes A → IndexFails → Type 0
+EndsAreFew {A} indexes index_fails =
+    (start : Start A) (input : Input) (output : Output) (new : RepoState A) (result : Result (Fetched A) (FetchFault A))
+    (held parents : ℕ) → IsWhole start.repo → FetchesOver indexes index_fails start input output new result
+    → CountsReached start.repo.graph.entries (tips_of start.repo) held parents
+    → AsksAtMost start.repo.graph.format output (held + 1)
+
+-- ---- the repository
+
+-- to the graph objects only come
+abbrev pub FetchingGrows : {A : Type 0} → Indexes A → IndexFails → Type 0
+FetchingGrows {A} indexes index_fails =
+    (start : Start A) (input : Input) (output : Output) (new : RepoState A) (result : Result (Fetched A) (FetchFault A))
+    → FetchesOver indexes index_fails start input output new result
+    → Grows start.repo.graph.entries new.graph.entries
+
+-- and where a conversation failed, the refs are as they were
+abbrev pub FailingKeepsRefs : {A : Type 0} → Indexes A → IndexFails → Type 0
+FailingKeepsRefs {A} indexes index_fails =
+    (start : Start A) (input : Input) (output : Output) (new : RepoState A) (result : Result (Fetched A) (FetchFault A))
+    → FetchesOver indexes index_fails start input output new result → OnErr result (new.refs ≡ start.repo.refs)

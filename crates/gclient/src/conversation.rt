@@ -1,0 +1,224 @@
+//! A conversation, from the advertisement to the refs here that move.
+
+ghost use Rattle.std.specs.Prelude.{◌≡◌, ◌≤◌, ◌+◌, ℕ, List, Option, None, false, length, IfOk, OnErr, OnOk};
+ghost use Rattle.gpkt.specs.Sending.{input_of, output_of};
+ghost use Rattle.ghistory.specs.Reach.{Grows};
+ghost use Rattle.ghistory.specs.Walks.{CountsReached};
+ghost use Rattle.grepo.specs.Repos.{IsWhole};
+ghost use Rattle.grepo.specs.Settling.{Settles};
+ghost use Rattle.gsession.specs.Bounds.{BeganOn};
+ghost use Rattle.gsession.specs.Sessions.{max_specs};
+ghost use Rattle.gsession.specs.declared.stage.Stage.TheVariants.{Fetching, Settling};
+ghost use Rattle.gclient.specs.Conversations.{FetchesOver, Start, start_of, tips_of};
+ghost use Rattle.gclient.specs.Steps.{Closes, HasBegun, HasTalked, Talks, TalksTo, client_of, start_with};
+
+use crate::fault::FetchFault;
+use crate::fetched::Fetched;
+use crate::send::send_request;
+use crate::turn::{ask, fetch, hear};
+use gfetchreply::PackLimit;
+use ggrammar::Ends;
+use ggraph::Indexer;
+use ggraph::graph_laws::distinct_are_once;
+use gname::RefName;
+use gpkt::laws::reads_join;
+use gpkt::{LineBuffer, LineReader, LineWriter, Sink, Source};
+use grepo::Repo;
+use grequest::Request;
+use gsession::laws::{began_stays, rounds_are_few};
+use gsession::{Session, Settled, Taken};
+use gspec::Spec;
+use std::alloc::Allocator;
+
+/// Fetches by refspecs from a server (gitprotocol-v2(5)): reads its advertisement, asks for its refs, asks for the
+/// objects that are wanted as often as the server only acknowledges, ends the conversation with a lone flush, and
+/// then moves the refs here. What is written is passed on after each request, and nothing after the last reply is
+/// read. A pack may have so many bytes as the limit says, and each reply ends as `ends` says.
+///
+/// It fails with 82 over 16 refspecs, and with 64 or 28 where there is no memory to begin, and nothing is read then.
+/// Else the first fault ends it: 20 to 25, 29, 30 and 41 to 54 where the advertisement or a reply is refused, 43 or
+/// 52 where the client can't go on with the server; 84, 66, 60 to 63 and 75 where a reply is not taken, 47 or 86
+/// where its refs are not; 27 where the sink fails, and a beginning of the requests stands then; 85 or 69 where the
+/// refs can't move; 64 where there is no memory. After every fault the refs are as before, and to the graph objects
+/// only came.
+pub fn fetch_over<S: Source, W: Sink, A: Allocator + Copy, K: Indexer<A>>(
+    repo: &mut Repo<A>,
+    source: &mut S,
+    sink: &mut W,
+    indexer: &K,
+    specs: &[Spec<A>],
+    limit: PackLimit,
+    ends: Ends,
+) -> Result<Fetched<A>, FetchFault<A>>
+    ensures fetches { FetchesOver (K.indexes indexer.now) (K.index_fails indexer.now)
+        (start_of repo.old specs.now limit ends)
+        (input_of S.remaining S.is_down source.old source.new)
+        (output_of W.contents W.passed_on W.is_down sink.old sink.new) repo.new result }
+    ensures settled { IfOk result (λ fetched. Settles repo.new.graph.entries repo.old.refs fetched.settled.asks
+        fetched.settled.updates.items repo.new.refs) }
+    ensures refs { OnErr result (repo.new.refs ≡ repo.old.refs) }
+    ensures grows { Grows repo.old.graph.entries repo.new.graph.entries }
+    ensures safe { IsWhole repo.new }
+    ensures bound { IfOk result (λ fetched. (held parents : ℕ)
+        → CountsReached repo.old.graph.entries (tips_of repo.old) held parents → fetched.requests ≤ held + 1) }
+    ensures source_loans { S.loans source.new ≡ S.loans source.old }
+    ensures sink_loans { W.loans sink.new ≡ W.loans sink.old }
+{
+    let mut writer = LineWriter::new(sink);
+    let fetched = fetch_to(repo, source, &mut writer, indexer, specs, limit, ends);
+    let _sink = writer.into_inner();
+    // A look-up says that the repository is whole.
+    let _format = repo.format();
+    fetched
+}
+
+fn fetch_to<S: Source, W: Sink, A: Allocator + Copy, K: Indexer<A>>(
+    repo: &mut Repo<A>,
+    source: &mut S,
+    writer: &mut LineWriter<W>,
+    indexer: &K,
+    specs: &[Spec<A>],
+    limit: PackLimit,
+    ends: Ends,
+) -> Result<Fetched<A>, FetchFault<A>>
+    requires { writer.old.failed ≡ false }
+    ensures fetches { FetchesOver (K.indexes indexer.now) (K.index_fails indexer.now)
+        (start_of repo.old specs.now limit ends)
+        (input_of S.remaining S.is_down source.old source.new)
+        (output_of W.contents W.passed_on W.is_down writer.old.sink writer.new.sink) repo.new result }
+    ensures bound { IfOk result (λ fetched. (held parents : ℕ)
+        → CountsReached repo.old.graph.entries (tips_of repo.old) held parents → fetched.requests ≤ held + 1) }
+    ensures source_loans { S.loans source.new ≡ S.loans source.old }
+    ensures sink_loans { W.loans writer.new.sink ≡ W.loans writer.old.sink }
+{
+    let alloc = repo.graph().allocator();
+    let mut session = Session::begin(alloc, repo, specs, limit, ends)?;
+    let buffer = match LineBuffer::new(alloc) {
+        Ok(buffer) => buffer,
+        Err(_) => return Err(FetchFault::NoBuffer),
+    };
+    let mut reader = LineReader::with_buffer(buffer, source);
+    let fetched = converse(repo, &mut session, &mut reader, writer, indexer);
+    let _source = reader.into_inner();
+    fetched
+}
+
+// The conversation of a session that has begun.
+fn converse<S: Source, W: Sink, A: Allocator + Copy, K: Indexer<A>>(
+    repo: &mut Repo<A>,
+    session: &mut Session<A>,
+    reader: &mut LineReader<S, A>,
+    writer: &mut LineWriter<W>,
+    indexer: &K,
+) -> Result<Fetched<A>, FetchFault<A>>
+    requires reader { reader.old.failed ≡ false }
+    requires writer { writer.old.failed ≡ false }
+    requires begun { HasBegun session.old repo.old }
+    requires few { length session.old.refspecs ≤ max_specs }
+    ensures fetches { FetchesOver (K.indexes indexer.now) (K.index_fails indexer.now) (start_with session.old repo.old)
+        (input_of S.remaining S.is_down reader.old.source reader.new.source)
+        (output_of W.contents W.passed_on W.is_down writer.old.sink writer.new.sink) repo.new result }
+    ensures bound { IfOk result (λ fetched. (held parents : ℕ)
+        → CountsReached repo.old.graph.entries (tips_of repo.old) held parents → fetched.requests ≤ held + 1) }
+    ensures source_loans { S.loans reader.new.source ≡ S.loans reader.old.source }
+    ensures sink_loans { W.loans writer.new.sink ≡ W.loans writer.old.sink }
+{
+    rounds_are_few::<A>();
+    let unborn = talk(repo, session, reader, writer, indexer)?;
+    let requests = session.rounds();
+    let settled = close(repo, session, writer)?;
+    Ok(Fetched {
+        settled,
+        requests,
+        unborn,
+    })
+}
+
+// Hears the server, and asks until the last reply is taken. Answers what the server says of an unborn HEAD.
+fn talk<S: Source, W: Sink, A: Allocator + Copy, K: Indexer<A>>(
+    repo: &mut Repo<A>,
+    session: &mut Session<A>,
+    reader: &mut LineReader<S, A>,
+    writer: &mut LineWriter<W>,
+    indexer: &K,
+) -> Result<Option<RefName<A>>, FetchFault<A>>
+    requires reader { reader.old.failed ≡ false }
+    requires writer { writer.old.failed ≡ false }
+    requires begun { HasBegun session.old repo.old }
+    requires few { length session.old.refspecs ≤ max_specs }
+    ensures talks { Talks (K.indexes indexer.now) (K.index_fails indexer.now) (start_with session.old repo.old)
+        (input_of S.remaining S.is_down reader.old.source reader.new.source)
+        (output_of W.contents W.passed_on W.is_down writer.old.sink writer.new.sink) session.new repo.new result }
+    ensures over { OnOk result (session.new.stage ≡ Settling) }
+    ensures began { OnOk result (BeganOn repo.old.graph.entries session.new) }
+    ensures goes_on { OnOk result (writer.new.failed ≡ false) }
+    ensures source_loans { S.loans reader.new.source ≡ S.loans reader.old.source }
+    ensures sink_loans { W.loans writer.new.sink ≡ W.loans writer.old.sink }
+{
+    reads_join();
+    distinct_are_once();
+    began_stays::<A>();
+    hear(repo, session, reader)?;
+    ask(repo, session, writer)?;
+    let taken = session.take_ls(repo, reader)?;
+    if taken.wants == 0 {
+        return Ok(taken.unborn);
+    }
+    fetch_all(repo, session, reader, writer, indexer)?;
+    Ok(taken.unborn)
+}
+
+// Asks for objects as often as the server only acknowledges. The conversation began at other states of the source and
+// the sink.
+fn fetch_all<S: Source, W: Sink, A: Allocator + Copy, K: Indexer<A>>(
+    repo: &mut Repo<A>,
+    session: &mut Session<A>,
+    reader: &mut LineReader<S, A>,
+    writer: &mut LineWriter<W>,
+    indexer: &K,
+) -> Result<(), FetchFault<A>>
+    requires reader { reader.old.failed ≡ false }
+    requires writer { writer.old.failed ≡ false }
+    requires stage { session.old.stage ≡ Fetching }
+    requires pending { session.old.pending ≡ None }
+    requires format { session.old.format ≡ repo.old.graph.format }
+    requires began { BeganOn repo.old.graph.entries session.old }
+    ensures talks { (start : Start A) (source : S) (sink : W) (unborn : Option (List ℕ))
+        → HasTalked (K.indexes indexer.now) (K.index_fails indexer.now) start
+        (input_of S.remaining S.is_down source reader.old.source)
+        (output_of W.contents W.passed_on W.is_down sink writer.old.sink) (client_of session.old repo.old unborn)
+        → TalksTo (K.indexes indexer.now) (K.index_fails indexer.now) start
+        (input_of S.remaining S.is_down source reader.new.source)
+        (output_of W.contents W.passed_on W.is_down sink writer.new.sink)
+        (client_of session.new repo.new unborn) result }
+    ensures over { OnOk result (session.new.stage ≡ Settling) }
+    ensures began { OnOk result (BeganOn repo.old.graph.entries session.new) }
+    ensures goes_on { OnOk result (writer.new.failed ≡ false) }
+    ensures source_loans { S.loans reader.new.source ≡ S.loans reader.old.source }
+    ensures sink_loans { W.loans writer.new.sink ≡ W.loans writer.old.sink }
+{
+    reads_join();
+    began_stays::<A>();
+    'rounds: loop {
+        match fetch(repo, session, reader, writer, indexer)? {
+            Taken::Round { .. } => continue 'rounds,
+            Taken::PackTaken { .. } => return Ok(()),
+        }
+    }
+}
+
+// Ends the conversation with a lone flush, and settles.
+fn close<W: Sink, A: Allocator + Copy>(
+    repo: &mut Repo<A>,
+    session: &mut Session<A>,
+    writer: &mut LineWriter<W>,
+) -> Result<Settled<A>, FetchFault<A>>
+    requires writer { writer.old.failed ≡ false }
+    requires over { session.old.stage ≡ Settling }
+    ensures closes { Closes session.old repo.old
+        (output_of W.contents W.passed_on W.is_down writer.old.sink writer.new.sink) repo.new result }
+    ensures loans { W.loans writer.new.sink ≡ W.loans writer.old.sink }
+{
+    send_request(&Request::<A>::Empty, repo.format(), writer)?;
+    Ok(session.settle(repo)?)
+}

@@ -1,0 +1,78 @@
+//! Why a conversation failed.
+
+ghost use Rattle.std.specs.Prelude.{◌≡◌};
+ghost use Rattle.gclient.specs.Faults.{fetch_fault_row};
+ghost use Rattle.gclient.specs.declared.fault.FetchFault.TheVariants as fetch;
+ghost use Rattle.gsession.specs.declared.fault.ClientFault.TheVariants.{Message};
+
+use ggrammar::MessageFault;
+use gpkt::WriteFault;
+use gsession::ClientFault;
+use std::alloc::{Allocator, Global};
+use thiserror::Error;
+
+/// Why a conversation failed. Its number tells it apart.
+#[derive(Debug, Drop, Error)]
+pub enum FetchFault<A: Allocator + Copy = Global> {
+    /// 20 to 25, 29, 30 and 41 to 54: the advertisement or a reply was refused, at one of its packets; 60 to 64, 66,
+    /// 69, 75, 82, 84, 85 and 86: the session or the repository refused what came, or there is no memory (64).
+    #[error("{0}")]
+    Client(ClientFault<A>),
+    /// 28: there is no memory for the buffer of the reader, and nothing was read.
+    #[error("out of memory")]
+    NoBuffer,
+    /// 27: the sink failed. A beginning of the requests stands written.
+    #[error("the sink failed")]
+    WriteFailed,
+}
+
+impl<A: Allocator + Copy> FetchFault<A> {
+    /// The number of the fault.
+    pub fn code(&self) -> u32
+        ensures { result ≡ (fetch_fault_row self.now).0 }
+    {
+        self.row().0
+    }
+
+    /// The name of the fault.
+    pub fn name(&self) -> &'static str
+        ensures { result.now ≡ (fetch_fault_row self.now).1 }
+    {
+        self.row().1
+    }
+
+    // The table: the number and the name of each fault.
+    fn row(&self) -> (u32, &'static str)
+        ensures { (result.0, result.1.now) ≡ fetch_fault_row self.now }
+    {
+        match self {
+            FetchFault::Client(fault) => (fault.code(), fault.name()),
+            FetchFault::NoBuffer => (28, "Memory"),
+            FetchFault::WriteFailed => (27, "Io"),
+        }
+    }
+}
+
+impl<A: Allocator + Copy> From<ClientFault<A>> for FetchFault<A> {
+    ghost from_gives = { λ cause fault. fault ≡ fetch.Client cause };
+
+    fn from(cause: ClientFault<A>) -> FetchFault<A> {
+        FetchFault::Client(cause)
+    }
+}
+
+impl<A: Allocator + Copy> From<MessageFault> for FetchFault<A> {
+    ghost from_gives = { λ cause fault. fault ≡ fetch.Client (Message cause) };
+
+    fn from(cause: MessageFault) -> FetchFault<A> {
+        FetchFault::Client(ClientFault::Message(cause))
+    }
+}
+
+impl<A: Allocator + Copy> From<WriteFault> for FetchFault<A> {
+    ghost from_gives = { λ _ fault. fault ≡ fetch.WriteFailed };
+
+    fn from(_failed: WriteFault) -> FetchFault<A> {
+        FetchFault::WriteFailed
+    }
+}

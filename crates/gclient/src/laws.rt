@@ -1,0 +1,30 @@
+//! Laws of conversations. A call does nothing, and gives its caller's proof the law.
+
+ghost use Rattle.gclient.specs.Laws.{EndsAreFew, FailingKeepsRefs, FetchingGrows, NextIsFew, TalksAreFew};
+
+use ggraph::Indexer;
+use gsession::laws::{
+    began_begins, began_stays_on, calls_go_on, counted_are_few, requests_are_counted,
+};
+use std::alloc::Allocator;
+
+/// A conversation asks for objects at most once more than there are ids that the refs reached when it began, whatever
+/// the server says and whatever its end is, also where it failed.
+pub fn requests_are_few<A: Allocator + Copy, K: Indexer<A>>()
+    ensures talks { (k : K) → TalksAreFew (K.indexes k) (K.index_fails k) }
+    ensures next { (k : K) → NextIsFew (K.indexes k) (K.index_fails k) }
+    ensures ends { (k : K) → EndsAreFew (K.indexes k) (K.index_fails k) }
+{
+    began_begins::<A>();
+    began_stays_on::<A, K>();
+    calls_go_on::<A, K>();
+    counted_are_few::<A>();
+    requests_are_counted::<A, K>();
+}
+
+/// To the graph of a repository objects only come, whatever a conversation comes to; where it failed, the refs are as
+/// they were.
+pub fn fetching_only_grows<A: Allocator + Copy, K: Indexer<A>>()
+    ensures grows { (k : K) → FetchingGrows (K.indexes k) (K.index_fails k) }
+    ensures refs { (k : K) → FailingKeepsRefs (K.indexes k) (K.index_fails k) }
+{}

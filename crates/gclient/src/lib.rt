@@ -1,0 +1,55 @@
+//! A client of Git's fetch service, protocol version 2 (gitprotocol-v2(5)): its whole conversation with a server,
+//! over a source and a sink.
+//!
+//! # Proved
+//!
+//! - [`fetch_over`] holds a conversation (`specs/Conversations.antt`, `Turns.antt`). The advertisement and the
+//!   replies are those that the bytes spell, in whatever pieces they come, and nothing after the last reply is read.
+//!   What is written is the next request of the session each time, in its one spelling, and a lone flush after the
+//!   last reply was taken; each is passed on before a reply is read. Then the refs here are settled.
+//! - [`Fetched`] has what became of each ask, how many times objects were asked for, and what the server says of an
+//!   unborn `HEAD`.
+//! - The first fault ends a conversation: too many refspecs, or no memory to begin, and nothing is read; an
+//!   advertisement that is refused, or a server that the client can't go on with; the fault of a request, of its reply,
+//!   or of settling, as `gsession` says. The fault is the source's exactly where that is down.
+//! - Where the sink fails, the requests before are passed on, and a beginning of what was due next stands.
+//! - After every fault the refs are as they were. In all cases to the graph objects only came, and the whole ancestry
+//!   of each ref is held.
+//! - A conversation asks for objects at most once more than there are ids that the refs reached when it began, also
+//!   where it fails ([`laws`]). So it ends where each call of its devices returns, whatever the server says.
+//! - Each fault has the number and the name of its row.
+//!
+//! # Only tested
+//!
+//! That memory which is there is used.
+//!
+//! # What a body can still get away with
+//!
+//! Where the bytes of a source or of a sink are not known, nothing is said of those that were read or written; what
+//! came of the conversation, and whether a device has failed, is said all the same. Where the sink fails, a shorter
+//! beginning may stand written. It may report out of memory before it begins, where something is to be kept and where
+//! it settles, take as long as it likes, and flush more often. The texts of faults are neither proved nor tested.
+//!
+//! # Stands on
+//!
+//! `gsession` for the session, `gspec` and `grepo` for refspecs and the repository, which it offers again; `ghello`
+//! for the advertisement, `grequest` for requests, `ggrammar` and `gpkt` for what messages share, `gfetchreply` for
+//! the limit of a pack, `ggraph` for indexers; `thiserror` for the texts of faults; in tests `bumpalo`, for memory
+//! that ends.
+#![tactic(auto)]
+
+mod conversation;
+mod fault;
+mod fetched;
+pub mod laws;
+mod send;
+#[cfg(test)]
+mod tests;
+mod turn;
+
+pub use crate::conversation::fetch_over;
+pub use crate::fault::FetchFault;
+pub use crate::fetched::Fetched;
+pub use grepo::{Ask, Asks, RefUpdate, Repo, RepoFault};
+pub use gsession::{ClientFault, LsTaken, MAX_SPECS, Session, Settled, Taken};
+pub use gspec::{Spec, SpecFault};

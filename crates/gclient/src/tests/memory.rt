@@ -1,0 +1,117 @@
+//! Memory that ends: in an arena with a little more room each time, a conversation comes a little further before an
+//! allocation is refused. The requests that were sent before stand, and the refs stay.
+use super::samples::{ADVERT, CLIENT, MAIN, PACK, REFS, joined, repo_in, request_count, specs_in};
+use crate::{ClientFault, FetchFault, Repo, fetch_over};
+use bumpalo::Bump;
+use gfetchreply::PackLimit;
+use ggrammar::Ends;
+use ggraph::{IndexFault, PlainPack};
+use gname::Oid;
+use gpkt::memory::{SliceSource, VecSink};
+use std::alloc::{Allocator, Global};
+use std::process::Abort;
+use std::test::Fail;
+
+// The room that is tried: in steps of so many bytes, from none to more than a conversation takes.
+const STEP: usize = 48;
+
+const STEPS: usize = 256;
+
+// The room of the arena.
+const CAPACITY: usize = 120_000;
+
+// The buffer of a reader.
+const BUFFER: usize = 65_516;
+
+// Leaves so much room.
+fn leave(alloc: Global, arena: &Bump, room: usize) -> Result<(), Fail> {
+    arena.set_allocation_limit(Some(arena.allocated_bytes()));
+    let filler = vec![in alloc; 0u8; arena.chunk_capacity().saturating_sub(room)]?;
+    arena.try_alloc_slice_copy(filler.as_slice())?;
+    Ok(())
+}
+
+// A fault of memory, where there was one.
+fn memory_fault<A: Allocator + Copy>(rt: &impl Abort, fault: &FetchFault<A>) -> u32 {
+    let is_memory = match fault {
+        FetchFault::NoBuffer => true,
+        FetchFault::WriteFailed => false,
+        FetchFault::Client(ClientFault::Index(cause)) => matches!(cause, IndexFault::Memory),
+        FetchFault::Client(cause) => matches!(cause.code(), 53 | 64),
+    };
+    assert!(rt; is_memory);
+    fault.code()
+}
+
+// Where the first ref stands.
+fn first_ref<A: Allocator + Copy>(repo: &Repo<A>) -> Option<Oid> {
+    match repo.refs().at(0) {
+        Some((_, id)) => Some(id),
+        None => None,
+    }
+}
+
+// Fetches with so much room, and answers the fault, what was sent, and what was read.
+fn fetch_within(
+    rt: &(impl Abort + AllocGlobal),
+    room: usize,
+) -> Result<(Option<u32>, Vec<u8>, usize), Fail> {
+    let alloc = rt.alloc();
+    let arena = Bump::try_with_capacity(alloc, CAPACITY)?;
+    let mut repo = repo_in(alloc, &arena, CLIENT)?;
+    let specs = specs_in(alloc, &arena, MAIN)?;
+    leave(alloc, &arena, room)?;
+    let input = joined(alloc, &[ADVERT, REFS, PACK])?;
+    let mut source = SliceSource::new(input.as_slice());
+    let mut sink = VecSink::new(alloc);
+    let fetched = fetch_over(
+        &mut repo,
+        &mut source,
+        &mut sink,
+        &PlainPack,
+        specs.as_slice(),
+        PackLimit::default(),
+        Ends::Plain,
+    );
+    let read = input.len().saturating_sub(source.rest().len());
+    let code = fetched.as_ref().err().map(|fault| memory_fault(rt, fault));
+    assert_eq!(rt; sink.written(), sink.passed_on());
+    let digit = if code.is_some() { b'a' } else { b'c' };
+    assert_eq!(rt; first_ref(&repo), Some(Oid::from_hex(&[digit; 40])?));
+    Ok((code, sink.into_written(), read))
+}
+
+// Without room nothing is read.
+#[test]
+fn a_conversation_cannot_begin(rt: HostRuntime) -> Result<(), Fail> {
+    for (room, code) in [(0, 64), (4_096, 28)] {
+        let (fault, written, read) = fetch_within(&rt, room)?;
+        assert_eq!(rt; fault, Some(code));
+        assert!(rt; written.is_empty());
+        assert_eq!(rt; read, 0);
+    }
+    Ok(())
+}
+
+// How many requests are sent with so much room; one more where the refs moved, too.
+fn steps_within(rt: &(impl Abort + AllocGlobal), room: usize) -> Result<usize, Fail> {
+    let (fault, written, _) = fetch_within(rt, room)?;
+    let sent = request_count(rt, written.as_slice())?;
+    if fault.is_some() {
+        return Ok(sent);
+    }
+    assert_eq!(rt; sent, 3);
+    Ok(4)
+}
+
+#[test]
+fn memory_ends(rt: HostRuntime) -> Result<(), Fail> {
+    let mut seen = [false; 5];
+    for step in 0..STEPS {
+        let steps = steps_within(&rt, BUFFER + STEP * step)?;
+        assert!(rt; steps < 5);
+        seen[steps] = true;
+    }
+    assert_eq!(rt; seen, [true; 5]);
+    Ok(())
+}

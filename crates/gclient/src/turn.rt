@@ -1,0 +1,87 @@
+//! The turns of a conversation.
+
+ghost use Rattle.std.specs.Prelude.{◌≡◌, ℕ, true, false, List, Option, None, OnOk};
+ghost use Rattle.gpkt.specs.Sending.{input_of, output_of};
+ghost use Rattle.grepo.specs.Repos.{IsWhole};
+ghost use Rattle.gsession.specs.Requesting.{is_due};
+ghost use Rattle.gsession.specs.Sessions.{IsBegun, IsSession};
+ghost use Rattle.gsession.specs.declared.stage.Stage.TheVariants.{Fetching};
+ghost use Rattle.gclient.specs.Steps.{Asks, HearsServer, TakesTurn, client_of};
+
+use crate::fault::FetchFault;
+use crate::send::send_request;
+use ggraph::Indexer;
+use ghello::read_advert;
+use gpkt::{LineReader, LineWriter, Sink, Source};
+use grepo::Repo;
+use gsession::{Session, Taken};
+use std::alloc::Allocator;
+
+/// Reads the server's advertisement and lets the session hear it, where the client can go on with the server.
+pub(crate) fn hear<S: Source, A: Allocator + Copy>(
+    repo: &Repo<A>,
+    session: &mut Session<A>,
+    reader: &mut LineReader<S, A>,
+) -> Result<(), FetchFault<A>>
+    requires well { reader.old.failed ≡ false }
+    requires begun { IsBegun session.old }
+    ensures hears { HearsServer repo.now.graph.format session.old
+        (input_of S.remaining S.is_down reader.old.source reader.new.source) session.new result }
+    ensures goes_on { OnOk result (reader.new.failed ≡ false) }
+    ensures whole { OnOk result (IsWhole repo.now) }
+    ensures loans { S.loans reader.new.source ≡ S.loans reader.old.source }
+{
+    let advert = read_advert(repo.graph().allocator(), reader)?;
+    advert.check_in(repo.format())?;
+    session.hear(&advert)?;
+    Ok(())
+}
+
+/// Makes the session's next request, which then waits for its reply, and sends it.
+pub(crate) fn ask<W: Sink, A: Allocator + Copy>(
+    repo: &Repo<A>,
+    session: &mut Session<A>,
+    writer: &mut LineWriter<W>,
+) -> Result<(), FetchFault<A>>
+    requires well { writer.old.failed ≡ false }
+    requires due { is_due session.old.stage session.old.pending ≡ true }
+    requires format { session.old.format ≡ repo.now.graph.format }
+    ensures asks { Asks session.old repo.now
+        (output_of W.contents W.passed_on W.is_down writer.old.sink writer.new.sink) session.new result }
+    ensures goes_on { OnOk result (writer.new.failed ≡ false) }
+    ensures loans { W.loans writer.new.sink ≡ W.loans writer.old.sink }
+{
+    let request = session.request(repo)?;
+    send_request(&request, repo.format(), writer)?;
+    Ok(())
+}
+
+/// Asks for objects, and takes the reply.
+pub(crate) fn fetch<S: Source, W: Sink, A: Allocator + Copy, K: Indexer<A>>(
+    repo: &mut Repo<A>,
+    session: &mut Session<A>,
+    reader: &mut LineReader<S, A>,
+    writer: &mut LineWriter<W>,
+    indexer: &K,
+) -> Result<Taken, FetchFault<A>>
+    requires reader { reader.old.failed ≡ false }
+    requires writer { writer.old.failed ≡ false }
+    requires stage { session.old.stage ≡ Fetching }
+    requires pending { session.old.pending ≡ None }
+    requires format { session.old.format ≡ repo.old.graph.format }
+    ensures turns { (unborn : Option (List ℕ)) → TakesTurn (K.indexes indexer.now) (K.index_fails indexer.now)
+        (client_of session.old repo.old unborn)
+        (input_of S.remaining S.is_down reader.old.source reader.new.source)
+        (output_of W.contents W.passed_on W.is_down writer.old.sink writer.new.sink)
+        (client_of session.new repo.new unborn) result }
+    ensures session { OnOk result (IsSession session.new) }
+    ensures goes_on { OnOk result ((reader.new.failed ≡ false) × (writer.new.failed ≡ false)) }
+    ensures source_loans { S.loans reader.new.source ≡ S.loans reader.old.source }
+    ensures sink_loans { W.loans writer.new.sink ≡ W.loans writer.old.sink }
+{
+    ask(repo, session, writer)?;
+    let taken = session.take_reply(repo, reader, indexer)?;
+    // A look-up says what each session keeps.
+    let _rounds = session.rounds();
+    Ok(taken)
+}

@@ -1,0 +1,96 @@
+-- The client of a file, and what is saved of it.
+use Rattle.std.proofs.Common.{◌≡◌, ◌≢◌, ℕ, List, [], ◌∷◌, ◌++◌, slice_get, All, Option, Some, None, Result, Ok, Err, true, inl, inr, refl, sym, ap, subst, ◌∙◌}
+use Rattle.std.specs.Option.{is_some}
+use Rattle.std.proofs.lemmas.Bool.{false≢true}
+use Rattle.std.proofs.lemmas.List.{append-nil}
+use Rattle.std.proofs.lemmas.List.Elements.{All-head, All-tail}
+use Rattle.std.proofs.lemmas.Option.{get_or_from_slice_get, slice_get_within}
+use Rattle.gname.specs.Ids.{IsIdOf}
+use Rattle.gobject.specs.declared.node.Node.{Node}
+use Rattle.gobject.specs.Objects.{entry_of, node_at}
+use Rattle.ghistory.specs.Graphs.{History, HasIdsOf, Holds, IsGraph}
+use Rattle.ghistory.specs.Laws.{PlacesAreNodes}
+use Rattle.ghistory.specs.Reach.{IsFull, here}
+use Rattle.ggraph.specs.Saving.{IsFirstOther, SaveRefuses, named_ids, ref_ids}
+use Rattle.ggraph.specs.declared.fault.SaveFault.{SaveFault}
+use Rattle.ggraph.specs.declared.fault.SaveFault.TheVariants.{Memory, OtherFormat}
+use Rattle.grepo.specs.Repos.{IsWhole, RepoState}
+use Rattle.ggraph.specs.RepositoryText.{repository_text, IsLoadable}
+use Rattle.ggraph.specs.declared.text.Order.TheVariants.{Any}
+use Rattle.grefs.specs.RefLists.{RefList}
+use Rattle.grefs.specs.declared.head.Head.{Head}
+use Rattle.grepo.specs.Changes.{Opens}
+use Rattle.grepo.specs.declared.fault.RepoFault.{RepoFault}
+use Rattle.gsession.specs.declared.fault.ClientFault.TheVariants as client
+use Rattle.gclient.specs.declared.fault.FetchFault.TheVariants as fetch
+use Rattle.gcmd.specs.Fetching.{NamesClient, RefusesClient, no_head}
+use Rattle.gcmd.specs.declared.fault.ProgramFault.{ProgramFault}
+use Rattle.gcmd.specs.declared.fault.ProgramFault.TheVariants as program
+
+-- what holds of each element holds of one among them
+all_among : {X : Type 0} (P : X → Type 0) (front : List X) (x : X) (rest : List X) → All P (front ++ x ∷ rest) → P x
+all_among P [] x rest h = All-head P x rest h
+all_among P (y ∷ front) x rest h = all_among P front x rest (All-tail P y (front ++ x ∷ rest) h)
+
+-- and of one at a place
+all_standing : {X : Type 0} (P : X → Type 0) (xs : List X) (i : ℕ) (x : X) → All P xs → slice_get xs i ≡ Some x → P x
+all_standing P xs i x all at = subst P (get_or_from_slice_get xs i x x at) (all i x (slice_get_within xs i x at))
+
+module _ {A : Type 0} where
+  -- an id that is held is of the graph's format
+  held_id : PlacesAreNodes A → (g : History A) (a : List ℕ) → IsGraph g → Holds g.entries a → IsIdOf g.format a
+  held_id places g a is held = some_id (node_at g.entries a) held refl
+    where
+      some_id : (found : Option (Node A)) → is_some found ≡ true → node_at g.entries a ≡ found → IsIdOf g.format a
+      some_id None none at = absurd (false≢true none)
+      some_id (Some node) some at =
+          let stands = ((places g.entries is.differ).0 a node).0 at in
+          (all_standing (HasIdsOf g.format) g.entries stands.0 (entry_of a node) is.ids stands.1).id
+
+  -- so no ref of a client stands at an id of another format
+  none_other : PlacesAreNodes A → (repo : RepoState A) (id : List ℕ) → IsGraph repo.graph → IsWhole repo
+      → ¬ (IsFirstOther repo.graph.format (named_ids repo.refs (no_head {A = A})) id)
+  none_other places repo id graph whole other =
+      let ids : named_ids repo.refs (no_head {A = A}) ≡ ref_ids repo.refs = append-nil (ref_ids repo.refs) in
+      let full : IsFull repo.graph.entries id =
+      all_among (IsFull repo.graph.entries) other.front id other.rest
+      (subst (All (IsFull repo.graph.entries)) (sym ids ∙ other.parts) whole.safe) in
+      other.other (held_id places repo.graph id graph (full id here))
+
+  -- saving a client fails where there is no memory
+  pub only_memory : PlacesAreNodes A → (repo : RepoState A) (fault : SaveFault) → IsGraph repo.graph → IsWhole repo
+      → SaveRefuses repo.graph.format repo.refs (no_head {A = A}) fault → fault ≡ Memory
+  only_memory places repo Memory graph whole refused = refl
+  only_memory places repo (OtherFormat id) graph whole refused = absurd (none_other places repo id graph whole refused)
+
+-- ---- the file
+
+module _ {A : Type 0} (file : List ℕ) (graph : History A) (refs : RefList) (head : Head A)
+    (text : file ≡ repository_text graph refs head) (loadable : IsLoadable Any graph refs head)
+  where
+    -- a client is made of what the file names
+    pub names_client : (repo : RepoState A) → head ≡ no_head → Opens graph refs (Ok repo) → IsWhole repo → NamesClient file repo
+    names_client repo none opens whole = record {
+      text =
+          text ∙ ap (λ (h : Head A). repository_text graph refs h) none
+          ∙ ap (λ (g : History A). repository_text g refs (no_head {A = A})) (sym opens.0)
+          ∙ ap (λ (r : RefList). repository_text repo.graph r (no_head {A = A})) (sym opens.1);
+      loadable =
+          subst (λ (r : RefList). IsLoadable Any repo.graph r (no_head {A = A})) (sym opens.1)
+          (subst (λ (g : History A). IsLoadable Any g refs (no_head {A = A})) (sym opens.0)
+          (subst (λ (h : Head A). IsLoadable Any graph refs h) none loadable));
+      whole = whole;
+    }
+
+    -- or none is
+    pub refuses_unsafe : (cause : RepoFault A) (fault : ProgramFault A) → head ≡ no_head → Opens graph refs (Err cause)
+        → fault ≡ program.Fetch (fetch.Client (client.Repo cause)) → RefusesClient file fault
+    refuses_unsafe cause fault none opens same =
+        subst (RefusesClient file) (sym same)
+        (record {
+          graph = graph;
+          refs = refs;
+          text = text ∙ ap (λ (h : Head A). repository_text graph refs h) none;
+          loadable = subst (λ (h : Head A). IsLoadable Any graph refs h) none loadable;
+          cause = opens;
+        })

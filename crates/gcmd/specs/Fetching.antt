@@ -1,0 +1,171 @@
+-- The program that fetches into the repository of a file: `fetch`.
+use Rattle.std.specs.Prelude.{◌≡◌, ◌≢◌, ◌⊎◌, ℕ, ◌+◌, List, ◌∷◌, ◌++◌, length, All, Option, None, Some, Result, Ok, Err}
+use Rattle.std.specs.List.{AllZip}
+use Rattle.ggraph.specs.Loading.{StopsAt}
+use Rattle.ggraph.specs.RepositoryText.{repository_text, IsLoadable}
+use Rattle.ggraph.specs.declared.fault.LoadFault.{LoadFault}
+use Rattle.ggraph.specs.declared.fault.LoadFault.TheVariants as load
+use Rattle.ggraph.specs.declared.text.Order.TheVariants.{Any}
+use Rattle.ggraph.specs.declared.text.Repository.{Repository}
+use Rattle.ggrammar.specs.declared.ends.Ends.{Ends}
+use Rattle.ghistory.specs.Graphs.{History}
+use Rattle.ghistory.specs.Reach.{Grows}
+use Rattle.gobject.specs.Packs.{Indexes, IndexFails}
+use Rattle.gobject.specs.PlainPackText.{IndexRefuses, IsPack}
+use Rattle.gpkt.specs.Sending.{Input, Output, IsUnread, IsUnwritten, Sends}
+use Rattle.grefs.specs.RefLists.{RefList}
+use Rattle.grefs.specs.declared.head.Head.{Head}
+use Rattle.grefs.specs.declared.head.Head.TheVariants as head
+use Rattle.gspec.specs.Refspecs.{IsSpec, Reads, Refspec}
+use Rattle.gspec.specs.declared.fault.SpecFault.{SpecFault}
+use Rattle.grepo.specs.Changes.{Opens}
+use Rattle.grepo.specs.Repos.{IsWhole, RepoState}
+use Rattle.grepo.specs.Settling.{Settles}
+use Rattle.gsession.specs.declared.fault.ClientFault.TheVariants as client
+use Rattle.gclient.specs.Conversations.{FetchesOver, start_of}
+use Rattle.gclient.specs.declared.fault.FetchFault.{FetchFault}
+use Rattle.gclient.specs.declared.fault.FetchFault.TheVariants as fetch
+use Rattle.gclient.specs.declared.fetched.Fetched.{Fetched}
+use Rattle.gcmd.specs.Outputs.{BreaksOff}
+use Rattle.gcmd.specs.Programs.{Outcome}
+use Rattle.gcmd.specs.Reporting.{fetch_report}
+use Rattle.gcmd.specs.declared.fault.ProgramFault.{ProgramFault}
+use Rattle.gcmd.specs.declared.fault.ProgramFault.TheVariants as program
+
+-- ---- the words
+
+-- the text is that of a refspec
+abbrev pub IsSpecText : List ℕ → Type 0
+IsSpecText text = (spec : Refspec) × IsSpec text spec
+
+-- the first word that is no refspec; or one that is, where there is no memory to keep it
+pub record RefusesWord (words : List (List ℕ)) (fault : SpecFault) : Type 0 where
+  pub front : List (List ℕ)
+  pub word : List ℕ
+  pub back : List (List ℕ)
+  pub parts : words ≡ front ++ word ∷ back
+  pub before : All IsSpecText front
+  pub refused : Reads (IsSpec word) (Err fault)
+
+-- what reading words answers: a refspec for each
+abbrev pub ReadsSpecs : {A : Type 0} → List (List ℕ) → Result (List Refspec) (ProgramFault A) → Type 0
+ReadsSpecs words (Ok specs) = AllZip IsSpec words specs
+ReadsSpecs words (Err (program.Spec fault)) = RefusesWord words fault
+ReadsSpecs words (Err _) = ⊥
+
+-- ---- the file
+
+-- a client's HEAD stands at nothing
+abbrev pub no_head : {A : Type 0} → Head A
+no_head = head.None
+
+-- the file is the text of a client's repository, and the whole ancestry of each ref is held
+pub record NamesClient {A : Type 0} (file : List ℕ) (repo : RepoState A) : Type 0 where
+  pub text : file ≡ repository_text repo.graph repo.refs (no_head {A = A})
+  pub loadable : IsLoadable Any repo.graph repo.refs (no_head {A = A})
+  pub whole : IsWhole repo
+
+-- the file is the text of a repository whose HEAD stands somewhere, as this line of it says
+pub record NamesHead (A : Type 0) (file : List ℕ) (line : ℕ) : Type 0 where
+  pub repo : Repository A
+  pub text : file ≡ repository_text repo.graph repo.refs repo.head
+  pub loadable : IsLoadable Any repo.graph repo.refs repo.head
+  pub stands : repo.head ≢ no_head
+  pub place : line ≡ length repo.graph.entries + length repo.refs + 2
+
+-- the file is the text of a repository that is no client's, for this cause
+pub record NamesUnsafe (A : Type 0) (file : List ℕ) (Cause : History A → RefList → Type 0) : Type 0 where
+  pub graph : History A
+  pub refs : RefList
+  pub text : file ≡ repository_text graph refs (no_head {A = A})
+  pub loadable : IsLoadable Any graph refs (no_head {A = A})
+  pub cause : Cause graph refs
+
+-- why a file is no client's: it is the text of no repository, or of one whose HEAD stands somewhere, or of one whose
+-- refs are not safe
+abbrev pub RefusesClient : {A : Type 0} → List ℕ → ProgramFault A → Type 0
+RefusesClient {A} file (program.Text cause) =
+    StopsAt A Any file cause ⊎ ((line : ℕ) × (cause ≡ load.Text line) × NamesHead A file line)
+RefusesClient {A} file (program.Fetch (fetch.Client (client.Repo cause))) =
+    NamesUnsafe A file (λ graph refs. Opens graph refs (Err cause))
+RefusesClient file _ = ⊥
+
+-- what opening it answers
+abbrev pub OpensClient : {A : Type 0} → List ℕ → Result (RepoState A) (ProgramFault A) → Type 0
+OpensClient file (Ok repo) = NamesClient file repo
+OpensClient file (Err fault) = RefusesClient file fault
+
+-- ---- packs are plain
+
+abbrev pub plain_indexes : {A : Type 0} → Indexes A
+plain_indexes bytes list = IsPack bytes list
+
+abbrev pub plain_index_fails : Type 0 → IndexFails
+plain_index_fails A bytes fault = IndexRefuses A bytes fault
+
+-- ---- the new file and the report
+
+-- to the old repository objects only came, and its refs are settled
+pub record IsFetchedInto {A : Type 0} (old new : RepoState A) (fetched : Fetched A) : Type 0 where
+  pub grows : Grows old.graph.entries new.graph.entries
+  pub settles : Settles new.graph.entries old.refs fetched.settled.asks fetched.settled.updates.items new.refs
+
+-- the new file is the text of the repository as the fetch left it
+abbrev pub IsNewFile : {A : Type 0} → RepoState A → RepoState A → Fetched A → Option (List ℕ) → Type 0
+IsNewFile old new fetched None = ⊥
+IsNewFile old new fetched (Some text) = NamesClient text new × IsFetchedInto old new fetched
+
+-- the report is written and passed on; or its sink failed
+abbrev pub SendsReport : {A : Type 0} → List ℕ → Output → Outcome A → Type 0
+SendsReport bytes report (Ok done) = Sends report bytes
+SendsReport bytes report (Err program.WriteFailed) = BreaksOff report bytes
+SendsReport bytes report (Err _) = ⊥
+
+-- what reporting answers: that; or there is no memory for the report
+abbrev pub Reports : {A : Type 0} → Fetched A → Output → Outcome A → Type 0
+Reports fetched report outcome =
+    SendsReport (fetch_report fetched) report outcome ⊎ ((outcome ≡ Err program.Memory) × IsUnwritten report)
+
+-- how the program ends once the refs are settled: there is a new file, and that is reported; or there is no memory for
+-- the new file, and nothing is
+abbrev pub Concludes : {A : Type 0} → RepoState A → RepoState A → Fetched A → Output → Option (List ℕ) → Outcome A
+    → Type 0
+Concludes old new fetched report file outcome =
+    (IsNewFile old new fetched file × Reports fetched report outcome)
+    ⊎ ((file ≡ None) × IsUnwritten report × (outcome ≡ Err program.Memory))
+
+-- how it ends after the conversation; where that failed, there is no new file, and nothing is reported
+abbrev pub EndsAfter : {A : Type 0} → RepoState A → RepoState A → Result (Fetched A) (FetchFault A) → Output
+    → Option (List ℕ) → Outcome A → Type 0
+EndsAfter old new (Ok fetched) report file outcome = Concludes old new fetched report file outcome
+EndsAfter old new (Err fault) report file outcome =
+    (file ≡ None) × IsUnwritten report × (outcome ≡ Err (program.Fetch fault))
+
+-- ---- the whole
+
+module _ {A : Type 0} (old : List ℕ) (specs : List Refspec) (limit : ℕ) (ends : Ends) (input : Input)
+    (output report : Output) (file : Option (List ℕ))
+  where
+    -- the file is no client's; nothing is read or written, and there is no new file
+    pub record IsNotFetched (outcome : Outcome A) : Type 0 where
+      pub fault : ProgramFault A
+      pub refused : RefusesClient old fault
+      pub met : outcome ≡ Err fault
+      pub unread : IsUnread input
+      pub unwritten : IsUnwritten output
+      pub unreported : IsUnwritten report
+      pub none : file ≡ None
+
+    -- the repository that the file names fetches by the refspecs
+    pub record IsFetched (outcome : Outcome A) : Type 0 where
+      pub repo : RepoState A
+      pub names : NamesClient old repo
+      pub new : RepoState A
+      pub result : Result (Fetched A) (FetchFault A)
+      pub conversation : FetchesOver plain_indexes (plain_index_fails A) (start_of repo specs limit ends) input output new
+          result
+      pub concludes : EndsAfter repo new result report file outcome
+
+    -- what `fetch` does
+    abbrev pub FetchesFile : Outcome A → Type 0
+    FetchesFile outcome = IsFetched outcome ⊎ IsNotFetched outcome

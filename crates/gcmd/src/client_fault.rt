@@ -1,0 +1,66 @@
+//! What is printed of a client's faults beside the number and the name.
+
+ghost use Rattle.std.specs.Prelude.{◌≡◌};
+ghost use Rattle.std.specs.Option.{option_copied};
+ghost use Rattle.gcmd.specs.Faults.{frame_in_client, id_in_client, id_in_repo, line_in_client, text_in_client};
+ghost use Rattle.gcmd.specs.Printing.{IsShortText};
+
+use crate::print::{id_in_graph, said_in};
+use gclient::{ClientFault, RepoFault};
+use ggraph::IndexFault;
+use gname::Oid;
+use std::alloc::Allocator;
+
+/// The packet at which a message was refused.
+pub(crate) fn frame_in_client<A: Allocator + Copy>(fault: &ClientFault<A>) -> Option<u64>
+    ensures { result ≡ frame_in_client fault.now }
+{
+    match fault {
+        ClientFault::Message(cause) => Some(cause.frame),
+        _ => None,
+    }
+}
+
+/// The line of a pack that is wrong.
+pub(crate) fn line_in_client<A: Allocator + Copy>(fault: &ClientFault<A>) -> Option<usize>
+    ensures { result ≡ line_in_client fault.now }
+{
+    match fault {
+        ClientFault::Index(IndexFault::Bad { line }) => Some(*line),
+        _ => None,
+    }
+}
+
+/// The id that is missing, that two objects have, that is of another format, or that was acknowledged and not offered.
+pub(crate) fn id_in_client<A: Allocator + Copy>(fault: &ClientFault<A>) -> Option<Oid>
+    ensures { result ≡ id_in_client fault.now }
+{
+    match fault {
+        ClientFault::StrangeAck { id } => Some(*id),
+        ClientFault::Repo(cause) => id_in_repo(cause),
+        _ => None,
+    }
+}
+
+fn id_in_repo<A: Allocator + Copy>(fault: &RepoFault<A>) -> Option<Oid>
+    ensures { result ≡ id_in_repo fault.now }
+{
+    match fault {
+        RepoFault::MissingParent { id } => Some(*id),
+        RepoFault::NotHeld { missing } | RepoFault::NotConnected { missing } => Some(*missing),
+        RepoFault::Graph(cause) => id_in_graph(cause),
+        _ => None,
+    }
+}
+
+/// The ref whose ancestry is not held, or what a peer said.
+pub(crate) fn text_in_client<A: Allocator + Copy>(fault: &ClientFault<A>) -> Option<&[u8]>
+    ensures text { option_copied result ≡ text_in_client fault.now }
+    ensures short { IsShortText (option_copied result) }
+{
+    match fault {
+        ClientFault::Message(cause) => said_in(&cause.why),
+        ClientFault::Repo(RepoFault::UnsafeRef { name }) => Some(name.as_bytes()),
+        _ => None,
+    }
+}

@@ -1,0 +1,74 @@
+//! The repository that is fetched into, from its file, and what is fetched, from words.
+
+ghost use Rattle.std.specs.Prelude.{◌≡◌, ◌↔◌, ◌+◌, ◌++◌, ◌∷◌, [], IfErr, IsTrue, MatchResult, OnOk, Ok, Err, length, map, string_bytes};
+ghost use Rattle.gspec.specs.declared.fault.SpecFault.TheVariants.{Memory};
+ghost use Rattle.gcmd.specs.Fetching.{OpensClient, ReadsSpecs, no_head};
+
+use crate::fault::ProgramFault;
+use gclient::{Repo, Spec, SpecFault};
+use ggraph::{Head, LoadFault, Order, Repository, load};
+use std::alloc::Allocator;
+
+/// Reads words as refspecs (git-fetch(1), "<refspec>"), a refspec each.
+///
+/// It fails with `Spec` at the first word that is none, and where there is no memory.
+pub fn read_specs<A: Allocator + Copy>(
+    alloc: A,
+    words: &[String<A>],
+) -> Result<Vec<Spec<A>, A>, ProgramFault<A>>
+    ensures { MatchResult result (λ specs. ReadsSpecs {A = A} (map string_bytes words.now) (Ok specs.items))
+        (λ fault. ReadsSpecs (map string_bytes words.now) (Err fault)) }
+{
+    let mut specs = Vec::new(alloc);
+    for word in words {
+        let spec = Spec::parse(alloc, word.as_bytes())?;
+        keep(&mut specs, spec)?;
+    }
+    Ok(specs)
+}
+
+// Keeps one refspec more.
+fn keep<A: Allocator + Copy>(specs: &mut Vec<Spec<A>, A>, spec: Spec<A>) -> Result<(), SpecFault>
+    ensures kept { OnOk result (specs.new.items ≡ specs.old.items ++ spec ∷ []) }
+    ensures fault { IfErr result (λ fault. fault ≡ Memory) }
+{
+    match specs.push(spec) {
+        Ok(()) => Ok(()),
+        Err(_) => Err(SpecFault::Memory),
+    }
+}
+
+/// The client's repository whose text is `file`, of either object format.
+///
+/// It fails with `Text` where the file is the text of no repository, and at the line of HEAD where that stands
+/// somewhere; else with `Fetch` where the whole ancestry of a ref is not held. Both may be out of memory.
+pub(crate) fn open_client<A: Allocator + Copy>(
+    alloc: A,
+    file: &[u8],
+) -> Result<Repo<A>, ProgramFault<A>>
+    ensures { OpensClient file.now result }
+{
+    let repository = load(alloc, file, Order::Any)?;
+    if is_none(&repository.head) {
+        Ok(Repo::new(repository.graph, repository.refs)?)
+    } else {
+        let line = line_of_head(&repository);
+        Err(ProgramFault::Text(LoadFault::Text { line }))
+    }
+}
+
+fn is_none<A: Allocator + Copy>(head: &Head<A>) -> bool
+    ensures { IsTrue result ↔ (head.now ≡ no_head) }
+{
+    match head {
+        Head::None => true,
+        Head::Id(_) | Head::Symref(_) => false,
+    }
+}
+
+// The line that says what HEAD stands at: before it are the first line, and a line for each object and each ref.
+fn line_of_head<A: Allocator + Copy>(repository: &Repository<A>) -> usize
+    ensures { result ≡ length repository.now.graph.entries + length repository.now.refs + 2 }
+{
+    repository.graph.len() + repository.refs.len() + 2
+}

@@ -1,0 +1,178 @@
+//! `gitv2 fetch`, as a function over bytes and devices.
+
+ghost use Rattle.std.specs.Prelude.{◌≡◌, ℕ, List, MatchResult, length, option_map};
+ghost use Rattle.ggraph.specs.declared.fault.SaveFault.TheVariants.{Memory};
+ghost use Rattle.gpkt.specs.Sending.{input_of, output_of};
+ghost use Rattle.grepo.specs.Repos.{RepoState};
+ghost use Rattle.gcmd.specs.Fetching.{Concludes, FetchesFile, IsFetched, IsFetchedInto, NamesClient, Reports, SendsReport};
+ghost use Rattle.gcmd.specs.Programs.{Runs};
+
+use crate::client_file::open_client;
+use crate::fault::ProgramFault;
+use crate::program::finish;
+use crate::report::report_of;
+use crate::send::send;
+use gclient::{Fetched, Repo, Spec, fetch_over};
+use gfetchreply::PackLimit;
+use ggrammar::Ends;
+use ggraph::graph_laws::places_are_nodes;
+use ggraph::{Head, PlainPack, SaveFault, save};
+use gpkt::{Sink, Source};
+use std::alloc::{Allocator, Global};
+
+/// What came of a fetch into a file.
+#[derive(Debug, Drop)]
+pub struct FetchRun<A: Allocator + Copy = Global> {
+    /// The exit status: 0 where the report is written and passed on, 1 where a fault was met.
+    pub status: u8,
+    /// What the file is to hold from now on. `None` where it stays as it is.
+    pub file: Option<Vec<u8, A>>,
+}
+
+/// `gitv2 fetch --stdio [--limit N] [--response-end] FILE SPEC...`: fetches by refspecs from the server that `input`
+/// and `output` lead to, into the client's repository whose text is `file` (gitprotocol-v2(5)). A pack may have so
+/// many bytes as the limit says, and each reply ends as `ends` says. What became of each ref that was asked for is a
+/// line of the report: `moved NAME ID`, `same NAME` or `notforward NAME`; and `unborn NAME` is the last where HEAD was
+/// fetched, and the server's points at NAME, which is not there yet. A fault is one line on `errors`.
+///
+/// It answers the exit status, and the new text of the file where the refs were settled: then it is to be written,
+/// and the report to be shown after it. Where the conversation failed the file stays as it is.
+pub fn cmd_fetch<A: Allocator + Copy, S: Source, W: Sink, R: Sink, E: Sink>(
+    alloc: A,
+    file: &[u8],
+    specs: &[Spec<A>],
+    limit: PackLimit,
+    ends: Ends,
+    input: &mut S,
+    output: &mut W,
+    report: &mut R,
+    errors: &mut E,
+) -> FetchRun<A>
+    ensures runs { Runs {A = A} (FetchesFile file.now specs.now limit ends
+        (input_of S.remaining S.is_down input.old input.new)
+        (output_of W.contents W.passed_on W.is_down output.old output.new)
+        (output_of R.contents R.passed_on R.is_down report.old report.new)
+        (option_map (λ text. text.items) result.file))
+        (output_of E.contents E.passed_on E.is_down errors.old errors.new) result.status }
+    ensures input_loans { S.loans input.new ≡ S.loans input.old }
+    ensures output_loans { W.loans output.new ≡ W.loans output.old }
+    ensures report_loans { R.loans report.new ≡ R.loans report.old }
+    ensures errors_loans { E.loans errors.new ≡ E.loans errors.old }
+{
+    let (outcome, file) = fetch_into(alloc, file, specs, limit, ends, input, output, report);
+    let status = finish(outcome, errors);
+    FetchRun { status, file }
+}
+
+// Fetches, and answers how that came out, and the new text of the file where there is one.
+fn fetch_into<A: Allocator + Copy, S: Source, W: Sink, R: Sink>(
+    alloc: A,
+    file: &[u8],
+    specs: &[Spec<A>],
+    limit: PackLimit,
+    ends: Ends,
+    input: &mut S,
+    output: &mut W,
+    report: &mut R,
+) -> (Result<(), ProgramFault<A>>, Option<Vec<u8, A>>)
+    ensures fetches { FetchesFile {A = A} file.now specs.now limit ends
+        (input_of S.remaining S.is_down input.old input.new)
+        (output_of W.contents W.passed_on W.is_down output.old output.new)
+        (output_of R.contents R.passed_on R.is_down report.old report.new)
+        (option_map (λ text. text.items) result.1) result.0 }
+    ensures input_loans { S.loans input.new ≡ S.loans input.old }
+    ensures output_loans { W.loans output.new ≡ W.loans output.old }
+    ensures report_loans { R.loans report.new ≡ R.loans report.old }
+{
+    match open_client(alloc, file) {
+        Ok(mut repo) => fetch_for(alloc, &mut repo, specs, limit, ends, input, output, report),
+        Err(fault) => (Err(fault), None),
+    }
+}
+
+// The same for the client's repository of a file.
+fn fetch_for<A: Allocator + Copy, S: Source, W: Sink, R: Sink>(
+    alloc: A,
+    repo: &mut Repo<A>,
+    specs: &[Spec<A>],
+    limit: PackLimit,
+    ends: Ends,
+    input: &mut S,
+    output: &mut W,
+    report: &mut R,
+) -> (Result<(), ProgramFault<A>>, Option<Vec<u8, A>>)
+    ensures fetches { (file : List ℕ) → NamesClient file repo.old → IsFetched {A = A} file specs.now limit ends
+        (input_of S.remaining S.is_down input.old input.new)
+        (output_of W.contents W.passed_on W.is_down output.old output.new)
+        (output_of R.contents R.passed_on R.is_down report.old report.new)
+        (option_map (λ text. text.items) result.1) result.0 }
+    ensures input_loans { S.loans input.new ≡ S.loans input.old }
+    ensures output_loans { W.loans output.new ≡ W.loans output.old }
+    ensures report_loans { R.loans report.new ≡ R.loans report.old }
+{
+    match fetch_over(repo, input, output, &PlainPack, specs, limit, ends) {
+        Ok(fetched) => conclude(alloc, repo, &fetched, report),
+        Err(fault) => (Err(ProgramFault::Fetch(fault)), None),
+    }
+}
+
+// Ends a fetch that settled the refs: makes the new text of the file, and reports.
+fn conclude<A: Allocator + Copy, R: Sink>(
+    alloc: A,
+    repo: &Repo<A>,
+    fetched: &Fetched<A>,
+    report: &mut R,
+) -> (Result<(), ProgramFault<A>>, Option<Vec<u8, A>>)
+    requires { length fetched.now.settled.updates.items ≡ length fetched.now.settled.asks }
+    ensures concludes { (before : RepoState A) → IsFetchedInto before repo.now fetched.now
+        → Concludes before repo.now fetched.now (output_of R.contents R.passed_on R.is_down report.old report.new)
+        (option_map (λ text. text.items) result.1) result.0 }
+    ensures loans { R.loans report.new ≡ R.loans report.old }
+{
+    match text_of(alloc, repo) {
+        Ok(text) => (send_report(alloc, fetched, report), Some(text)),
+        Err(_) => (Err(ProgramFault::Memory), None),
+    }
+}
+
+// The text of a client's repository. It fails where there is no memory.
+fn text_of<A: Allocator + Copy>(alloc: A, repo: &Repo<A>) -> Result<Vec<u8, A>, SaveFault>
+    ensures { MatchResult result (λ text. NamesClient text.items repo.now) (λ fault. fault ≡ Memory) }
+{
+    places_are_nodes::<A>();
+    // A look-up says that the repository is whole.
+    let _format = repo.format();
+    match save(alloc, repo.graph(), repo.refs(), &Head::None) {
+        Ok(text) => Ok(text),
+        Err(fault) => Err(fault),
+    }
+}
+
+// Writes the report.
+fn send_report<A: Allocator + Copy, R: Sink>(
+    alloc: A,
+    fetched: &Fetched<A>,
+    report: &mut R,
+) -> Result<(), ProgramFault<A>>
+    requires { length fetched.now.settled.updates.items ≡ length fetched.now.settled.asks }
+    ensures reports { Reports fetched.now (output_of R.contents R.passed_on R.is_down report.old report.new) result }
+    ensures loans { R.loans report.new ≡ R.loans report.old }
+{
+    match report_of(alloc, fetched) {
+        Ok(text) => send_text(text.as_slice(), report),
+        Err(_) => Err(ProgramFault::Memory),
+    }
+}
+
+fn send_text<A: Allocator + Copy, R: Sink>(
+    text: &[u8],
+    report: &mut R,
+) -> Result<(), ProgramFault<A>>
+    ensures sends { SendsReport {A = A} text.now (output_of R.contents R.passed_on R.is_down report.old report.new) result }
+    ensures loans { R.loans report.new ≡ R.loans report.old }
+{
+    match send(text, report) {
+        Ok(()) => Ok(()),
+        Err(_) => Err(ProgramFault::WriteFailed),
+    }
+}

@@ -1,0 +1,14 @@
+pub mod Asks
+pub mod Changes
+pub mod Faults
+pub mod Laws
+pub mod Repos
+pub mod Settling
+pub mod SettlingSteps
+pub use Rattle.ggraph.specs.SafeRefs
+pub use Rattle.ghistory.specs.Graphs
+pub use Rattle.ghistory.specs.Insert
+pub use Rattle.ghistory.specs.Reach
+pub use Rattle.ghistory.specs.Walks
+pub use Rattle.grefs.specs.RefLists
+pub use Rattle.gwalk.specs.Marks

@@ -1,0 +1,41 @@
+-- A client's repository: objects, refs, and marks of objects whose whole ancestry is held.
+use Rattle.std.specs.Prelude.{◌≡◌, ◌⊎◌, List, ℕ, Bool, ◌∷◌, ◌++◌, ◌+◌, ◌<◌, All, Contains, length, take}
+use Rattle.std.specs.Map.{values_of}
+use Rattle.gobject.specs.declared.node.Entry.{Entry}
+use Rattle.ggraph.specs.SafeRefs.{IsSafe}
+use Rattle.ghistory.specs.Graphs.{History}
+use Rattle.ghistory.specs.Reach.{IsFull}
+use Rattle.grefs.specs.RefLists.{RefList}
+use Rattle.gwalk.specs.Marks.{AreFull, Covers}
+
+-- what a repository holds
+pub record RepoState (A : Type 0) : Type 0 where
+  pub graph : History A
+  pub refs : RefList
+  pub known : List Bool
+
+-- the whole ancestry of each ref is held; each mark is that of an object whose whole ancestry is held; and all that a
+-- ref reaches is marked
+pub record IsWhole {A : Type 0} (repo : RepoState A) : Type 0 where
+  pub safe : IsSafe repo.graph.entries repo.refs
+  pub full : AreFull repo.graph.entries repo.known
+  pub covers : Covers repo.graph.entries (values_of repo.refs) repo.known
+
+-- the ancestries of the ids before the place are held, and those of them and the id at it are not all held
+pub record IsFirstLost {A : Type 0} (g : List (Entry A)) (ids : List (List ℕ)) (place : ℕ) : Type 0 where
+  pub inside : place < length ids
+  pub held : All (IsFull g) (take place ids)
+  pub lost : ¬ (All (IsFull g) (take (place + 1) ids))
+
+-- the name is that of the first ref whose whole ancestry is not held
+pub record IsFirstUnsafe {A : Type 0} (g : List (Entry A)) (refs : RefList) (name : List ℕ) : Type 0 where
+  pub front : RefList
+  pub id : List ℕ
+  pub back : RefList
+  pub parts : refs ≡ front ++ (name, id) ∷ back
+  pub safe : IsSafe g front
+  pub unsafe : ¬ (IsFull g id)
+
+-- each ref is one of the others, or stands at one of the ids
+abbrev pub ComeFrom : RefList → List (List ℕ) → RefList → Type 0
+ComeFrom others ids refs = All (λ ref. Contains others ref ⊎ Contains ids ref.1) refs

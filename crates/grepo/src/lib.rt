@@ -1,0 +1,67 @@
+//! A client's repository: its objects and its refs. The whole ancestry of each ref is held, at all times.
+//!
+//! # Proved
+//!
+//! - [`Repo::new`] holds exactly the objects and the refs that it is given, where the whole ancestry of each ref
+//!   is held, and else reports the first ref of which it is not, in the order of the names.
+//! - Each call keeps that the whole ancestry of each ref is held, that a mark is that of an object whose whole
+//!   ancestry is held, and that all that a ref reaches is marked. Each call that changes a repository says so of
+//!   what it leaves, and [`Repo::format`] of what is there.
+//! - [`Repo::add_local`] adds an object exactly where its parents are held and the graph takes it. It reports the
+//!   first parent that is not held, and only then what the graph has against the object.
+//! - [`Repo::insert_all`] adds the objects of a pack, all or none, whether or not their parents are held; it marks
+//!   nothing, and the refs stay.
+//! - [`Repo::set_local_ref`] sets a ref exactly where the whole ancestry of the id is held and such a ref can be set.
+//! - [`Asks`] has one ask a ref, the first that was added.
+//! - [`Repo::settle`] moves all refs that may move to the ids that are asked for, at once, and leaves all others: it
+//!   moves none where the ancestry of one id is not held, or where the refs can't all be set. It says what became of
+//!   each ask. What the ids reach is marked, and all other marks stay.
+//! - After a fault of any call the repository is as it was, the marks too.
+//! - [`Repo::missing`] answers what is missing of the ancestries of some ids.
+//! - Each fault has the number and the name of its row.
+//! - No call panics, overflows or reads out of bounds, and each returns.
+//!
+//! [`laws`] say that a repository stays whole where objects come to its graph, where a ref is set and where asks
+//! are settled; that a fault changes nothing; that nothing is missing of ancestries that are held; and that there is
+//! one settling of some asks.
+//!
+//! # Only tested
+//!
+//! That [`Repo::missing`] does not go on from marked objects; that memory which is there is used; the texts of the
+//! faults.
+//!
+//! # What a body can still get away with
+//!
+//! Where several ids are missing it may answer any. It may report out of memory as often as it likes, but not of an
+//! object that is held. Setting a ref and settling may walk past marks. A call may take as long as it likes, and more
+//! memory than it needs. No clause says where memory comes from: [`Asks::allocator`] may answer any allocator of its
+//! kind, and [`Asks::ids`] may take its memory from that of the asks.
+//!
+//! # Time
+//!
+//! An ask is added by one look-up of its name's hash. Settling takes time by the number of asks and refs, times the
+//! logarithm of the number of refs; and a walk over the graph for each ask for a ref that stands at another id, unless
+//! it is forced.
+//!
+//! # Stands on
+//!
+//! `ggraph` for graphs, refs and walks, and below it `gobject`, `ghistory`, `grefs` and `gwalk`; `gname` for ids and
+//! names; `indexmap` for asks by name; `thiserror` for the texts of faults; in tests `bumpalo`, for memory that ends.
+#![tactic(auto)]
+
+mod ask;
+mod asks;
+mod fault;
+pub mod laws;
+mod opening;
+mod ref_map;
+mod repo;
+mod settling;
+
+pub use crate::ask::{Ask, RefUpdate};
+pub use crate::asks::Asks;
+pub use crate::fault::RepoFault;
+pub use crate::repo::Repo;
+
+#[cfg(test)]
+mod tests;

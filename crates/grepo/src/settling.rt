@@ -1,0 +1,80 @@
+// What becomes of the refs that are asked for.
+#![tactic(auto)]
+
+ghost use Rattle.std.specs.Prelude.{◌≡◌, IfErr, IfOk, MatchResult};
+ghost use Rattle.ghistory.specs.declared.fault.GraphFault.TheVariants.{Memory};
+ghost use Rattle.grefs.specs.RefLists.{IsRefs};
+ghost use Rattle.grepo.specs.SettlingSteps.{HasSettled, IsRefusal, TakesAsk};
+ghost use Rattle.grepo.specs.Asks.{aimed};
+ghost use Rattle.grepo.specs.Settling.{IsUpdate};
+
+use crate::ask::RefUpdate;
+use crate::asks::{Aim, Asks};
+use crate::fault::RepoFault;
+use crate::ref_map::RefMap;
+use ggraph::{Graph, GraphFault, Refs, reaches};
+use gname::RefName;
+use std::alloc::Allocator;
+
+/// The refs once the asks are settled, and what becomes of each ask.
+pub(crate) fn settled<A: Allocator + Copy>(
+    graph: &Graph<A>,
+    refs: &Refs<A>,
+    asks: &Asks<A>,
+) -> Result<(Refs<A>, Vec<RefUpdate, A>), RepoFault<A>>
+    ensures settles { MatchResult result
+        (λ pair. HasSettled graph.now.entries refs.now asks.now pair.1.items pair.0)
+        (IsRefusal refs.now asks.now) }
+    ensures valid { IfOk result (λ pair. IsRefs pair.0) }
+{
+    let alloc = graph.allocator();
+    let mut new = RefMap::copy_of(alloc, refs)?;
+    let mut updates = Vec::new(alloc);
+    for place in 0..asks.len() {
+        let (name, aim) = asks.aim(place);
+        let update = take_ask(graph, refs, name, aim, &mut new)?;
+        updates.push(update)?;
+    }
+    let new = new.into_refs(alloc)?;
+    Ok((new, updates))
+}
+
+// Moves the ref that is asked for, where it may move. What becomes of it is judged by the old refs.
+fn take_ask<A: Allocator + Copy>(
+    graph: &Graph<A>,
+    old: &Refs<A>,
+    name: &RefName<A>,
+    aim: &Aim,
+    refs: &mut RefMap<A>,
+) -> Result<RefUpdate, RepoFault<A>>
+    ensures { TakesAsk graph.now.entries old.now (aimed (name.now, aim.now)) refs.old refs.new result }
+{
+    let update = update_of(graph, old, name, aim)?;
+    if update == RefUpdate::Moved {
+        let name = name.copy_in(graph.allocator())?;
+        refs.set(name, aim.id)?;
+    }
+    Ok(update)
+}
+
+// What becomes of an ask.
+fn update_of<A: Allocator + Copy>(
+    graph: &Graph<A>,
+    refs: &Refs<A>,
+    name: &RefName<A>,
+    aim: &Aim,
+) -> Result<RefUpdate, GraphFault>
+    ensures update { IfOk result (IsUpdate graph.now.entries refs.now (aimed (name.now, aim.now))) }
+    ensures fault { IfErr result (λ fault. fault ≡ Memory) }
+{
+    let Some(old) = refs.get(name) else {
+        return Ok(RefUpdate::Moved);
+    };
+    if old == aim.id {
+        return Ok(RefUpdate::Same);
+    }
+    if aim.forced || reaches(graph, &aim.id, &old)? {
+        return Ok(RefUpdate::Moved);
+    }
+    Ok(RefUpdate::NotForward)
+}

@@ -1,0 +1,406 @@
+-- The bytes of a client say what is written to it, where each request has one answer.
+use Rattle.std.proofs.Common.{◌≡◌, ◌≢◌, ℕ, zero, suc, ◌<◌, ◌≤◌, ◌+◌, ◌++◌, List, [], ◌∷◌, All, length, false, Option, Some, None, Result, Ok, Err, refl, sym, ap, subst, ◌∙◌, inl, inr, append_assoc, arith}
+use Rattle.std.proofs.lemmas.Bool.{false≢true}
+use Rattle.std.specs.Prelude.{IsSome}
+use Rattle.std.specs.List.{flat_map}
+use Rattle.std.proofs.lemmas.List.Elements.{All-contains, All-head, All-tail, Contains-append_right, Contains-get_or}
+use Rattle.gname.specs.declared.formats.Format.{Format}
+use Rattle.gobject.specs.declared.node.Entry.{Entry}
+use Rattle.gobject.specs.Objects.{node_at}
+use Rattle.gobject.specs.Packs.{PackFails, Packs}
+use Rattle.ghistory.specs.Graphs.{Holds, IsFirstAbsent}
+use Rattle.gpkt.specs.Laws.{SpellingsSplit}
+use Rattle.gpkt.specs.LineReading.{ReadsLines}
+use Rattle.gpkt.specs.Packets.{Packet, canonical_all}
+use Rattle.gpkt.specs.declared.fault.LineFault.TheVariants as line
+use Rattle.ggrammar.specs.Kinds.{OneMeaning}
+use Rattle.ggrammar.specs.MessageBytes.{IsFront, IsOfBytes, LawsOfBytes, known}
+use Rattle.ggrammar.specs.MessageReading.{IsReadFailure}
+use Rattle.ggrammar.specs.declared.ends.Ends.{Ends}
+use Rattle.ggrammar.specs.declared.fault.MessageFault.{MessageFault}
+use Rattle.ggrammar.specs.declared.fault.Why.{Why}
+use Rattle.ggrammar.specs.declared.fault.Why.TheVariants as why
+use Rattle.grequest.specs.Asked.{Asked, FetchAsked, Empty, Ls as LsAsked, Fetches}
+use Rattle.grequest.specs.RequestReading.{IsMissingWhereEmpty}
+use Rattle.grequest.specs.Requests.{Says, brings, judge}
+use Rattle.ganswer.specs.Answers.{Answers, FetchRefuses, Refuses, Reply, Nothing, Ls, Fetch}
+use Rattle.ganswer.specs.Servers.{Server}
+use Rattle.ganswer.specs.declared.fault.ServeFault.{ServeFault}
+use Rattle.ganswer.specs.declared.fault.ServeFault.TheVariants as serve
+use Rattle.gserve.specs.Conversations.{max_requests, talk_bytes}
+use Rattle.gserve.specs.Exchanges.{Turn, IsRefused, IsTurn, ReadsTurns, RefusesToAnswer, RefusesToRead}
+use Rattle.gserve.specs.Laws.{HasOneAnswer}
+use Rattle.gserve.specs.Talks.{EndsByOwnFault, HoldsNone, HoldsTurns, IsOwnFault, Stops, Talks, giving, last_packets}
+use Rattle.gserve.specs.declared.connection.End.{End}
+use Rattle.gserve.specs.declared.connection.End.TheVariants as end
+
+-- ---- ids that are held, and the first that is not
+
+is_none : {X : Type 0} (found : Option X) → found ≡ None → IsSome found → ⊥
+is_none None same some = cc
+is_none (Some x) same some = cc
+
+none_held : {A : Type 0} (g : List (Entry A)) (a : List ℕ) → node_at g a ≡ None → Holds g a → ⊥
+none_held g a absent held = is_none (node_at g a) absent held
+
+not_among : {A : Type 0} (g : List (Entry A)) (ids : List (List ℕ)) (a : List ℕ) → All (Holds g) ids → IsFirstAbsent g ids a → ⊥
+not_among g ids a held first =
+    let all = subst (All (Holds g)) first.parts held in
+    let among = Contains-append_right first.front (a ∷ first.rest) a (Contains-get_or (a ∷ first.rest) 0 a (omega arith)) in
+    none_held g a first.absent (All-contains (Holds g) (first.front ++ a ∷ first.rest) a all among)
+
+heads : (a b : List ℕ) (xs ys : List (List ℕ)) → a ∷ xs ≡ b ∷ ys → a ≡ b
+heads a b xs ys same = cc
+
+tails : (a b : List ℕ) (xs ys : List (List ℕ)) → a ∷ xs ≡ b ∷ ys → xs ≡ ys
+tails a b xs ys same = cc
+
+one_absent : {A : Type 0} (g : List (Entry A)) (front others : List (List ℕ)) (a b : List ℕ) (rest after : List (List ℕ))
+    → All (Holds g) front → All (Holds g) others → node_at g a ≡ None → node_at g b ≡ None
+    → front ++ a ∷ rest ≡ others ++ b ∷ after → a ≡ b
+one_absent g [] [] a b rest after ours theirs absent missing same = heads a b rest after same
+one_absent g [] (x ∷ others) a b rest after ours theirs absent missing same =
+    absurd (none_held g a absent (subst (Holds g) (sym (heads a x rest (others ++ b ∷ after) same)) (All-head (Holds g) x others theirs)))
+one_absent g (x ∷ front) [] a b rest after ours theirs absent missing same =
+    absurd (none_held g b missing (subst (Holds g) (heads x b (front ++ a ∷ rest) after same) (All-head (Holds g) x front ours)))
+one_absent g (x ∷ front) (y ∷ others) a b rest after ours theirs absent missing same =
+    one_absent g front others a b rest after (All-tail (Holds g) x front ours) (All-tail (Holds g) y others theirs) absent missing
+    (tails x y (front ++ a ∷ rest) (others ++ b ∷ after) same)
+
+nil_is_cons : (a : List ℕ) (xs : List (List ℕ)) → [] ≡ a ∷ xs → ⊥
+nil_is_cons a xs same = cc
+
+no_wants : (a : List ℕ) (front rest : List (List ℕ)) → [] ≡ front ++ a ∷ rest → ⊥
+no_wants a [] rest same = nil_is_cons a rest same
+no_wants a (x ∷ front) rest same = nil_is_cons x (front ++ a ∷ rest) same
+
+-- ---- why a request is not answered, but for the server's own faults
+
+module _ {A : Type 0} (server : Server A) (packs : Packs A) (fails : PackFails A) where
+  own_memory : (cause : ServeFault) → cause ≡ serve.Memory → ¬ IsOwnFault cause → ⊥
+  own_memory cause is other = other (subst IsOwnFault (sym is) tt)
+
+  one_fetch_fault : (asked : FetchAsked) (cause reason : ServeFault) → FetchRefuses server fails asked cause
+      → FetchRefuses server fails asked reason → ¬ IsOwnFault cause → ¬ IsOwnFault reason → cause ≡ reason
+  one_fetch_fault asked serve.NoWants serve.NoWants h k own other = refl
+  one_fetch_fault asked serve.NoWants (serve.NotOurs id) h k own other = absurd (no_wants id k.front k.rest (sym h ∙ k.parts))
+  one_fetch_fault asked (serve.NotOurs id) serve.NoWants h k own other = absurd (no_wants id h.front h.rest (sym k ∙ h.parts))
+  one_fetch_fault asked (serve.NotOurs id) (serve.NotOurs next) h k own other =
+      ap serve.NotOurs (one_absent server.graph.entries h.front k.front id next h.rest k.rest h.held k.held h.absent k.absent (sym h.parts ∙ k.parts))
+  one_fetch_fault asked (serve.Reader cause) reason h k own other = absurd h
+  one_fetch_fault asked (serve.Request cause) reason h k own other = absurd h
+  one_fetch_fault asked (serve.Pack cause) reason h k own other = absurd (own tt)
+  one_fetch_fault asked serve.Memory reason h k own other = absurd (own tt)
+  one_fetch_fault asked cause (serve.Reader reason) h k own other = absurd k
+  one_fetch_fault asked cause (serve.Request reason) h k own other = absurd k
+  one_fetch_fault asked cause (serve.Pack reason) h k own other = absurd (other tt)
+  one_fetch_fault asked cause serve.Memory h k own other = absurd (other tt)
+
+  one_fault : (asked : Asked) (cause reason : ServeFault) → Refuses server fails asked cause → Refuses server fails asked reason
+      → ¬ IsOwnFault cause → ¬ IsOwnFault reason → cause ≡ reason
+  one_fault Empty cause reason h k own other = absurd h
+  one_fault (LsAsked asked) cause reason h k own other = absurd (own_memory cause h own)
+  one_fault (Fetches asked) cause reason h k own other = one_fetch_fault asked cause reason h k own other
+
+  -- what is answered is not refused
+  answered_fetch : (asked : FetchAsked) (answer : Reply) (cause : ServeFault) → Answers server packs (Fetches asked) answer
+      → FetchRefuses server fails asked cause → ¬ IsOwnFault cause → ⊥
+  answered_fetch asked Nothing cause h k own = absurd h
+  answered_fetch asked (Ls reply) cause h k own = absurd h
+  answered_fetch asked (Fetch reply) serve.NoWants h k own = h.can.some k
+  answered_fetch asked (Fetch reply) (serve.NotOurs id) h k own = not_among server.graph.entries asked.wants id h.can.held k
+  answered_fetch asked (Fetch reply) (serve.Reader cause) h k own = k
+  answered_fetch asked (Fetch reply) (serve.Request cause) h k own = k
+  answered_fetch asked (Fetch reply) (serve.Pack cause) h k own = own tt
+  answered_fetch asked (Fetch reply) serve.Memory h k own = own tt
+
+  answered_not_refused : (asked : Asked) (answer : Reply) (cause : ServeFault) → Answers server packs asked answer
+      → Refuses server fails asked cause → ¬ IsOwnFault cause → ⊥
+  answered_not_refused Empty answer cause h k own = k
+  answered_not_refused (LsAsked asked) answer cause h k own = own_memory cause k own
+  answered_not_refused (Fetches asked) answer cause h k own = answered_fetch asked answer cause h k own
+
+-- ---- refusals for a reason in the bytes
+
+-- the reason is in the bytes where the source is well and there was memory
+of_bytes : (cause : Why) → IsReadFailure false false cause → ¬ (cause ≡ why.Memory) → IsOfBytes cause
+of_bytes (why.Line line.Io) h other = absurd (false≢true h.1)
+of_bytes (why.Line line.Failed) h other = absurd (false≢true h)
+of_bytes (why.Line line.Memory) h other = absurd h
+of_bytes (why.Line line.BadDigits) h other = tt
+of_bytes (why.Line line.Reserved) h other = tt
+of_bytes (why.Line line.TooLong) h other = tt
+of_bytes (why.Line line.Truncated) h other = tt
+of_bytes (why.Band fault) h other = tt
+of_bytes why.UnexpectedFrame h other = tt
+of_bytes why.BadText h other = tt
+of_bytes why.UnknownCommand h other = tt
+of_bytes why.UnknownCapability h other = tt
+of_bytes why.UnknownArgument h other = tt
+of_bytes why.BadId h other = tt
+of_bytes why.BadName h other = tt
+of_bytes why.Limit h other = tt
+of_bytes (why.RemoteErr said) h other = tt
+of_bytes (why.RemoteFatal said) h other = tt
+of_bytes why.WrongSection h other = tt
+of_bytes why.Format h other = tt
+of_bytes why.Memory h other = absurd (other refl)
+of_bytes why.Ended h other = tt
+
+positive : (n : ℕ) → n ≢ 0 → 0 < n
+positive zero some = absurd (some refl)
+positive (suc n) some = omega arith
+
+module _ {A : Type 0} (server : Server A) (fails : PackFails A) where
+  data Refusal (bytes rest : List ℕ) : ServeFault → Type 0 where
+    reading : (cause : MessageFault) → IsOfBytes cause.why → RefusesToRead server.graph.format (giving bytes rest) cause
+        → Refusal bytes rest (serve.Request cause)
+    answering : (cause : ServeFault) → ¬ IsOwnFault cause → RefusesToAnswer server fails (giving bytes rest) cause
+        → Refusal bytes rest cause
+
+  refusal_of : (bytes rest : List ℕ) (cause : ServeFault) → ¬ IsOwnFault cause → IsRefused server fails (giving bytes rest) cause
+      → Refusal bytes rest cause
+  refusal_of bytes rest (serve.Request cause) own h = reading cause (of_bytes cause.why h.source own) h
+  refusal_of bytes rest serve.NoWants own h = answering serve.NoWants own h
+  refusal_of bytes rest (serve.NotOurs id) own h = answering (serve.NotOurs id) own h
+  refusal_of bytes rest (serve.Reader cause) own h = absurd (own tt)
+  refusal_of bytes rest (serve.Pack cause) own h = absurd (own tt)
+  refusal_of bytes rest serve.Memory own h = absurd (own tt)
+
+-- ---- one request at the front of some bytes
+
+front_of : (bytes rest : List ℕ) (lines : List Packet) → ReadsLines (known bytes rest) lines → IsFront lines bytes rest
+front_of bytes rest lines h = record { front = h.0; parts = h.1; spelt = h.2 }
+
+module _ (format : Format) (laws : LawsOfBytes (judge format)) (meaning : OneMeaning (Says format)) (missing : IsMissingWhereEmpty format) where
+  one_request : (bytes rest after : List ℕ) (lines others : List Packet) (one other : Asked)
+      → ReadsLines (known bytes rest) lines → Says format lines one → ReadsLines (known bytes after) others
+      → Says format others other → (others ≡ lines) × (after ≡ rest) × (other ≡ one)
+  one_request bytes rest after lines others one other read says next asks =
+      let same = laws.no_other lines others bytes rest after says.whole (front_of bytes rest lines read) (record { whole = asks.whole; bytes = next }) in
+      (same.0, same.1, meaning lines other one (subst (λ (packets : List Packet). Says format packets other) same.0 asks) says)
+
+  -- a request is not refused as it is read
+  not_unread : (bytes rest after : List ℕ) (lines : List Packet) (asked : Asked) (cause : MessageFault)
+      → ReadsLines (known bytes rest) lines → Says format lines asked → IsOfBytes cause.why
+      → RefusesToRead format (giving bytes after) cause → ⊥
+  not_unread bytes rest after lines asked cause read says certain h =
+      laws.refused brings h.front lines bytes after rest cause h.refused certain (front_of bytes rest lines read) says.whole
+
+  -- nor is it missing
+  not_missing : (bytes rest : List ℕ) (lines : List Packet) (asked : Asked) → ReadsLines (known bytes rest) lines
+      → Says format lines asked → bytes ≡ [] → ⊥
+  not_missing bytes rest lines asked read says none =
+      laws.ended lines bytes [] rest (none, refl) (front_of bytes rest lines read) says.whole
+
+  err_is_ok : (result : Result (Option Asked) MessageFault) (cause : MessageFault) → result ≡ Err cause → result ≡ Ok None → ⊥
+  err_is_ok result cause one other = cc
+
+  -- where there are no bytes, none is refused as it is read
+  none_unread : (bytes after : List ℕ) (cause : MessageFault) → IsOfBytes cause.why
+      → RefusesToRead format (giving bytes after) cause → bytes ≡ [] → ⊥
+  none_unread bytes after cause certain h none =
+      let is = missing bytes after (Err cause) (h.front, h.refused) (certain, λ ended. positive cause.frame (h.begun ended)) in
+      err_is_ok (Err cause) cause refl (is.1 none)
+
+-- ---- what stops a conversation
+
+module _ {A : Type 0} (packs : Packs A) (fails : PackFails A) (server : Server A) (laws : LawsOfBytes (judge server.graph.format))
+    (meaning : OneMeaning (Says server.graph.format)) (missing : IsMissingWhereEmpty server.graph.format) where
+  -- a request that is there is not refused but as it is answered, and then it asks the same
+  refusal_asks : (bytes rest after : List ℕ) (lines : List Packet) (asked : Asked) (cause : ServeFault)
+      → ReadsLines (known bytes rest) lines → Says server.graph.format lines asked → Refusal server fails bytes after cause
+      → Refuses server fails asked cause × ¬ IsOwnFault cause
+  refusal_asks bytes rest after lines asked fault read says (reading cause certain h) =
+      absurd (not_unread server.graph.format laws meaning missing bytes rest after lines asked cause read says certain h)
+  refusal_asks bytes rest after lines asked fault read says (answering cause own h) =
+      let same = one_request server.graph.format laws meaning missing bytes rest after lines h.packets asked h.asked read says h.lines h.says in
+      (subst (λ (a : Asked). Refuses server fails a cause) same.2 h.refuses, own)
+
+  one_refusal : (bytes rest after : List ℕ) (cause reason : ServeFault) → Refusal server fails bytes rest cause
+      → Refusal server fails bytes after reason → cause ≡ reason
+  one_refusal bytes rest after one other (reading cause certain h) (reading reason sure k) =
+      ap serve.Request (laws.one_refusal brings h.front k.front bytes rest after cause reason h.refused k.refused certain sure).0
+  one_refusal bytes rest after one other (reading cause certain h) (answering reason own k) =
+      absurd (not_unread server.graph.format laws meaning missing bytes after rest k.packets k.asked cause k.lines k.says certain h)
+  one_refusal bytes rest after one other (answering cause own h) k =
+      let next = refusal_asks bytes rest after h.packets h.asked other h.lines h.says k in
+      one_fault server packs fails h.asked cause other h.refuses next.0 own next.1
+
+  -- the bytes are not empty where a request is refused
+  none_refused : (bytes after : List ℕ) (cause : ServeFault) → Refusal server fails bytes after cause → bytes ≡ [] → ⊥
+  none_refused bytes after fault (reading cause certain h) none =
+      none_unread server.graph.format laws meaning missing bytes after cause certain h none
+  none_refused bytes after fault (answering cause own h) none =
+      not_missing server.graph.format laws meaning missing bytes after h.packets h.asked h.lines h.says none
+
+  few : (n : ℕ) → n < max_requests → n ≡ max_requests → ⊥
+  few n below all = omega arith
+
+  module _ (ends : Ends) where
+    -- a lone flush is not refused
+    closed_refused : (n : ℕ) (bytes : List ℕ) (cause : ServeFault) → Stops server fails n bytes end.Closed
+        → Stops server fails n bytes (end.Refused cause) → ¬ IsOwnFault cause → ⊥
+    closed_refused n bytes cause (room, rest, h) (more, after, k) own =
+        (refusal_asks bytes rest after h.packets Empty cause h.lines h.says (refusal_of server fails bytes after cause own k)).0
+
+    ended_refused : (n : ℕ) (bytes : List ℕ) (cause : ServeFault) → Stops server fails n bytes end.Ended
+        → Stops server fails n bytes (end.Refused cause) → ¬ IsOwnFault cause → ⊥
+    ended_refused n bytes cause (inl (room, none)) (more, after, k) own =
+        none_refused bytes after cause (refusal_of server fails bytes after cause own k) none
+    ended_refused n bytes cause (inr all) (more, after, k) own = few n more all
+
+    closed_ended : (n : ℕ) (bytes : List ℕ) → Stops server fails n bytes end.Closed
+        → Stops server fails n bytes end.Ended → ⊥
+    closed_ended n bytes (room, rest, h) (inl (more, none)) =
+        not_missing server.graph.format laws meaning missing bytes rest h.packets Empty h.lines h.says none
+    closed_ended n bytes (room, rest, h) (inr all) = few n room all
+
+    one_end : (n : ℕ) (bytes : List ℕ) (ended last : End) → Stops server fails n bytes ended
+        → Stops server fails n bytes last → ¬ EndsByOwnFault ended → ¬ EndsByOwnFault last → ended ≡ last
+    one_end n bytes end.Closed end.Closed h k own other = refl
+    one_end n bytes end.Closed end.Ended h k own other = absurd (closed_ended n bytes h k)
+    one_end n bytes end.Closed (end.Refused reason) h k own other = absurd (closed_refused n bytes reason h k other)
+    one_end n bytes end.Ended end.Closed h k own other = absurd (closed_ended n bytes k h)
+    one_end n bytes end.Ended end.Ended h k own other = refl
+    one_end n bytes end.Ended (end.Refused reason) h k own other = absurd (ended_refused n bytes reason h k other)
+    one_end n bytes (end.Refused cause) end.Closed h k own other = absurd (closed_refused n bytes cause k h own)
+    one_end n bytes (end.Refused cause) end.Ended h k own other = absurd (ended_refused n bytes cause k h own)
+    one_end n bytes (end.Refused cause) (end.Refused reason) (room, rest, h) (more, after, k) own other =
+        ap end.Refused (one_refusal bytes rest after cause reason (refusal_of server fails bytes rest cause own h)
+        (refusal_of server fails bytes after reason other k))
+    one_end n bytes end.WriteFailed last h k own other = absurd h
+    one_end n bytes _ end.WriteFailed h k own other = absurd k
+
+    at_most : (n : ℕ) (bytes : List ℕ) (ended : End) → Stops server fails n bytes ended → n ≤ max_requests
+    at_most n bytes end.Closed (room, rest, h) = omega arith
+    at_most n bytes end.Ended (inl (room, none)) = omega arith
+    at_most n bytes end.Ended (inr all) = omega arith
+    at_most n bytes (end.Refused cause) (room, rest, h) = omega arith
+    at_most n bytes end.WriteFailed h = absurd h
+
+    -- a request that is answered does not stop it
+    goes_on : (n : ℕ) (bytes rest : List ℕ) (turn : Turn) (ended : End) → n < max_requests
+        → ReadsLines (known bytes rest) turn.request → IsTurn server packs turn → Stops server fails n bytes ended
+        → ¬ EndsByOwnFault ended → ⊥
+    goes_on n bytes rest turn end.Closed below read is (room, after, h) own =
+        let same = one_request server.graph.format laws meaning missing bytes rest after turn.request h.packets turn.asked Empty read is.says h.lines h.says in
+        is.asks (sym same.2)
+    goes_on n bytes rest turn end.Ended below read is (inl (room, none)) own =
+        not_missing server.graph.format laws meaning missing bytes rest turn.request turn.asked read is.says none
+    goes_on n bytes rest turn end.Ended below read is (inr all) own = few n below all
+    goes_on n bytes rest turn (end.Refused cause) below read is (room, after, h) own =
+        let refused = refusal_asks bytes rest after turn.request turn.asked cause read is.says (refusal_of server fails bytes after cause own h) in
+        answered_not_refused server packs fails turn.asked turn.answer cause is.answers refused.0 own
+    goes_on n bytes rest turn end.WriteFailed below read is h own = h
+
+    -- ---- turn by turn
+
+    -- the first of some turns, and the others
+    record Splits (bytes left : List ℕ) (turn : Turn) (turns : List Turn) : Type 0 where
+      mid : List ℕ
+      read : ReadsLines (known bytes mid) turn.request
+      is : IsTurn server packs turn
+      later : ReadsTurns server packs (known mid left) turns
+
+    split_first : SpellingsSplit → (bytes left : List ℕ) (turn : Turn) (turns : List Turn)
+        → ReadsTurns server packs (known bytes left) (turn ∷ turns) → Splits bytes left turn turns
+    split_first split bytes left turn turns h =
+        let parts = split turn.request (flat_map (λ (t : Turn). t.request) turns) h.lines.0 h.lines.2 in record {
+          mid = parts.1 ++ left;
+          read = (parts.0, h.lines.1 ∙ (ap (λ (xs : List ℕ). xs ++ left) parts.2 ∙ append_assoc parts.0 parts.1 left), parts.3);
+          is = All-head (IsTurn server packs) turn turns h.each;
+          later = record { lines = (parts.1, refl, parts.4); each = All-tail (IsTurn server packs) turn turns h.each };
+        }
+
+    abbrev turn_with : List Packet → Asked → Reply → Turn
+    turn_with request asked answer = record { request = request; asked = asked; answer = answer }
+
+    same_turn : (t u : Turn) → u.request ≡ t.request → u.asked ≡ t.asked → u.answer ≡ t.answer → t ≡ u
+    same_turn t u request asked answer =
+        let one : t ≡ turn_with u.request t.asked t.answer = ap (λ (r : List Packet). turn_with r t.asked t.answer) (sym request) in
+        let two : turn_with u.request t.asked t.answer ≡ turn_with u.request u.asked t.answer =
+        ap (λ (a : Asked). turn_with u.request a t.answer) (sym asked) in
+        let three : turn_with u.request u.asked t.answer ≡ u = ap (λ (r : Reply). turn_with u.request u.asked r) (sym answer) in
+        one ∙ (two ∙ three)
+
+    -- the same turn is first
+    one_turn : HasOneAnswer server packs → (bytes rest after : List ℕ) (t u : Turn) → ReadsLines (known bytes rest) t.request
+        → IsTurn server packs t → ReadsLines (known bytes after) u.request → IsTurn server packs u → (t ≡ u) × (after ≡ rest)
+    one_turn answers bytes rest after t u read is next are =
+        let same = one_request server.graph.format laws meaning missing bytes rest after t.request u.request t.asked u.asked read is.says next are.says in
+        let answer : u.answer ≡ t.answer =
+        answers t.asked u.answer t.answer (subst (λ (a : Asked). Answers server packs a u.answer) same.2 are.answers) is.answers in
+        (same_turn t u same.0 same.2 answer, same.1)
+
+    nothing_left : (bytes left : List ℕ) → ReadsTurns server packs (known bytes left) [] → left ≡ bytes
+    nothing_left bytes left h =
+        let none : h.lines.0 ≡ [] = h.lines.2 in
+        sym (h.lines.1 ∙ ap (λ (xs : List ℕ). xs ++ left) none)
+
+    same_turns : HasOneAnswer server packs → SpellingsSplit → (before n m : ℕ) (turns others : List Turn) (bytes left rest : List ℕ)
+        (ended last : End) → n ≡ before + length turns → m ≡ before + length others
+        → ReadsTurns server packs (known bytes left) turns → ReadsTurns server packs (known bytes rest) others
+        → Stops server fails n left ended → Stops server fails m rest last
+        → ¬ EndsByOwnFault ended → ¬ EndsByOwnFault last → (turns ≡ others) × (ended ≡ last)
+    same_turns answers split before n m [] [] bytes left rest ended last is are read next h k own other =
+        let count : m ≡ n = are ∙ sym is in
+        let here = subst (λ (xs : List ℕ). Stops server fails n xs ended) (nothing_left bytes left read) h in
+        let there = subst (λ (c : ℕ). Stops server fails c bytes last) count
+        (subst (λ (xs : List ℕ). Stops server fails m xs last) (nothing_left bytes rest next) k) in
+        (refl, one_end n bytes ended last here there own other)
+    same_turns answers split before n m [] (u ∷ others) bytes left rest ended last is are read next h k own other =
+        let here = subst (λ (xs : List ℕ). Stops server fails n xs ended) (nothing_left bytes left read) h in
+        let first = split_first split bytes rest u others next in
+        let most : m ≤ max_requests = at_most m rest last k in
+        absurd (goes_on n bytes first.mid u ended (omega arith) first.read first.is here own)
+    same_turns answers split before n m (t ∷ turns) [] bytes left rest ended last is are read next h k own other =
+        let there = subst (λ (xs : List ℕ). Stops server fails m xs last) (nothing_left bytes rest next) k in
+        let first = split_first split bytes left t turns read in
+        let most : n ≤ max_requests = at_most n left ended h in
+        absurd (goes_on m bytes first.mid t last (omega arith) first.read first.is there other)
+    same_turns answers split before n m (t ∷ turns) (u ∷ others) bytes left rest ended last is are read next h k own other =
+        let first = split_first split bytes left t turns read in
+        let second = split_first split bytes rest u others next in
+        let same = one_turn answers bytes first.mid second.mid t u first.read first.is second.read second.is in
+        let later = subst (λ (xs : List ℕ). ReadsTurns server packs (known xs rest) others) same.1 second.later in
+        let all = same_turns answers split (before + 1) n m turns others first.mid left rest ended last (omega arith) (omega arith)
+        first.later later h k own other in
+        (ap (λ (x : Turn). x ∷ turns) same.0 ∙ ap (λ (xs : List Turn). u ∷ xs) all.0, all.1)
+
+    -- ---- the whole
+
+    last_of : (turns others : List Turn) (ended last : End) → turns ≡ others → ended ≡ last
+        → talk_bytes server.graph.format ends turns ++ canonical_all (last_packets ended)
+        ≡ talk_bytes server.graph.format ends others ++ canonical_all (last_packets last)
+    last_of turns others ended last same is =
+        ap (λ (t : List Turn). talk_bytes server.graph.format ends t ++ canonical_all (last_packets ended)) same
+        ∙ ap (λ (e : End). talk_bytes server.graph.format ends others ++ canonical_all (last_packets e)) is
+
+    one_talk : HasOneAnswer server packs → SpellingsSplit → (bytes one other : List ℕ) (ended last : End)
+        → HoldsTurns server packs fails ends bytes one ended → HoldsTurns server packs fails ends bytes other last
+        → ¬ EndsByOwnFault ended → ¬ EndsByOwnFault last → (one ≡ other) × (ended ≡ last)
+    one_talk answers split bytes one other ended last h k own next =
+        let all = same_turns answers split 0 (length h.turns) (length k.turns) h.turns k.turns bytes h.left k.left ended last (omega arith) (omega arith)
+        h.read k.read h.stops k.stops own next in
+        (h.all ∙ (last_of h.turns k.turns ended last all.0 all.1 ∙ sym k.all), all.1)
+
+    -- there is no memory to begin with
+    begins : (bytes written : List ℕ) (ended : End) → HoldsNone bytes written ended → ¬ EndsByOwnFault ended → ⊥
+    begins bytes written (end.Refused serve.Memory) h own = own tt
+    begins bytes written (end.Refused (serve.Reader cause)) h own = own tt
+    begins bytes written (end.Refused (serve.Pack cause)) h own = own tt
+    begins bytes written (end.Refused (serve.Request cause)) h own = h.0
+    begins bytes written (end.Refused serve.NoWants) h own = h.0
+    begins bytes written (end.Refused (serve.NotOurs id)) h own = h.0
+    begins bytes written end.Closed h own = h
+    begins bytes written end.Ended h own = h
+    begins bytes written end.WriteFailed h own = h
+
+    pub talks_are_one : SpellingsSplit → (bytes one other : List ℕ) (ended last : End) → HasOneAnswer server packs
+        → Talks server packs fails ends bytes one ended → Talks server packs fails ends bytes other last
+        → ¬ EndsByOwnFault ended → ¬ EndsByOwnFault last → (one ≡ other) × (ended ≡ last)
+    talks_are_one split bytes one other ended last answers (inl h) (inl k) own next =
+        one_talk answers split bytes one other ended last h k own next
+    talks_are_one split bytes one other ended last answers (inr h) talk own next = absurd (begins bytes one ended h own)
+    talks_are_one split bytes one other _ last answers talk (inr k) own next = absurd (begins bytes other last k next)

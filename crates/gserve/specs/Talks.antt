@@ -1,0 +1,73 @@
+-- A conversation over bytes: what a server writes to a client that sends these bytes, and how it ends. No device plays
+-- a part (gitprotocol-v2(5), "Capability Advertisement" and "Command Request").
+use Rattle.std.specs.Prelude.{◌≡◌, ℕ, ◌<◌, ◌⊎◌, ⊤, false, List, [], ◌++◌, length}
+use Rattle.gpkt.specs.Packets.{Packet, canonical_all}
+use Rattle.gpkt.specs.Sending.{Input}
+use Rattle.ggrammar.specs.MessageBytes.{known}
+use Rattle.ggrammar.specs.declared.ends.Ends.{Ends}
+use Rattle.ggrammar.specs.declared.fault.Why.TheVariants as why
+use Rattle.gobject.specs.Packs.{PackFails, Packs}
+use Rattle.ganswer.specs.Servers.{Server}
+use Rattle.ganswer.specs.declared.fault.ServeFault.{ServeFault}
+use Rattle.ganswer.specs.declared.fault.ServeFault.TheVariants as serve
+use Rattle.gserve.specs.Refusals.{err_packets}
+use Rattle.gserve.specs.Exchanges.{Turn, IsRefused, ReadsEmpty, ReadsTurns}
+use Rattle.gserve.specs.Conversations.{CannotBegin, max_requests, talk_bytes}
+use Rattle.gserve.specs.declared.connection.End.{End}
+use Rattle.gserve.specs.declared.connection.End.TheVariants as end
+
+-- a source that does not fail: it gives the front of these bytes, and the rest is still to come
+abbrev pub giving : List ℕ → List ℕ → Input
+giving bytes rest = record { read = known bytes rest; was_down = false; is_down = false }
+
+-- what is written last: the line of a refusal
+abbrev pub last_packets : End → List Packet
+last_packets (end.Refused fault) = err_packets fault
+last_packets _ = []
+
+module _ {A : Type 0} (server : Server A) (fails : PackFails A) where
+  -- Why no more requests are answered after so many, where these bytes are left: a lone flush is next; there are no
+  -- bytes, or there may be no more requests; or the next is refused.
+  abbrev pub Stops : ℕ → List ℕ → End → Type 0
+  Stops requests left end.Closed =
+      (requests < max_requests) × (rest : List ℕ) × ReadsEmpty server.graph.format (giving left rest)
+  Stops requests left end.Ended = ((requests < max_requests) × (left ≡ [])) ⊎ (requests ≡ max_requests)
+  Stops requests left (end.Refused fault) =
+      (requests < max_requests) × (rest : List ℕ) × IsRefused server fails (giving left rest) fault
+  Stops requests left end.WriteFailed = ⊥
+
+-- there is no memory to begin with, and the line that says so is all that is written
+abbrev pub HoldsNone : List ℕ → List ℕ → End → Type 0
+HoldsNone bytes written (end.Refused fault) =
+    CannotBegin (giving bytes bytes) fault × (written ≡ canonical_all (err_packets fault))
+HoldsNone bytes written _ = ⊥
+
+module _ {A : Type 0} (server : Server A) (packs : Packs A) (fails : PackFails A) (ends : Ends) where
+  -- These turns are held: the bytes begin with their requests, and what is left stops them. The advertisement is
+  -- written, their replies, and the line of a refusal where one ends it.
+  pub record HoldsTurns (bytes written : List ℕ) (ended : End) : Type 0 where
+    pub turns : List Turn
+    pub left : List ℕ
+    pub read : ReadsTurns server packs (known bytes left) turns
+    pub stops : Stops server fails (length turns) left ended
+    pub all : written ≡ talk_bytes server.graph.format ends turns ++ canonical_all (last_packets ended)
+
+  -- the conversation with a client that sends these bytes: what is written, and how it ends
+  abbrev pub Talks : List ℕ → List ℕ → End → Type 0
+  Talks bytes written ended = HoldsTurns bytes written ended ⊎ HoldsNone bytes written ended
+
+-- ---- the server's own faults
+
+-- there is no memory, or the packer fails: nothing that the client sent is to blame
+abbrev pub IsOwnFault : ServeFault → Type 0
+IsOwnFault (serve.Reader cause) = ⊤
+IsOwnFault (serve.Request cause) = cause.why ≡ why.Memory
+IsOwnFault serve.NoWants = ⊥
+IsOwnFault (serve.NotOurs id) = ⊥
+IsOwnFault (serve.Pack cause) = ⊤
+IsOwnFault serve.Memory = ⊤
+
+-- the conversation ends by one
+abbrev pub EndsByOwnFault : End → Type 0
+EndsByOwnFault (end.Refused fault) = IsOwnFault fault
+EndsByOwnFault _ = ⊥

@@ -1,0 +1,28 @@
+//! Laws of conversations. A call does nothing, and gives its caller's proof the law.
+
+ghost use Rattle.gserve.specs.Laws.{ServingIsTalking, TalksAreOne};
+
+use ggrammar::laws::messages_are_read;
+use ggraph::Packer;
+use gpkt::laws::spellings_join;
+use grequest::laws::{one_meaning, reads_exactly};
+use std::alloc::Allocator;
+
+/// A connection is a conversation over the bytes of its source, where these are known and neither the source nor the
+/// sink has failed. All that is written in it is passed on.
+pub fn serving_is_talking<A: Allocator + Copy, K: Packer<A>>()
+    ensures { (packer : K) → ServingIsTalking A (K.packs packer) (K.pack_fails packer) }
+{}
+
+/// What a client sends says what is written to it, and how the conversation ends, unless memory or the packer fails.
+///
+/// It is assumed, and not proved, that each request has one answer (`HasOneAnswer`). A packer may have several packs
+/// for the same objects, and the bytes of a client do not say which of them is sent.
+pub fn talks_are_one<A: Allocator + Copy, K: Packer<A>>()
+    ensures { (packer : K) → TalksAreOne A (K.packs packer) (K.pack_fails packer) }
+{
+    messages_are_read();
+    one_meaning();
+    reads_exactly();
+    spellings_join();
+}

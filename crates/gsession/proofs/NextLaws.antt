@@ -1,0 +1,99 @@
+-- How a session begins, that each request offers something new, and which one is the last.
+use Rattle.std.proofs.Common.{◌≡◌, ◌==◌, ◌∙◌, ℕ, Bool, true, false, List, [], ◌∷◌, ◌++◌, length, All, Contains, Ok, refl}
+use Rattle.std.proofs.Common.{sym, ap, subst}
+use Rattle.std.specs.Map.{values_of}
+use Rattle.std.proofs.lemmas.Bool.{false≢true}
+use Rattle.std.proofs.lemmas.List.Elements.{All-contains, All-contains_itself, All-head, All-nil, All-weaker}
+use Rattle.std.proofs.lemmas.List.Elements.{Contains-append_left, Contains-append_right, Contains-push}
+use Rattle.gpkt.specs.Packets.{Packet}
+use Rattle.gfetchreply.specs.FetchReplies.{Reading, FetchReply, Acks, Ready, Pack, reply_of}
+use Rattle.gfetchreply.specs.FetchHeads.{head_of}
+use Rattle.gobject.specs.declared.node.Entry.{Entry}
+use Rattle.gobject.specs.Packs.{Indexes, IndexFails}
+use Rattle.ghistory.specs.Graphs.{Holds}
+use Rattle.ghistory.specs.Laws.{DistinctAreOnce, OffersAreExact}
+use Rattle.ghistory.specs.Levels.{distinct_of}
+use Rattle.ghistory.specs.Reach.{IsFull, SomeReaches}
+use Rattle.grepo.specs.Repos.{RepoState, IsWhole}
+use Rattle.grequest.specs.Asked.{FetchAsked, is_direct}
+use Rattle.gsession.specs.Bounds.{BeganBegins, BeganOn, OffersAreNew}
+use Rattle.gsession.specs.Requesting.{IsBatch, batch_size, fetch_request}
+use Rattle.gsession.specs.Sessions.{SessionState}
+use Rattle.gsession.specs.TakingReplies.{DoneIsLast, HasPack, TakesHead, reading_for}
+use Rattle.gsession.specs.declared.stage.Stage.TheVariants.{Settling}
+use Rattle.gsession.specs.declared.taken.Taken.{Taken}
+use Rattle.gsession.specs.declared.taken.Taken.TheVariants.{Round, PackTaken}
+use Rattle.gsession.proofs.BoundLemmas.{in_batch}
+use Rattle.gsession.proofs.ReplyLemmas.{no_acks}
+use Rattle.gsession.proofs.TakingLaws.{one_asked}
+
+-- a direct reply has a pack
+direct_pack : (reading : Reading) (reply : FetchReply) (lines : List Packet) → reading.direct ≡ true
+    → reply ≡ reply_of reading lines → HasPack reply
+direct_pack reading (Acks ids) lines direct says =
+    absurd (false≢true (sym (no_acks reading.direct _ _ ids (ap head_of says)) ∙ direct))
+direct_pack reading (Ready ids pack) lines direct says = tt
+direct_pack reading (Pack pack) lines direct says = tt
+
+done_direct : (asked : FetchAsked) → asked.done ≡ true → is_direct asked ≡ true
+done_direct asked done = rw done refl
+
+module _ {A : Type 0} where
+  -- no id of a batch was offered before
+  fresh_batch : OffersAreExact A → (s : SessionState A) (g : List (Entry A)) (batch : List (List ℕ)) → IsBatch s g batch
+      → All (λ a. ¬ (Contains s.sent a)) batch
+  fresh_batch exact s g batch is =
+      let P : List ℕ → Type 0 = λ a. ¬ (Contains s.sent a) in
+      subst (All P) (sym is.is) (in_batch P s.commons is.offer
+      (All-weaker (Contains is.offer) P
+      (λ a there. ((exact g s.tips s.commons s.sent (batch_size s.rounds)).each is.offer a is.offered there).0.unsent)
+      is.offer (All-contains_itself is.offer)))
+
+  new_id : (s : SessionState A) (asked : FetchAsked) (batch : List (List ℕ))
+      → asked ≡ fetch_request s.wants s.commons batch → All (λ a. ¬ (Contains s.sent a)) batch → asked.done ≡ false
+      → ((a : List ℕ) × Contains asked.haves a × ¬ (Contains s.sent a))
+  new_id s asked [] is fresh goes_on =
+      absurd (false≢true (sym goes_on ∙ ap (λ (r : FetchAsked). r.done) is))
+  new_id s asked (b ∷ rest) is fresh goes_on =
+      let among : Contains (s.commons ++ b ∷ rest) b =
+      Contains-append_right s.commons (b ∷ rest) b (Contains-append_left (b ∷ []) rest b (Contains-push [] b)) in (
+        b,
+        subst (λ (r : FetchAsked). Contains r.haves b) (sym is) among,
+        All-head (λ a. ¬ (Contains s.sent a)) b rest fresh,
+      )
+
+  pub offers_are_new : OffersAreExact A → OffersAreNew A
+  offers_are_new exact g old new asked made goes_on =
+      new_id old asked made.0 made.1.1 (fresh_batch exact old g made.0 made.1.2) goes_on
+
+  tips_are_full : DistinctAreOnce → (r : RepoState A) → IsWhole r
+      → All (IsFull r.graph.entries) (distinct_of (values_of r.refs))
+  tips_are_full once r whole =
+      let ids : List (List ℕ) = values_of r.refs in
+      All-weaker (Contains (distinct_of ids)) (IsFull r.graph.entries)
+      (λ a there. All-contains (IsFull r.graph.entries) ids a whole.safe (((once ids).same a).0 there))
+      (distinct_of ids) (All-contains_itself (distinct_of ids))
+
+  pub began_begins : DistinctAreOnce → BeganBegins A
+  began_begins once r refspecs limit ends session whole begins =
+      subst (BeganOn r.graph.entries) (sym begins.1) (record {
+        full = tips_are_full once r whole;
+        sent = All-nil (λ a. Holds r.graph.entries a
+            × SomeReaches r.graph.entries (distinct_of (values_of r.refs)) a);
+      })
+
+module _ {A : Type 0} (indexes : Indexes A) (index_fails : IndexFails) where
+  settles_next : (old new : SessionState A) (s repo_new : RepoState A) (reply : FetchReply) (taken : Taken)
+      → HasPack reply → TakesHead indexes index_fails old s reply new repo_new taken → new.stage ≡ Settling
+  settles_next old new s repo_new reply (Round common) has takes = absurd (takes.0 has)
+  settles_next old new s repo_new reply (PackTaken added) has takes =
+      ap (λ (o : SessionState A). o.stage) takes.1
+
+  pub done_is_last : DoneIsLast indexes index_fails
+  done_is_last old new s repo_new change asked taken waits done takes =
+      let same : takes.0 ≡ asked = one_asked old asked takes.0 waits takes.1 in
+      let direct : is_direct takes.0 ≡ true =
+      subst (λ (r : FetchAsked). is_direct r ≡ true) (sym same) (done_direct asked done) in
+      let reads = takes.2.1 in
+      let has = direct_pack (reading_for old takes.0) takes.2.0 reads.lines direct reads.says.says in
+      settles_next old new s repo_new takes.2.0 taken has takes.2.2.1

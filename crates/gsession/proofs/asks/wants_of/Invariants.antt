@@ -1,0 +1,7 @@
+use Rattle.std.proofs.Common.{take}
+use Rattle.ghistory.specs.Reach.{IsFull}
+use Rattle.ghistory.specs.Selecting.{Selects}
+use Rattle.gsession.proofs.asks.wants_of.Given as goal
+
+abbrev pub invariant-loop-id : goal.invariant-loop-id
+invariant-loop-id g l = Selects (λ a. ¬ (IsFull l.repo.graph.entries a)) (take l.id-index l.id-items) l.wants.items

@@ -1,0 +1,5 @@
+use Rattle.gsession.proofs.BoundLemmas.{began_stays}
+use Rattle.gsession.proofs.laws.began_stays.Goals as goal
+
+pub returns : goal.returns
+returns g c = began_stays c.offers_are_exact.ensures c.growing_keeps.ensures c.full_stays_full.ensures

@@ -1,0 +1,8 @@
+use Rattle.gsession.proofs.LastLemmas.{begins_counted, counted_stays}
+use Rattle.gsession.proofs.laws.requests_are_counted.Goals as goal
+
+pub returns-clause-begins : goal.returns-clause-begins
+returns-clause-begins g c = begins_counted
+
+pub returns-clause-stays : goal.returns-clause-stays
+returns-clause-stays g c = λ k. counted_stays c.offers_are_exact.ensures (g.K.Indexer.indexes k) (g.K.Indexer.index_fails k)

@@ -1,0 +1,15 @@
+use Rattle.std.proofs.Common.{ap}
+use Rattle.grequest.specs.Asked.{max_haves}
+use Rattle.grequest.specs.Building.{FormattedFetch}
+use Rattle.gsession.proofs.BuildLemmas.{fits, has_room, only_memory}
+use Rattle.gsession.proofs.requests.add_haves.Goals as goal
+
+pub no_memory-requires : goal.no_memory-requires
+no_memory-requires g c =
+    let now = c.loop-id.request in
+    let old = c.args.request.now in
+    let ids = c.args.haves.now in
+    only_memory _ _ c.in-Err.fault.why
+    (fits old.format now.format ids c.loop-id.id-index c.id-item.result c.requires.ids c.loop-id-test.true c.id-item.is (ap (λ (r : FormattedFetch). r.format) c.loop-id.invariant))
+    (has_room old.asked.haves now.asked.haves ids c.loop-id.id-index max_haves (ap (λ (r : FormattedFetch). r.asked.haves) c.loop-id.invariant) c.loop-id-test.true c.requires.room)
+    c.in-Err.ensures.2

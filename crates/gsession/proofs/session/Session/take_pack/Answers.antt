@@ -1,0 +1,44 @@
+use Rattle.std.proofs.Common.{◌≡◌, ℕ, List, ◌++◌, All, Contains, refl, sym, ap, subst, ◌∙◌}
+use Rattle.std.proofs.lemmas.Result.{err_from_is_err_and}
+use Rattle.ghistory.specs.Levels.{distinct_of}
+use Rattle.gfetchreply.specs.FetchHeads.{pack_of}
+use Rattle.gsession.specs.declared.stage.Stage.TheVariants.{Settling}
+use Rattle.gsession.proofs.ReplyLemmas.{acked, graph_fault, same_repo}
+use Rattle.gsession.proofs.session.Session.take_pack.Goals as goal
+
+pub returns-in_err-entries : goal.returns-in_err-entries
+returns-in_err-entries g c = λ asked reply waits same has fed.
+    let p = err_from_is_err_and c.from_residual-in_err-entries.result c.from_residual-in_err-entries.ensures.1 in
+    let counts = c.in_ok-commons.ensures.counts asked waits in
+    let named = subst (λ (l : List (List ℕ)). All (Contains asked.haves) l) (sym same) counts.0 in
+    rw (p.1, p.2) ((named, has, c.in_err-entries.ensures (pack_of reply) fed), refl, refl)
+
+pub returns-in_err-added : goal.returns-in_err-added
+returns-in_err-added g c = λ asked reply waits same has fed.
+    let p = err_from_is_err_and c.from_residual-in_err-added.result c.from_residual-in_err-added.ensures.1 in
+    let counts = c.in_ok-commons.ensures.counts asked waits in
+    let named = subst (λ (l : List (List ℕ)). All (Contains asked.haves) l) (sym same) counts.0 in
+    let adds = rw c.as_slice.ensures.value at c.in_err-added.ensures.adds in
+    rw (p.1, p.2) (
+      graph_fault (g.K.Indexer.indexes c.args.feed.indexer.now) (g.K.Indexer.index_fails c.args.feed.indexer.now) asked.haves c.args.repo.now reply c.in_err-added.field-0.0 named has (c.in_ok-entries.entries.items, c.in_ok-entries.ensures (pack_of reply) fed, adds.1),
+      refl,
+      same_repo c.insert_all.new.self c.args.repo.now adds.0 c.in_err-added.ensures.refs c.in_err-added.ensures.known,
+    )
+
+pub returns : goal.returns
+returns g c = λ asked reply waits same has fed.
+    let s = c.args.self.now in
+    let counts = c.in_ok-commons.ensures.counts asked waits in
+    let named = subst (λ (l : List (List ℕ)). All (Contains asked.haves) l) (sym same) counts.0 in
+    let commons = counts.1 ∙ ap (λ (l : List (List ℕ)). distinct_of (s.commons ++ l)) (sym same) in (
+      named,
+      (
+        has,
+        acked Settling _ s _ c.in_ok-commons.commons.items c.self.view_is commons,
+        (
+          c.in_ok-entries.entries.items,
+          c.in_ok-entries.ensures (pack_of reply) fed,
+          record { adds = rw c.as_slice.ensures.value at c.in_ok-added.ensures.adds; refs = c.in_ok-added.ensures.refs; known = c.in_ok-added.ensures.known },
+        ),
+      ),
+    )

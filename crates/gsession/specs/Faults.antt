@@ -1,0 +1,19 @@
+-- The table of faults: the number and the name of each.
+use Rattle.std.specs.Prelude.{codes}
+use Rattle.gname.specs.Faults.{FaultRow}
+use Rattle.ggrammar.specs.Faults.{why_row}
+use Rattle.gobject.specs.Faults.{index_fault_row}
+use Rattle.grepo.specs.Faults.{repo_fault_row}
+use Rattle.gsession.specs.declared.fault.ClientFault.{ClientFault}
+use Rattle.gsession.specs.declared.fault.ClientFault.TheVariants.{Index, Message, NoOpenRequest, Repo, StrangeAck}
+use Rattle.gsession.specs.declared.fault.ClientFault.TheVariants.{TooManySpecs, TooManyWants}
+
+-- why a call of a session was refused; a fault of a message, of the indexer or of the repository has its own row
+abbrev pub client_fault_row : {A : Type 0} → ClientFault A → FaultRow
+client_fault_row (Message fault) = ((why_row fault.why).code, (why_row fault.why).name)
+client_fault_row (Index fault) = index_fault_row fault
+client_fault_row TooManySpecs = (82, codes "TooManySpecs")
+client_fault_row NoOpenRequest = (83, codes "NoOpenRequest")
+client_fault_row (StrangeAck id) = (84, codes "StrangeAck")
+client_fault_row TooManyWants = (86, codes "TooManyWants")
+client_fault_row (Repo fault) = repo_fault_row fault

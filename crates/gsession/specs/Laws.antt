@@ -1,0 +1,143 @@
+-- What follows from the definitions of a session's calls.
+use Rattle.std.specs.Prelude.{◌≡◌, ◌⊎◌, ℕ, true, List, All, Contains, Result}
+use Rattle.gpkt.specs.Change.{Change}
+use Rattle.ggrammar.specs.Capabilities.{Capability}
+use Rattle.ggrammar.specs.MessageBytes.{known}
+use Rattle.glsreply.specs.RefTexts.{RefLine}
+use Rattle.gfetchreply.specs.FetchReplies.{FetchReply}
+use Rattle.gobject.specs.declared.node.Entry.{Entry}
+use Rattle.gobject.specs.Packs.{Indexes, IndexFails}
+use Rattle.ghistory.specs.Reach.{Grows, IsFull}
+use Rattle.gspec.specs.Refspecs.{Refspec, matches}
+use Rattle.grepo.specs.declared.ask.Ask.{Ask}
+use Rattle.grepo.specs.declared.ask.RefUpdate.{RefUpdate}
+use Rattle.grepo.specs.Asks.{asked_ids}
+use Rattle.grepo.specs.Repos.{RepoState}
+use Rattle.grequest.specs.Asked.{Asked, Fetches, FetchAsked}
+use Rattle.gsession.specs.Asking.{AreWants, ask_of, asked_of}
+use Rattle.gsession.specs.Calls.{GoesOn, HasCalled, IsOpenHave, IsOutOfTurn, IsOver}
+use Rattle.gsession.specs.Requesting.{MakesNext, Requests}
+use Rattle.gsession.specs.Sessions.{SessionState, Hears}
+use Rattle.gsession.specs.SettlingRefs.{SettlesSession}
+use Rattle.gsession.specs.TakingRefs.{TakesLs}
+use Rattle.gsession.specs.TakingReplies.{TakesRead, TakesReply, acks_of}
+use Rattle.gsession.specs.declared.fault.ClientFault.{ClientFault}
+use Rattle.gsession.specs.declared.taken.LsTaken.{LsTaken}
+use Rattle.gsession.specs.declared.taken.Taken.{Taken}
+
+-- what every call leaves as it is
+abbrev pub EachGoesOn : {A : Type 0} → Indexes A → IndexFails → Type 0
+EachGoesOn {A} indexes index_fails =
+    (repo : RepoState A) (old new : SessionState A) → HasCalled indexes index_fails repo old new → GoesOn old new
+
+-- ---- what is asked for
+
+-- the ask is what one of the refspecs asks for of one of the lines
+pub record IsAskOf {A : Type 0} (specs : List Refspec) (lines : List RefLine) (ask : Ask A) : Type 0 where
+  pub spec : Refspec
+  pub line : RefLine
+  pub among : Contains specs spec
+  pub told : Contains lines line
+  pub matched : matches spec line.name ≡ true
+  pub is : ask ≡ ask_of spec line
+
+abbrev pub AsksAreOfLines : Type 0 → Type 0
+AsksAreOfLines A =
+    (specs : List Refspec) (lines : List RefLine) → All (IsAskOf {A = A} specs lines) (asked_of specs lines)
+
+-- each want is an asked id whose whole ancestry is not held, and each other asked id's is held
+pub record AreExactWants {A : Type 0} (g : List (Entry A)) (asks : List (Ask A)) (wants : List (List ℕ)) : Type 0 where
+  pub asked : All (Contains (asked_ids asks)) wants
+  pub missing : All (λ a. ¬ (IsFull g a)) wants
+  pub others : All (λ a. Contains wants a ⊎ IsFull g a) (asked_ids asks)
+
+abbrev pub WantsAreExact : Type 0 → Type 0
+WantsAreExact A =
+    (g : List (Entry A)) (asks : List (Ask A)) (wants : List (List ℕ)) → AreWants g asks wants
+    → AreExactWants g asks wants
+
+-- where the bytes to come are known, they and what is answered decide the session after a reply to ls-refs
+abbrev pub ListingIsDecided : Type 0 → Type 0
+ListingIsDecided A =
+    (old one other : SessionState A) (g : List (Entry A)) (bytes left also : List ℕ)
+    (result : Result (LsTaken A) (ClientFault A)) → TakesLs old g (known bytes left) one result
+    → TakesLs old g (known bytes also) other result → one ≡ other
+
+-- ---- haves
+
+-- the whole ancestry of each have is held, where those of the tips and of the common ids are
+abbrev pub HavesAreFull : Type 0 → Type 0
+HavesAreFull A =
+    (g : List (Entry A)) (old new : SessionState A) (asked : FetchAsked) → All (IsFull g) old.tips
+    → All (IsFull g) old.commons → MakesNext old g new (Fetches asked) → All (IsFull g) asked.haves
+
+-- each have is common, or was not offered before
+abbrev pub HavesAreNew : Type 0 → Type 0
+HavesAreNew A =
+    (g : List (Entry A)) (old new : SessionState A) (asked : FetchAsked) → MakesNext old g new (Fetches asked)
+    → All (λ a. Contains old.commons a ⊎ ¬ (Contains old.sent a)) asked.haves
+
+-- ---- common ids
+
+-- the common ids after a reply are those before it and those that it acknowledges, which are haves of the request
+pub record AreCommonsAfter (haves acks old new : List (List ℕ)) : Type 0 where
+  pub stay : All (Contains new) old
+  pub come : All (Contains new) acks
+  pub others : All (λ a. Contains old a ⊎ Contains acks a) new
+  pub named : All (Contains haves) acks
+
+abbrev pub RepliesAddCommons : {A : Type 0} → Indexes A → IndexFails → Type 0
+RepliesAddCommons {A} indexes index_fails =
+    (haves : List (List ℕ)) (old new : SessionState A) (repo after : RepoState A) (reply : FetchReply) (taken : Taken)
+    → TakesRead indexes index_fails haves old repo reply new after taken
+    → AreCommonsAfter haves (acks_of reply) old.commons new.commons
+
+-- after every call each common id was common, or was a have of the request that waited
+abbrev pub CommonsAreHaves : {A : Type 0} → Indexes A → IndexFails → Type 0
+CommonsAreHaves {A} indexes index_fails =
+    (repo : RepoState A) (old new : SessionState A) → HasCalled indexes index_fails repo old new
+    → All (λ a. Contains old.commons a ⊎ IsOpenHave old a) new.commons
+
+-- ---- the repository
+
+-- what taking a reply does to a repository, whatever it answers: to its graph objects only come
+pub record OnlyGrows {A : Type 0} (old new : RepoState A) : Type 0 where
+  pub grows : Grows old.graph.entries new.graph.entries
+  pub format : new.graph.format ≡ old.graph.format
+  pub refs : new.refs ≡ old.refs
+  pub known : new.known ≡ old.known
+
+abbrev pub TakingOnlyGrows : {A : Type 0} → Indexes A → IndexFails → Type 0
+TakingOnlyGrows {A} indexes index_fails =
+    (old new : SessionState A) (repo after : RepoState A) (change : Change) (result : Result Taken (ClientFault A))
+    → TakesReply indexes index_fails old repo change new after result → OnlyGrows repo after
+
+-- ---- a session that is over
+
+-- each call of a session that is over does not fit, and reads and changes nothing
+abbrev pub OverHearsNone : Type 0 → Type 0
+OverHearsNone A =
+    (old new : SessionState A) (capabilities : List Capability) (result : Result (Unit {0}) (ClientFault A))
+    → IsOver old → Hears old capabilities new result → IsOutOfTurn old new result
+
+abbrev pub OverRequestsNone : Type 0 → Type 0
+OverRequestsNone A =
+    (g : List (Entry A)) (old new : SessionState A) (result : Result Asked (ClientFault A))
+    → IsOver old → Requests old g new result → IsOutOfTurn old new result
+
+abbrev pub OverTakesNoRefs : Type 0 → Type 0
+OverTakesNoRefs A =
+    (g : List (Entry A)) (old new : SessionState A) (change : Change) (result : Result (LsTaken A) (ClientFault A))
+    → IsOver old → TakesLs old g change new result → IsOutOfTurn old new result × (change.new ≡ change.old)
+
+abbrev pub OverTakesNoReply : {A : Type 0} → Indexes A → IndexFails → Type 0
+OverTakesNoReply {A} indexes index_fails =
+    (old new : SessionState A) (repo after : RepoState A) (change : Change) (result : Result Taken (ClientFault A))
+    → IsOver old → TakesReply indexes index_fails old repo change new after result
+    → IsOutOfTurn old new result × (change.new ≡ change.old) × (after ≡ repo)
+
+abbrev pub OverSettlesNone : Type 0 → Type 0
+OverSettlesNone A =
+    (old new : SessionState A) (repo after : RepoState A)
+    (result : Result (List (Ask A) × List RefUpdate) (ClientFault A))
+    → IsOver old → SettlesSession old repo new after result → IsOutOfTurn old new result × (after ≡ repo)

@@ -1,0 +1,96 @@
+-- The next request of a session. gitprotocol-v2(5), "ls-refs" and "fetch", says what a request has; which ids are
+-- offered as haves, and when the client is done, is our own rule: batches of 16, 32, 64, 128 and then 256 ids.
+use Rattle.std.specs.Prelude.{◌≡◌, ℕ, ◌+◌, Bool, true, false, List, [], ◌∷◌, ◌++◌, length, map, nat_le, ◌==◌}
+use Rattle.std.specs.Prelude.{cond, if◌then◌else◌, Option, Some, None, Result, Ok, Err}
+use Rattle.gobject.specs.declared.node.Entry.{Entry}
+use Rattle.ghistory.specs.Levels.{distinct_of, is_in}
+use Rattle.ghistory.specs.Offer.{IsOffer}
+use Rattle.ghistory.specs.declared.fault.GraphFault.TheVariants as graph
+use Rattle.gspec.specs.Refspecs.{Refspec}
+use Rattle.grepo.specs.declared.fault.RepoFault.TheVariants as repo
+use Rattle.grequest.specs.Asked.{Asked, Empty, Ls, Fetches, LsRefsAsked, FetchAsked, max_haves}
+use Rattle.gsession.specs.Sessions.{SessionState, over}
+use Rattle.gsession.specs.declared.stage.Stage.{Stage}
+use Rattle.gsession.specs.declared.stage.Stage.TheVariants.{Listing, Fetching, Settling, Over}
+use Rattle.gsession.specs.declared.fault.ClientFault.{ClientFault}
+use Rattle.gsession.specs.declared.fault.ClientFault.TheVariants.{NoOpenRequest, Repo}
+
+-- the request for refs: those whose names begin with the source of a refspec, or of a pattern with what stands before
+-- its `*`; and the target of an unborn HEAD where the server offers to tell it
+abbrev pub ls_request : List Refspec → Bool → LsRefsAsked
+ls_request specs unborn = record {
+  agent = None;
+  symrefs = false;
+  peel = false;
+  unborn = unborn;
+  prefixes = distinct_of (map (λ spec. spec.source) specs);
+}
+
+-- a prefix more, unless it is there
+abbrev pub with_prefix : List (List ℕ) → List ℕ → List (List ℕ)
+with_prefix prefixes prefix = cond (is_in prefixes prefix) prefixes (prefixes ++ prefix ∷ [])
+
+-- how many ids are offered after so many rounds
+abbrev pub batch_size : ℕ → ℕ
+batch_size rounds =
+    if rounds == 0 then 16
+    else if rounds == 1 then 32
+    else if rounds == 2 then 64
+    else if rounds == 3 then 128
+    else 256
+
+-- the batch: what is to be offered, unless a request has no room for it beside the common ids
+abbrev pub batch_of : List (List ℕ) → List (List ℕ) → List (List ℕ)
+batch_of commons offer = if nat_le (length commons + length offer) max_haves then offer else []
+
+-- the ids that are offered next, level by level from the tips
+pub record IsBatch {A : Type 0} (s : SessionState A) (g : List (Entry A)) (batch : List (List ℕ)) : Type 0 where
+  pub offer : List (List ℕ)
+  pub offered : IsOffer g s.tips s.commons s.sent (batch_size s.rounds) offer
+  pub is : batch ≡ batch_of s.commons offer
+
+-- the request for the wanted objects: the client has the common ids and those of the batch, and is done without a
+-- batch
+abbrev pub fetch_request : List (List ℕ) → List (List ℕ) → List (List ℕ) → FetchAsked
+fetch_request wants commons batch = record {
+  agent = None;
+  wants = wants;
+  haves = commons ++ batch;
+  done = length batch == 0;
+  thin_pack = false;
+  no_progress = true;
+  include_tag = true;
+  ofs_delta = false;
+}
+
+-- the next request, with its batch: for refs first, then for objects, as often as the server only acknowledged
+abbrev pub IsNext : {A : Type 0} → SessionState A → List (Entry A) → Asked → List (List ℕ) → Type 0
+IsNext s g Empty batch = ⊥
+IsNext s g (Ls asked) batch = (s.stage ≡ Listing) × (asked ≡ ls_request s.refspecs s.offers_unborn) × (batch ≡ [])
+IsNext s g (Fetches asked) batch =
+    (s.stage ≡ Fetching) × (asked ≡ fetch_request s.wants s.commons batch) × IsBatch s g batch
+
+-- the request waits for its reply; one for objects is a round
+abbrev pub waiting_for : {A : Type 0} → SessionState A → Asked → List (List ℕ) → SessionState A
+waiting_for s (Fetches asked) batch =
+    record s { pending = Some (Fetches asked); sent = s.sent ++ batch; rounds = s.rounds + 1 }
+waiting_for s asked batch = record s { pending = Some asked }
+
+-- the next request is made, and waits for its reply
+abbrev pub MakesNext : {A : Type 0} → SessionState A → List (Entry A) → SessionState A → Asked → Type 0
+MakesNext old g new asked = (batch : List (List ℕ)) × IsNext old g asked batch × (new ≡ waiting_for old asked batch)
+
+-- a request is due: none waits for its reply, and refs or objects are to be asked for
+abbrev pub is_due : Stage → Option Asked → Bool
+is_due Listing None = true
+is_due Fetching None = true
+is_due _ _ = false
+
+-- what asking for the next request answers: it, and it waits for its reply; or that none is due; or that there is no
+-- memory, and the session is over
+abbrev pub Requests : {A : Type 0} → SessionState A → List (Entry A) → SessionState A
+    → Result Asked (ClientFault A) → Type 0
+Requests old g new (Ok asked) = (old.pending ≡ None) × MakesNext old g new asked
+Requests old g new (Err NoOpenRequest) = (is_due old.stage old.pending ≡ false) × (new ≡ old)
+Requests old g new (Err (Repo (repo.Graph graph.Memory))) = (is_due old.stage old.pending ≡ true) × (new ≡ over old)
+Requests old g new (Err _) = ⊥

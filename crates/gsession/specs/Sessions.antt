@@ -1,0 +1,166 @@
+-- A session: a client's conversation with one server, from the request for refs to the refs here that move. The order
+-- of requests is that of gitprotocol-v2(5), "Command Request"; what a session keeps is our own.
+use Rattle.std.specs.Prelude.{◌≡◌, ℕ, ◌+◌, ◌≤◌, ◌<◌, Bool, true, false, List, [], ◌++◌, length, All, Contains, codes}
+use Rattle.std.specs.Prelude.{if◌then◌else◌, Option, Some, None, Result, Ok, Err}
+use Rattle.std.specs.List.{IsDistinct}
+use Rattle.std.specs.Map.{values_of}
+use Rattle.std.specs.Str.{bytes_eq}
+use Rattle.gname.specs.Ids.{IsIdOf}
+use Rattle.gname.specs.declared.formats.Format.{Format}
+use Rattle.ggrammar.specs.declared.ends.Ends.{Ends}
+use Rattle.gpkt.specs.LineReading.{Reader}
+use Rattle.ggrammar.specs.Capabilities.{Capability}
+use Rattle.ggrammar.specs.MessageReading.{LeavesReader}
+use Rattle.ghello.specs.Offers.{has_feature}
+use Rattle.ghistory.specs.Levels.{distinct_of}
+use Rattle.ghistory.specs.declared.fault.GraphFault.TheVariants as graph
+use Rattle.gspec.specs.Refspecs.{Refspec}
+use Rattle.grepo.specs.declared.ask.Ask.{Ask}
+use Rattle.grepo.specs.declared.fault.RepoFault.TheVariants as repo
+use Rattle.grepo.specs.Repos.{RepoState}
+use Rattle.grequest.specs.Asked.{Asked, Empty, Ls, Fetches, FetchAsked, is_direct, max_haves, max_wants}
+use Rattle.gsession.specs.declared.stage.Stage.{Stage}
+use Rattle.gsession.specs.declared.stage.Stage.TheVariants.{Listing, Fetching, Settling, Over}
+use Rattle.gsession.specs.declared.fault.ClientFault.{ClientFault}
+use Rattle.gsession.specs.declared.fault.ClientFault.TheVariants.{Message, NoOpenRequest, TooManySpecs, Repo}
+
+-- what a session knows: what it fetches and how; the tips, which are the distinct ids of the refs when it began;
+-- whether the server offers to tell of an unborn HEAD; how far it is, and the request that waits for its reply; what
+-- is asked for, and which objects are wanted for it; the ids that the server has acknowledged, those that were
+-- offered to it, and how many times objects were asked for
+pub record SessionState (A : Type 0) : Type 0 where
+  pub format : Format
+  pub refspecs : List Refspec
+  pub limit : ℕ
+  pub ends : Ends
+  pub tips : List (List ℕ)
+  pub offers_unborn : Bool
+  pub stage : Stage
+  pub pending : Option Asked
+  pub asks : List (Ask A)
+  pub wants : List (List ℕ)
+  pub commons : List (List ℕ)
+  pub sent : List (List ℕ)
+  pub rounds : ℕ
+
+-- the most refspecs of a session
+abbrev pub max_specs : ℕ
+max_specs = 16
+
+-- A request for objects that waits for its reply has the session's wants, and among its haves each common id. Where
+-- another one may follow it, there were no more of them than ids were offered.
+pub record IsOpenFetch {A : Type 0} (s : SessionState A) (asked : FetchAsked) : Type 0 where
+  pub wants : asked.wants ≡ s.wants
+  pub names : All (Contains asked.haves) s.commons
+  pub ids : All (IsIdOf s.format) asked.haves
+  pub few : length asked.haves ≤ max_haves
+  pub goes_on : is_direct asked ≡ false → s.rounds ≤ length s.sent
+
+-- the request that waits goes with the stage: while refs are asked for, no objects were
+abbrev pub FitsStage : {A : Type 0} → SessionState A → Stage → Option Asked → Type 0
+FitsStage s Listing None = s.rounds ≡ 0
+FitsStage s Listing (Some (Ls asked)) = s.rounds ≡ 0
+FitsStage s Fetching None = s.rounds ≤ length s.sent
+FitsStage s Fetching (Some (Fetches asked)) = IsOpenFetch s asked
+FitsStage s Settling None = Unit {0}
+FitsStage s Over None = Unit {0}
+FitsStage s _ _ = ⊥
+
+-- common ids: each is of the format and comes once, and a request has room for them
+pub record AreCommons (format : Format) (commons : List (List ℕ)) : Type 0 where
+  pub ids : All (IsIdOf format) commons
+  pub few : length commons ≤ max_haves
+  pub once : IsDistinct bytes_eq commons
+
+-- what each session keeps: its lists have ids of its format and are not too long, it offers no id twice, it asked for
+-- objects at most once more than it offered ids, and the request that waits goes with its stage
+pub record IsSession {A : Type 0} (s : SessionState A) : Type 0 where
+  pub few_specs : length s.refspecs ≤ max_specs
+  pub tips : All (IsIdOf s.format) s.tips
+  pub wants : All (IsIdOf s.format) s.wants
+  pub few_wants : length s.wants ≤ max_wants
+  pub commons : AreCommons s.format s.commons
+  pub sent : IsDistinct bytes_eq s.sent
+  pub rounds : s.rounds ≤ length s.sent + 1
+  pub stage : FitsStage s s.stage s.pending
+
+-- a batch that was not offered before, and for which a request has room beside the common ids
+pub record FitsBatch {A : Type 0} (s : SessionState A) (batch : List (List ℕ)) : Type 0 where
+  pub ids : All (IsIdOf s.format) batch
+  pub room : length s.commons + length batch ≤ max_haves
+  pub fresh : IsDistinct bytes_eq (s.sent ++ batch)
+
+-- a session that is over; every further call is refused
+abbrev pub over : {A : Type 0} → SessionState A → SessionState A
+over s = record s { stage = Over; pending = None }
+
+-- a fault ends the session, unless the call did not fit what it waits for
+abbrev pub ends_session : {A : Type 0} → ClientFault A → Bool
+ends_session NoOpenRequest = false
+ends_session _ = true
+
+-- the session after a fault
+abbrev pub after_fault : {A : Type 0} → SessionState A → ClientFault A → SessionState A
+after_fault s fault = if ends_session fault then over s else s
+
+-- How taking a reply leaves the reader: where none was due, as it was; else as reading the reply left it.
+abbrev pub LeavesReplies : {A S T : Type 0} → (S → Bool) → Reader S → Reader S → Result T (ClientFault A) → Type 0
+LeavesReplies is_down old new (Err NoOpenRequest) = new ≡ old
+LeavesReplies is_down old new (Err (Message fault)) = LeavesReader {M = Unit {0}} is_down old new (Err fault)
+LeavesReplies is_down old new _ = LeavesReader {M = Unit {0}} is_down old new (Ok tt)
+
+-- out of memory
+abbrev pub no_memory : {A : Type 0} → ClientFault A
+no_memory = Repo (repo.Graph graph.Memory)
+
+-- ---- beginning
+
+-- the tips: the distinct ids of the refs
+abbrev pub tips_of : {A : Type 0} → RepoState A → List (List ℕ)
+tips_of repo = distinct_of (values_of repo.refs)
+
+-- a session as it begins
+abbrev pub new_session : {A : Type 0} → Format → List Refspec → ℕ → Ends → List (List ℕ) → SessionState A
+new_session format refspecs limit ends tips = record {
+  format = format;
+  refspecs = refspecs;
+  limit = limit;
+  ends = ends;
+  tips = tips;
+  offers_unborn = false;
+  stage = Listing;
+  pending = None;
+  asks = [];
+  wants = [];
+  commons = [];
+  sent = [];
+  rounds = 0;
+}
+
+-- what beginning answers: a session; or that there are too many refspecs; or that there is no memory
+abbrev pub Begins : {A : Type 0} → RepoState A → List Refspec → ℕ → Ends
+    → Result (SessionState A) (ClientFault A) → Type 0
+Begins r refspecs limit ends (Ok session) =
+    (length refspecs ≤ max_specs)
+    × (session ≡ new_session r.graph.format refspecs limit ends (tips_of r))
+Begins r refspecs limit ends (Err TooManySpecs) = max_specs < length refspecs
+Begins r refspecs limit ends (Err (Repo (repo.Graph graph.Memory))) = length refspecs ≤ max_specs
+Begins r refspecs limit ends (Err _) = ⊥
+
+-- ---- the advertisement
+
+-- nothing was requested yet
+abbrev pub IsBegun : {A : Type 0} → SessionState A → Type 0
+IsBegun s = (s.stage ≡ Listing) × (s.pending ≡ None)
+
+-- whether a server tells of an unborn HEAD (gitprotocol-v2(5), "ls-refs": `unborn`)
+abbrev pub tells_unborn : List Capability → Bool
+tells_unborn capabilities = has_feature (codes "ls-refs") (codes "unborn") capabilities
+
+-- what hearing the server's advertisement answers: it is kept whether the server tells of an unborn HEAD; or it comes
+-- too late
+abbrev pub Hears : {A : Type 0} → SessionState A → List Capability → SessionState A → Result Unit (ClientFault A)
+    → Type 0
+Hears old capabilities new (Ok _) = IsBegun old × (new ≡ record old { offers_unborn = tells_unborn capabilities })
+Hears old capabilities new (Err NoOpenRequest) = ¬ (IsBegun old) × (new ≡ old)
+Hears old capabilities new (Err _) = ⊥

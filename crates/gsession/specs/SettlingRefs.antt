@@ -1,0 +1,23 @@
+-- Settling at the end of a session. When it is time for it is our own rule.
+use Rattle.std.specs.Prelude.{◌≡◌, ◌≢◌, List, [], Result, Ok, Err}
+use Rattle.grepo.specs.declared.ask.Ask.{Ask}
+use Rattle.grepo.specs.declared.ask.RefUpdate.{RefUpdate}
+use Rattle.grepo.specs.Changes.{SettlesAsks}
+use Rattle.grepo.specs.Repos.{RepoState}
+use Rattle.gsession.specs.Sessions.{SessionState, over}
+use Rattle.gsession.specs.declared.stage.Stage.TheVariants.{Settling}
+use Rattle.gsession.specs.declared.fault.ClientFault.{ClientFault}
+use Rattle.gsession.specs.declared.fault.ClientFault.TheVariants.{NoOpenRequest, Repo}
+
+-- what settling answers: the asks, and what became of them, and the session is over and holds them no more; or why
+-- they are not settled, and the session is over; or that it is not time for it, and the session goes on
+abbrev pub SettlesSession : {A : Type 0} → SessionState A → RepoState A → SessionState A → RepoState A
+    → Result (List (Ask A) × List RefUpdate) (ClientFault A) → Type 0
+SettlesSession old repo_old new repo_new (Ok settled) =
+    (old.stage ≡ Settling) × (settled.0 ≡ old.asks) × (new ≡ record (over old) { asks = [] })
+    × SettlesAsks repo_old old.asks repo_new (Ok settled.1)
+SettlesSession old repo_old new repo_new (Err (Repo fault)) =
+    (old.stage ≡ Settling) × (new ≡ over old) × SettlesAsks repo_old old.asks repo_new (Err fault)
+SettlesSession old repo_old new repo_new (Err NoOpenRequest) =
+    (old.stage ≢ Settling) × (new ≡ old) × (repo_new ≡ repo_old)
+SettlesSession old repo_old new repo_new (Err _) = ⊥

@@ -1,0 +1,107 @@
+-- Taking the reply to ls-refs (gitprotocol-v2(5), "ls-refs").
+use Rattle.std.specs.Prelude.{◌≡◌, ◌⊎◌, ℕ, ◌<◌, ◌≤◌, List, [], ◌∷◌, length, Option, Some, None, Result, Ok, Err}
+use Rattle.gpkt.specs.Change.{Change}
+use Rattle.gpkt.specs.Packets.{Packet}
+use Rattle.ggrammar.specs.Kinds.{ReadsMessage}
+use Rattle.ggrammar.specs.MessageReading.{ReadsRefused}
+use Rattle.ggrammar.specs.declared.fault.MessageFault.{MessageFault}
+use Rattle.ggrammar.specs.declared.fault.Why.TheVariants.{BadName}
+use Rattle.glsreply.specs.LsReplies.{LsReply, Says, brings, judge}
+use Rattle.glsreply.specs.WellFormed.{last_frame}
+use Rattle.gobject.specs.declared.node.Entry.{Entry}
+use Rattle.ghistory.specs.declared.fault.GraphFault.TheVariants as graph
+use Rattle.grepo.specs.declared.fault.RepoFault.TheVariants as repo
+use Rattle.grequest.specs.Asked.{Asked, Ls, LsRefsAsked, max_wants}
+use Rattle.gsession.specs.Asking.{AreNamed, AreWants, asked_of, asks_by_all, unborn_told}
+use Rattle.gsession.specs.Sessions.{SessionState, after_fault}
+use Rattle.gsession.specs.declared.stage.Stage.{Stage}
+use Rattle.gsession.specs.declared.stage.Stage.TheVariants.{Fetching, Settling}
+use Rattle.gsession.specs.declared.fault.ClientFault.{ClientFault}
+use Rattle.gsession.specs.declared.fault.ClientFault.TheVariants.{NoOpenRequest, Message, TooManyWants, Repo}
+use Rattle.gsession.specs.declared.taken.LsTaken.{LsTaken}
+
+-- a request for refs waits for its reply
+abbrev pub AwaitsRefs : {A : Type 0} → SessionState A → Type 0
+AwaitsRefs s = (asked : LsRefsAsked) × (s.pending ≡ Some (Ls asked))
+
+-- objects are fetched where some are wanted
+abbrev pub stage_for : List (List ℕ) → Stage
+stage_for [] = Settling
+stage_for (want ∷ wants) = Fetching
+
+-- after the reply
+abbrev pub with_refs : {A : Type 0} → SessionState A → LsReply → List (List ℕ) → SessionState A
+with_refs s reply wants =
+    record s { stage = stage_for wants; pending = None; asks = asked_of s.refspecs reply.lines; wants = wants }
+
+-- the refs of a reply that was read are taken: it is known what is asked for, and what is wanted
+pub record TakesLines {A : Type 0} (old : SessionState A) (g : List (Entry A)) (reply : LsReply) (new : SessionState A)
+    (taken : LsTaken A) : Type 0 where
+  pub named : AreNamed {A = A} (asks_by_all old.refspecs reply.lines)
+  pub wants : List (List ℕ)
+  pub wanted : AreWants {A = A} g (asked_of old.refspecs reply.lines) wants
+  pub few : length wants ≤ max_wants
+  pub after : new ≡ with_refs old reply wants
+  pub asks : taken.asks ≡ length (asked_of {A = A} old.refspecs reply.lines)
+  pub count : taken.wants ≡ length wants
+  pub unborn : taken.unborn ≡ unborn_told old.refspecs reply.unborn
+
+-- a ref that is asked for can't have its name; the reply's last packet is reported, since it was read to its end
+pub record IsMisnamed {A : Type 0} (s : SessionState A) (reply : LsReply) (fault : MessageFault) : Type 0 where
+  pub unnamed : ¬ (AreNamed {A = A} (asks_by_all s.refspecs reply.lines))
+  pub frame : fault.frame ≡ last_frame s.ends reply
+  pub why : fault.why ≡ BadName
+
+-- too many objects are wanted
+pub record WantsTooMuch {A : Type 0} (s : SessionState A) (g : List (Entry A)) (reply : LsReply) : Type 0 where
+  pub named : AreNamed {A = A} (asks_by_all s.refspecs reply.lines)
+  pub wants : List (List ℕ)
+  pub wanted : AreWants {A = A} g (asked_of s.refspecs reply.lines) wants
+  pub many : max_wants < length wants
+
+-- why the refs of a reply are not taken: a ref can't have its name; or too much is wanted; or there is no memory
+abbrev pub IsRefsFault : {A : Type 0} → SessionState A → List (Entry A) → LsReply → ClientFault A → Type 0
+IsRefsFault s g reply (Message fault) = IsMisnamed s reply fault
+IsRefsFault s g reply TooManyWants = WantsTooMuch s g reply
+IsRefsFault s g reply (Repo (repo.Graph graph.Memory)) = Unit {0}
+IsRefsFault s g reply _ = ⊥
+
+-- a whole reply is read
+abbrev pub ReadsRefs : {A : Type 0} → SessionState A → Change → LsReply → Type 0
+ReadsRefs s change reply = ReadsMessage (judge s.format s.ends) (Says s.format s.ends) change reply
+
+-- the reply is refused before its end
+abbrev pub RefusesRefs : {A : Type 0} → SessionState A → Change → MessageFault → Type 0
+RefusesRefs s change fault =
+    (front : List Packet) × ReadsRefused (judge s.format s.ends) brings front change fault
+
+-- a whole reply is read, and its refs are not taken
+abbrev pub ReadsUntaken : {A : Type 0} → SessionState A → List (Entry A) → Change → ClientFault A → Type 0
+ReadsUntaken s g change fault = (reply : LsReply) × ReadsRefs s change reply × IsRefsFault s g reply fault
+
+-- why no reply to ls-refs is taken: none is due, and nothing is read; or it is refused; or a whole one is read, and its
+-- refs are not taken
+abbrev pub IsLsFault : {A : Type 0} → SessionState A → List (Entry A) → Change → ClientFault A → Type 0
+IsLsFault s g change NoOpenRequest = ¬ (AwaitsRefs s) × (change.new ≡ change.old)
+IsLsFault s g change (Message fault) =
+    AwaitsRefs s × (RefusesRefs s change fault ⊎ ReadsUntaken s g change (Message fault))
+IsLsFault s g change fault = AwaitsRefs s × ReadsUntaken s g change fault
+
+-- what taking the refs of a reply answers
+abbrev pub AnswersRefs : {A : Type 0} → SessionState A → List (Entry A) → LsReply → SessionState A
+    → Result (LsTaken A) (ClientFault A) → Type 0
+AnswersRefs old g reply new (Ok taken) = TakesLines old g reply new taken
+AnswersRefs old g reply new (Err fault) = IsRefsFault old g reply fault × (new ≡ old)
+
+-- what taking a reply answers, before a fault ends the session
+abbrev pub AnswersLs : {A : Type 0} → SessionState A → List (Entry A) → Change → SessionState A
+    → Result (LsTaken A) (ClientFault A) → Type 0
+AnswersLs old g change new (Ok taken) =
+    AwaitsRefs old × ((reply : LsReply) × ReadsRefs old change reply × TakesLines old g reply new taken)
+AnswersLs old g change new (Err fault) = IsLsFault old g change fault × (new ≡ old)
+
+-- what taking a reply answers: a whole one is read, and its refs are taken; or why not
+abbrev pub TakesLs : {A : Type 0} → SessionState A → List (Entry A) → Change → SessionState A
+    → Result (LsTaken A) (ClientFault A) → Type 0
+TakesLs old g change new (Ok taken) = AnswersLs old g change new (Ok taken)
+TakesLs old g change new (Err fault) = IsLsFault old g change fault × (new ≡ after_fault old fault)

@@ -1,0 +1,54 @@
+// Ids that a server acknowledges.
+#![tactic(auto)]
+
+ghost use Rattle.std.specs.Prelude.{◌≡◌, ◌↔◌, ◌++◌, ℕ, List, true, All, Contains, IfOk, MatchOption};
+ghost use Rattle.std.specs.Str.{bytes_eq};
+ghost use Rattle.ghistory.specs.Levels.{distinct_of};
+ghost use Rattle.indexmap.specs.IndexSet.{contains};
+ghost use Rattle.gsession.specs.TakingReplies.{IsFirstStrange};
+
+use ggraph::{IdHasher, distinct_ids};
+use gname::Oid;
+use indexmap::IndexSet;
+use std::alloc::{AllocError, Allocator};
+
+/// The first acknowledged id that is none of the haves. It fails where there is no memory.
+pub(crate) fn first_strange<A: Allocator + Copy>(
+    alloc: A,
+    haves: &[Oid],
+    acks: &[Oid],
+) -> Result<Option<Oid>, AllocError>
+    ensures { IfOk result (λ found. MatchOption found (All (Contains haves.now) acks.now)
+        (IsFirstStrange haves.now acks.now)) }
+{
+    let offered = set_of(alloc, haves)?;
+    for id in acks {
+        if !offered.contains(id) {
+            return Ok(Some(*id));
+        }
+    }
+    Ok(None)
+}
+
+// The ids as a set.
+fn set_of<A: Allocator + Copy>(
+    alloc: A,
+    ids: &[Oid],
+) -> Result<IndexSet<Oid, IdHasher, A>, AllocError>
+    ensures { IfOk result (λ set. (id : List ℕ) → (contains bytes_eq set id ≡ true) ↔ Contains ids.now id) }
+{
+    ids.iter().copied().collect(alloc)
+}
+
+/// The common ids with those that are acknowledged, each once, in the order in which each came first.
+pub(crate) fn with_acks<A: Allocator + Copy>(
+    alloc: A,
+    commons: &[Oid],
+    acks: &[Oid],
+) -> Result<Vec<Oid, A>, AllocError>
+    ensures { IfOk result (λ list. list.items ≡ distinct_of (commons.now ++ acks.now)) }
+{
+    let mut joined = Vec::from_slice(alloc, commons)?;
+    joined.extend_from_slice(acks)?;
+    distinct_ids(alloc, joined.as_slice())
+}

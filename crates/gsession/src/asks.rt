@@ -1,0 +1,156 @@
+// What a session asks for.
+#![tactic(auto)]
+
+ghost use Rattle.std.specs.Prelude.{◌≡◌, ◌↔◌, ◌∷◌, [], true, All, IfErr, IfOk, IsTrue};
+ghost use Rattle.gname.specs.Ids.{IsIdOf};
+ghost use Rattle.gname.specs.declared.formats.Format.{Format};
+ghost use Rattle.glsreply.specs.WellFormed.{IsRefLine};
+ghost use Rattle.ghistory.specs.Reach.{IsFull};
+ghost use Rattle.ghistory.specs.Walks.{Misses};
+ghost use Rattle.ghistory.specs.declared.fault.GraphFault.TheVariants.{Memory};
+ghost use Rattle.gsession.specs.Asking.{AddsAsks, AreWants, FindsAsks, asks_by, takes_head, unborn_told};
+
+use ggraph::graph_laws::{distinct_are_once, places_are_nodes};
+use ggraph::{GraphFault, distinct_ids, missing};
+use glsreply::{LsReply, RefLine};
+use gname::{NameFault, Oid, RefName};
+use grepo::{Ask, Asks, Repo};
+use gspec::Spec;
+use std::alloc::{AllocError, Allocator};
+
+/// What refspecs ask for of the refs of a reply. It fails with the name fault of a destination, and with `Memory`.
+pub(crate) fn asks_of<A: Allocator + Copy>(
+    alloc: A,
+    specs: &[Spec<A>],
+    reply: &LsReply<A>,
+) -> Result<Asks<A>, NameFault>
+    ensures asks { FindsAsks specs.now reply.now.lines result }
+    ensures ids { IfOk result (λ asks. (format : Format) → All (IsRefLine format) reply.now.lines
+        → All (λ ask. IsIdOf format ask.id) asks) }
+{
+    let mut asks = Asks::new(alloc);
+    for spec in specs {
+        add_asks(spec, reply, &mut asks)?;
+    }
+    Ok(asks)
+}
+
+// Adds what a refspec asks for, line by line.
+fn add_asks<A: Allocator + Copy>(
+    spec: &Spec<A>,
+    reply: &LsReply<A>,
+    asks: &mut Asks<A>,
+) -> Result<(), NameFault>
+    ensures { AddsAsks asks.old (asks_by spec.now reply.now.lines) asks.new result }
+{
+    for place in 0..reply.len() {
+        if let Some(line) = reply.at(place) {
+            add_line(spec, line, asks)?;
+        }
+    }
+    Ok(())
+}
+
+// Adds what a refspec asks for of one line, unless something is asked of that ref.
+fn add_line<A: Allocator + Copy>(
+    spec: &Spec<A>,
+    line: &RefLine<A>,
+    asks: &mut Asks<A>,
+) -> Result<(), NameFault>
+    ensures { AddsAsks asks.old (asks_by spec.now (line.now ∷ [])) asks.new result }
+{
+    let Some(name) = spec.destination(asks.allocator(), &line.name)? else {
+        return Ok(());
+    };
+    let ask = Ask {
+        name,
+        id: line.id,
+        forced: spec.is_forced(),
+    };
+    asks.add(ask)?;
+    Ok(())
+}
+
+/// The distinct asked ids whose whole ancestry is not held, in order. It fails with `Memory` alone.
+pub(crate) fn wants_of<A: Allocator + Copy>(
+    repo: &Repo<A>,
+    asks: &Asks<A>,
+) -> Result<Vec<Oid, A>, GraphFault>
+    ensures wants { IfOk result (λ wants. AreWants repo.now.graph.entries asks.now wants.items) }
+    ensures ids { IfOk result (λ wants. (format : Format) → All (λ ask. IsIdOf format ask.id) asks.now
+        → All (IsIdOf format) wants.items) }
+    ensures fault { IfErr result (λ fault. fault ≡ Memory) }
+{
+    distinct_are_once();
+    let alloc = repo.graph().allocator();
+    let asked = asks.ids(alloc)?;
+    let ids = distinct_ids(alloc, asked.as_slice())?;
+    let mut wants = Vec::new(alloc);
+    for id in ids.as_slice() {
+        if !is_full(repo, id)? {
+            wants.push(*id)?;
+        }
+    }
+    Ok(wants)
+}
+
+// Whether the whole ancestry of an id is held. An id that is not held, and one that the refs here reach, need no walk.
+fn is_full<A: Allocator + Copy>(repo: &Repo<A>, id: &Oid) -> Result<bool, GraphFault>
+    ensures full { IfOk result (λ full. IsTrue full ↔ IsFull repo.now.graph.entries id.now) }
+    ensures fault { IfErr result (λ fault. fault ≡ Memory) }
+{
+    if !repo.graph().contains(id) {
+        return Ok(false);
+    }
+    if is_known(repo, id) {
+        return Ok(true);
+    }
+    Ok(missing_of(repo, id)?.is_none())
+}
+
+// What is missing of the ancestry of an id. Where parents came first it is only looked up; else the walk does not go on
+// from marked objects.
+fn missing_of<A: Allocator + Copy>(repo: &Repo<A>, id: &Oid) -> Result<Option<Oid>, GraphFault>
+    ensures answer { IfOk result (Misses repo.now.graph.entries (id.now ∷ [])) }
+    ensures fault { IfErr result (λ fault. fault ≡ Memory) }
+{
+    let ids = [*id];
+    if repo.graph().is_ordered() {
+        missing(repo.graph(), &ids)
+    } else {
+        repo.missing(&ids)
+    }
+}
+
+// Whether the id is marked as one whose whole ancestry is held.
+fn is_known<A: Allocator + Copy>(repo: &Repo<A>, id: &Oid) -> bool
+    ensures { result ≡ true → IsFull repo.now.graph.entries id.now }
+{
+    places_are_nodes::<A>();
+    let _format = repo.format();
+    match repo.graph().number(id) {
+        Some(number) => repo.known().marked(number),
+        None => false,
+    }
+}
+
+/// The target of an unborn HEAD, where a refspec fetches HEAD.
+pub(crate) fn unborn_of<A: Allocator + Copy>(
+    alloc: A,
+    specs: &[Spec<A>],
+    reply: &LsReply<A>,
+) -> Result<Option<RefName<A>>, AllocError>
+    ensures { IfOk result (λ target. target ≡ unborn_told specs.now reply.now.unborn) }
+{
+    match reply.unborn() {
+        Some(target) if takes_head(specs) => Ok(Some(target.copy_in(alloc)?)),
+        _ => Ok(None),
+    }
+}
+
+// Whether a refspec fetches HEAD.
+fn takes_head<A: Allocator + Copy>(specs: &[Spec<A>]) -> bool
+    ensures { result ≡ takes_head specs.now }
+{
+    specs.iter().any(|spec| spec.is_head())
+}

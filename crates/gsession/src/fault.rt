@@ -1,0 +1,120 @@
+// What a call of a session refuses.
+#![tactic(auto)]
+
+ghost use Rattle.std.specs.Prelude.{◌≡◌};
+ghost use Rattle.ghistory.specs.declared.fault.GraphFault.TheVariants.{Memory};
+ghost use Rattle.grepo.specs.declared.fault.RepoFault.TheVariants.{Graph};
+ghost use Rattle.gsession.specs.Faults.{client_fault_row};
+ghost use Rattle.gsession.specs.declared.fault.ClientFault.TheVariants as client;
+
+use ggrammar::MessageFault;
+use ggraph::{GraphFault, IndexFault};
+use gname::Oid;
+use grepo::RepoFault;
+use std::alloc::{AllocError, AllocFailed, Allocator, Global};
+use thiserror::Error;
+
+/// Why a call of a session was refused. Its number tells it apart.
+#[derive(Debug, Drop, Error)]
+pub enum ClientFault<A: Allocator + Copy = Global> {
+    /// 20 to 25, 29, 30 and 41 to 54: the reply was refused, at one of its packets.
+    #[error("{0}")]
+    Message(MessageFault),
+    /// 66: the indexer refused the pack.
+    #[error("{0}")]
+    Index(IndexFault),
+    /// 82: there are more refspecs than a session takes.
+    #[error("too many refspecs")]
+    TooManySpecs,
+    /// 83: the call does not fit what the session waits for. Nothing changes.
+    #[error("no such request is open")]
+    NoOpenRequest,
+    /// 84: the server acknowledged this id, which the request did not name.
+    #[error("an id was acknowledged that was not offered")]
+    StrangeAck { id: Oid },
+    /// 86: more objects are wanted than a request takes.
+    #[error("too many wants")]
+    TooManyWants,
+    /// 60 to 64, 69, 75 and 85: the repository refused it, or there is no memory (64).
+    #[error("{0}")]
+    Repo(RepoFault<A>),
+}
+
+impl<A: Allocator + Copy> ClientFault<A> {
+    /// The number of the fault.
+    pub fn code(&self) -> u32
+        ensures { result ≡ (client_fault_row self.now).0 }
+    {
+        self.row().0
+    }
+
+    /// The name of the fault.
+    pub fn name(&self) -> &'static str
+        ensures { result.now ≡ (client_fault_row self.now).1 }
+    {
+        self.row().1
+    }
+
+    // The table: the number and the name of each fault.
+    fn row(&self) -> (u32, &'static str)
+        ensures { (result.0, result.1.now) ≡ client_fault_row self.now }
+    {
+        match self {
+            ClientFault::Message(fault) => (fault.code(), fault.name()),
+            ClientFault::Index(fault) => (fault.code(), fault.name()),
+            ClientFault::TooManySpecs => (82, "TooManySpecs"),
+            ClientFault::NoOpenRequest => (83, "NoOpenRequest"),
+            ClientFault::StrangeAck { .. } => (84, "StrangeAck"),
+            ClientFault::TooManyWants => (86, "TooManyWants"),
+            ClientFault::Repo(fault) => (fault.code(), fault.name()),
+        }
+    }
+}
+
+impl<A: Allocator + Copy> From<MessageFault> for ClientFault<A> {
+    ghost from_gives = { λ cause fault. fault ≡ client.Message cause };
+
+    fn from(cause: MessageFault) -> ClientFault<A> {
+        ClientFault::Message(cause)
+    }
+}
+
+impl<A: Allocator + Copy> From<IndexFault> for ClientFault<A> {
+    ghost from_gives = { λ cause fault. fault ≡ client.Index cause };
+
+    fn from(cause: IndexFault) -> ClientFault<A> {
+        ClientFault::Index(cause)
+    }
+}
+
+impl<A: Allocator + Copy> From<RepoFault<A>> for ClientFault<A> {
+    ghost from_gives = { λ cause fault. fault ≡ client.Repo cause };
+
+    fn from(cause: RepoFault<A>) -> ClientFault<A> {
+        ClientFault::Repo(cause)
+    }
+}
+
+impl<A: Allocator + Copy> From<GraphFault> for ClientFault<A> {
+    ghost from_gives = { λ cause fault. fault ≡ client.Repo (Graph cause) };
+
+    fn from(cause: GraphFault) -> ClientFault<A> {
+        ClientFault::Repo(RepoFault::Graph(cause))
+    }
+}
+
+impl<A: Allocator + Copy> From<AllocError> for ClientFault<A> {
+    ghost from_gives = { λ _ fault. fault ≡ client.Repo (Graph Memory) };
+
+    fn from(_refused: AllocError) -> ClientFault<A> {
+        ClientFault::Repo(RepoFault::Graph(GraphFault::Memory))
+    }
+}
+
+impl<A: Allocator + Copy, T: Drop> From<AllocFailed<T>> for ClientFault<A> {
+    ghost from_gives = { λ _ fault. fault ≡ client.Repo (Graph Memory) };
+
+    fn from(_refused: AllocFailed<T>) -> ClientFault<A> {
+        ClientFault::Repo(RepoFault::Graph(GraphFault::Memory))
+    }
+}

@@ -1,0 +1,90 @@
+// The pack of a reply on its way to the indexer.
+#![tactic(auto)]
+
+ghost use Rattle.std.specs.Prelude.{◌≡◌, ◌++◌, [], List, ℕ, MatchResult};
+ghost use Rattle.gsession.specs.Feeding.{MayHaveFed};
+
+use gfetchreply::PackSink;
+use ggraph::{Entry, IndexFault, Indexer};
+use std::alloc::Allocator;
+use std::marker::PhantomData;
+
+/// Feeds a pack to an indexer, piece by piece. After a fault of the indexer it only remembers that.
+#[derive(Drop)]
+pub(crate) struct PackFeed<'k, K: Indexer<A>, A: Allocator + Copy> {
+    indexer: &'k K,
+    feed: Result<K::Feed, IndexFault>,
+    memory: PhantomData<A>,
+}
+
+impl<'k, K: Indexer<A>, A: Allocator + Copy> PackFeed<'k, K, A> {
+    /// A feed of nothing yet.
+    pub(crate) fn start(alloc: A, indexer: &'k K) -> PackFeed<'k, K, A>
+        ensures indexer { result.indexer.now ≡ indexer.now }
+        ensures fed { MayHaveFed (K.fed indexer.now) (K.index_fails indexer.now) result.feed [] }
+    {
+        PackFeed {
+            indexer,
+            feed: indexer.start(alloc),
+            memory: PhantomData,
+        }
+    }
+
+    /// The entries of the pack that was fed, or the indexer's first fault.
+    pub(crate) fn finish(self) -> Result<Vec<Entry<A>, A>, IndexFault>
+        ensures { MatchResult result
+            (λ entries. ((bytes : List ℕ)
+            → MayHaveFed (K.fed self.entry.indexer.now) (K.index_fails self.entry.indexer.now)
+            self.entry.feed bytes
+            → K.indexes self.entry.indexer.now bytes entries.items))
+            (λ fault. ((bytes : List ℕ)
+            → MayHaveFed (K.fed self.entry.indexer.now) (K.index_fails self.entry.indexer.now)
+            self.entry.feed bytes
+            → K.index_fails self.entry.indexer.now bytes fault)) }
+    {
+        let PackFeed {
+            indexer,
+            feed,
+            memory: _,
+        } = self;
+        match feed {
+            Ok(feed) => indexer.finish(feed),
+            Err(fault) => Err(fault),
+        }
+    }
+
+    // Feeds a piece.
+    fn add(&mut self, bytes: &[u8]) -> Result<(), IndexFault>
+        ensures indexer { self.new.indexer.now ≡ self.old.indexer.now }
+        ensures fed { MatchResult result
+            (λ _. ((before : List ℕ) → MayHaveFed (K.fed self.old.indexer.now) (K.index_fails self.old.indexer.now)
+            self.old.feed before
+            → MayHaveFed (K.fed self.old.indexer.now) (K.index_fails self.old.indexer.now)
+            self.new.feed (before ++ bytes.now)))
+            (λ fault. ((before more : List ℕ)
+            → MayHaveFed (K.fed self.old.indexer.now) (K.index_fails self.old.indexer.now)
+            self.old.feed before
+            → K.index_fails self.old.indexer.now ((before ++ bytes.now) ++ more) fault)) }
+    {
+        match &mut self.feed {
+            Ok(feed) => self.indexer.feed(feed, bytes),
+            Err(_) => Ok(()),
+        }
+    }
+}
+
+impl<K: Indexer<A>, A: Allocator + Copy> PackSink for PackFeed<'_, K, A> {
+    ghost taken = { λ feed bytes.
+        MayHaveFed (K.fed feed.indexer.now) (K.index_fails feed.indexer.now) feed.feed bytes };
+
+    ghost same = { λ one other. one.indexer.now ≡ other.indexer.now };
+
+    fn piece(&mut self, bytes: &[u8]) -> bool {
+        if let Err(fault) = self.add(bytes) {
+            self.feed = Err(fault);
+        }
+        true
+    }
+
+    fn laws() {}
+}

@@ -1,0 +1,67 @@
+//! A client's session: its conversation with one server, from the request for refs to the refs here that move
+//! (gitprotocol-v2(5), "ls-refs" and "fetch"). A [`Session`] makes each request and takes each reply; who has the
+//! connection sends and reads them.
+//!
+//! # Proved
+//!
+//! - [`Session::begin`] keeps the refspecs and the distinct ids of the refs, in the order of their names, unless there
+//!   are more than 16 refspecs. [`Session::hear`] keeps whether the server tells of an unborn `HEAD`.
+//! - [`Session::request`] makes the one request that is due. For refs it has the sources of the refspecs, each once,
+//!   and asks for an unborn `HEAD` exactly where the server offers to tell of it. For objects it has the wants, the
+//!   common ids, and a batch of ids that were not offered before; without a batch the client is done.
+//! - [`Session::take_ls`] reads one reply to its end, and nothing after it. It answers what is asked for, the first ask
+//!   for a ref alone; wanted is each asked id whose whole ancestry is not held. A ref that can't have its name is
+//!   reported at the reply's last packet, and before too many wants are.
+//! - [`Session::take_reply`] reads one reply to its end, whatever its bytes are, and nothing after it. Each id that is
+//!   common from then on was a have of the request. What comes to the repository is a list that the indexer may answer
+//!   for the pack, all of it or none. A reply that is refused is reported first, then an id that the request did not
+//!   name, then the indexer's fault, then the graph's; out of memory may come at any time.
+//! - [`Session::settle`] moves the refs as `Repo::settle` does, once a pack was taken or nothing is wanted.
+//! - A call that does not fit what the session waits for changes nothing, and reads nothing. Every other fault ends the
+//!   session, and leaves objects and refs as they were; every later call is then refused.
+//! - A reader of replies goes on after a reply that was read to its end, and is as reading left it where one was
+//!   refused.
+//! - Where the bytes to come are known, they and the answer decide the session after a reply to fetch. Each request
+//!   without `done` names an id that none before it offered, and none follows one with `done`; so a session asks for
+//!   objects at most once more than there are ids that its tips reach ([`laws`]).
+//! - Each fault has the number and the name of its row. No call panics, overflows or reads out of bounds, and each
+//!   returns where the reader's calls return.
+//!
+//! # Only tested
+//!
+//! Whole conversations with the bytes of a peer; that a pack may come in any pieces, and goes to the indexer before its
+//! reply has ended; that memory which is there is used.
+//!
+//! # What a body can still get away with
+//!
+//! It may report out of memory as often as it likes. It may keep all of a pack and feed it once, take as long as it
+//! likes, and more memory than it needs. The texts of faults are neither proved nor tested.
+//!
+//! # What it costs
+//!
+//! A request for objects walks from the tips anew. Of the ids that are asked for, one that is not held, one that the
+//! refs reach, and each one in a graph in which parents came first is only looked up; any other costs a walk, which
+//! stops at what the refs reach. Acknowledged ids are looked up in a set.
+//!
+//! # Stands on
+//!
+//! `gspec` for refspecs, `grepo` for the repository, `grequest`, `glsreply`, `gfetchreply` and `ghello` for messages,
+//! `ggraph` and `gwalk` for what is offered, `gobject` for indexers, `indexmap` for sets of ids, `thiserror` for the
+//! texts of faults.
+#![tactic(auto)]
+
+mod acks;
+mod asks;
+mod fault;
+mod feed;
+pub mod laws;
+mod requests;
+mod session;
+mod stage;
+mod taken;
+#[cfg(test)]
+mod tests;
+
+pub use crate::fault::ClientFault;
+pub use crate::session::{MAX_SPECS, Session};
+pub use crate::taken::{LsTaken, Settled, Taken};

@@ -1,0 +1,153 @@
+// The requests that a session makes.
+#![tactic(auto)]
+
+ghost use Rattle.std.specs.Prelude.{◌≡◌, ◌+◌, ◌<◌, ◌≤◌, ◌++◌, All, length, IfOk, OnOk, Some, None};
+ghost use Rattle.gname.specs.Ids.{IsIdOf};
+ghost use Rattle.ggrammar.specs.declared.fault.Why.TheVariants.{Memory};
+ghost use Rattle.grequest.specs.Asked.{Ls, Fetches, max_haves, max_prefixes, max_wants};
+ghost use Rattle.grequest.specs.RequestValues.{asked_by_request, ids_format};
+ghost use Rattle.ghistory.specs.Levels.{is_in};
+ghost use Rattle.gsession.specs.Requesting.{batch_size, fetch_request, ls_request, with_prefix};
+ghost use Rattle.gsession.specs.Sessions.{max_specs};
+
+use ggrammar::MessageFault;
+use gname::{Format, Oid, Prefix};
+use grequest::{FetchRequest, LsRefsRequest, Request};
+use gspec::Spec;
+use std::alloc::{AllocError, Allocator};
+
+/// How many ids are offered after so many rounds.
+pub(crate) fn batch_size(rounds: usize) -> usize
+    ensures { result ≡ batch_size rounds }
+{
+    if rounds == 0 {
+        16
+    } else if rounds == 1 {
+        32
+    } else if rounds == 2 {
+        64
+    } else if rounds == 3 {
+        128
+    } else {
+        256
+    }
+}
+
+/// The request for refs. It fails where there is no memory.
+pub(crate) fn refs_request<A: Allocator + Copy>(
+    alloc: A,
+    specs: &[Spec<A>],
+    unborn: bool,
+) -> Result<Request<A>, AllocError>
+    requires { length specs.now ≤ max_specs }
+    ensures asked { IfOk result (λ request. asked_by_request request ≡ Ls (ls_request specs.now unborn)) }
+    ensures format { IfOk result (λ request. ids_format request ≡ None) }
+{
+    let mut request = LsRefsRequest::new(alloc);
+    request.set_unborn(unborn);
+    for spec in specs {
+        add_prefix(spec.prefix(), &mut request)?;
+    }
+    Ok(Request::Ls(request))
+}
+
+// Asks for the names that begin with a prefix, too, unless they are asked for.
+fn add_prefix<A: Allocator + Copy>(
+    prefix: &Prefix<A>,
+    request: &mut LsRefsRequest<A>,
+) -> Result<(), AllocError>
+    requires { length request.old.prefixes < max_prefixes }
+    ensures { OnOk result (request.new
+        ≡ record request.old { prefixes = with_prefix request.old.prefixes prefix.now }) }
+{
+    if has_prefix(request.prefixes(), prefix) {
+        return Ok(());
+    }
+    match request.push_prefix(prefix.as_bytes()) {
+        Ok(()) => Ok(()),
+        Err(fault) => Err(no_memory(fault)),
+    }
+}
+
+// Whether the prefix is one of these.
+fn has_prefix<A: Allocator + Copy>(prefixes: &[Prefix<A>], prefix: &Prefix<A>) -> bool
+    ensures { result ≡ is_in prefixes.now prefix.now }
+{
+    prefixes
+        .iter()
+        .any(|other| other.as_bytes() == prefix.as_bytes())
+}
+
+/// The request for the wanted objects: the client has the common ids and those of the batch, and is done without a
+/// batch. It fails where there is no memory.
+pub(crate) fn objects_request<A: Allocator + Copy>(
+    alloc: A,
+    format: Format,
+    wants: &[Oid],
+    commons: &[Oid],
+    batch: &[Oid],
+) -> Result<Request<A>, AllocError>
+    requires wants { All (IsIdOf format) wants.now }
+    requires few_wants { length wants.now ≤ max_wants }
+    requires commons { All (IsIdOf format) commons.now }
+    requires batch { All (IsIdOf format) batch.now }
+    requires room { length commons.now + length batch.now ≤ max_haves }
+    ensures asked { IfOk result (λ request. asked_by_request request
+        ≡ Fetches (fetch_request wants.now commons.now batch.now)) }
+    ensures format { IfOk result (λ request. ids_format request ≡ Some format) }
+{
+    let mut request = FetchRequest::new(alloc, format);
+    request.set_no_progress(true);
+    request.set_include_tag(true);
+    request.set_done(batch.is_empty());
+    add_wants(wants, &mut request)?;
+    add_haves(commons, &mut request)?;
+    add_haves(batch, &mut request)?;
+    Ok(Request::Fetch(request))
+}
+
+fn add_wants<A: Allocator + Copy>(
+    wants: &[Oid],
+    request: &mut FetchRequest<A>,
+) -> Result<(), AllocError>
+    requires ids { All (IsIdOf request.old.format) wants.now }
+    requires room { length request.old.asked.wants + length wants.now ≤ max_wants }
+    ensures { OnOk result (request.new ≡ record request.old {
+      asked = record request.old.asked { wants = request.old.asked.wants ++ wants.now };
+    }) }
+{
+    for id in wants {
+        match request.push_want(*id) {
+            Ok(()) => {}
+            Err(fault) => return Err(no_memory(fault)),
+        }
+    }
+    Ok(())
+}
+
+fn add_haves<A: Allocator + Copy>(
+    haves: &[Oid],
+    request: &mut FetchRequest<A>,
+) -> Result<(), AllocError>
+    requires ids { All (IsIdOf request.old.format) haves.now }
+    requires room { length request.old.asked.haves + length haves.now ≤ max_haves }
+    ensures { OnOk result (request.new ≡ record request.old {
+      asked = record request.old.asked { haves = request.old.asked.haves ++ haves.now };
+    }) }
+{
+    for id in haves {
+        match request.push_have(*id) {
+            Ok(()) => {}
+            Err(fault) => return Err(no_memory(fault)),
+        }
+    }
+    Ok(())
+}
+
+// The fault of what fits a request, and for which there is no memory.
+fn no_memory(fault: MessageFault) -> AllocError
+    requires { fault.why ≡ Memory }
+{
+    let _ = fault;
+    AllocError
+}

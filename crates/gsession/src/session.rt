@@ -1,0 +1,292 @@
+// A client's session.
+#![tactic(auto)]
+
+ghost use Rattle.std.specs.Prelude.{◌≡◌, ◌↔◌, [], IsTrue, All, MatchBool, MatchResult, Ok, Err, IfOk, option_map};
+ghost use Rattle.std.specs.Map.{values_of};
+ghost use Rattle.std.specs.Option.{option_copied};
+ghost use Rattle.ghistory.specs.Levels.{distinct_of};
+ghost use Rattle.gname.specs.Ids.{IsIdOf};
+ghost use Rattle.gsession.specs.Sessions.{ends_session};
+
+mod next;
+mod objects;
+mod refs;
+
+use crate::fault::ClientFault;
+use crate::stage::Stage;
+use crate::taken::Settled;
+use gfetchreply::PackLimit;
+use ggrammar::Ends;
+use ggraph::distinct_ids;
+use ggraph::graph_laws::{distinct_are_once, places_are_nodes};
+use ghello::Advert;
+use gname::{Format, Oid};
+use grepo::{Asks, Repo};
+use grequest::Request;
+use gspec::Spec;
+use std::alloc::{AllocError, Allocator, Global};
+use std::marker::Model;
+use std::mem;
+
+/// The most refspecs of a session.
+pub const MAX_SPECS: usize = 16;
+
+/// A client's conversation with one server: it asks for refs, then for the objects that are wanted, as often as the
+/// server only acknowledges, and at last moves refs here. Who has the connection sends each request, and hands the
+/// reader of the replies to the session.
+#[derive(Debug, Drop)]
+pub struct Session<A: Allocator + Copy = Global> {
+    format: Format,
+    refspecs: Vec<Spec<A>, A>,
+    limit: PackLimit,
+    ends: Ends,
+    tips: Vec<Oid, A>,
+    offers_unborn: bool,
+    stage: Stage,
+    // The request that waits for its reply.
+    pending: Option<Request<A>>,
+    asks: Asks<A>,
+    wants: Vec<Oid, A>,
+    commons: Vec<Oid, A>,
+    // The ids of all batches.
+    sent: Vec<Oid, A>,
+    rounds: usize,
+}
+
+impl<A: Allocator + Copy> Model for Session<A> {
+    ghost use Rattle.std.specs.Prelude.{option_map};
+    ghost use Rattle.grequest.specs.RequestValues.{asked_by_request};
+    ghost use Rattle.gsession.specs.Sessions.{SessionState, IsSession};
+
+    ghost Value = { SessionState A };
+
+    ghost view = { λ it. record {
+      format = it.format;
+      refspecs = it.refspecs.items;
+      limit = it.limit;
+      ends = it.ends;
+      tips = it.tips.items;
+      offers_unborn = it.offers_unborn;
+      stage = it.stage;
+      pending = option_map asked_by_request it.pending;
+      asks = it.asks;
+      wants = it.wants.items;
+      commons = it.commons.items;
+      sent = it.sent.items;
+      rounds = it.rounds;
+    } };
+
+    ghost invariant = { λ it. IsSession (record {
+      format = it.format;
+      refspecs = it.refspecs.items;
+      limit = it.limit;
+      ends = it.ends;
+      tips = it.tips.items;
+      offers_unborn = it.offers_unborn;
+      stage = it.stage;
+      pending = option_map asked_by_request it.pending;
+      asks = it.asks;
+      wants = it.wants.items;
+      commons = it.commons.items;
+      sent = it.sent.items;
+      rounds = it.rounds;
+    }) };
+}
+
+impl<A: Allocator + Copy> Session<A> {
+    ghost use Rattle.grequest.specs.RequestValues.{asked_by_request};
+    ghost use Rattle.gsession.specs.Sessions.{Begins, Hears, IsBegun, IsSession, after_fault, over};
+    ghost use Rattle.gsession.specs.SettlingRefs.{SettlesSession};
+
+    /// A session that fetches by these refspecs from a server; nothing was sent to it yet. It keeps the distinct ids
+    /// of the refs, in the order of their names: from them it goes on to what it offers. A session without refspecs
+    /// asks for nothing.
+    ///
+    /// It fails with `TooManySpecs` over 16, and where there is no memory.
+    pub fn begin(
+        alloc: A,
+        repo: &Repo<A>,
+        specs: &[Spec<A>],
+        limit: PackLimit,
+        ends: Ends,
+    ) -> Result<Session<A>, ClientFault<A>>
+        ensures { Begins repo.now specs.now limit ends result }
+    {
+        if specs.len() > MAX_SPECS {
+            return Err(ClientFault::TooManySpecs);
+        }
+        let refspecs = copy_specs(alloc, specs)?;
+        let tips = tips_of(alloc, repo)?;
+        Ok(Session {
+            format: repo.format(),
+            refspecs,
+            limit,
+            ends,
+            tips,
+            offers_unborn: false,
+            stage: Stage::Listing,
+            pending: None,
+            asks: Asks::new(alloc),
+            wants: Vec::new(alloc),
+            commons: Vec::new(alloc),
+            sent: Vec::new(alloc),
+            rounds: 0,
+        })
+    }
+
+    /// Hears the server's advertisement: whether it offers to tell of an unborn `HEAD` (gitprotocol-v2(5), "ls-refs").
+    /// Of several that are heard the last one counts.
+    ///
+    /// It fails with `NoOpenRequest` after the first request, and nothing changes then.
+    pub fn hear(&mut self, advert: &Advert<A>) -> Result<(), ClientFault<A>>
+        ensures { Hears self.old advert.now self.new result }
+    {
+        if !self.is_begun() {
+            return Err(ClientFault::NoOpenRequest);
+        }
+        self.offers_unborn = advert.has_feature(b"ls-refs", b"unborn");
+        Ok(())
+    }
+
+    // Whether nothing was requested yet.
+    fn is_begun(&self) -> bool
+        ensures { MatchBool result (IsBegun self.now) (¬ (IsBegun self.now)) }
+    {
+        match self.stage {
+            Stage::Listing => self.pending.is_none(),
+            Stage::Fetching | Stage::Settling | Stage::Over => false,
+        }
+    }
+
+    /// The request that waits for its reply.
+    pub fn pending(&self) -> Option<&Request<A>>
+        ensures pending { option_map asked_by_request (option_copied result) ≡ self.now.pending }
+        ensures session { IsSession self.now }
+    {
+        self.pending.as_ref()
+    }
+
+    /// The ids that the server has acknowledged, each once, in the order in which they were first acknowledged.
+    pub fn common(&self) -> &[Oid]
+        ensures { result.now ≡ self.now.commons }
+    {
+        self.commons.as_slice()
+    }
+
+    /// How many times objects were asked for.
+    pub fn rounds(&self) -> usize
+        ensures rounds { result ≡ self.now.rounds }
+        ensures session { IsSession self.now }
+    {
+        self.rounds
+    }
+
+    // What keeps the session's lists.
+    fn allocator(&self) -> A {
+        *self.wants.allocator()
+    }
+
+    // Ends the session by a fault, unless the call did not fit what it waits for.
+    fn end_by(&mut self, fault: ClientFault<A>) -> ClientFault<A>
+        ensures fault { result ≡ fault }
+        ensures session { self.new ≡ after_fault self.old fault }
+    {
+        if ends_session(&fault) {
+            self.end();
+        }
+        fault
+    }
+
+    // Ends the session.
+    fn end(&mut self)
+        ensures { self.new ≡ over self.old }
+    {
+        self.stage = Stage::Over;
+        self.pending = None;
+    }
+
+    /// Moves the refs here: each that is new, or is moved by force, or stands at an id that the asked id reaches, comes
+    /// to stand at the asked id, all at once, where the whole ancestry of each asked id is held. Answers what became of
+    /// each ask. The session is over then.
+    ///
+    /// It fails with `NoOpenRequest` before a pack is taken, unless nothing is wanted, and nothing changes then. Else
+    /// the session is over, and the repository as before: with `Repo`, as `Repo::settle` fails.
+    pub fn settle(&mut self, repo: &mut Repo<A>) -> Result<Settled<A>, ClientFault<A>>
+        ensures { MatchResult result
+            (λ settled. SettlesSession self.old repo.old self.new repo.new (Ok (settled.asks, settled.updates.items)))
+            (λ fault. SettlesSession self.old repo.old self.new repo.new (Err fault)) }
+    {
+        if !self.is_settling() {
+            return Err(ClientFault::NoOpenRequest);
+        }
+        self.end();
+        let updates = repo.settle(&self.asks)?;
+        let asks = self.take_asks();
+        Ok(Settled { asks, updates })
+    }
+
+    // Whether it is time to settle.
+    fn is_settling(&self) -> bool
+        ensures { IsTrue result ↔ (self.now.stage ≡ Stage.Settling) }
+    {
+        match self.stage {
+            Stage::Settling => true,
+            Stage::Listing | Stage::Fetching | Stage::Over => false,
+        }
+    }
+
+    // Gives out the asks of a session that is over.
+    fn take_asks(&mut self) -> Asks<A>
+        requires stage { self.old.stage ≡ Stage.Over }
+        requires pending { self.old.pending ≡ None }
+        ensures asks { result ≡ self.old.asks }
+        ensures session { self.new ≡ record self.old { asks = [] } }
+    {
+        let none = Asks::new(self.allocator());
+        mem::replace(&mut self.asks, none)
+    }
+}
+
+// Copies of refspecs.
+fn copy_specs<A: Allocator + Copy>(
+    alloc: A,
+    specs: &[Spec<A>],
+) -> Result<Vec<Spec<A>, A>, AllocError>
+    ensures { IfOk result (λ copies. copies.items ≡ specs.now) }
+{
+    let mut copies = Vec::new(alloc);
+    for spec in specs {
+        match spec.copy_in(alloc) {
+            Ok(copy) => copies.push(copy)?,
+            Err(_) => return Err(AllocError),
+        }
+    }
+    Ok(copies)
+}
+
+// The distinct ids of the refs, in the order of their names.
+fn tips_of<A: Allocator + Copy>(alloc: A, repo: &Repo<A>) -> Result<Vec<Oid, A>, AllocError>
+    ensures tips { IfOk result (λ tips. tips.items ≡ distinct_of (values_of repo.now.refs)) }
+    ensures ids { IfOk result (λ tips. All (IsIdOf repo.now.graph.format) tips.items) }
+{
+    distinct_are_once();
+    places_are_nodes::<A>();
+    let _format = repo.format();
+    let ids = repo.refs().ids(alloc)?;
+    distinct_ids(alloc, ids.as_slice())
+}
+
+// Whether a session is over after a fault.
+fn ends_session<A: Allocator + Copy>(fault: &ClientFault<A>) -> bool
+    ensures { result ≡ ends_session fault.now }
+{
+    match fault {
+        ClientFault::NoOpenRequest => false,
+        ClientFault::Message(_) => true,
+        ClientFault::Index(_) => true,
+        ClientFault::TooManySpecs => true,
+        ClientFault::StrangeAck { .. } => true,
+        ClientFault::TooManyWants => true,
+        ClientFault::Repo(_) => true,
+    }
+}

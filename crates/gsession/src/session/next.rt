@@ -1,0 +1,140 @@
+// The requests of a session.
+#![tactic(auto)]
+
+ghost use Rattle.std.specs.Prelude.{◌≡◌, List, None, MatchResult, Ok, Err, IfOk};
+ghost use Rattle.gobject.specs.declared.node.Entry.{Entry};
+ghost use Rattle.grequest.specs.Asked.{Fetches};
+
+use crate::fault::ClientFault;
+use crate::requests::{batch_size, objects_request, refs_request};
+use crate::session::Session;
+use crate::stage::Stage;
+use ggraph::graph_laws::{offers_are_exact, places_are_nodes};
+use ggraph::haves;
+use gname::Oid;
+use gname::laws::ids_have_one_format;
+use grepo::Repo;
+use grequest::{MAX_HAVES, Request};
+use std::alloc::{AllocError, Allocator};
+
+impl<A: Allocator + Copy> Session<A> {
+    ghost use Rattle.grequest.specs.RequestValues.{IsOfFormat, asked_by_request};
+    ghost use Rattle.gsession.specs.Requesting.{IsBatch, MakesNext, Requests, fetch_request, waiting_for};
+    ghost use Rattle.gsession.specs.Sessions.{FitsBatch, after_fault, no_memory};
+
+    /// The next request, which then waits for its reply: for refs at first, then for objects. A request for objects
+    /// names as haves the common ids, and a batch of ids that it did not name before; without a batch the client is
+    /// done, also where both together would be more than 4,096.
+    ///
+    /// It fails with `NoOpenRequest` where none is due, and nothing changes then; and where there is no memory, and the
+    /// session is over then.
+    pub fn request(&mut self, repo: &Repo<A>) -> Result<Request<A>, ClientFault<A>>
+        ensures requests { MatchResult result
+            (λ request. Requests self.old repo.now.graph.entries self.new (Ok (asked_by_request request)))
+            (λ fault. Requests self.old repo.now.graph.entries self.new (Err fault)) }
+        ensures format { IfOk result (IsOfFormat self.old.format) }
+    {
+        match self.make_request(repo) {
+            Ok(request) => Ok(request),
+            Err(fault) => Err(self.end_by(fault)),
+        }
+    }
+
+    // Makes the next request, where one is due. A fault does not end the session yet.
+    fn make_request(&mut self, repo: &Repo<A>) -> Result<Request<A>, ClientFault<A>>
+        ensures requests { MatchResult result
+            (λ request. Requests self.old repo.now.graph.entries self.new (Ok (asked_by_request request)))
+            (λ fault. Requests self.old repo.now.graph.entries (after_fault self.old fault) (Err fault)
+            × (self.new ≡ self.old)) }
+        ensures format { IfOk result (IsOfFormat self.old.format) }
+    {
+        if self.pending.is_some() {
+            return Err(ClientFault::NoOpenRequest);
+        }
+        match self.stage {
+            Stage::Listing => self.ask_for_refs(),
+            Stage::Fetching => self.ask_for_objects(repo),
+            Stage::Settling | Stage::Over => Err(ClientFault::NoOpenRequest),
+        }
+    }
+
+    // Asks for refs.
+    fn ask_for_refs(&mut self) -> Result<Request<A>, ClientFault<A>>
+        requires stage { self.old.stage ≡ Stage.Listing }
+        requires pending { self.old.pending ≡ None }
+        ensures made { (g : List (Entry A)) → MatchResult result
+            (λ request. MakesNext self.old g self.new (asked_by_request request))
+            (λ fault. (self.new ≡ self.old) × (fault ≡ no_memory)) }
+        ensures format { IfOk result (IsOfFormat self.old.format) }
+    {
+        let alloc = self.allocator();
+        let request = refs_request(alloc, self.refspecs.as_slice(), self.offers_unborn)?;
+        let copy = request.copy_in(alloc)?;
+        self.pending = Some(request);
+        Ok(copy)
+    }
+
+    // Asks for objects.
+    fn ask_for_objects(&mut self, repo: &Repo<A>) -> Result<Request<A>, ClientFault<A>>
+        requires stage { self.old.stage ≡ Stage.Fetching }
+        requires pending { self.old.pending ≡ None }
+        ensures made { MatchResult result
+            (λ request. MakesNext self.old repo.now.graph.entries self.new (asked_by_request request))
+            (λ fault. (self.new ≡ self.old) × (fault ≡ no_memory)) }
+        ensures format { IfOk result (IsOfFormat self.old.format) }
+    {
+        let alloc = self.allocator();
+        let batch = self.batch(repo)?;
+        let request = objects_request(
+            alloc,
+            self.format,
+            self.wants.as_slice(),
+            self.commons.as_slice(),
+            batch.as_slice(),
+        )?;
+        let copy = request.copy_in(alloc)?;
+        self.keep_request(request, batch.as_slice())?;
+        Ok(copy)
+    }
+
+    // The ids that the next request offers. It did not offer them before, and has room for them beside the common ids.
+    fn batch(&self, repo: &Repo<A>) -> Result<Vec<Oid, A>, ClientFault<A>>
+        ensures batch { MatchResult result
+            (λ batch. IsBatch self.now repo.now.graph.entries batch.items)
+            (λ fault. fault ≡ no_memory) }
+        ensures fits { IfOk result (λ batch. FitsBatch self.now batch.items) }
+    {
+        offers_are_exact::<A>();
+        places_are_nodes::<A>();
+        ids_have_one_format();
+        let _format = repo.format();
+        let offer = haves(
+            repo.graph(),
+            self.tips.as_slice(),
+            self.commons.as_slice(),
+            self.sent.as_slice(),
+            batch_size(self.rounds),
+        )?;
+        if offer.len() <= MAX_HAVES && self.commons.len() <= MAX_HAVES - offer.len() {
+            Ok(offer)
+        } else {
+            Ok(Vec::new(self.allocator()))
+        }
+    }
+
+    // A request for objects waits for its reply, and its batch was offered.
+    fn keep_request(&mut self, request: Request<A>, batch: &[Oid]) -> Result<(), AllocError>
+        requires stage { self.old.stage ≡ Stage.Fetching }
+        requires pending { self.old.pending ≡ None }
+        requires asked { asked_by_request request ≡ Fetches (fetch_request self.old.wants self.old.commons batch.now) }
+        requires fits { FitsBatch self.old batch.now }
+        ensures { MatchResult result
+            (λ _. self.new ≡ waiting_for self.old (asked_by_request request) batch.now)
+            (λ _. self.new ≡ self.old) }
+    {
+        self.sent.extend_from_slice(batch)?;
+        self.rounds += 1;
+        self.pending = Some(request);
+        Ok(())
+    }
+}

@@ -1,0 +1,187 @@
+// How a session takes the reply to fetch.
+#![tactic(auto)]
+
+ghost use Rattle.std.specs.Prelude.{◌≡◌, ◌++◌, false, All, Contains, MatchOption, MatchResult, IfOk, length};
+ghost use Rattle.gpkt.specs.Change.{change_of};
+
+use crate::acks::{first_strange, with_acks};
+use crate::fault::ClientFault;
+use crate::feed::PackFeed;
+use crate::session::Session;
+use crate::stage::Stage;
+use crate::taken::Taken;
+use gfetchreply::{FetchHead, FetchReading, read_fetch_reply_into_in};
+use ggraph::Indexer;
+use ggraph::graph_laws::distinct_are_once;
+use gname::Oid;
+use gpkt::{LineReader, Source};
+use grepo::Repo;
+use grequest::Request;
+use std::alloc::Allocator;
+
+impl<A: Allocator + Copy> Session<A> {
+    ghost use Rattle.gfetchreply.specs.FetchReplies.{FetchReply};
+    ghost use Rattle.gfetchreply.specs.FetchHeads.{head_of, pack_of};
+    ghost use Rattle.gfetchreply.specs.Views.{head_in, reading_in};
+    ghost use Rattle.ghistory.specs.Levels.{distinct_of};
+    ghost use Rattle.ghistory.specs.Reach.{Grows};
+    ghost use Rattle.grequest.specs.Asked.{FetchAsked, is_direct};
+    ghost use Rattle.gsession.specs.Feeding.{MayHaveFed};
+    ghost use Rattle.gsession.specs.Sessions.{AreCommons, LeavesReplies};
+    ghost use Rattle.gsession.specs.TakingReplies.{AnswersRead, AnswersReply, Awaits, AwaitsObjects, FitsHead, HasPack, IsAcksFault, TakesReply, acks_of, reading_for, with_acks};
+
+    /// Takes the reply to a request for objects, and nothing after it. Its pack goes to the indexer as it comes. Once
+    /// the reply was read to its end, each acknowledged id must be one of the request's haves, and is common from then
+    /// on; and all objects of the pack come to the repository, or none.
+    ///
+    /// It fails with `NoOpenRequest` where no such reply is due, and nothing is read then. Else the session is over,
+    /// and the repository as before: with `Message` where the reply is refused, with `StrangeAck`, with `Index` where
+    /// the indexer refused the pack, and with `Repo` where the graph refuses its objects, or there is no memory. The
+    /// first of these is reported; for a reply without a pack nothing of the indexer's.
+    pub fn take_reply<S: Source, K: Indexer<A>, B: Allocator + Copy>(
+        &mut self,
+        repo: &mut Repo<A>,
+        reader: &mut LineReader<S, B>,
+        indexer: &K,
+    ) -> Result<Taken, ClientFault<A>>
+        ensures takes { TakesReply (K.indexes indexer.now) (K.index_fails indexer.now) self.old repo.old
+            (change_of S.remaining reader.old.source reader.new.source) self.new repo.new result }
+        ensures grows { Grows repo.old.graph.entries repo.new.graph.entries }
+        ensures reader { LeavesReplies S.is_down reader.old reader.new result }
+        ensures loans { S.loans reader.new.source ≡ S.loans reader.old.source }
+    {
+        match self.read_objects(repo, reader, indexer) {
+            Ok(taken) => Ok(taken),
+            Err(fault) => Err(self.end_by(fault)),
+        }
+    }
+
+    // Takes the reply to fetch, where it is due. A fault does not end the session yet.
+    fn read_objects<S: Source, K: Indexer<A>, B: Allocator + Copy>(
+        &mut self,
+        repo: &mut Repo<A>,
+        reader: &mut LineReader<S, B>,
+        indexer: &K,
+    ) -> Result<Taken, ClientFault<A>>
+        ensures takes { AnswersReply (K.indexes indexer.now) (K.index_fails indexer.now) self.old repo.old
+            (change_of S.remaining reader.old.source reader.new.source) self.new repo.new result }
+        ensures reader { LeavesReplies S.is_down reader.old reader.new result }
+        ensures loans { S.loans reader.new.source ≡ S.loans reader.old.source }
+    {
+        let Some(reading) = self.reading() else {
+            return Err(ClientFault::NoOpenRequest);
+        };
+        let alloc = self.allocator();
+        let mut feed = PackFeed::start(alloc, indexer);
+        match read_fetch_reply_into_in(reading, reader, &mut feed, alloc) {
+            Ok(head) => self.take_head(repo, head, feed),
+            Err(fault) => Err(ClientFault::Message(fault)),
+        }
+    }
+
+    // How the reply that is due is read, where it is one to fetch.
+    fn reading(&self) -> Option<FetchReading>
+        ensures { MatchOption result
+            (¬ (AwaitsObjects self.now))
+            (λ reading. (asked : FetchAsked) × Awaits self.now asked
+            × (reading_in reading ≡ reading_for self.now asked)) }
+    {
+        match &self.pending {
+            Some(Request::Fetch(asked)) => Some(FetchReading {
+                format: self.format,
+                direct: asked.is_direct(),
+                limit: self.limit,
+                ends: self.ends,
+            }),
+            Some(Request::Empty | Request::Ls(_)) | None => None,
+        }
+    }
+
+    // Takes what a reply says.
+    fn take_head<K: Indexer<A>>(
+        &mut self,
+        repo: &mut Repo<A>,
+        head: FetchHead<A>,
+        feed: PackFeed<'_, K, A>,
+    ) -> Result<Taken, ClientFault<A>>
+        requires { (asked : FetchAsked) × Awaits self.old asked × FitsHead asked (head_in head) }
+        ensures { (asked : FetchAsked) (reply : FetchReply) → Awaits self.old asked → head_in head ≡ head_of reply
+            → MayHaveFed (K.fed feed.entry.indexer.now) (K.index_fails feed.entry.indexer.now) feed.entry.feed
+            (pack_of reply)
+            → AnswersRead (K.indexes feed.entry.indexer.now) (K.index_fails feed.entry.indexer.now) asked.haves
+            self.old repo.old reply self.new repo.new result }
+    {
+        match head {
+            FetchHead::Acks(acks) => self.take_acks(acks.ids()),
+            FetchHead::Ready(acks) => self.take_pack(repo, acks.ids(), feed),
+            FetchHead::Pack => self.take_pack(repo, &[], feed),
+        }
+    }
+
+    // Takes acknowledgments alone.
+    fn take_acks(&mut self, acks: &[Oid]) -> Result<Taken, ClientFault<A>>
+        requires { (asked : FetchAsked) × Awaits self.old asked × (is_direct asked ≡ false) }
+        ensures { (asked : FetchAsked) → Awaits self.old asked → MatchResult result
+            (λ taken. All (Contains asked.haves) acks.now × (self.new ≡ with_acks self.old Stage.Fetching acks.now)
+            × (taken ≡ Taken.Round (length self.new.commons)))
+            (λ fault. IsAcksFault asked.haves acks.now fault × (self.new ≡ self.old)) }
+    {
+        let joined = self.commons_with(acks)?;
+        let common = joined.len();
+        self.commons = joined;
+        self.stage = Stage::Fetching;
+        self.pending = None;
+        Ok(Taken::Round { common })
+    }
+
+    // Takes acknowledgments and a pack.
+    fn take_pack<K: Indexer<A>>(
+        &mut self,
+        repo: &mut Repo<A>,
+        acks: &[Oid],
+        feed: PackFeed<'_, K, A>,
+    ) -> Result<Taken, ClientFault<A>>
+        requires { AwaitsObjects self.old }
+        ensures { (asked : FetchAsked) (reply : FetchReply) → Awaits self.old asked → acks_of reply ≡ acks.now
+            → HasPack reply
+            → MayHaveFed (K.fed feed.entry.indexer.now) (K.index_fails feed.entry.indexer.now) feed.entry.feed
+            (pack_of reply)
+            → AnswersRead (K.indexes feed.entry.indexer.now) (K.index_fails feed.entry.indexer.now) asked.haves
+            self.old repo.old reply self.new repo.new result }
+    {
+        let commons = self.commons_with(acks)?;
+        let entries = feed.finish()?;
+        let added = repo.insert_all(entries.as_slice())?;
+        self.commons = commons;
+        self.stage = Stage::Settling;
+        self.pending = None;
+        Ok(Taken::PackTaken { added })
+    }
+
+    // The common ids with those that are acknowledged, of which each must be a have of the request.
+    fn commons_with(&self, acks: &[Oid]) -> Result<Vec<Oid, A>, ClientFault<A>>
+        requires { AwaitsObjects self.now }
+        ensures counts { (asked : FetchAsked) → Awaits self.now asked → MatchResult result
+            (λ commons. All (Contains asked.haves) acks.now
+            × (commons.items ≡ distinct_of (self.now.commons ++ acks.now)))
+            (IsAcksFault asked.haves acks.now) }
+        ensures commons { IfOk result (λ commons. AreCommons self.now.format commons.items) }
+    {
+        distinct_are_once();
+        let alloc = self.allocator();
+        if let Some(id) = first_strange(alloc, self.open_haves(), acks)? {
+            return Err(ClientFault::StrangeAck { id });
+        }
+        Ok(with_acks(alloc, self.commons.as_slice(), acks)?)
+    }
+
+    // The haves of the request for objects that waits.
+    fn open_haves(&self) -> &[Oid]
+        ensures { (asked : FetchAsked) → Awaits self.now asked → result.now ≡ asked.haves }
+    {
+        match &self.pending {
+            Some(Request::Fetch(asked)) => asked.haves(),
+            Some(Request::Empty | Request::Ls(_)) | None => &[],
+        }
+    }
+}

@@ -1,0 +1,154 @@
+// How a session takes the reply to ls-refs.
+#![tactic(auto)]
+
+ghost use Rattle.std.specs.Prelude.{◌≡◌, ◌≤◌, List, All, MatchBool, None, Err, length};
+ghost use Rattle.gobject.specs.declared.node.Entry.{Entry};
+ghost use Rattle.gpkt.specs.Change.{change_of};
+ghost use Rattle.gsession.specs.TakingRefs.{stage_for};
+
+use crate::asks::{asks_of, unborn_of, wants_of};
+use crate::fault::ClientFault;
+use crate::session::Session;
+use crate::stage::Stage;
+use crate::taken::LsTaken;
+use ggrammar::{MessageFault, Why};
+use glsreply::{LsReply, read_ls_reply_in};
+use gname::{NameFault, Oid};
+use gpkt::{LineReader, Source};
+use grepo::{Asks, Repo};
+use grequest::{MAX_WANTS, Request};
+use std::alloc::{AllocError, Allocator};
+
+impl<A: Allocator + Copy> Session<A> {
+    ghost use Rattle.glsreply.specs.WellFormed.{IsLsReplyIn};
+    ghost use Rattle.gname.specs.Ids.{IsIdOf};
+    ghost use Rattle.grequest.specs.Asked.{max_wants};
+    ghost use Rattle.gsession.specs.Asking.{FindsAsks};
+    ghost use Rattle.gsession.specs.Sessions.{LeavesReplies};
+    ghost use Rattle.gsession.specs.TakingRefs.{AnswersLs, AnswersRefs, AwaitsRefs, IsRefsFault, TakesLs};
+
+    /// Takes the reply to ls-refs, and nothing after it: what is asked for, which of its objects are wanted, and the
+    /// target of an unborn `HEAD`. An ask is for the ref to which a refspec takes a name; of several asks for one ref
+    /// the first counts. Wanted is each asked id whose whole ancestry is not held.
+    ///
+    /// It fails with `NoOpenRequest` where no such reply is due, and nothing is read then. Else the session is over:
+    /// with `Message` where the reply is refused, or, at its last packet, where a ref that is asked for can't have
+    /// its name; with `TooManyWants` over 1,024; and where there is no memory.
+    pub fn take_ls<S: Source, B: Allocator + Copy>(
+        &mut self,
+        repo: &Repo<A>,
+        reader: &mut LineReader<S, B>,
+    ) -> Result<LsTaken<A>, ClientFault<A>>
+        ensures takes { TakesLs self.old repo.now.graph.entries
+            (change_of S.remaining reader.old.source reader.new.source) self.new result }
+        ensures reader { LeavesReplies S.is_down reader.old reader.new result }
+        ensures loans { S.loans reader.new.source ≡ S.loans reader.old.source }
+    {
+        match self.read_refs(repo, reader) {
+            Ok(taken) => Ok(taken),
+            Err(fault) => Err(self.end_by(fault)),
+        }
+    }
+
+    // Takes the reply to ls-refs, where it is due. A fault does not end the session yet.
+    fn read_refs<S: Source, B: Allocator + Copy>(
+        &mut self,
+        repo: &Repo<A>,
+        reader: &mut LineReader<S, B>,
+    ) -> Result<LsTaken<A>, ClientFault<A>>
+        ensures takes { AnswersLs self.old repo.now.graph.entries
+            (change_of S.remaining reader.old.source reader.new.source) self.new result }
+        ensures reader { LeavesReplies S.is_down reader.old reader.new result }
+        ensures loans { S.loans reader.new.source ≡ S.loans reader.old.source }
+    {
+        if !self.awaits_refs() {
+            return Err(ClientFault::NoOpenRequest);
+        }
+        match read_ls_reply_in(self.format, self.ends, reader, self.allocator()) {
+            Ok(reply) => self.take_refs(repo, &reply),
+            Err(fault) => Err(ClientFault::Message(fault)),
+        }
+    }
+
+    // Whether a request for refs waits for its reply.
+    fn awaits_refs(&self) -> bool
+        ensures { MatchBool result (AwaitsRefs self.now) (¬ (AwaitsRefs self.now)) }
+    {
+        match &self.pending {
+            Some(Request::Ls(_)) => true,
+            Some(Request::Empty | Request::Fetch(_)) | None => false,
+        }
+    }
+
+    // Takes the refs of a reply.
+    fn take_refs(
+        &mut self,
+        repo: &Repo<A>,
+        reply: &LsReply<A>,
+    ) -> Result<LsTaken<A>, ClientFault<A>>
+        requires waits { AwaitsRefs self.old }
+        requires formed { IsLsReplyIn self.old.format reply.now }
+        ensures { AnswersRefs self.old repo.now.graph.entries reply.now self.new result }
+    {
+        let alloc = self.allocator();
+        let asks = match asks_of(alloc, self.refspecs.as_slice(), reply) {
+            Ok(asks) => asks,
+            Err(fault) => return Err(self.unnamed(reply, fault)),
+        };
+        let wants = wants_of(repo, &asks)?;
+        if wants.len() > MAX_WANTS {
+            return Err(ClientFault::TooManyWants);
+        }
+        let taken = LsTaken {
+            asks: asks.len(),
+            wants: wants.len(),
+            unborn: unborn_of(alloc, self.refspecs.as_slice(), reply)?,
+        };
+        self.keep_wants(asks, wants);
+        Ok(taken)
+    }
+
+    // Keeps what is asked for and what is wanted.
+    fn keep_wants(&mut self, asks: Asks<A>, wants: Vec<Oid, A>)
+        requires waits { AwaitsRefs self.old }
+        requires ids { All (IsIdOf self.old.format) wants.items }
+        requires few { length wants.items ≤ max_wants }
+        ensures { self.new ≡ record self.old {
+          stage = stage_for wants.items;
+          pending = None;
+          asks = asks;
+          wants = wants.items;
+        } }
+    {
+        self.stage = stage_for(wants.as_slice());
+        self.pending = None;
+        self.asks = asks;
+        self.wants = wants;
+    }
+
+    // Why the refs of a reply are not asked for: one can't have its name, as is reported at the reply's last packet; or
+    // there is no memory.
+    fn unnamed(&self, reply: &LsReply<A>, fault: NameFault) -> ClientFault<A>
+        requires { FindsAsks {A = A} self.now.refspecs reply.now.lines (Err fault) }
+        ensures { (g : List (Entry A)) → IsRefsFault self.now g reply.now result }
+    {
+        match fault {
+            NameFault::Memory => ClientFault::from(AllocError),
+            _ => ClientFault::Message(MessageFault {
+                frame: reply.last_frame(self.ends),
+                why: Why::BadName,
+            }),
+        }
+    }
+}
+
+// Objects are fetched where some are wanted.
+fn stage_for(wants: &[Oid]) -> Stage
+    ensures { result ≡ stage_for wants.now }
+{
+    if wants.is_empty() {
+        Stage::Settling
+    } else {
+        Stage::Fetching
+    }
+}

@@ -1,0 +1,7 @@
+//! Tests.
+mod bounds;
+mod makers;
+mod order;
+mod pieces;
+mod refused;
+mod talks;

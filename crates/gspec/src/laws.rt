@@ -1,0 +1,13 @@
+// Laws of refspecs. A call does nothing, and gives its caller's proof the law.
+#![tactic(auto)]
+
+ghost use Rattle.gspec.specs.Refspecs.{OneReading};
+
+use gname::laws::names_are_clean;
+
+/// A text is that of one refspec at most.
+pub fn one_reading()
+    ensures { OneReading }
+{
+    names_are_clean();
+}

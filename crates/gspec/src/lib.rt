@@ -1,0 +1,37 @@
+//! Refspecs (git-fetch(1), "<refspec>"): which refs of another repository are fetched, and which refs here they
+//! move.
+//!
+//! # Proved
+//!
+//! - [`Spec::parse`] accepts exactly the texts of refspecs, and keeps what they say; a text is that of one
+//!   refspec at most. Out of memory is reported of the text of a refspec alone.
+//! - [`Spec::matches`] says which names the source matches, and [`Spec::destination`] where such a name goes,
+//!   or why that is no ref name.
+//! - Each fault has the number and the name of its row.
+//! - No call panics, overflows or reads out of bounds, and each returns.
+//!
+//! # Only tested
+//!
+//! The texts of the faults, and that memory which is there is used.
+//!
+//! # What a body can still get away with
+//!
+//! It may report out of memory of any refspec, destination and copy, as often as it likes. It may take as long
+//! as it likes, and more memory than it needs.
+//!
+//! # Stands on
+//!
+//! `gname` for ref names and prefixes, `grefs` for which names are below `refs/`, `arrayvec` for names in
+//! the making, `thiserror` for the texts of faults; in tests `bumpalo`, for memory that ends.
+#![tactic(auto)]
+
+mod fault;
+pub mod laws;
+mod parse;
+mod side;
+mod spec;
+#[cfg(test)]
+mod tests;
+
+pub use crate::fault::SpecFault;
+pub use crate::spec::Spec;
