@@ -171,7 +171,7 @@ fn check(rt: &impl Abort, alloc: Global, case: &Case) -> Result<(), Fail> {
             let next = case.3.get(met).ok_or("one outcome too many")?;
             let is_next = is_met(alloc, &brought, file.as_slice(), next)?;
             let printed = brought.printed.as_slice();
-            let shown = std::str::from_utf8(printed).unwrap();
+            let shown = std::str::from_utf8(printed).expect(rt, "a text");
             assert!(rt; is_next, "outcome {met} at {room}: {shown}");
             met = met.saturating_add(1);
         }

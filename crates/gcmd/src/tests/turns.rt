@@ -1,4 +1,8 @@
 //! A client and a server, turn by turn: what the client passes on the server answers, and the client reads that.
+
+ghost use Rattle.std.specs.Prelude.{◌≤◌, length, IfOk};
+ghost use Rattle.std.specs.Counts.{IsPrefixLen};
+
 use crate::tests::clients::{EMPTY_SHA256, MAIN};
 use crate::tests::fetches::{Fetch, fetch_of};
 use crate::tests::samples::{EMPTY, SERVER, SHA256, TAGGED, TAGGED_TWICE, UNBORN, spelled};
@@ -30,7 +34,9 @@ struct Link<'a> {
     read: usize,
 }
 
-fn failed<T>() -> io::Result<T> {
+fn failed<T>() -> io::Result<T>
+    ensures { IfOk result (λ _. ⊥) }
+{
     Err(io::Error::from(ErrorKind::Other))
 }
 
@@ -59,14 +65,18 @@ impl<'a> Link<'a> {
         })
     }
 
-    fn give(&mut self, buf: &mut [u8]) -> io::Result<usize> {
+    fn give(&mut self, buf: &mut [u8]) -> io::Result<usize>
+        ensures { IfOk result (λ n. IsPrefixLen n buf.new) }
+    {
         let mut rest = &self.answers.as_slice()[self.read.min(self.answers.len())..];
         let count = rest.read(buf)?;
         self.read = self.read.saturating_add(count);
         Ok(count)
     }
 
-    fn take(&mut self, bytes: &[u8]) -> io::Result<usize> {
+    fn take(&mut self, bytes: &[u8]) -> io::Result<usize>
+        ensures { IfOk result (λ n. n ≤ length bytes.now) }
+    {
         match self.asked.extend_from_slice(bytes) {
             Ok(()) => Ok(bytes.len()),
             Err(_) => failed(),
