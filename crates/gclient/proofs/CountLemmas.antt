@@ -1,5 +1,6 @@
 -- How often a conversation asks for objects.
-use Rattle.std.proofs.Common.{◌≡◌, ℕ, ◌+◌, ◌≤◌, List, [], ◌∷◌, ◌++◌, length, None, Some, Ok, refl, sym, ap, subst, ◌∙◌, append-nil, arith}
+use Rattle.std.proofs.Common.{◌≡◌, ℕ, ◌+◌, ◌≤◌, List, [], ◌∷◌, ◌++◌, length, None, Some, Ok, refl, sym, ap, subst, ◌∙◌}
+use Rattle.std.proofs.Common.{append-nil, arith}
 use Rattle.gpkt.specs.Change.{Change}
 use Rattle.gpkt.specs.Packets.{Packet}
 use Rattle.ggrammar.specs.Capabilities.{Capability}
@@ -9,15 +10,16 @@ use Rattle.ghistory.specs.Walks.{CountsReached}
 use Rattle.gobject.specs.Packs.{Indexes, IndexFails}
 use Rattle.grepo.specs.Repos.{IsWhole, RepoState}
 use Rattle.grequest.specs.Asked.{Asked, Empty, Ls, Fetches}
-use Rattle.gsession.specs.Bounds.{BeganOn, BeganStaysOn, BeginsCounted, BeganBegins, CountedAreFew, CountedStays, IsCounted}
+use Rattle.gsession.specs.Bounds.{BeganOn, BeganStaysOn, BeginsCounted, BeganBegins, CountedAreFew, CountedStays}
+use Rattle.gsession.specs.Bounds.{IsCounted}
 use Rattle.gsession.specs.Calls.{HasCalled, heard as heard_call, requested, took_refs, took_reply}
 use Rattle.gsession.specs.Laws.{EachGoesOn}
 use Rattle.gsession.specs.Requesting.{waiting_for}
-use Rattle.gsession.specs.Sessions.{SessionState, max_specs}
+use Rattle.gsession.specs.Sessions.{SessionState, max_specs, tips_of}
 use Rattle.gsession.specs.TakingReplies.{TakesHead}
 use Rattle.gsession.specs.declared.taken.Taken.{Taken}
 use Rattle.gsession.specs.declared.taken.Taken.TheVariants.{Round, PackTaken}
-use Rattle.gclient.specs.Conversations.{Start, begun, heard, tips_of}
+use Rattle.gclient.specs.Conversations.{Start, begun, heard}
 use Rattle.gclient.specs.Laws.{NextIsFew, TalksAreFew, asked_in, count_of, objects_asked}
 use Rattle.gclient.specs.Turns.{AreTurns, AsksNext, ClientState, IsTurn, Takes, Turn}
 use Rattle.gclient.proofs.TurnLemmas.{grows_on, turn_kept, waits}
@@ -37,36 +39,57 @@ pub record CountLaws {A : Type 0} (indexes : Indexes A) (index_fails : IndexFail
   pub counted : CountedStays indexes index_fails
 
 -- a request more
-pub one_more : (requests : List Asked) (asked : Asked) → objects_asked (requests ++ asked ∷ []) ≡ objects_asked requests + count_of asked
+pub one_more : (requests : List Asked) (asked : Asked)
+    → objects_asked (requests ++ asked ∷ []) ≡ objects_asked requests + count_of asked
 one_more [] asked = omega arith
 one_more (other ∷ requests) asked =
-    let more : objects_asked (requests ++ asked ∷ []) ≡ objects_asked requests + count_of asked = one_more requests asked in
-    let longer : objects_asked ((other ∷ requests) ++ asked ∷ []) ≡ count_of other + objects_asked (requests ++ asked ∷ []) = refl in
+    let more : objects_asked (requests ++ asked ∷ []) ≡ objects_asked requests + count_of asked =
+    one_more requests asked in
+    let longer : objects_asked ((other ∷ requests) ++ asked ∷ [])
+    ≡ count_of other + objects_asked (requests ++ asked ∷ []) = refl in
     let before : objects_asked (other ∷ requests) ≡ count_of other + objects_asked requests = refl in
     omega arith
 
 module _ {A : Type 0} (indexes : Indexes A) (index_fails : IndexFails) where
-  taken_called : (old : ClientState A) (waiting : SessionState A) (asked : Asked) (reply : List Packet) (new : ClientState A) → waiting.pending ≡ Some asked
-      → Takes indexes index_fails waiting asked old reply new → HasCalled indexes index_fails old.repo waiting new.session
+  taken_called : (old : ClientState A) (waiting : SessionState A) (asked : Asked) (reply : List
+      Packet) (new : ClientState A) → waiting.pending ≡ Some asked
+      → Takes indexes index_fails waiting asked old reply new
+      → HasCalled indexes index_fails old.repo waiting new.session
   taken_called old waiting Empty reply new awaits takes = absurd takes
   taken_called old waiting (Ls asked) reply new awaits takes =
-      took_refs unknown (Ok takes.taken)
-      ((asked, awaits), (takes.reply, record { lines = reply; read = record { whole = takes.says.whole; bytes = tt }; says = takes.says }, takes.takes))
+      took_refs unknown (Ok takes.taken) (
+        (asked, awaits),
+        (
+          takes.reply,
+          record { lines = reply; read = record { whole = takes.says.whole; bytes = tt }; says = takes.says },
+          takes.takes,
+        ),
+      )
   taken_called old waiting (Fetches asked) reply new awaits takes =
-      took_reply new.repo unknown (Ok takes.taken)
-      (asked, awaits, (takes.reply, record { lines = reply; read = record { whole = takes.says.whole; bytes = tt }; says = takes.says }, takes.takes))
+      took_reply new.repo unknown (Ok takes.taken) (
+        asked,
+        awaits,
+        (
+          takes.reply,
+          record { lines = reply; read = record { whole = takes.says.whole; bytes = tt }; says = takes.says },
+          takes.takes,
+        ),
+      )
 
-  asked_rounds : (old : SessionState A) (asked : Asked) (batch : List (List ℕ)) → (waiting_for old asked batch).rounds ≡ old.rounds + count_of asked
+  asked_rounds : (old : SessionState A) (asked : Asked) (batch : List (List ℕ))
+      → (waiting_for old asked batch).rounds ≡ old.rounds + count_of asked
   asked_rounds old Empty batch = let none : count_of Empty ≡ 0 = refl in omega arith
   asked_rounds old (Ls asked) batch = let none : count_of (Ls asked) ≡ 0 = refl in omega arith
   asked_rounds old (Fetches asked) batch = refl
 
-  head_rounds : (repo : RepoState A) (waiting new : SessionState A) (reply : FetchReply) (after : RepoState A) (taken : Taken)
+  head_rounds : (repo : RepoState A) (waiting new : SessionState A) (reply : FetchReply) (after : RepoState A)
+      (taken : Taken)
       → TakesHead indexes index_fails waiting repo reply new after taken → new.rounds ≡ waiting.rounds
   head_rounds repo waiting new reply after (Round common) took = ap (λ (s : SessionState A). s.rounds) took.1
   head_rounds repo waiting new reply after (PackTaken added) took = ap (λ (s : SessionState A). s.rounds) took.1
 
-  taken_rounds : (old : ClientState A) (waiting : SessionState A) (asked : Asked) (reply : List Packet) (new : ClientState A)
+  taken_rounds : (old : ClientState A) (waiting : SessionState A) (asked : Asked) (reply : List Packet)
+      (new : ClientState A)
       → Takes indexes index_fails waiting asked old reply new → new.session.rounds ≡ waiting.rounds
   taken_rounds old waiting Empty reply new takes = absurd takes
   taken_rounds old waiting (Ls asked) reply new takes = ap (λ (s : SessionState A). s.rounds) takes.takes.after
@@ -87,8 +110,11 @@ module _ {A : Type 0} (indexes : Indexes A) (index_fails : IndexFails) where
   still start = ([], sym (append-nil start.repo.graph.entries))
 
   -- a call more
-  called : CountLaws indexes index_fails → (start : Start A) (old new : SessionState A) (repo after : RepoState A) (count total : ℕ) → IsGoing start old repo count
-      → HasCalled indexes index_fails repo old new → Grows start.repo.graph.entries after.graph.entries → new.rounds ≡ total → IsGoing start new after total
+  called : CountLaws indexes index_fails
+      → (start : Start A) (old new : SessionState A) (repo after : RepoState A) (count total : ℕ)
+      → IsGoing start old repo count
+      → HasCalled indexes index_fails repo old new → Grows start.repo.graph.entries after.graph.entries
+      → new.rounds ≡ total → IsGoing start new after total
   called laws start old new repo after count total was call grows rounds = record {
     counted = laws.counted repo old new was.counted call;
     began = laws.stays_on start.repo.graph.entries repo old new was.grows was.began call;
@@ -97,7 +123,8 @@ module _ {A : Type 0} (indexes : Indexes A) (index_fails : IndexFails) where
     rounds = rounds;
   }
 
-  begun_going : CountLaws indexes index_fails → (start : Start A) → IsWhole start.repo → length start.refspecs ≤ max_specs → IsGoing start (begun start) start.repo 0
+  begun_going : CountLaws indexes index_fails → (start : Start A) → IsWhole start.repo
+      → length start.refspecs ≤ max_specs → IsGoing start (begun start) start.repo 0
   begun_going laws start whole few = record {
     counted = laws.begins start.repo start.refspecs start.limit start.ends (begun start) (few, refl);
     began = laws.begins_on start.repo start.refspecs start.limit start.ends (begun start) whole (few, refl);
@@ -106,30 +133,43 @@ module _ {A : Type 0} (indexes : Indexes A) (index_fails : IndexFails) where
     rounds = refl;
   }
 
-  heard_going : CountLaws indexes index_fails → (start : Start A) (capabilities : List Capability) → IsWhole start.repo → length start.refspecs ≤ max_specs
+  heard_going : CountLaws indexes index_fails → (start : Start A) (capabilities : List Capability) → IsWhole start.repo
+      → length start.refspecs ≤ max_specs
       → IsGoing start (heard start capabilities).session start.repo 0
   heard_going laws start capabilities whole few =
-      called laws start (begun start) (heard start capabilities).session start.repo start.repo 0 0 (begun_going laws start whole few)
+      called laws start (begun start) (heard start capabilities).session start.repo start.repo 0 0
+      (begun_going laws start whole few)
       (heard_call capabilities (Ok tt) ((refl, refl), refl)) (still start) refl
 
   -- the next request is made
-  asked_going : CountLaws indexes index_fails → (start : Start A) (old : ClientState A) (asked : Asked) (waiting : SessionState A) (count : ℕ)
-      → IsGoing start old.session old.repo count → AsksNext old asked waiting → IsGoing start waiting old.repo (count + count_of asked)
+  asked_going : CountLaws indexes index_fails
+      → (start : Start A) (old : ClientState A) (asked : Asked) (waiting : SessionState A) (count : ℕ)
+      → IsGoing start old.session old.repo count → AsksNext old asked waiting
+      → IsGoing start waiting old.repo (count + count_of asked)
   asked_going laws start old asked waiting count was made =
-      called laws start old.session waiting old.repo old.repo count (count + count_of asked) was (requested (Ok asked) made) was.grows
-      (ap (λ (s : SessionState A). s.rounds) made.1.2 ∙ asked_rounds old.session asked made.1.0 ∙ ap (λ (n : ℕ). n + count_of asked) was.rounds)
+      called laws start old.session waiting old.repo old.repo count (count + count_of asked) was
+      (requested (Ok asked) made) was.grows
+      (ap (λ (s : SessionState A). s.rounds) made.1.2 ∙ asked_rounds old.session asked made.1.0
+      ∙ ap (λ (n : ℕ). n + count_of asked) was.rounds)
 
-  turn_going : CountLaws indexes index_fails → (start : Start A) (old : ClientState A) (turn : Turn) (new : ClientState A) (count : ℕ)
-      → IsGoing start old.session old.repo count → IsTurn indexes index_fails old turn new → IsGoing start new.session new.repo (count + count_of turn.asked)
+  turn_going : CountLaws indexes index_fails
+      → (start : Start A) (old : ClientState A) (turn : Turn) (new : ClientState A) (count : ℕ)
+      → IsGoing start old.session old.repo count → IsTurn indexes index_fails old turn new
+      → IsGoing start new.session new.repo (count + count_of turn.asked)
   turn_going laws start old turn new count was is =
       let asked = asked_going laws start old turn.asked is.waiting count was is.asks in
-      called laws start is.waiting new.session old.repo new.repo (count + count_of turn.asked) (count + count_of turn.asked) asked
-      (taken_called old is.waiting turn.asked turn.reply new (waits old.repo.graph.entries old.session is.waiting turn.asked is.asks) is.takes)
-      (grows_on start.repo.graph.entries old.repo.graph.entries new.repo.graph.entries was.grows (turn_kept indexes index_fails old turn new is).grows)
+      called laws start is.waiting new.session old.repo new.repo (count + count_of turn.asked)
+      (count + count_of turn.asked) asked
+      (taken_called old is.waiting turn.asked turn.reply new
+      (waits old.repo.graph.entries old.session is.waiting turn.asked is.asks) is.takes)
+      (grows_on start.repo.graph.entries old.repo.graph.entries new.repo.graph.entries was.grows
+      (turn_kept indexes index_fails old turn new is).grows)
       (taken_rounds old is.waiting turn.asked turn.reply new is.takes ∙ asked.rounds)
 
-  turns_going : CountLaws indexes index_fails → (start : Start A) (first : ClientState A) (talk : List Turn) (last : ClientState A) (count total : ℕ)
-      → IsGoing start first.session first.repo count → AreTurns indexes index_fails first talk last → count + objects_asked (asked_in talk) ≡ total
+  turns_going : CountLaws indexes index_fails
+      → (start : Start A) (first : ClientState A) (talk : List Turn) (last : ClientState A) (count total : ℕ)
+      → IsGoing start first.session first.repo count → AreTurns indexes index_fails first talk last
+      → count + objects_asked (asked_in talk) ≡ total
       → IsGoing start last.session last.repo total
   turns_going laws start first [] last count total was is sum =
       let nothing : objects_asked (asked_in []) ≡ 0 = refl in
@@ -138,27 +178,38 @@ module _ {A : Type 0} (indexes : Indexes A) (index_fails : IndexFails) where
       (subst (λ (c : ClientState A). IsGoing start c.session c.repo count) (sym is) was)
   turns_going laws start first (turn ∷ talk) last count total was (next, is, rest) sum =
       let more : objects_asked (asked_in (turn ∷ talk)) ≡ count_of turn.asked + objects_asked (asked_in talk) = refl in
-      turns_going laws start next talk last (count + count_of turn.asked) total (turn_going laws start first turn next count was is) rest (omega (arith, sum))
+      turns_going laws start next talk last (count + count_of turn.asked) total
+      (turn_going laws start first turn next count was is) rest (omega (arith, sum))
 
-  talk_going : CountLaws indexes index_fails → (start : Start A) (capabilities : List Capability) (talk : List Turn) (last : ClientState A) → IsWhole start.repo
+  talk_going : CountLaws indexes index_fails
+      → (start : Start A) (capabilities : List Capability) (talk : List Turn) (last : ClientState A)
+      → IsWhole start.repo
       → length start.refspecs ≤ max_specs → AreTurns indexes index_fails (heard start capabilities) talk last
       → IsGoing start last.session last.repo (objects_asked (asked_in talk))
   talk_going laws start capabilities talk last whole few are =
-      turns_going laws start (heard start capabilities) talk last 0 (objects_asked (asked_in talk)) (heard_going laws start capabilities whole few) are (omega arith)
+      turns_going laws start (heard start capabilities) talk last 0 (objects_asked (asked_in talk))
+      (heard_going laws start capabilities whole few) are (omega arith)
 
-  going_few : CountLaws indexes index_fails → (start : Start A) (session : SessionState A) (repo : RepoState A) (count held parents : ℕ) → IsGoing start session repo count
+  going_few : CountLaws indexes index_fails
+      → (start : Start A) (session : SessionState A) (repo : RepoState A) (count held parents : ℕ)
+      → IsGoing start session repo count
       → CountsReached start.repo.graph.entries (tips_of start.repo) held parents → count ≤ held + 1
   going_few laws start session repo count held parents going counts =
-      let few : session.rounds ≤ held + 1 = laws.few start.repo.graph.entries session held parents going.counted going.began
-      (subst (λ (ids : List (List ℕ)). CountsReached start.repo.graph.entries ids held parents) (sym going.tips) counts) in
+      let few : session.rounds ≤ held + 1 =
+      laws.few start.repo.graph.entries session held parents going.counted going.began
+      (subst (λ (ids : List (List ℕ)). CountsReached start.repo.graph.entries ids held parents)
+      (sym going.tips) counts) in
       omega (arith, few, going.rounds)
 
   pub talks_are_few : CountLaws indexes index_fails → TalksAreFew indexes index_fails
   talks_are_few laws start capabilities talk last held parents whole few are counts =
-      going_few laws start last.session last.repo (objects_asked (asked_in talk)) held parents (talk_going laws start capabilities talk last whole few are) counts
+      going_few laws start last.session last.repo (objects_asked (asked_in talk)) held parents
+      (talk_going laws start capabilities talk last whole few are) counts
 
   pub next_is_few : CountLaws indexes index_fails → NextIsFew indexes index_fails
   next_is_few laws start capabilities talk last asked waiting held parents whole few are made counts =
-      let going = asked_going laws start last asked waiting (objects_asked (asked_in talk)) (talk_going laws start capabilities talk last whole few are) made in
-      let most = going_few laws start waiting last.repo (objects_asked (asked_in talk) + count_of asked) held parents going counts in
+      let going = asked_going laws start last asked waiting (objects_asked (asked_in talk))
+      (talk_going laws start capabilities talk last whole few are) made in
+      let most = going_few laws start waiting last.repo (objects_asked (asked_in talk) + count_of asked) held parents
+      going counts in
       omega (arith, most, one_more (asked_in talk) asked)

@@ -14,7 +14,8 @@ use Rattle.grepo.specs.Settling.{Settles}
 use Rattle.grepo.specs.declared.ask.Ask.{Ask}
 use Rattle.grepo.specs.declared.fault.RepoFault.{RepoFault}
 use Rattle.grepo.specs.declared.fault.RepoFault.TheVariants as repo
-use Rattle.gclient.specs.Conversations.{Start, Converses, Fails, cannot_ask, cannot_begin, cannot_hear, cannot_send, cannot_settle, cannot_take, no_buffer, Fetches, FetchesOver, heard}
+use Rattle.gclient.specs.Conversations.{Start, Converses, Fails, cannot_ask, cannot_begin, cannot_hear, cannot_send}
+use Rattle.gclient.specs.Conversations.{cannot_settle, cannot_take, no_buffer, HasFetched, FetchesOver, heard}
 use Rattle.gclient.specs.Turns.{ClientState, Turn}
 use Rattle.gclient.specs.declared.fault.FetchFault.{FetchFault}
 use Rattle.gclient.specs.declared.fetched.Fetched.{Fetched}
@@ -30,9 +31,11 @@ module _ {A : Type 0} where
   kept_is old mid new kept is = subst (IsKeptRepo old) (sym is) kept
 
   same_is_kept : (old new : RepoState A) → new ≡ old → IsKeptRepo old new
-  same_is_kept old new is = kept_is old old new (record { refs = refl; grows = ([], sym (append-nil old.graph.entries)) }) is
+  same_is_kept old new is =
+      kept_is old old new (record { refs = refl; grows = ([], sym (append-nil old.graph.entries)) }) is
 
-  refused_is_same : (old : RepoState A) (asks : List (Ask A)) (new : RepoState A) (cause : RepoFault A) → SettlesAsks old asks new (Err cause) → new ≡ old
+  refused_is_same : (old : RepoState A) (asks : List (Ask A)) (new : RepoState A) (cause : RepoFault A)
+      → SettlesAsks old asks new (Err cause) → new ≡ old
   refused_is_same old asks new (repo.MissingParent id) h = absurd h
   refused_is_same old asks new (repo.UnsafeRef name) h = absurd h
   refused_is_same old asks new (repo.NotHeld missing) h = absurd h
@@ -64,36 +67,41 @@ module _ {A : Type 0} (indexes : Indexes A) (index_fails : IndexFails) (start : 
       kept_is start.repo last.repo new (kept_so_far input talk last _ converses) still
   fails_keep input output new cause (cannot_take talk last asked waiting why made converses passed still) =
       kept_is start.repo last.repo new (kept_so_far input talk last _ converses) still
-  fails_keep input output new cause (cannot_settle talk last why converses over passed settles) =
-      kept_is start.repo last.repo new (kept_so_far input talk last _ converses) (refused_is_same last.repo last.session.asks new why settles)
+  fails_keep input output new cause (cannot_settle talk last why converses next passed settles) =
+      kept_is start.repo last.repo new (kept_so_far input talk last _ converses)
+      (refused_is_same last.repo last.session.asks new why settles)
 
   fetches_grow : (input : Input) (output : Output) (new : RepoState A) (fetched : Fetched A)
-      → Fetches indexes index_fails start input output new fetched → Grows start.repo.graph.entries new.graph.entries
+      → HasFetched indexes index_fails start input output new fetched → Grows start.repo.graph.entries new.graph.entries
   fetches_grow input output new fetched fetches =
       subst (λ (h : History A). Grows start.repo.graph.entries h.entries) (sym fetches.settles.0.graph)
       (kept_so_far input fetches.talk fetches.last _ fetches.converses).grows
 
   fetches_settle : (input : Input) (output : Output) (new : RepoState A) (fetched : Fetched A)
-      → Fetches indexes index_fails start input output new fetched
+      → HasFetched indexes index_fails start input output new fetched
       → Settles new.graph.entries start.repo.refs fetched.settled.asks fetched.settled.updates.items new.refs
   fetches_settle input output new fetched fetches =
       let last = fetches.last.repo in
       let kept = kept_so_far input fetches.talk fetches.last _ fetches.converses in
       let updates = fetched.settled.updates.items in
       let settled : Settles last.graph.entries last.refs fetched.settled.asks updates new.refs =
-      subst (λ (asks : List (Ask A)). Settles last.graph.entries last.refs asks updates new.refs) (sym fetches.asks) fetches.settles.1 in
-      subst (λ (h : History A). Settles h.entries start.repo.refs fetched.settled.asks updates new.refs) (sym fetches.settles.0.graph)
+      subst (λ (asks : List (Ask A)). Settles last.graph.entries last.refs asks updates new.refs)
+      (sym fetches.asks) fetches.settles.1 in
+      subst (λ (h : History A). Settles h.entries start.repo.refs fetched.settled.asks updates new.refs)
+      (sym fetches.settles.0.graph)
       (subst (λ (l : RefList). Settles last.graph.entries l fetched.settled.asks updates new.refs) kept.refs settled)
 
   -- whatever a conversation answers
 
   pub over_settles : (input : Input) (output : Output) (new : RepoState A) (result : Result (Fetched A) (FetchFault A))
       → FetchesOver indexes index_fails start input output new result
-      → IfOk result (λ fetched. Settles new.graph.entries start.repo.refs fetched.settled.asks fetched.settled.updates.items new.refs)
+      → IfOk result (λ fetched. Settles new.graph.entries start.repo.refs fetched.settled.asks
+      fetched.settled.updates.items new.refs)
   over_settles input output new (Ok fetched) h = fetches_settle input output new fetched h
   over_settles input output new (Err cause) h = tt
 
-  pub over_keeps_refs : (input : Input) (output : Output) (new : RepoState A) (result : Result (Fetched A) (FetchFault A))
+  pub over_keeps_refs : (input : Input) (output : Output) (new : RepoState A)
+      (result : Result (Fetched A) (FetchFault A))
       → FetchesOver indexes index_fails start input output new result → OnErr result (new.refs ≡ start.repo.refs)
   over_keeps_refs input output new (Ok fetched) h = tt
   over_keeps_refs input output new (Err cause) h = (fails_keep input output new cause h).refs

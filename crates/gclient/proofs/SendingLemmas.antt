@@ -1,5 +1,6 @@
 -- Requests that are written and passed on, one after the other.
-use Rattle.std.proofs.Common.{◌≡◌, ℕ, Bool, false, List, [], ◌∷◌, ◌++◌, Option, Some, None, Result, Ok, Err, refl, sym, ap, subst, ◌∙◌, append_assoc, append-nil}
+use Rattle.std.proofs.Common.{◌≡◌, ℕ, Bool, false, List, [], ◌∷◌, ◌++◌, Option, Some, None, Result, Ok, Err, refl, sym}
+use Rattle.std.proofs.Common.{ap, subst, ◌∙◌, append_assoc, append-nil}
 use Rattle.std.specs.Prelude.{IsSome, OnOk}
 use Rattle.std.proofs.lemmas.Bool.{false≢true}
 use Rattle.std.specs.Io.KnownBytes.{Appends, Keeps}
@@ -90,7 +91,8 @@ module _ {W : Type 0} (contents passed_on : W → Option (List ℕ)) (is_down : 
   -- a write that failed
   pub passed_failed : (a b : Writer W) (packets : List Packet) (fault : WriteFault) → a.failed ≡ false
       → WritesLines contents passed_on is_down loans a b (Err fault) packets
-      → HasPassed {E = WriteFault} (output_of contents passed_on is_down a.sink b.sink) (Err fault) (canonical_all packets)
+      → HasPassed {E = WriteFault} (output_of contents passed_on is_down a.sink b.sink) (Err fault)
+      (canonical_all packets)
   passed_failed a b packets Io ready wrote = (
     record {
       front = wrote.written.outcome.1.0;
@@ -115,7 +117,8 @@ module _ {W : Type 0} (contents passed_on : W → Option (List ℕ)) (is_down : 
 module _ {W : Type 0} (contents passed_on : W → Option (List ℕ)) (is_down : W → Bool) where
   -- what is written next, and passed on
   passes_join : (a b c : W) (xs ys : List ℕ) → Passes (output_of contents passed_on is_down a b) xs
-      → Passes (output_of contents passed_on is_down b c) ys → Passes (output_of contents passed_on is_down a c) (xs ++ ys)
+      → Passes (output_of contents passed_on is_down b c) ys
+      → Passes (output_of contents passed_on is_down a c) (xs ++ ys)
   passes_join a b c xs ys first next = record {
     written = appends_join (contents a) (contents b) (contents c) xs ys first.written next.written;
     passed_on = λ known passed.
@@ -158,12 +161,14 @@ module _ {W : Type 0} (contents passed_on : W → Option (List ℕ)) (is_down : 
   unwritten_passes a b c xs still next = record {
     written = subst (λ (old : Option (List ℕ)). Appends old (contents c) xs) still.written next.written;
     passed_on = λ known passed.
-        next.passed_on (is_some (contents b) (contents a) still.written known) (is_some (passed_on b) (passed_on a) still.passed_on passed);
+        next.passed_on (is_some (contents b) (contents a) still.written known)
+        (is_some (passed_on b) (passed_on a) still.passed_on passed);
     up = next.up;
   }
 
   unwritten_some : (a b c : W) (xs : List ℕ) → IsUnwritten (output_of contents passed_on is_down a b)
-      → SendsSome (output_of contents passed_on is_down b c) xs → SendsSome (output_of contents passed_on is_down a c) xs
+      → SendsSome (output_of contents passed_on is_down b c) xs
+      → SendsSome (output_of contents passed_on is_down a c) xs
   unwritten_some a b c xs still next = record {
     front = next.front;
     rest = next.rest;
@@ -184,11 +189,13 @@ module _ {W : Type 0} (contents passed_on : W → Option (List ℕ)) (is_down : 
       → requests_bytes format talk ++ request_bytes format turn.asked ≡ requests_bytes format (talk ++ turn ∷ [])
   requests_more format talk turn =
       let bytes : Turn → List ℕ = λ t. request_bytes format t.asked in
-      sym (flat_map-append bytes talk (turn ∷ []) ∙ ap (λ (xs : List ℕ). flat_map bytes talk ++ xs) (append-nil (bytes turn)))
+      sym (flat_map-append bytes talk (turn ∷ [])
+      ∙ ap (λ (xs : List ℕ). flat_map bytes talk ++ xs) (append-nil (bytes turn)))
 
   -- what is passed on next
   pub asked_passes : (format : Format) (a b c : W) (talk : List Turn) (bytes : List ℕ)
-      → HasAsked format (output_of contents passed_on is_down a b) talk → Passes (output_of contents passed_on is_down b c) bytes
+      → HasAsked format (output_of contents passed_on is_down a b) talk
+      → Passes (output_of contents passed_on is_down b c) bytes
       → Passes (output_of contents passed_on is_down a c) (requests_bytes format talk ++ bytes)
   asked_passes format a b c [] bytes before next = unwritten_passes a b c bytes before next
   asked_passes format a b c (turn ∷ talk) bytes before next =
@@ -207,12 +214,14 @@ module _ {W : Type 0} (contents passed_on : W → Option (List ℕ)) (is_down : 
       → HasAsked format (output_of contents passed_on is_down a c) (talk ++ turn ∷ [])
   asked_more format a b c talk turn before next =
       asked_by_passing format a c talk turn
-      (subst (λ (bytes : List ℕ). Passes (output_of contents passed_on is_down a c) bytes) (requests_more format talk turn)
+      (subst (λ (bytes : List ℕ). Passes (output_of contents passed_on is_down a c) bytes)
+      (requests_more format talk turn)
       (asked_passes format a b c talk (request_bytes format turn.asked) before next))
 
   -- a beginning of what is due next is written
   pub asked_fails : (format : Format) (a b c : W) (talk : List Turn) (due : List ℕ)
-      → HasAsked format (output_of contents passed_on is_down a b) talk → SendsSome (output_of contents passed_on is_down b c) due
+      → HasAsked format (output_of contents passed_on is_down a b) talk
+      → SendsSome (output_of contents passed_on is_down b c) due
       → KeepsPassed (output_of contents passed_on is_down b c).passed_on
       → FailsToAsk format (output_of contents passed_on is_down a c) talk due
   asked_fails format a b c [] due before next kept =
@@ -222,7 +231,8 @@ module _ {W : Type 0} (contents passed_on : W → Option (List ℕ)) (is_down : 
 
   -- nothing more is written
   pub asked_still : (format : Format) (a b c : W) (talk : List Turn)
-      → HasAsked format (output_of contents passed_on is_down a b) talk → IsUnwritten (output_of contents passed_on is_down b c)
+      → HasAsked format (output_of contents passed_on is_down a b) talk
+      → IsUnwritten (output_of contents passed_on is_down b c)
       → HasAsked format (output_of contents passed_on is_down a c) talk
   asked_still format a b c [] before still = record {
     written = still.written ∙ before.written;

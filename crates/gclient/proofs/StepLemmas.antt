@@ -1,5 +1,6 @@
 -- The steps before a reply: hearing the server, and asking.
-use Rattle.std.proofs.Common.{◌≡◌, ℕ, ◌<◌, true, List, [], ◌∷◌, length, arith, Some, None, Result, Ok, Err, refl, sym, ap, subst, ◌∙◌, inr}
+use Rattle.std.proofs.Common.{◌≡◌, ℕ, ◌<◌, true, List, [], ◌∷◌, length, arith, Some, None, Result, Ok, Err, refl, sym}
+use Rattle.std.proofs.Common.{ap, subst, ◌∙◌, inr}
 use Rattle.std.specs.Prelude.{IsErrAnd}
 use Rattle.gname.specs.declared.formats.Format.{Format}
 use Rattle.gpkt.specs.Change.{Change}
@@ -13,11 +14,11 @@ use Rattle.gobject.specs.declared.node.Entry.{Entry}
 use Rattle.grepo.specs.Repos.{RepoState}
 use Rattle.grepo.specs.declared.fault.RepoFault.TheVariants as repo
 use Rattle.gsession.specs.Requesting.{is_due}
-use Rattle.gsession.specs.Sessions.{SessionState, IsBegun, tells_unborn}
+use Rattle.gsession.specs.Sessions.{SessionState, IsBegun, tells_unborn, tips_of}
 use Rattle.gsession.specs.TakingRefs.{TakesLs, stage_for}
 use Rattle.gsession.specs.declared.stage.Stage.TheVariants.{Listing, Fetching, Settling}
 use Rattle.gsession.specs.declared.taken.LsTaken.{LsTaken}
-use Rattle.gclient.specs.Conversations.{Start, RefusesAdvert, heard, tips_of}
+use Rattle.gclient.specs.Conversations.{Start, RefusesAdvert, heard}
 use Rattle.gclient.specs.Steps.{HasBegun, HearsServer, start_with}
 
 -- ---- faults
@@ -45,7 +46,8 @@ mismatches format other input capabilities cause same read why frame up = inr (r
 
 -- ---- a session that has heard the server
 
-pub fresh_is_begun : {A : Type 0} (session : SessionState A) (repo : RepoState A) → HasBegun session repo → IsBegun session
+pub fresh_is_begun : {A : Type 0} (session : SessionState A) (repo : RepoState A) → HasBegun session repo
+    → IsBegun session
 fresh_is_begun {A} session repo fresh =
     (ap (λ (s : SessionState A). s.stage) fresh, ap (λ (s : SessionState A). s.pending) fresh)
 
@@ -58,10 +60,13 @@ pub record IsHeard {A : Type 0} (repo : RepoState A) (s : SessionState A) : Type
   pub tips : s.tips ≡ tips_of repo
   pub sent : s.sent ≡ []
 
-heard_new : {A : Type 0} (start : Start A) (capabilities : List Capability) → IsHeard start.repo (heard start capabilities).session
-heard_new start capabilities = record { stage = refl; pending = refl; due = refl; format = refl; tips = refl; sent = refl }
+heard_new : {A : Type 0} (start : Start A) (capabilities : List Capability)
+    → IsHeard start.repo (heard start capabilities).session
+heard_new start capabilities =
+    record { stage = refl; pending = refl; due = refl; format = refl; tips = refl; sent = refl }
 
-pub is_heard : {A : Type 0} (format : Format) (repo : RepoState A) (old new : SessionState A) (input : Input) → HasBegun old repo
+pub is_heard : {A : Type 0} (format : Format) (repo : RepoState A) (old new : SessionState A) (input : Input)
+    → HasBegun old repo
     → HearsServer {A = A} format old input new (Ok tt) → IsHeard repo new
 is_heard {A} format repo old new input begun (packets, capabilities, advertises, lines, is, up) =
     let same : new ≡ (heard (start_with old repo) capabilities).session =
@@ -89,4 +94,5 @@ module _ {A : Type 0} (waiting new : SessionState A) (g : List (Entry A)) (chang
       ap (λ (s : SessionState A). s.stage) takes.1.2.after ∙ stage_by_wants takes.1.2.wants (omega (arith, some, count))
 
   pub refs_held : taken.wants ≡ 0 → new.stage ≡ Settling
-  refs_held none = ap (λ (s : SessionState A). s.stage) takes.1.2.after ∙ stage_without takes.1.2.wants (sym takes.1.2.count ∙ none)
+  refs_held none = ap (λ (s : SessionState A). s.stage) takes.1.2.after
+      ∙ stage_without takes.1.2.wants (sym takes.1.2.count ∙ none)

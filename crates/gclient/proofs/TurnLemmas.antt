@@ -1,5 +1,6 @@
 -- From a request that is made and sent, and a reply that is taken, to a turn; and what turns keep.
-use Rattle.std.proofs.Common.{◌≡◌, ℕ, Bool, false, List, [], ◌∷◌, ◌++◌, Some, None, Ok, Err, refl, sym, ap, subst, ◌∙◌, append_assoc, append-nil, inl, inr}
+use Rattle.std.proofs.Common.{◌≡◌, ℕ, Bool, false, List, [], ◌∷◌, ◌++◌, Some, None, Ok, Err, refl, sym, ap, subst, ◌∙◌}
+use Rattle.std.proofs.Common.{append_assoc, append-nil, inl, inr}
 use Rattle.std.specs.Prelude.{◌⊎◌}
 use Rattle.gname.specs.declared.formats.Format.{Format}
 use Rattle.gpkt.specs.Change.{Change}
@@ -28,10 +29,11 @@ use Rattle.gsession.specs.declared.taken.LsTaken.{LsTaken}
 use Rattle.gsession.specs.declared.taken.Taken.{Taken}
 use Rattle.gsession.specs.declared.taken.Taken.TheVariants.{Round, PackTaken}
 use Rattle.gclient.specs.Conversations.{request_bytes}
-use Rattle.gclient.specs.Steps.{Asks, FailsTurn, unasked, unsent, untaken, HasTurned, TakesTurn, client_of, stage_after}
+use Rattle.gclient.specs.Steps.{AsksServer, FailsTurn, unasked, unsent, untaken, HasTurned, TakesTurn, client_of}
+use Rattle.gclient.specs.Steps.{stage_after}
 use Rattle.gclient.specs.Turns.{ClientState, FitsSource, IsTurn, IsUntaken, AreTurns, Takes, Turn}
 use Rattle.gclient.specs.declared.fault.FetchFault.{FetchFault}
-use Rattle.gclient.specs.declared.fault.FetchFault.TheVariants as fault
+use Rattle.gclient.specs.declared.fault.FetchFault.TheVariants as fetch
 
 -- ---- the request
 
@@ -86,20 +88,25 @@ module _ {A : Type 0} (indexes : Indexes A) (index_fails : IndexFails) where
   -- ---- a reply to fetch
 
   -- it was due
-  pub objects_due : (waiting : SessionState A) (asked : FetchAsked) (repo : RepoState A) (change : Change) (cause : ClientFault A)
-      → Awaits waiting asked → IsTakeFault indexes index_fails waiting repo change cause → cause ≡ client.NoOpenRequest → ⊥
+  pub objects_due : (waiting : SessionState A) (asked : FetchAsked) (repo : RepoState A) (change : Change)
+      (cause : ClientFault A)
+      → Awaits waiting asked → IsTakeFault indexes index_fails waiting repo change cause → cause ≡ client.NoOpenRequest
+      → ⊥
   objects_due waiting asked repo change cause awaits why is =
       let none : IsTakeFault indexes index_fails waiting repo change client.NoOpenRequest =
       subst (λ (f : ClientFault A). IsTakeFault indexes index_fails waiting repo change f) is why in
       none.0 (asked, awaits)
 
   -- objects were asked for, and the reply is taken
-  pub turned : (old : ClientState A) (waiting new : SessionState A) (asked : Asked) (repo : RepoState A) (input : Input) (output : Output) (taken : Taken)
-      → Requests old.session old.repo.graph.entries waiting (Ok asked) → Passes output (request_bytes old.repo.graph.format asked)
+  pub turned : (old : ClientState A) (waiting new : SessionState A) (asked : Asked) (repo : RepoState A) (input : Input)
+      (output : Output) (taken : Taken)
+      → Requests old.session old.repo.graph.entries waiting (Ok asked)
+      → Passes output (request_bytes old.repo.graph.format asked)
       → TakesReply indexes index_fails waiting old.repo input.read new repo (Ok taken) → IsUp input
       → HasTurned indexes index_fails old input output (client_of new repo old.unborn)
   turned old waiting new asked repo input output taken made passed (fetched, awaits, (reply, read, takes)) up =
-      let same : asked ≡ Fetches fetched = some_is (sym (waits old.repo.graph.entries old.session waiting asked made) ∙ awaits) in
+      let same : asked ≡ Fetches fetched =
+      some_is (sym (waits old.repo.graph.entries old.session waiting asked made) ∙ awaits) in
       record {
         turn = record { asked = Fetches fetched; reply = read.lines };
         is_turn = record {
@@ -113,14 +120,17 @@ module _ {A : Type 0} (indexes : Indexes A) (index_fails : IndexFails) where
       }
 
   stage_of_taken : (waiting new : SessionState A) (old repo : RepoState A) (reply : FetchReply) (taken : Taken)
-      → TakesHead indexes index_fails waiting old reply new repo taken → (new.stage ≡ stage_after taken) × (new.pending ≡ None)
+      → TakesHead indexes index_fails waiting old reply new repo taken → (new.stage ≡ stage_after taken)
+      × (new.pending ≡ None)
   stage_of_taken waiting new old repo reply (Round common) takes =
       (ap (λ (s : SessionState A). s.stage) takes.1, ap (λ (s : SessionState A). s.pending) takes.1)
   stage_of_taken waiting new old repo reply (PackTaken added) takes =
       (ap (λ (s : SessionState A). s.stage) takes.1, ap (λ (s : SessionState A). s.pending) takes.1)
 
-  pub takes_turn : (old : ClientState A) (waiting new : SessionState A) (asked : Asked) (repo : RepoState A) (input : Input) (output : Output) (taken : Taken)
-      → Requests old.session old.repo.graph.entries waiting (Ok asked) → Passes output (request_bytes old.repo.graph.format asked)
+  pub takes_turn : (old : ClientState A) (waiting new : SessionState A) (asked : Asked) (repo : RepoState A)
+      (input : Input) (output : Output) (taken : Taken)
+      → Requests old.session old.repo.graph.entries waiting (Ok asked)
+      → Passes output (request_bytes old.repo.graph.format asked)
       → TakesReply indexes index_fails waiting old.repo input.read new repo (Ok taken) → IsUp input
       → TakesTurn indexes index_fails old input output (client_of new repo old.unborn) (Ok taken)
   takes_turn old waiting new asked repo input output taken made passed took up =
@@ -128,20 +138,26 @@ module _ {A : Type 0} (indexes : Indexes A) (index_fails : IndexFails) where
       (turned old waiting new asked repo input output taken made passed took up, stage.0, stage.1)
 
   -- objects were asked for, and the reply is refused
-  pub not_turned : {S : Type 0} (is_down : S → Bool) (before after : Reader S) (old : ClientState A) (waiting : SessionState A) (asked : Asked)
+  pub not_turned : {S : Type 0} (is_down : S → Bool) (before after : Reader S) (old : ClientState A)
+      (waiting : SessionState A) (asked : Asked)
       (input : Input) (output : Output) (cause : ClientFault A) → old.session.stage ≡ Fetching
-      → Requests old.session old.repo.graph.entries waiting (Ok asked) → Passes output (request_bytes old.repo.graph.format asked)
+      → Requests old.session old.repo.graph.entries waiting (Ok asked)
+      → Passes output (request_bytes old.repo.graph.format asked)
       → IsTakeFault indexes index_fails waiting old.repo input.read cause
-      → before.failed ≡ false → LeavesReplies {A = A} {T = Taken} is_down before after (Err cause) → input.is_down ≡ is_down after.source
-      → FailsTurn indexes index_fails old input output (fault.Client cause)
+      → before.failed ≡ false → LeavesReplies {A = A} {T = Taken} is_down before after (Err cause)
+      → input.is_down ≡ is_down after.source
+      → FailsTurn indexes index_fails old input output (fetch.Client cause)
   not_turned is_down before after old waiting asked input output cause fetching made passed why well left down =
       let is = asks_objects old.repo.graph.entries old.session waiting fetching asked made in
-      let awaits : Awaits waiting is.0 = waits old.repo.graph.entries old.session waiting asked made ∙ ap (λ (a : Asked). Some a) is.1 in
+      let awaits : Awaits waiting is.0 =
+      waits old.repo.graph.entries old.session waiting asked made ∙ ap (λ (a : Asked). Some a) is.1 in
       untaken asked waiting cause made
       (record {
-        untaken = subst (λ (a : Asked). IsUntaken indexes index_fails waiting a old.repo input.read cause) (sym is.1) why;
+        untaken = subst (λ (a : Asked). IsUntaken indexes index_fails waiting a old.repo input.read cause)
+            (sym is.1) why;
         source = subst (λ (b : Bool). FitsSource b cause) (sym down)
-            (fits_source {A = A} is_down before after Taken cause well (objects_due waiting is.0 old.repo input.read cause awaits why) left);
+            (fits_source {A = A} is_down before after Taken cause well
+            (objects_due waiting is.0 old.repo input.read cause awaits why) left);
       }) passed
 
   -- ---- a reply to ls-refs
@@ -154,12 +170,15 @@ module _ {A : Type 0} (indexes : Indexes A) (index_fails : IndexFails) where
       none.0 awaits
 
   -- refs were asked for, and the reply is taken
-  pub listed : (old : ClientState A) (waiting new : SessionState A) (asked : Asked) (input : Input) (output : Output) (taken : LsTaken A)
-      → Requests old.session old.repo.graph.entries waiting (Ok asked) → Passes output (request_bytes old.repo.graph.format asked)
+  pub listed : (old : ClientState A) (waiting new : SessionState A) (asked : Asked) (input : Input) (output : Output)
+      (taken : LsTaken A)
+      → Requests old.session old.repo.graph.entries waiting (Ok asked)
+      → Passes output (request_bytes old.repo.graph.format asked)
       → TakesLs waiting old.repo.graph.entries input.read new (Ok taken) → IsUp input
       → HasTurned indexes index_fails old input output (client_of new old.repo taken.unborn)
   listed old waiting new asked input output taken made passed (awaits, (reply, read, takes)) up =
-      let same : asked ≡ Ls awaits.0 = some_is (sym (waits old.repo.graph.entries old.session waiting asked made) ∙ awaits.1) in
+      let same : asked ≡ Ls awaits.0 =
+      some_is (sym (waits old.repo.graph.entries old.session waiting asked made) ∙ awaits.1) in
       record {
         turn = record { asked = Ls awaits.0; reply = read.lines };
         is_turn = record {
@@ -173,32 +192,39 @@ module _ {A : Type 0} (indexes : Indexes A) (index_fails : IndexFails) where
       }
 
   -- refs were asked for, and the reply is refused
-  pub not_listed : {S : Type 0} (is_down : S → Bool) (before after : Reader S) (old : ClientState A) (waiting : SessionState A) (asked : Asked)
+  pub not_listed : {S : Type 0} (is_down : S → Bool) (before after : Reader S) (old : ClientState A)
+      (waiting : SessionState A) (asked : Asked)
       (input : Input) (output : Output) (cause : ClientFault A) → old.session.stage ≡ Listing
-      → Requests old.session old.repo.graph.entries waiting (Ok asked) → Passes output (request_bytes old.repo.graph.format asked)
+      → Requests old.session old.repo.graph.entries waiting (Ok asked)
+      → Passes output (request_bytes old.repo.graph.format asked)
       → IsLsFault waiting old.repo.graph.entries input.read cause
-      → before.failed ≡ false → LeavesReplies {A = A} {T = LsTaken A} is_down before after (Err cause) → input.is_down ≡ is_down after.source
-      → FailsTurn indexes index_fails old input output (fault.Client cause)
+      → before.failed ≡ false → LeavesReplies {A = A} {T = LsTaken A} is_down before after (Err cause)
+      → input.is_down ≡ is_down after.source
+      → FailsTurn indexes index_fails old input output (fetch.Client cause)
   not_listed is_down before after old waiting asked input output cause listing made passed why well left down =
       let is = asks_refs old.repo.graph.entries old.session waiting listing asked made in
-      let awaits : AwaitsRefs waiting = (is.0, waits old.repo.graph.entries old.session waiting asked made ∙ ap (λ (a : Asked). Some a) is.1) in
+      let awaits : AwaitsRefs waiting =
+      (is.0, waits old.repo.graph.entries old.session waiting asked made ∙ ap (λ (a : Asked). Some a) is.1) in
       untaken asked waiting cause made
       (record {
-        untaken = subst (λ (a : Asked). IsUntaken indexes index_fails waiting a old.repo input.read cause) (sym is.1) why;
+        untaken = subst (λ (a : Asked). IsUntaken indexes index_fails waiting a old.repo input.read cause)
+            (sym is.1) why;
         source = subst (λ (b : Bool). FitsSource b cause) (sym down)
-            (fits_source {A = A} is_down before after (LsTaken A) cause well (refs_due waiting old.repo.graph.entries input.read cause awaits why) left);
+            (fits_source {A = A} is_down before after (LsTaken A) cause well
+            (refs_due waiting old.repo.graph.entries input.read cause awaits why) left);
       }) passed
 
   -- ---- a request that is not made or not sent
 
   pub not_asked : (old : ClientState A) (new : SessionState A) (input : Input) (output : Output) (cause : FetchFault A)
-      → Asks old.session old.repo output new (Err cause) → IsUnread input → FailsTurn indexes index_fails old input output cause
-  not_asked old new input output (fault.Client cause) asks unread =
-      subst (λ (f : ClientFault A). FailsTurn indexes index_fails old input output (fault.Client f)) (sym asks.0)
+      → AsksServer old.session old.repo output new (Err cause) → IsUnread input
+      → FailsTurn indexes index_fails old input output cause
+  not_asked old new input output (fetch.Client cause) asks unread =
+      subst (λ (f : ClientFault A). FailsTurn indexes index_fails old input output (fetch.Client f)) (sym asks.0)
       (unasked new asks.1 unread asks.2)
-  not_asked old new input output fault.NoBuffer asks unread = absurd asks
-  not_asked old new input output fault.WriteFailed asks unread =
-      unsent asks.0 new asks.1 unread asks.2 asks.3
+  not_asked old new input output fetch.NoBuffer asks unread = absurd asks
+  not_asked old new input output fetch.WriteFailed asks unread =
+      unsent asks.0 new asks.1 unread asks.2
 
 -- ---- what turns keep
 
@@ -210,11 +236,13 @@ grows_on {A} g h k first next =
     (first.0 ++ next.0, next.1 ∙ (ap (λ (xs : List (Entry A)). xs ++ next.0) first.1 ∙ append_assoc g first.0 next.0))
 
 came : {A : Type 0} (old : List (Entry A)) (entry : Entry A) (new : List (Entry A))
-    → (IsNode old entry.id entry.node × (new ≡ old)) ⊎ ((node_at old entry.id ≡ None) × (new ≡ old ++ entry ∷ [])) → Grows old new
+    → (IsNode old entry.id entry.node × (new ≡ old)) ⊎ ((node_at old entry.id ≡ None) × (new ≡ old ++ entry ∷ []))
+    → Grows old new
 came old entry new (inl there) = grows_none old new there.1
 came old entry new (inr more) = (entry ∷ [], more.1)
 
-inserts_grow : {A : Type 0} (format : Format) (old entries new : List (Entry A)) → Inserts format old entries new → Grows old new
+inserts_grow : {A : Type 0} (format : Format) (old entries new : List (Entry A)) → Inserts format old entries new
+    → Grows old new
 inserts_grow format old [] new is = grows_none old new is
 inserts_grow format old (entry ∷ entries) new (next, comes, rest) =
     grows_on old next new (came old entry next comes.comes) (inserts_grow format next entries new rest)
@@ -233,16 +261,25 @@ module _ {A : Type 0} where
     format : waiting.format ≡ old.format
     tips : waiting.tips ≡ old.tips
 
-  waiting_asker : (old : SessionState A) (asked : Asked) (batch : List (List ℕ)) → IsAsker old (waiting_for old asked batch)
+  waiting_asker : (old : SessionState A) (asked : Asked) (batch : List (List ℕ))
+      → IsAsker old (waiting_for old asked batch)
   waiting_asker old Empty batch = record { format = refl; tips = refl }
   waiting_asker old (Ls asked) batch = record { format = refl; tips = refl }
   waiting_asker old (Fetches asked) batch = record { format = refl; tips = refl }
 
-  asker : (g : List (Entry A)) (old waiting : SessionState A) (asked : Asked) → Requests old g waiting (Ok asked) → IsAsker old waiting
+  asker : (g : List (Entry A)) (old waiting : SessionState A) (asked : Asked) → Requests old g waiting (Ok asked)
+      → IsAsker old waiting
   asker g old waiting asked made = subst (IsAsker old) (sym made.1.2) (waiting_asker old asked made.1.0)
 
   pub kept_still : (client : ClientState A) → IsKept client client
-  kept_still client = record { refs = refl; format = refl; grows = grows_none client.repo.graph.entries client.repo.graph.entries refl; own = refl; tips = refl }
+  kept_still client = record {
+    refs = refl;
+    format = refl;
+    grows =
+        grows_none client.repo.graph.entries client.repo.graph.entries refl;
+    own = refl;
+    tips = refl;
+  }
 
   kept_on : (a b c : ClientState A) → IsKept a b → IsKept b c → IsKept a c
   kept_on a b c first next = record {
@@ -254,12 +291,15 @@ module _ {A : Type 0} where
   }
 
 module _ {A : Type 0} (indexes : Indexes A) (index_fails : IndexFails) where
-  head_kept : (old : ClientState A) (waiting : SessionState A) (reply : FetchReply) (new : ClientState A) (taken : Taken)
-      → IsAsker old.session waiting → TakesHead indexes index_fails waiting old.repo reply new.session new.repo taken → IsKept old new
+  head_kept : (old : ClientState A) (waiting : SessionState A) (reply : FetchReply) (new : ClientState A)
+      (taken : Taken)
+      → IsAsker old.session waiting → TakesHead indexes index_fails waiting old.repo reply new.session new.repo taken
+      → IsKept old new
   head_kept old waiting reply new (Round common) same takes = record {
     refs = ap (λ (r : RepoState A). r.refs) takes.3;
     format = ap (λ (r : RepoState A). r.graph.format) takes.3;
-    grows = grows_none old.repo.graph.entries new.repo.graph.entries (ap (λ (r : RepoState A). r.graph.entries) takes.3);
+    grows = grows_none old.repo.graph.entries new.repo.graph.entries
+        (ap (λ (r : RepoState A). r.graph.entries) takes.3);
     own = ap (λ (s : SessionState A). s.format) takes.1 ∙ same.format;
     tips = ap (λ (s : SessionState A). s.tips) takes.1 ∙ same.tips;
   }
@@ -271,24 +311,29 @@ module _ {A : Type 0} (indexes : Indexes A) (index_fails : IndexFails) where
     tips = ap (λ (s : SessionState A). s.tips) after ∙ same.tips;
   }
 
-  takes_kept : (old : ClientState A) (waiting : SessionState A) (asked : Asked) (reply : List Packet) (new : ClientState A)
+  takes_kept : (old : ClientState A) (waiting : SessionState A) (asked : Asked) (reply : List Packet)
+      (new : ClientState A)
       → IsAsker old.session waiting → Takes indexes index_fails waiting asked old reply new → IsKept old new
   takes_kept old waiting Empty reply new same takes = absurd takes
   takes_kept old waiting (Ls asked) reply new same takes = record {
     refs = ap (λ (r : RepoState A). r.refs) takes.stays;
     format = ap (λ (r : RepoState A). r.graph.format) takes.stays;
-    grows = grows_none old.repo.graph.entries new.repo.graph.entries (ap (λ (r : RepoState A). r.graph.entries) takes.stays);
+    grows = grows_none old.repo.graph.entries new.repo.graph.entries
+        (ap (λ (r : RepoState A). r.graph.entries) takes.stays);
     own = ap (λ (s : SessionState A). s.format) takes.takes.after ∙ same.format;
     tips = ap (λ (s : SessionState A). s.tips) takes.takes.after ∙ same.tips;
   }
   takes_kept old waiting (Fetches asked) reply new same takes =
       head_kept old waiting takes.reply new takes.taken same takes.takes.1
 
-  pub turn_kept : (old : ClientState A) (turn : Turn) (new : ClientState A) → IsTurn indexes index_fails old turn new → IsKept old new
+  pub turn_kept : (old : ClientState A) (turn : Turn) (new : ClientState A) → IsTurn indexes index_fails old turn new
+      → IsKept old new
   turn_kept old turn new is =
-      takes_kept old is.waiting turn.asked turn.reply new (asker old.repo.graph.entries old.session is.waiting turn.asked is.asks) is.takes
+      takes_kept old is.waiting turn.asked turn.reply new
+      (asker old.repo.graph.entries old.session is.waiting turn.asked is.asks) is.takes
 
-  pub turns_kept : (first : ClientState A) (talk : List Turn) (last : ClientState A) → AreTurns indexes index_fails first talk last → IsKept first last
+  pub turns_kept : (first : ClientState A) (talk : List Turn) (last : ClientState A)
+      → AreTurns indexes index_fails first talk last → IsKept first last
   turns_kept first [] last is = subst (IsKept first) (sym is) (kept_still first)
   turns_kept first (turn ∷ talk) last (next, is, rest) =
       kept_on first next last (turn_kept first turn next is) (turns_kept next talk last rest)
@@ -304,14 +349,17 @@ module _ {A : Type 0} (indexes : Indexes A) (index_fails : IndexFails) where
 
   -- ---- on what a session began
 
-  head_began : (g : List (Entry A)) (repo : RepoState A) (waiting : SessionState A) (reply : FetchReply) (new : ClientState A) (taken : Taken)
-      → BeganOn g waiting → TakesHead indexes index_fails waiting repo reply new.session new.repo taken → BeganOn g new.session
+  head_began : (g : List (Entry A)) (repo : RepoState A) (waiting : SessionState A) (reply : FetchReply)
+      (new : ClientState A) (taken : Taken)
+      → BeganOn g waiting → TakesHead indexes index_fails waiting repo reply new.session new.repo taken
+      → BeganOn g new.session
   head_began g repo waiting reply new (Round common) began takes =
       subst (BeganOn g) (sym takes.1) (record { full = began.full; sent = began.sent })
   head_began g repo waiting reply new (PackTaken added) began takes =
       subst (BeganOn g) (sym takes.1) (record { full = began.full; sent = began.sent })
 
-  taken_began : (g : List (Entry A)) (old : ClientState A) (waiting : SessionState A) (asked : Asked) (reply : List Packet) (new : ClientState A)
+  taken_began : (g : List (Entry A)) (old : ClientState A) (waiting : SessionState A) (asked : Asked)
+      (reply : List Packet) (new : ClientState A)
       → BeganOn g waiting → Takes indexes index_fails waiting asked old reply new → BeganOn g new.session
   taken_began g old waiting Empty reply new began takes = absurd takes
   taken_began g old waiting (Ls asked) reply new began takes =
@@ -320,7 +368,8 @@ module _ {A : Type 0} (indexes : Indexes A) (index_fails : IndexFails) where
       head_began g old.repo waiting takes.reply new takes.taken began takes.takes.1
 
   pub turn_began : BeganStays A → (g : List (Entry A)) (old : ClientState A) (turn : Turn) (new : ClientState A)
-      → Grows g old.repo.graph.entries → BeganOn g old.session → IsTurn indexes index_fails old turn new → BeganOn g new.session
+      → Grows g old.repo.graph.entries → BeganOn g old.session → IsTurn indexes index_fails old turn new
+      → BeganOn g new.session
   turn_began stays g old turn new grows began is =
       taken_began g old is.waiting turn.asked turn.reply new
       (stays g old.repo.graph.entries old.session is.waiting turn.asked grows began is.asks.1) is.takes

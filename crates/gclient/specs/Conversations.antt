@@ -21,14 +21,13 @@ use Rattle.grepo.specs.declared.fault.RepoFault.{RepoFault}
 use Rattle.grequest.specs.Asked.{Asked, Empty}
 use Rattle.grequest.specs.RequestWriting.{canonical_request}
 use Rattle.gsession.specs.Requesting.{Requests}
-pub use Rattle.gsession.specs.Sessions.{tips_of}
-use Rattle.gsession.specs.Sessions.{SessionState, Begins, max_specs, new_session, no_memory, tells_unborn}
+use Rattle.gsession.specs.Sessions.{SessionState, Begins, max_specs, new_session, no_memory, tells_unborn, tips_of}
 use Rattle.gsession.specs.declared.stage.Stage.TheVariants.{Settling}
 use Rattle.gsession.specs.declared.fault.ClientFault.{ClientFault}
 use Rattle.gsession.specs.declared.fault.ClientFault.TheVariants as client
 use Rattle.gclient.specs.Turns.{AreTurns, AsksNext, ClientState, Refuses, Turn}
 use Rattle.gclient.specs.declared.fault.FetchFault.{FetchFault}
-use Rattle.gclient.specs.declared.fault.FetchFault.TheVariants as fault
+use Rattle.gclient.specs.declared.fault.FetchFault.TheVariants as fetch
 use Rattle.gclient.specs.declared.fetched.Fetched.{Fetched}
 
 -- what a conversation begins with: the client's repository, what it fetches and how
@@ -53,9 +52,13 @@ abbrev pub HasAsked : Format → Output → List Turn → Type 0
 HasAsked format output [] = IsUnwritten output
 HasAsked format output (turn ∷ turns) = Passes output (requests_bytes format (turn ∷ turns))
 
--- and then the sink failed, and a beginning of the next request stands
+-- The sink failed as these bytes were to be sent: a beginning of them stands, and what was passed on before still is.
+abbrev pub FailsToSend : Output → List ℕ → Type 0
+FailsToSend output due = SendsSome output due × KeepsPassed output.passed_on
+
+-- the requests of some turns were passed on, and the sink failed as the next bytes were to be sent
 abbrev pub FailsToAsk : Format → Output → List Turn → List ℕ → Type 0
-FailsToAsk format output [] due = SendsSome output due × KeepsPassed output.passed_on
+FailsToAsk format output [] due = FailsToSend output due
 FailsToAsk format output (turn ∷ turns) due = SendsAndFails output (requests_bytes format (turn ∷ turns)) due
 
 -- ---- what is read
@@ -136,18 +139,19 @@ module _ {A : Type 0} (indexes : Indexes A) (index_fails : IndexFails) (start : 
 
   -- ---- the whole
 
-  -- a lone flush ends the conversation, once there is nothing more to ask
+  -- a lone flush ends the conversation, once there is nothing more to ask (gitprotocol-v2(5), "Command Request":
+  -- `empty-request`)
   abbrev pub talk_bytes : List Turn → List ℕ
   talk_bytes talk =
       requests_bytes start.repo.graph.format talk ++ request_bytes start.repo.graph.format Empty
 
   -- All replies were taken, the requests and the lone flush are passed on, and the refs are settled. The count is that
   -- of the requests for objects.
-  pub record Fetches (input : Input) (output : Output) (new : RepoState A) (fetched : Fetched A) : Type 0 where
+  pub record HasFetched (input : Input) (output : Output) (new : RepoState A) (fetched : Fetched A) : Type 0 where
     pub talk : List Turn
     pub last : ClientState A
     pub converses : Converses input talk last IsLeft
-    pub over : last.session.stage ≡ Settling
+    pub settles_next : last.session.stage ≡ Settling
     pub passed : Passes output (talk_bytes talk)
     pub asks : fetched.settled.asks ≡ last.session.asks
     pub settles : SettlesAsks last.repo last.session.asks new (Ok fetched.settled.updates.items)
@@ -164,37 +168,37 @@ module _ {A : Type 0} (indexes : Indexes A) (index_fails : IndexFails) (start : 
   pub data Fails (input : Input) (output : Output) (new : RepoState A) : FetchFault A → Type 0 where
     -- the session can't begin, and nothing is read
     cannot_begin : (cause : ClientFault A) → Begins start.repo start.refspecs start.limit start.ends (Err cause)
-        → IsUnread input → IsUnwritten output → new ≡ start.repo → Fails input output new (fault.Client cause)
+        → IsUnread input → IsUnwritten output → new ≡ start.repo → Fails input output new (fetch.Client cause)
     -- there is no memory for the reader's buffer, and nothing is read
     no_buffer : length start.refspecs ≤ max_specs → IsUnread input → IsUnwritten output → new ≡ start.repo
-        → Fails input output new fault.NoBuffer
+        → Fails input output new fetch.NoBuffer
     -- the advertisement is refused
     cannot_hear : (cause : MessageFault) → length start.refspecs ≤ max_specs
         → RefusesAdvert start.repo.graph.format input cause → IsUnwritten output → new ≡ start.repo
-        → Fails input output new (fault.Client (client.Message cause))
+        → Fails input output new (fetch.Client (client.Message cause))
     -- there is no memory for the next request
     cannot_ask : (talk : List Turn) (last : ClientState A) (after : SessionState A) → Converses input talk last IsLeft
         → Requests last.session last.repo.graph.entries after (Err no_memory)
         → HasAsked start.repo.graph.format output talk → new ≡ last.repo
-        → Fails input output new (fault.Client no_memory)
+        → Fails input output new (fetch.Client no_memory)
     -- what is due next can't be written, or not be passed on
     cannot_send : (talk : List Turn) (last : ClientState A) (asked : Asked) → Converses input talk last IsLeft
         → IsDue last asked
         → FailsToAsk start.repo.graph.format output talk (request_bytes start.repo.graph.format asked)
-        → new ≡ last.repo → Fails input output new fault.WriteFailed
+        → new ≡ last.repo → Fails input output new fetch.WriteFailed
     -- the reply to a request is refused
     cannot_take : (talk : List Turn) (last : ClientState A) (asked : Asked) (waiting : SessionState A)
         (cause : ClientFault A) → AsksNext last asked waiting
         → Converses input talk last (λ rest. Refuses indexes index_fails waiting asked last.repo rest cause)
         → Passes output (requests_bytes start.repo.graph.format talk ++ request_bytes start.repo.graph.format asked)
-        → new ≡ last.repo → Fails input output new (fault.Client cause)
+        → new ≡ last.repo → Fails input output new (fetch.Client cause)
     -- the refs can't be settled
     cannot_settle : (talk : List Turn) (last : ClientState A) (cause : RepoFault A) → Converses input talk last IsLeft
         → last.session.stage ≡ Settling → Passes output (talk_bytes talk)
         → SettlesAsks last.repo last.session.asks new (Err cause)
-        → Fails input output new (fault.Client (client.Repo cause))
+        → Fails input output new (fetch.Client (client.Repo cause))
 
   -- what a conversation answers, and what it did
   abbrev pub FetchesOver : Input → Output → RepoState A → Result (Fetched A) (FetchFault A) → Type 0
-  FetchesOver input output new (Ok fetched) = Fetches input output new fetched
+  FetchesOver input output new (Ok fetched) = HasFetched input output new fetched
   FetchesOver input output new (Err fault) = Fails input output new fault

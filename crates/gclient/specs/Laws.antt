@@ -10,8 +10,8 @@ use Rattle.ghistory.specs.Walks.{CountsReached}
 use Rattle.gobject.specs.Packs.{Indexes, IndexFails}
 use Rattle.grepo.specs.Repos.{IsWhole, RepoState}
 use Rattle.grequest.specs.Asked.{Asked, Fetches}
-use Rattle.gsession.specs.Sessions.{SessionState, max_specs}
-use Rattle.gclient.specs.Conversations.{FetchesOver, Start, heard, request_bytes, tips_of}
+use Rattle.gsession.specs.Sessions.{SessionState, max_specs, tips_of}
+use Rattle.gclient.specs.Conversations.{FetchesOver, Start, heard, request_bytes}
 use Rattle.gclient.specs.Turns.{AreTurns, AsksNext, ClientState, Turn}
 use Rattle.gclient.specs.declared.fault.FetchFault.{FetchFault}
 use Rattle.gclient.specs.declared.fetched.Fetched.{Fetched}

@@ -1,10 +1,9 @@
--- The steps of a conversation.
+-- The steps of a conversation, for its own proofs: no promise to a caller is stated with them.
 use Rattle.std.specs.Prelude.{◌≡◌, ℕ, List, Option, None, Result, Ok, Err}
 use Rattle.gname.specs.declared.formats.Format.{Format}
-use Rattle.gpkt.specs.Devices.{KeepsPassed}
 use Rattle.gpkt.specs.LineReading.{ReadsLines}
 use Rattle.gpkt.specs.Packets.{Packet}
-use Rattle.gpkt.specs.Sending.{Input, Output, IsUnread, IsUnwritten, IsUp, Passes, SendsSome}
+use Rattle.gpkt.specs.Sending.{Input, Output, IsUnread, IsUnwritten, IsUp, Passes}
 use Rattle.ggrammar.specs.Capabilities.{Capability}
 use Rattle.gobject.specs.Packs.{Indexes, IndexFails}
 use Rattle.grepo.specs.Changes.{SettlesAsks}
@@ -19,16 +18,16 @@ use Rattle.gsession.specs.declared.fault.ClientFault.TheVariants as client
 use Rattle.gsession.specs.declared.taken.Settled.{Settled}
 use Rattle.gsession.specs.declared.taken.Taken.{Taken}
 use Rattle.gsession.specs.declared.taken.Taken.TheVariants.{Round, PackTaken}
-use Rattle.gclient.specs.Conversations.{Start, Advertises, Converses, Fails, HasAsked, IsLeft, RefusesAdvert}
-use Rattle.gclient.specs.Conversations.{begun, request_bytes}
+use Rattle.gclient.specs.Conversations.{Start, Advertises, Converses, Fails, FailsToSend, HasAsked, IsLeft}
+use Rattle.gclient.specs.Conversations.{RefusesAdvert, begun, request_bytes}
 use Rattle.gclient.specs.Turns.{AsksNext, ClientState, IsTurn, Refuses, Turn}
 use Rattle.gclient.specs.declared.fault.FetchFault.{FetchFault}
-use Rattle.gclient.specs.declared.fault.FetchFault.TheVariants as fault
+use Rattle.gclient.specs.declared.fault.FetchFault.TheVariants as fetch
 
 -- what a call did that was to write these bytes and to pass them on
 abbrev pub HasPassed : {E : Type 0} → Output → Result (Unit {0}) E → List ℕ → Type 0
 HasPassed output (Ok done) bytes = Passes output bytes
-HasPassed output (Err failed) bytes = SendsSome output bytes × KeepsPassed output.passed_on
+HasPassed output (Err failed) bytes = FailsToSend output bytes
 
 -- what hearing the server answers: the session has heard an advertisement that was read; or that is refused
 abbrev pub HearsServer : {A : Type 0} → Format → SessionState A → Input → SessionState A
@@ -36,22 +35,22 @@ abbrev pub HearsServer : {A : Type 0} → Format → SessionState A → Input �
 HearsServer format old input new (Ok done) =
     (packets : List Packet) × (capabilities : List Capability) × Advertises format packets capabilities
     × ReadsLines input.read packets × (new ≡ record old { offers_unborn = tells_unborn capabilities }) × IsUp input
-HearsServer format old input new (Err (fault.Client (client.Message cause))) = RefusesAdvert format input cause
+HearsServer format old input new (Err (fetch.Client (client.Message cause))) = RefusesAdvert format input cause
 HearsServer format old input new (Err _) = ⊥
 
 -- what asking answers: the next request is passed on, and waits for its reply; or there is no memory for it, and
 -- nothing is written; or the sink failed, and a beginning of it stands
-abbrev pub Asks : {A : Type 0} → SessionState A → RepoState A → Output → SessionState A
+abbrev pub AsksServer : {A : Type 0} → SessionState A → RepoState A → Output → SessionState A
     → Result (Unit {0}) (FetchFault A) → Type 0
-Asks old repo output new (Ok done) =
+AsksServer old repo output new (Ok done) =
     (asked : Asked) × Requests old repo.graph.entries new (Ok asked)
     × Passes output (request_bytes repo.graph.format asked)
-Asks old repo output new (Err (fault.Client cause)) =
+AsksServer old repo output new (Err (fetch.Client cause)) =
     (cause ≡ no_memory) × Requests old repo.graph.entries new (Err no_memory) × IsUnwritten output
-Asks old repo output new (Err fault.NoBuffer) = ⊥
-Asks old repo output new (Err fault.WriteFailed) =
+AsksServer old repo output new (Err fetch.NoBuffer) = ⊥
+AsksServer old repo output new (Err fetch.WriteFailed) =
     (asked : Asked) × Requests old repo.graph.entries new (Ok asked)
-    × SendsSome output (request_bytes repo.graph.format asked) × KeepsPassed output.passed_on
+    × FailsToSend output (request_bytes repo.graph.format asked)
 
 -- what ending a conversation answers: the lone flush is passed on, and the refs are settled, or why not; or the sink
 -- failed, and nothing changes
@@ -60,10 +59,10 @@ abbrev pub Closes : {A : Type 0} → SessionState A → RepoState A → Output �
 Closes session old output new (Ok settled) =
     Passes output (request_bytes old.graph.format Empty) × (settled.asks ≡ session.asks)
     × SettlesAsks old session.asks new (Ok settled.updates.items)
-Closes session old output new (Err (fault.Client (client.Repo cause))) =
+Closes session old output new (Err (fetch.Client (client.Repo cause))) =
     Passes output (request_bytes old.graph.format Empty) × SettlesAsks old session.asks new (Err cause)
-Closes session old output new (Err fault.WriteFailed) =
-    SendsSome output (request_bytes old.graph.format Empty) × KeepsPassed output.passed_on × (new ≡ old)
+Closes session old output new (Err fetch.WriteFailed) =
+    FailsToSend output (request_bytes old.graph.format Empty) × (new ≡ old)
 Closes session old output new (Err _) = ⊥
 
 -- a client by its parts
@@ -87,14 +86,13 @@ module _ {A : Type 0} (indexes : Indexes A) (index_fails : IndexFails) where
   -- why there is no turn: there is no memory for its request; or that can't be sent; or its reply is refused
   pub data FailsTurn (old : ClientState A) (input : Input) (output : Output) : FetchFault A → Type 0 where
     unasked : (after : SessionState A) → Requests old.session old.repo.graph.entries after (Err no_memory)
-        → IsUnread input → IsUnwritten output → FailsTurn old input output (fault.Client no_memory)
+        → IsUnread input → IsUnwritten output → FailsTurn old input output (fetch.Client no_memory)
     unsent : (asked : Asked) (waiting : SessionState A) → AsksNext old asked waiting → IsUnread input
-        → SendsSome output (request_bytes old.repo.graph.format asked) → KeepsPassed output.passed_on
-        → FailsTurn old input output fault.WriteFailed
+        → FailsToSend output (request_bytes old.repo.graph.format asked) → FailsTurn old input output fetch.WriteFailed
     untaken : (asked : Asked) (waiting : SessionState A) (cause : ClientFault A) → AsksNext old asked waiting
         → Refuses indexes index_fails waiting asked old.repo input cause
         → Passes output (request_bytes old.repo.graph.format asked)
-        → FailsTurn old input output (fault.Client cause)
+        → FailsTurn old input output (fetch.Client cause)
 
   -- what asking for objects and taking the reply answers
   abbrev pub TakesTurn : ClientState A → Input → Output → ClientState A → Result Taken (FetchFault A) → Type 0

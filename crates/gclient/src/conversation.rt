@@ -1,4 +1,5 @@
-//! A conversation, from the advertisement to the refs here that move.
+// A conversation, from the advertisement to the refs here that move.
+#![tactic(auto)]
 
 ghost use Rattle.std.specs.Prelude.{◌≡◌, ◌≤◌, ◌+◌, ℕ, List, Option, None, false, length, IfOk, OnErr, OnOk};
 ghost use Rattle.gpkt.specs.Sending.{input_of, output_of};
@@ -7,9 +8,9 @@ ghost use Rattle.ghistory.specs.Walks.{CountsReached};
 ghost use Rattle.grepo.specs.Repos.{IsWhole};
 ghost use Rattle.grepo.specs.Settling.{Settles};
 ghost use Rattle.gsession.specs.Bounds.{BeganOn};
-ghost use Rattle.gsession.specs.Sessions.{max_specs};
+ghost use Rattle.gsession.specs.Sessions.{max_specs, tips_of};
 ghost use Rattle.gsession.specs.declared.stage.Stage.TheVariants.{Fetching, Settling};
-ghost use Rattle.gclient.specs.Conversations.{FetchesOver, Start, start_of, tips_of};
+ghost use Rattle.gclient.specs.Conversations.{FetchesOver, Start, start_of};
 ghost use Rattle.gclient.specs.Steps.{Closes, HasBegun, HasTalked, Talks, TalksTo, client_of, start_with};
 
 use crate::fault::FetchFault;
@@ -149,7 +150,7 @@ fn talk<S: Source, W: Sink, A: Allocator + Copy, K: Indexer<A>>(
     ensures talks { Talks (K.indexes indexer.now) (K.index_fails indexer.now) (start_with session.old repo.old)
         (input_of S.remaining S.is_down reader.old.source reader.new.source)
         (output_of W.contents W.passed_on W.is_down writer.old.sink writer.new.sink) session.new repo.new result }
-    ensures over { OnOk result (session.new.stage ≡ Settling) }
+    ensures settles_next { OnOk result (session.new.stage ≡ Settling) }
     ensures began { OnOk result (BeganOn repo.old.graph.entries session.new) }
     ensures goes_on { OnOk result (writer.new.failed ≡ false) }
     ensures source_loans { S.loans reader.new.source ≡ S.loans reader.old.source }
@@ -191,7 +192,7 @@ fn fetch_all<S: Source, W: Sink, A: Allocator + Copy, K: Indexer<A>>(
         (input_of S.remaining S.is_down source reader.new.source)
         (output_of W.contents W.passed_on W.is_down sink writer.new.sink)
         (client_of session.new repo.new unborn) result }
-    ensures over { OnOk result (session.new.stage ≡ Settling) }
+    ensures settles_next { OnOk result (session.new.stage ≡ Settling) }
     ensures began { OnOk result (BeganOn repo.old.graph.entries session.new) }
     ensures goes_on { OnOk result (writer.new.failed ≡ false) }
     ensures source_loans { S.loans reader.new.source ≡ S.loans reader.old.source }
@@ -214,7 +215,7 @@ fn close<W: Sink, A: Allocator + Copy>(
     writer: &mut LineWriter<W>,
 ) -> Result<Settled<A>, FetchFault<A>>
     requires writer { writer.old.failed ≡ false }
-    requires over { session.old.stage ≡ Settling }
+    requires settles_next { session.old.stage ≡ Settling }
     ensures closes { Closes session.old repo.old
         (output_of W.contents W.passed_on W.is_down writer.old.sink writer.new.sink) repo.new result }
     ensures loans { W.loans writer.new.sink ≡ W.loans writer.old.sink }

@@ -1,4 +1,5 @@
-//! Why a conversation failed.
+// Why a conversation failed.
+#![tactic(auto)]
 
 ghost use Rattle.std.specs.Prelude.{◌≡◌};
 ghost use Rattle.gclient.specs.Faults.{fetch_fault_row};

@@ -1,4 +1,5 @@
-//! What a conversation brought.
+// What a conversation brought.
+#![tactic(auto)]
 
 use gname::RefName;
 use gsession::Settled;

@@ -1,4 +1,5 @@
-//! Laws of conversations. A call does nothing, and gives its caller's proof the law.
+// Laws of conversations. A call does nothing, and gives its caller's proof the law.
+#![tactic(auto)]
 
 ghost use Rattle.gclient.specs.Laws.{EndsAreFew, FailingKeepsRefs, FetchingGrows, NextIsFew, TalksAreFew};
 

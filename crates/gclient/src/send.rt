@@ -1,4 +1,5 @@
-//! What is written and passed on.
+// What is written and passed on.
+#![tactic(auto)]
 
 ghost use Rattle.std.specs.Prelude.{◌≡◌, false, OnOk};
 ghost use Rattle.gpkt.specs.Sending.{output_of};

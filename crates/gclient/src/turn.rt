@@ -1,4 +1,5 @@
-//! The turns of a conversation.
+// The turns of a conversation.
+#![tactic(auto)]
 
 ghost use Rattle.std.specs.Prelude.{◌≡◌, ℕ, true, false, List, Option, None, OnOk};
 ghost use Rattle.gpkt.specs.Sending.{input_of, output_of};
@@ -6,7 +7,7 @@ ghost use Rattle.grepo.specs.Repos.{IsWhole};
 ghost use Rattle.gsession.specs.Requesting.{is_due};
 ghost use Rattle.gsession.specs.Sessions.{IsBegun, IsSession};
 ghost use Rattle.gsession.specs.declared.stage.Stage.TheVariants.{Fetching};
-ghost use Rattle.gclient.specs.Steps.{Asks, HearsServer, TakesTurn, client_of};
+ghost use Rattle.gclient.specs.Steps.{AsksServer, HearsServer, TakesTurn, client_of};
 
 use crate::fault::FetchFault;
 use crate::send::send_request;
@@ -46,7 +47,7 @@ pub(crate) fn ask<W: Sink, A: Allocator + Copy>(
     requires well { writer.old.failed ≡ false }
     requires due { is_due session.old.stage session.old.pending ≡ true }
     requires format { session.old.format ≡ repo.now.graph.format }
-    ensures asks { Asks session.old repo.now
+    ensures asks { AsksServer session.old repo.now
         (output_of W.contents W.passed_on W.is_down writer.old.sink writer.new.sink) session.new result }
     ensures goes_on { OnOk result (writer.new.failed ≡ false) }
     ensures loans { W.loans writer.new.sink ≡ W.loans writer.old.sink }

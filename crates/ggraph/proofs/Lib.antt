@@ -2,6 +2,7 @@ pub mod Items
 pub mod Lines
 pub mod LoadLemmas
 pub mod Loadable
+pub mod LowerDigits
 pub mod NameLemmas
 pub mod OneReading
 pub mod ReadingLemmas

@@ -63,6 +63,17 @@ impl<A: Allocator + Copy> Graph<A> {
         Graph::new_in(alloc, Format::Sha1)
     }
 
+    /// Makes room for so many more nodes, so that adding them moves none. Where there is no memory for that, it gives
+    /// back what it took.
+    pub fn make_room(&mut self, more: usize)
+        ensures { self.new ≡ self.old }
+    {
+        let before = self.nodes.capacity();
+        if self.nodes.reserve(more).is_err() {
+            self.nodes.shrink_to(before);
+        }
+    }
+
     /// The format of the graph's ids.
     pub fn format(&self) -> Format
         ensures { result ≡ self.now.format }

@@ -1,9 +1,17 @@
 // Laws of graphs. A call does nothing, and gives its caller's proof the law.
 #![tactic(auto)]
 
+ghost use Rattle.std.specs.Prelude.{◌≡◌};
 ghost use Rattle.ghistory.specs.Laws.{EntriesComeInOrder, OneCause, ClosedIsFull, ReachingGoesOn, FullStaysFull, PathsAreShared, GrowingKeeps, KeepingReaches, AgreeingStays, AgreeingEntriesFit, PeelsToOne, PeelsAlongTags, OrderedIsClosed, ReachingGoesDown, ClosedStays, PlacesAreNodes, OneListToSend, SentAreEntries, SendingIsEnough, ReachedAreCounted, CountsStay, LevelsAreDistances, LevelsAreReached, OffersAreExact, CommonsAreHeld, DistinctAreOnce};
+ghost use Rattle.ghistory.specs.Graphs.{max_nodes};
 
+use crate::MAX_NODES;
 use std::alloc::Allocator;
+
+/// The constant is the limit that the definitions name.
+pub fn limits_are_the_constants()
+    ensures { MAX_NODES ≡ max_nodes }
+{}
 
 /// Each entry of a graph could have been added after those before it.
 pub fn entries_come_in_order<A: Allocator + Copy>()

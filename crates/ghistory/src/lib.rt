@@ -5,7 +5,7 @@
 //!
 //! - A `Graph` holds each id once, `MAX_NODES` of them at most, all of one object format, each node with
 //!   `MAX_PARENTS` parents at most and a tag with exactly one. Its look-ups, by id and by place, and the map
-//!   that it lends read what it holds, and take no memory.
+//!   that it lends read what it holds, and take no memory. `make_room` leaves it as it is.
 //! - It knows exactly whether each object came after all its parents.
 //! - `insert` and `insert_all` add each new object after the others, and nothing else; they refuse an entry
 //!   for its first cause alone, in a fixed order, and then the graph is as it was. Memory is a cause only
@@ -21,14 +21,14 @@
 //!
 //! # Only tested
 //!
-//! That memory, where there is some, is found.
+//! That memory, where there is some, is found, and that room that was made is used.
 //!
 //! # What a body can still get away with
 //!
 //! It may take as long as it likes, and more memory than it needs. It may report out of memory of any new
 //! object for which there is room, of any copy and of any list of distinct ids. A copy by `entry_in` may take
 //! its memory from the graph's own allocator and not from the one that is given: no clause says where memory
-//! comes from.
+//! comes from. `make_room` may make none.
 //!
 //! # Stands on
 //!

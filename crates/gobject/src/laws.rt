@@ -2,10 +2,18 @@
 //! contract gives the law to callers.
 #![tactic(auto)]
 
+ghost use Rattle.std.specs.Prelude.{◌≡◌};
 ghost use Rattle.gobject.specs.Laws.{BadLinesHaveOnePlace, PacksHaveNoBadLine, PacksHaveOneReading};
+ghost use Rattle.gobject.specs.Objects.{max_parents};
 
+use crate::MAX_PARENTS;
 use gname::laws::{id_texts_are_digits, texts_spell_one_id};
 use std::alloc::Allocator;
+
+/// The constant is the limit that the definitions name.
+pub fn limits_are_the_constants()
+    ensures { MAX_PARENTS ≡ max_parents }
+{}
 
 /// Bytes are the plain pack of one list.
 pub fn packs_have_one_reading<A: Allocator + Copy>()

@@ -1,9 +1,19 @@
 //! Laws of packet lines. A call does nothing, and gives its caller's proof the law.
 
-ghost use Rattle.gpkt.specs.Bands.{BandFits, BandIsPayload, BandIsRead};
+ghost use Rattle.std.specs.Prelude.{◌≡◌};
+ghost use Rattle.gpkt.specs.Bands.{BandFits, BandIsPayload, BandIsRead, max_band};
 ghost use Rattle.gpkt.specs.Laws.{CanonicalJoins, CanonicalSpells, CanonicalSpellsAll, EveryFront, FailsOfMore, HasFourBytes, OneBegins, OneFault, OneOutcome, OneReading, PushesWritten, ReadsJoin, ReadsNext, ReadsNone, RefusedIsNoLine, SpellingsJoin, SpellingsSplit, TextOfLine, TextOrLine, WritesJoin};
+ghost use Rattle.gpkt.specs.Packets.{max_packet, max_payload};
 
 use crate::device::Sink;
+use crate::{MAX_BAND, MAX_PACKET, MAX_PAYLOAD};
+
+/// The constants are the limits that the definitions name.
+pub fn limits_are_the_constants()
+    ensures packet { MAX_PACKET ≡ max_packet }
+    ensures payload { MAX_PAYLOAD ≡ max_payload }
+    ensures band { MAX_BAND ≡ max_band }
+{}
 
 /// At most one line is spelt at the front of some bytes, and in one way.
 pub fn one_reading()

@@ -1,7 +1,16 @@
 // Laws of refs. A call does nothing, and gives its caller's proof the law.
 #![tactic(auto)]
 
+ghost use Rattle.std.specs.Prelude.{◌≡◌};
 ghost use Rattle.grefs.specs.Laws.{RefsAreTheirLookUps, RefsComeInOrder};
+ghost use Rattle.grefs.specs.RefLists.{max_refs};
+
+use crate::MAX_REFS;
+
+/// The constant is the limit that the definitions name.
+pub fn limits_are_the_constants()
+    ensures { MAX_REFS ≡ max_refs }
+{}
 
 /// Each ref could have been added after those before it.
 pub fn refs_come_in_order()

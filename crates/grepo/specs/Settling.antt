@@ -1,4 +1,5 @@
--- Settling: the refs that are asked for move, all at once (git-fetch(1), "<refspec>"; gitglossary(7), "fast-forward").
+-- Settling: the refs that are asked for move, all at once. Without force a ref moves forward only (gitglossary(7),
+-- "fast-forward"), whatever its name: our own rule, where git-fetch(1), "<refspec>", has one for tags alone.
 pub use Rattle.grepo.specs.Asks.{NamesDiffer, asked_ids}
 use Rattle.std.specs.Prelude.{◌≡◌, ◌≢◌, ◌⊎◌, ℕ, ◌+◌, ◌<◌, Bool, List, length, map, count_by, All, Contains}
 use Rattle.std.specs.Prelude.{IsTrue, None, Some, is_none}

@@ -1,12 +1,22 @@
 //! Laws of conversations. A call does nothing, and gives its caller's proof the law.
 
+ghost use Rattle.std.specs.Prelude.{◌≡◌};
 ghost use Rattle.gserve.specs.Laws.{ServingIsTalking, TalksAreOne};
+ghost use Rattle.gserve.specs.Refusals.{max_err_text};
+ghost use Rattle.gserve.specs.Conversations.{max_requests};
 
+use crate::{MAX_ERR_TEXT, MAX_REQUESTS};
 use ggrammar::laws::messages_are_read;
 use ggraph::Packer;
 use gpkt::laws::spellings_join;
 use grequest::laws::{one_meaning, reads_exactly};
 use std::alloc::Allocator;
+
+/// The constants are the limits that the definitions name.
+pub fn limits_are_the_constants()
+    ensures requests { MAX_REQUESTS ≡ max_requests }
+    ensures text { MAX_ERR_TEXT ≡ max_err_text }
+{}
 
 /// A connection is a conversation over the bytes of its source, where these are known and neither the source nor the
 /// sink has failed. All that is written in it is passed on.

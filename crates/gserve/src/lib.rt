@@ -19,7 +19,7 @@
 //! - At each end it is known whether the source and the sink have failed.
 //! - [`serve_one`] does the same for one request, with no advertisement (`specs/Exchanges.antt`).
 //! - [`write_reply`] writes a reply in its one list of packets, or a beginning of it where the sink fails.
-//! - [`err_text`] writes the text of a fault, at most 128 bytes, and nothing behind it.
+//! - [`err_text`] writes the text of a fault, at most 128 bytes, and nothing after it.
 //! - [`laws`]: where bytes are known and no device has failed, a connection is a conversation over the bytes alone
 //!   (`specs/Talks.antt`). If each request has one answer, which is assumed there, the bytes of a client say what is
 //!   written to it and how the conversation ends, unless memory or the packer fails.

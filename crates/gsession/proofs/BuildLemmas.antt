@@ -1,5 +1,6 @@
 -- What is not added to a request.
-use Rattle.std.proofs.Common.{◌≡◌, ℕ, ◌+◌, ◌<◌, ◌≤◌, Bool, true, List, ◌++◌, length, length-append, take, get_or, nat_lt, All, refl, sym, ap, subst, ◌∙◌, arith}
+use Rattle.std.proofs.Common.{◌≡◌, ℕ, ◌+◌, ◌<◌, ◌≤◌, Bool, true, List, ◌++◌, length, length-append, take, get_or}
+use Rattle.std.proofs.Common.{nat_lt, All, refl, sym, ap, subst, ◌∙◌, arith}
 use Rattle.std.proofs.lemmas.Bool.{eq-eqb, false≢true, lt-ltb}
 use Rattle.std.proofs.lemmas.List.{length-take-le}
 use Rattle.gname.specs.Formats.{id_length}
@@ -11,7 +12,8 @@ use Rattle.ggrammar.specs.declared.fault.Why.TheVariants as why
 use Rattle.grequest.specs.Building.{has_format}
 
 -- what is well-formed and fits is refused only when out of memory
-pub only_memory : (well_formed has_room : Bool) (reason : Why) → well_formed ≡ true → has_room ≡ true → IsBuildReason well_formed has_room reason → reason ≡ why.Memory
+pub only_memory : (well_formed has_room : Bool) (reason : Why) → well_formed ≡ true → has_room ≡ true
+    → IsBuildReason well_formed has_room reason → reason ≡ why.Memory
 only_memory w r why.BadText fits room is = absurd (false≢true (sym is ∙ fits))
 only_memory w r why.Limit fits room is = absurd (false≢true (sym is.1 ∙ room))
 only_memory w r why.Memory fits room is = refl
@@ -30,14 +32,16 @@ only_memory w r why.Format fits room is = absurd is
 only_memory w r why.Ended fits room is = absurd is
 
 -- each of the ids has the format
-pub fits : (format other : Format) (ids : List (List ℕ)) (i : ℕ) (id : List ℕ) → All (IsIdOf format) ids → i < length ids → id ≡ get_or ids i id
+pub fits : (format other : Format) (ids : List (List ℕ)) (i : ℕ) (id : List ℕ) → All (IsIdOf format) ids
+    → i < length ids → id ≡ get_or ids i id
     → other ≡ format → has_format other id ≡ true
 fits format other ids i id are low at same =
     let is : IsIdOf format id = subst (IsIdOf format) (sym at) (are i id low) in
     eq-eqb (length id) (id_length other) (is.long ∙ ap id_length (sym same))
 
 -- there is room for each of the ids after the others
-pub has_room : (old now ids : List (List ℕ)) (i max : ℕ) → now ≡ old ++ take i ids → i < length ids → length old + length ids ≤ max → nat_lt (length now) max ≡ true
+pub has_room : (old now ids : List (List ℕ)) (i max : ℕ) → now ≡ old ++ take i ids → i < length ids
+    → length old + length ids ≤ max → nat_lt (length now) max ≡ true
 has_room old now ids i max is low few =
     let long : length now ≡ length old + length (take i ids) = ap length is ∙ length-append old (take i ids) in
     let short : length (take i ids) ≡ i = length-take-le i ids (omega arith) in

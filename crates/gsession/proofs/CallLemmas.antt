@@ -1,5 +1,6 @@
 -- What a call did to a session, in a few forms; and what every call leaves as it is.
-use Rattle.std.proofs.Common.{◌≡◌, ℕ, Bool, true, false, List, [], All, Contains, Some, None, Result, Ok, Err, if◌then◌else◌, refl, sym, ap, subst, ◌∙◌}
+use Rattle.std.proofs.Common.{◌≡◌, ◌⊎◌, ℕ, Bool, true, false, List, [], All, Contains, Option, Some, None, Result, Ok}
+use Rattle.std.proofs.Common.{Err, if◌then◌else◌, inl, inr, refl, sym, ap, subst, ◌∙◌}
 use Rattle.std.specs.Prelude.{◌||◌, ◌==◌, length}
 use Rattle.std.proofs.lemmas.Bool.{false≢true}
 use Rattle.std.proofs.lemmas.List.{append-nil}
@@ -17,94 +18,123 @@ use Rattle.grepo.specs.declared.fault.RepoFault.TheVariants as repo
 use Rattle.grepo.specs.Repos.{RepoState}
 use Rattle.grequest.specs.Asked.{Asked, Empty, Ls, Fetches, FetchAsked, LsRefsAsked, is_direct}
 use Rattle.gsession.specs.Calls.{HasCalled, heard, requested, took_refs, took_reply, settled, GoesOn}
-use Rattle.gsession.specs.Requesting.{MakesNext, Requests, waiting_for}
+use Rattle.gsession.specs.Requesting.{MakesNext, Requests, is_due, waiting_for}
 use Rattle.gsession.specs.Sessions.{SessionState, Hears, IsBegun, after_fault, ends_session, over, tells_unborn}
 use Rattle.gsession.specs.SettlingRefs.{SettlesSession}
 use Rattle.gsession.specs.TakingRefs.{TakesLs, with_refs}
-use Rattle.gsession.specs.TakingReplies.{Awaits, HasPack, TakesHead, TakesReply, acks_of, reading_for, with_acks}
+use Rattle.gsession.specs.TakingReplies.{Awaits, HasPack, TakesHead, TakesReply, acknowledged_by, after_acks}
+use Rattle.gsession.specs.TakingReplies.{reading_for}
 use Rattle.gsession.specs.declared.fault.ClientFault.{ClientFault}
 use Rattle.gsession.specs.declared.fault.ClientFault.TheVariants.{NoOpenRequest, Repo}
 use Rattle.gsession.specs.declared.stage.Stage.{Stage}
-use Rattle.gsession.specs.declared.stage.Stage.TheVariants.{Fetching, Settling}
+use Rattle.gsession.specs.declared.stage.Stage.TheVariants.{Listing, Fetching, Settling, Over}
 use Rattle.gsession.specs.declared.taken.LsTaken.{LsTaken}
 use Rattle.gsession.specs.declared.taken.Taken.{Taken}
 use Rattle.gsession.specs.declared.taken.Taken.TheVariants.{Round, PackTaken}
 
--- it changed nothing; it ended the session; it kept what the server offers; it made a request where none waited; it took
+-- it changed nothing; it ended the session; it kept what the server offers; it made a request where none waited; it
+-- took
 -- the reply to a request for refs, or to one for objects; or it settled
 pub data Does {A : Type 0} (g : List (Entry A)) (old new : SessionState A) : Type 0 where
   does_nothing : new ≡ old → Does g old new
   does_end : new ≡ over old → Does g old new
   does_hear : (offers : Bool) → IsBegun old → new ≡ record old { offers_unborn = offers } → Does g old new
   does_ask : (asked : Asked) → old.pending ≡ None → MakesNext old g new asked → Does g old new
-  does_list : (asked : LsRefsAsked) (reply : LsReply) (wants : List (List ℕ)) → old.pending ≡ Some (Ls asked) → new ≡ with_refs old reply wants → Does g old new
-  does_take : (asked : FetchAsked) (stage : Stage) (acks : List (List ℕ)) → Awaits old asked → All (Contains asked.haves) acks
-      → (asked.done ≡ true → stage ≡ Settling) → new ≡ with_acks old stage acks → Does g old new
+  does_list : (asked : LsRefsAsked) (reply : LsReply) (wants : List (List ℕ)) → old.pending ≡ Some (Ls asked)
+      → new ≡ with_refs old reply wants → Does g old new
+  does_take : (asked : FetchAsked) (stage : Stage) (acks : List (List ℕ)) → Awaits old asked
+      → All (Contains asked.haves) acks
+      → (asked.done ≡ true → stage ≡ Settling) → new ≡ after_acks old stage acks → Does g old new
   does_settle : old.stage ≡ Settling → new ≡ record (over old) { asks = [] } → Does g old new
+
+-- ---- a request is due while refs or objects are to be asked for
+
+pub due_idle : (st : Stage) (p : Option Asked) → is_due st p ≡ true → (p ≡ None) × ((st ≡ Listing) ⊎ (st ≡ Fetching))
+due_idle Listing None due = (refl, inl refl)
+due_idle Fetching None due = (refl, inr refl)
+due_idle Settling None due = absurd (false≢true due)
+due_idle Over None due = absurd (false≢true due)
+due_idle Listing (Some asked) due = absurd (false≢true due)
+due_idle Fetching (Some asked) due = absurd (false≢true due)
+due_idle Settling (Some asked) due = absurd (false≢true due)
+due_idle Over (Some asked) due = absurd (false≢true due)
 
 -- ---- a reply to a request with `done` has a pack
 
 done_direct : (asked : FetchAsked) → asked.done ≡ true → is_direct asked ≡ true
 done_direct asked done = ap (λ (b : Bool). b || length asked.haves == 0) done
 
-direct_pack : (direct : Bool) (pack : List ℕ) (other reply : FetchReply) → direct ≡ true → reply ≡ (if direct then Pack pack else other) → HasPack reply
+direct_pack : (direct : Bool) (pack : List ℕ) (other reply : FetchReply) → direct ≡ true
+    → reply ≡ (if direct then Pack pack else other) → HasPack reply
 direct_pack true pack other reply e is = subst (λ (r : FetchReply). HasPack r) (sym is) tt
 direct_pack false pack other reply e is = absurd (false≢true e)
 
-says_pack : (reading : Reading) (lines : List Packet) (reply : FetchReply) → reading.direct ≡ true → reply ≡ reply_of reading lines → HasPack reply
+says_pack : (reading : Reading) (lines : List Packet) (reply : FetchReply) → reading.direct ≡ true
+    → reply ≡ reply_of reading lines → HasPack reply
 says_pack reading lines reply direct says = direct_pack reading.direct _ _ reply direct says
 
 -- ---- what each call did
 
 module _ {A : Type 0} where
-  if_does : (g : List (Entry A)) (old new : SessionState A) (ending : Bool) → new ≡ (if ending then over old else old) → Does g old new
+  if_does : (g : List (Entry A)) (old new : SessionState A) (ending : Bool) → new ≡ (if ending then over old else old)
+      → Does g old new
   if_does g old new true is = does_end is
   if_does g old new false is = does_nothing is
 
-  fault_does : (g : List (Entry A)) (old new : SessionState A) (fault : ClientFault A) → new ≡ after_fault old fault → Does g old new
+  fault_does : (g : List (Entry A)) (old new : SessionState A) (fault : ClientFault A) → new ≡ after_fault old fault
+      → Does g old new
   fault_does g old new fault is = if_does g old new (ends_session fault) is
 
-  hear_does : (g : List (Entry A)) (old : SessionState A) (capabilities : List Capability) (new : SessionState A) (result : Result (Unit {0}) (ClientFault A))
+  hear_does : (g : List (Entry A)) (old : SessionState A) (capabilities : List Capability) (new : SessionState A)
+      (result : Result (Unit {0}) (ClientFault A))
       → Hears old capabilities new result → Does g old new
   hear_does g old capabilities new (Ok done) is = does_hear (tells_unborn capabilities) is.0 is.1
   hear_does g old capabilities new (Err NoOpenRequest) is = does_nothing is.1
   hear_does g old capabilities new (Err _) is = absurd is
 
-  request_does : (g : List (Entry A)) (old new : SessionState A) (result : Result Asked (ClientFault A)) → Requests old g new result → Does g old new
-  request_does g old new (Ok asked) is = does_ask asked is.0 is.1
+  request_does : (g : List (Entry A)) (old new : SessionState A) (result : Result Asked (ClientFault A))
+      → Requests old g new result → Does g old new
+  request_does g old new (Ok asked) is = does_ask asked (due_idle old.stage old.pending is.0).0 is.1
   request_does g old new (Err NoOpenRequest) is = does_nothing is.1
   request_does g old new (Err (Repo (repo.Graph graph.Memory))) is = does_end is.1
   request_does g old new (Err _) is = absurd is
 
-  refs_do : (g : List (Entry A)) (old : SessionState A) (change : Change) (new : SessionState A) (result : Result (LsTaken A) (ClientFault A))
+  refs_do : (g : List (Entry A)) (old : SessionState A) (change : Change) (new : SessionState A)
+      (result : Result (LsTaken A) (ClientFault A))
       → TakesLs old g change new result → Does g old new
   refs_do g old change new (Ok taken) is = does_list is.0.0 is.1.0 is.1.2.wants is.0.1 is.1.2.after
   refs_do g old change new (Err fault) is = fault_does g old new fault is.1
 
-  settle_does : (g : List (Entry A)) (old : SessionState A) (r : RepoState A) (new : SessionState A) (after : RepoState A)
-      (result : Result (List (Ask A) × List RefUpdate) (ClientFault A)) → SettlesSession old r new after result → Does g old new
+  settle_does : (g : List (Entry A)) (old : SessionState A) (r : RepoState A) (new : SessionState A)
+      (after : RepoState A)
+      (result : Result (List (Ask A) × List RefUpdate) (ClientFault A)) → SettlesSession old r new after result
+      → Does g old new
   settle_does g old r new after (Ok done) is = does_settle is.0 is.2
   settle_does g old r new after (Err (Repo fault)) is = does_end is.1
   settle_does g old r new after (Err NoOpenRequest) is = does_nothing is.1
   settle_does g old r new after (Err _) is = absurd is
 
   module _ (indexes : Indexes A) (index_fails : IndexFails) where
-    head_does : (g : List (Entry A)) (old : SessionState A) (r : RepoState A) (asked : FetchAsked) (reply : FetchReply) (new : SessionState A) (after : RepoState A) (taken : Taken)
-        → Awaits old asked → All (Contains asked.haves) (acks_of reply) → (asked.done ≡ true → HasPack reply)
+    head_does : (g : List (Entry A)) (old : SessionState A) (r : RepoState A) (asked : FetchAsked) (reply : FetchReply)
+        (new : SessionState A) (after : RepoState A) (taken : Taken)
+        → Awaits old asked → All (Contains asked.haves) (acknowledged_by reply) → (asked.done ≡ true → HasPack reply)
         → TakesHead indexes index_fails old r reply new after taken → Does g old new
     head_does g old r asked reply new after (Round common) waits named has is =
-        does_take asked Fetching (acks_of reply) waits named (λ done. absurd (is.0 (has done))) is.1
+        does_take asked Fetching (acknowledged_by reply) waits named (λ done. absurd (is.0 (has done))) is.1
     head_does g old r asked reply new after (PackTaken added) waits named has is =
-        does_take asked Settling (acks_of reply) waits named (λ done. refl) is.1
+        does_take asked Settling (acknowledged_by reply) waits named (λ done. refl) is.1
 
-    reply_does : (g : List (Entry A)) (old : SessionState A) (r : RepoState A) (change : Change) (new : SessionState A) (after : RepoState A)
-        (result : Result Taken (ClientFault A)) → TakesReply indexes index_fails old r change new after result → Does g old new
+    reply_does : (g : List (Entry A)) (old : SessionState A) (r : RepoState A) (change : Change) (new : SessionState A)
+        (after : RepoState A)
+        (result : Result Taken (ClientFault A)) → TakesReply indexes index_fails old r change new after result
+        → Does g old new
     reply_does g old r change new after (Ok taken) (asked, waits, (reply, reads, took)) =
         head_does g old r asked reply new after taken waits took.0
         (λ done. says_pack (reading_for old asked) reads.lines reply (done_direct asked done) reads.says.says) took.1
     reply_does g old r change new after (Err fault) is = fault_does g old new fault is.1
 
-    pub does : (r : RepoState A) (old new : SessionState A) → HasCalled indexes index_fails r old new → Does r.graph.entries old new
+    pub does : (r : RepoState A) (old new : SessionState A) → HasCalled indexes index_fails r old new
+        → Does r.graph.entries old new
     does r old new (heard capabilities result is) = hear_does r.graph.entries old capabilities new result is
     does r old new (requested result is) = request_does r.graph.entries old new result is
     does r old new (took_refs change result is) = refs_do r.graph.entries old change new result is
@@ -113,8 +143,10 @@ module _ {A : Type 0} where
 
   -- ---- what every call leaves as it is
 
-  no_more : (old new : SessionState A) → new.format ≡ old.format → new.tips ≡ old.tips → new.sent ≡ old.sent → GoesOn old new
-  no_more old new format tips sent = record { format = format; tips = tips; sent = ([], sent ∙ sym (append-nil old.sent)) }
+  no_more : (old new : SessionState A) → new.format ≡ old.format → new.tips ≡ old.tips → new.sent ≡ old.sent
+      → GoesOn old new
+  no_more old new format tips sent =
+      record { format = format; tips = tips; sent = ([], sent ∙ sym (append-nil old.sent)) }
 
   asked_on : (old : SessionState A) (asked : Asked) (batch : List (List ℕ)) → GoesOn old (waiting_for old asked batch)
   asked_on old Empty batch = no_more old (waiting_for old Empty batch) refl refl refl
@@ -124,8 +156,12 @@ module _ {A : Type 0} where
   pub goes_on : (g : List (Entry A)) (old new : SessionState A) → Does g old new → GoesOn old new
   goes_on g old new (does_nothing is) = subst (GoesOn old) (sym is) (no_more old old refl refl refl)
   goes_on g old new (does_end is) = subst (GoesOn old) (sym is) (no_more old (over old) refl refl refl)
-  goes_on g old new (does_hear offers begun is) = subst (GoesOn old) (sym is) (no_more old (record old { offers_unborn = offers }) refl refl refl)
+  goes_on g old new (does_hear offers begun is) =
+      subst (GoesOn old) (sym is) (no_more old (record old { offers_unborn = offers }) refl refl refl)
   goes_on g old new (does_ask asked none made) = subst (GoesOn old) (sym made.2) (asked_on old asked made.0)
-  goes_on g old new (does_list asked reply wants waits is) = subst (GoesOn old) (sym is) (no_more old (with_refs old reply wants) refl refl refl)
-  goes_on g old new (does_take asked stage acks waits named settles is) = subst (GoesOn old) (sym is) (no_more old (with_acks old stage acks) refl refl refl)
-  goes_on g old new (does_settle stage is) = subst (GoesOn old) (sym is) (no_more old (record (over old) { asks = [] }) refl refl refl)
+  goes_on g old new (does_list asked reply wants waits is) =
+      subst (GoesOn old) (sym is) (no_more old (with_refs old reply wants) refl refl refl)
+  goes_on g old new (does_take asked stage acks waits named settles is) =
+      subst (GoesOn old) (sym is) (no_more old (after_acks old stage acks) refl refl refl)
+  goes_on g old new (does_settle stage is) =
+      subst (GoesOn old) (sym is) (no_more old (record (over old) { asks = [] }) refl refl refl)

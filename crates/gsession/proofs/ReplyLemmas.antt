@@ -1,5 +1,7 @@
 -- Taking a reply to fetch, step by step.
-use Rattle.std.proofs.Common.{◌≡◌, ℕ, Bool, true, false, List, [], ◌∷◌, ◌++◌, length, All, Contains, Option, Some, None, Result, Ok, Err, MatchResult, if◌then◌else◌, inl, inr, refl, sym, ap, subst, append_assoc, arith, ◌∙◌}
+use Rattle.std.proofs.Common.{◌≡◌, ℕ, Bool, true, false, List, [], ◌∷◌, ◌++◌, length, All, Contains, Option, Some, None}
+use Rattle.std.proofs.Common.{Result, Ok, Err, MatchResult, if◌then◌else◌, inl, inr, refl, sym, ap, subst, append_assoc}
+use Rattle.std.proofs.Common.{arith, ◌∙◌}
 use Rattle.std.proofs.lemmas.List.{append-nil}
 use Rattle.gpkt.specs.Change.{Change}
 use Rattle.gpkt.specs.LineReading.{Reader}
@@ -26,9 +28,13 @@ use Rattle.grepo.specs.declared.fault.RepoFault.TheVariants as repo
 use Rattle.grepo.specs.Repos.{RepoState}
 use Rattle.grequest.specs.Asked.{Fetches, FetchAsked, is_direct, max_haves}
 use Rattle.gsession.specs.Sessions.{SessionState, AreCommons, IsOpenFetch, LeavesReplies, after_fault}
-use Rattle.gsession.specs.TakingReplies.{AnswersRead, AnswersReply, Awaits, FitsHead, HasPack, IsAcksFault, IsFirstStrange, IsReplyFault, IsTakeFault, ReadsFetch, RefusesPack, TakesHead, TakesReply, acks_of, reading_for, with_acks}
+use Rattle.gsession.specs.Steps.{AnswersRead, AnswersReply, FitsHead, IsAcksFault}
+use Rattle.gsession.specs.TakingReplies.{Awaits, HasPack, IsFirstStrange, IsReplyFault, IsTakeFault, ReadsFetch}
+use Rattle.gsession.specs.TakingReplies.{RefusesPack, TakesHead, TakesReply}
+use Rattle.gsession.specs.TakingReplies.{acknowledged_by, after_acks, reading_for}
 use Rattle.gsession.specs.declared.fault.ClientFault.{ClientFault}
-use Rattle.gsession.specs.declared.fault.ClientFault.TheVariants.{Index, Message, NoOpenRequest, Repo, StrangeAck, TooManySpecs, TooManyWants}
+use Rattle.gsession.specs.declared.fault.ClientFault.TheVariants.{Index, Message, NoOpenRequest, Repo, StrangeAck}
+use Rattle.gsession.specs.declared.fault.ClientFault.TheVariants.{TooManySpecs, TooManyWants}
 use Rattle.gsession.specs.declared.stage.Stage.{Stage}
 use Rattle.gsession.specs.declared.stage.Stage.TheVariants.{Fetching}
 use Rattle.gsession.specs.declared.taken.Taken.{Taken}
@@ -42,7 +48,8 @@ acks_reply (Acks also) ids same = cc
 acks_reply (Ready also pack) ids same = cc
 acks_reply (Pack pack) ids same = cc
 
-pub ready_acks : (reply : FetchReply) (ids : List (List ℕ)) → head.Ready ids ≡ head_of reply → acks_of reply ≡ ids
+pub ready_acks : (reply : FetchReply) (ids : List (List ℕ)) → head.Ready ids ≡ head_of reply
+    → acknowledged_by reply ≡ ids
 ready_acks (Acks also) ids same = cc
 ready_acks (Ready also pack) ids same = cc
 ready_acks (Pack pack) ids same = cc
@@ -52,7 +59,7 @@ ready_pack (Acks also) ids same = cc
 ready_pack (Ready also pack) ids same = tt
 ready_pack (Pack pack) ids same = tt
 
-pub pack_acks : (reply : FetchReply) → head.Pack ≡ head_of reply → acks_of reply ≡ []
+pub pack_acks : (reply : FetchReply) → head.Pack ≡ head_of reply → acknowledged_by reply ≡ []
 pack_acks (Acks also) same = cc
 pack_acks (Ready also pack) same = cc
 pack_acks (Pack pack) same = refl
@@ -63,11 +70,13 @@ pack_pack (Ready also pack) same = tt
 pack_pack (Pack pack) same = tt
 
 -- a direct reply has no acknowledgments alone
-pub no_acks : (direct : Bool) (pack : List ℕ) (other : FetchReply) (ids : List (List ℕ)) → head.Acks ids ≡ head_of (if direct then Pack pack else other) → direct ≡ false
+pub no_acks : (direct : Bool) (pack : List ℕ) (other : FetchReply) (ids : List (List ℕ))
+    → head.Acks ids ≡ head_of (if direct then Pack pack else other) → direct ≡ false
 no_acks true pack other ids same = cc
 no_acks false pack other ids same = refl
 
-pub fits_head : (reading : Reading) (asked : FetchAsked) (h : FetchHead) (reply : FetchReply) (lines : List Packet) → reading.direct ≡ is_direct asked
+pub fits_head : (reading : Reading) (asked : FetchAsked) (h : FetchHead) (reply : FetchReply) (lines : List Packet)
+    → reading.direct ≡ is_direct asked
     → h ≡ head_of reply → reply ≡ reply_of reading lines → FitsHead asked h
 fits_head reading asked (head.Acks ids) reply lines direct is_head says =
     sym direct ∙ no_acks reading.direct _ _ ids (is_head ∙ ap head_of says)
@@ -76,78 +85,97 @@ fits_head reading asked head.Pack reply lines direct is_head says = tt
 
 -- ---- common ids
 
-pub are_commons : {A : Type 0} (s : SessionState A) (asked : FetchAsked) (acks list : List (List ℕ)) → DistinctAreOnce → IsOpenFetch s asked
+pub are_commons : {A : Type 0} (s : SessionState A) (asked : FetchAsked) (acks list : List (List ℕ)) → DistinctAreOnce
+    → IsOpenFetch s asked
     → All (Contains asked.haves) acks → list ≡ distinct_of (s.commons ++ acks) → AreCommons s.format list
 are_commons s asked acks list law opened named is = subst (AreCommons s.format) (sym is) (record {
-  ids = common_ids law s.format asked.haves s.commons acks opened.ids opened.names named;
-  few = omega (arith, few_commons law asked.haves s.commons acks opened.names named, opened.few);
+  ids = common_ids law s.format asked.haves s.commons acks opened.ids opened.commons named;
+  few = omega (arith, few_commons law asked.haves s.commons acks opened.commons named, opened.few);
   once = (law (s.commons ++ acks)).once;
 })
 
 module _ {A : Type 0} where
   -- the session with those common ids, made of what it was before
-  pub acked : (stage : Stage) (was s : SessionState A) (acks list : List (List ℕ)) → was ≡ s → list ≡ distinct_of (s.commons ++ acks)
-      → record was { stage = stage; pending = None; commons = list } ≡ with_acks s stage acks
+  pub acked : (stage : Stage) (was s : SessionState A) (acks list : List (List ℕ)) → was ≡ s
+      → list ≡ distinct_of (s.commons ++ acks)
+      → record was { stage = stage; pending = None; commons = list } ≡ after_acks s stage acks
   acked stage was s acks list same is =
       ap (λ (o : SessionState A). record o { stage = stage; pending = None; commons = list }) same
       ∙ ap (λ (l : List (List ℕ)). record s { stage = stage; pending = None; commons = l }) is
 
   -- ---- the repository
 
-  pub same_repo : (new old : RepoState A) → new.graph ≡ old.graph → new.refs ≡ old.refs → new.known ≡ old.known → new ≡ old
+  pub same_repo : (new old : RepoState A) → new.graph ≡ old.graph → new.refs ≡ old.refs → new.known ≡ old.known
+      → new ≡ old
   same_repo new old graph refs known =
       ap (λ (g : History A). record new { graph = g }) graph
       ∙ ap (λ (r : RefList). record old { refs = r; known = new.known }) refs
       ∙ ap (λ (k : List Bool). record old { known = k }) known
 
   grows_on : (f g h : List (Entry A)) → Grows f g → Grows g h → Grows f h
-  grows_on f g h first next = (first.0 ++ next.0, next.1 ∙ ap (λ (l : List (Entry A)). l ++ next.0) first.1 ∙ append_assoc f first.0 next.0)
+  grows_on f g h first next =
+      (first.0 ++ next.0, next.1 ∙ ap (λ (l : List (Entry A)). l ++ next.0) first.1 ∙ append_assoc f first.0 next.0)
 
   pub grows_to : (g h : List (Entry A)) → h ≡ g → Grows g h
   grows_to g h same = ([], same ∙ sym (append-nil g))
 
-  comes_grows : (format : Format) (old : List (Entry A)) (entry : Entry A) (new : List (Entry A)) → ComesIn format old entry new → Grows old new
-  comes_grows format old entry new comes = elim comes.comes [ inl held ↦ grows_to old new held.1 | inr added ↦ (entry ∷ [], added.1) ]
+  comes_grows : (format : Format) (old : List (Entry A)) (entry : Entry A) (new : List (Entry A))
+      → ComesIn format old entry new → Grows old new
+  comes_grows format old entry new comes =
+      elim comes.comes [ inl held ↦ grows_to old new held.1 | inr added ↦ (entry ∷ [], added.1) ]
 
-  pub inserts_grow : (format : Format) (old entries new : List (Entry A)) → Inserts format old entries new → Grows old new
+  pub inserts_grow : (format : Format) (old entries new : List (Entry A)) → Inserts format old entries new
+      → Grows old new
   inserts_grow format old [] new inserts = grows_to old new inserts
   inserts_grow format old (entry ∷ entries) new inserts =
-      grows_on old inserts.0 new (comes_grows format old entry inserts.0 inserts.1) (inserts_grow format inserts.0 entries new inserts.2)
+      grows_on old inserts.0 new (comes_grows format old entry inserts.0 inserts.1)
+      (inserts_grow format inserts.0 entries new inserts.2)
 
   module _ (indexes : Indexes A) (index_fails : IndexFails) where
-    takes_grow : (old : SessionState A) (repo_old : RepoState A) (reply : FetchReply) (new : SessionState A) (repo_new : RepoState A) (taken : Taken)
-        → TakesHead indexes index_fails old repo_old reply new repo_new taken → Grows repo_old.graph.entries repo_new.graph.entries
+    takes_grow : (old : SessionState A) (repo_old : RepoState A) (reply : FetchReply) (new : SessionState A)
+        (repo_new : RepoState A) (taken : Taken)
+        → TakesHead indexes index_fails old repo_old reply new repo_new taken
+        → Grows repo_old.graph.entries repo_new.graph.entries
     takes_grow old repo_old reply new repo_new (Round common) takes =
         grows_to repo_old.graph.entries repo_new.graph.entries (ap (λ (r : RepoState A). r.graph.entries) takes.3)
     takes_grow old repo_old reply new repo_new (PackTaken added) takes =
         inserts_grow repo_old.graph.format repo_old.graph.entries takes.2.0 repo_new.graph.entries takes.2.2.adds.1
 
     -- the objects only grow, whatever is answered
-    pub reply_grows : (old : SessionState A) (repo_old : RepoState A) (change : Change) (new : SessionState A) (repo_new : RepoState A) (result : Result Taken (ClientFault A))
-        → AnswersReply indexes index_fails old repo_old change new repo_new result → Grows repo_old.graph.entries repo_new.graph.entries
-    reply_grows old repo_old change new repo_new (Ok taken) answers = takes_grow old repo_old answers.2.0 new repo_new taken answers.2.2.1
+    pub reply_grows : (old : SessionState A) (repo_old : RepoState A) (change : Change) (new : SessionState A)
+        (repo_new : RepoState A) (result : Result Taken (ClientFault A))
+        → AnswersReply indexes index_fails old repo_old change new repo_new result
+        → Grows repo_old.graph.entries repo_new.graph.entries
+    reply_grows old repo_old change new repo_new (Ok taken) answers =
+        takes_grow old repo_old answers.2.0 new repo_new taken answers.2.2.1
     reply_grows old repo_old change new repo_new (Err fault) answers =
         grows_to repo_old.graph.entries repo_new.graph.entries (ap (λ (r : RepoState A). r.graph.entries) answers.2)
 
     -- ---- faults
 
-    pub acks_fault : (haves acks : List (List ℕ)) (s : RepoState A) (reply : FetchReply) (fault : ClientFault A) → acks_of reply ≡ acks
+    pub acks_fault : (haves acks : List (List ℕ)) (s : RepoState A) (reply : FetchReply) (fault : ClientFault A)
+        → acknowledged_by reply ≡ acks
         → IsAcksFault haves acks fault → IsReplyFault indexes index_fails haves s reply fault
-    acks_fault haves acks s reply (StrangeAck id) same is = subst (λ (l : List (List ℕ)). IsFirstStrange haves l id) (sym same) is
+    acks_fault haves acks s reply (StrangeAck id) same is =
+        subst (λ (l : List (List ℕ)). IsFirstStrange haves l id) (sym same) is
     acks_fault haves acks s reply (Repo (repo.Graph graph.Memory)) same is = tt
     acks_fault haves acks s reply _ same is = absurd is
 
-    pub graph_fault : (haves : List (List ℕ)) (s : RepoState A) (reply : FetchReply) (fault : GraphFault) → All (Contains haves) (acks_of reply) → HasPack reply
-        → RefusesPack indexes index_fails s (pack_of reply) fault → IsReplyFault indexes index_fails haves s reply (Repo (repo.Graph fault))
+    pub graph_fault : (haves : List (List ℕ)) (s : RepoState A) (reply : FetchReply) (fault : GraphFault)
+        → All (Contains haves) (acknowledged_by reply) → HasPack reply
+        → RefusesPack indexes index_fails s (pack_of reply) fault
+        → IsReplyFault indexes index_fails haves s reply (Repo (repo.Graph fault))
     graph_fault haves s reply graph.Memory named has refuses = tt
     graph_fault haves s reply _ named has refuses = (named, has, refuses)
 
     -- ---- acknowledgments alone
 
-    pub acks_answer : (haves acks : List (List ℕ)) (old : SessionState A) (s : RepoState A) (reply : FetchReply) (new : SessionState A) (result : Result Taken (ClientFault A))
+    pub acks_answer : (haves acks : List (List ℕ)) (old : SessionState A) (s : RepoState A) (reply : FetchReply)
+        (new : SessionState A) (result : Result Taken (ClientFault A))
         → reply ≡ Acks acks
         → MatchResult result
-        (λ taken. All (Contains haves) acks × (new ≡ with_acks old Fetching acks) × (taken ≡ Round (length new.commons)))
+        (λ taken. All (Contains haves) acks × (new ≡ after_acks old Fetching acks)
+        × (taken ≡ Round (length new.commons)))
         (λ fault. IsAcksFault haves acks fault × (new ≡ old))
         → AnswersRead indexes index_fails haves old s reply new s result
     acks_answer haves acks old s reply new (Ok taken) is answers =
@@ -155,48 +183,60 @@ module _ {A : Type 0} where
         (subst (λ t. AnswersRead indexes index_fails haves old s (Acks acks) new s (Ok t)) (sym answers.2)
         (answers.0, ((λ none. none), answers.1, refl, refl)))
     acks_answer haves acks old s reply new (Err fault) is answers =
-        (acks_fault haves acks s reply fault (ap acks_of is) answers.0, answers.1, refl)
+        (acks_fault haves acks s reply fault (ap acknowledged_by is) answers.0, answers.1, refl)
 
     -- ---- a reply that was read
 
-    read_fault : (s : SessionState A) (repo_old : RepoState A) (change : Change) (asked : FetchAsked) (reply : FetchReply) (fault : ClientFault A)
-        → Awaits s asked → ReadsFetch (reading_for s asked) change reply → IsReplyFault indexes index_fails asked.haves repo_old reply fault
+    read_fault : (s : SessionState A) (repo_old : RepoState A) (change : Change) (asked : FetchAsked)
+        (reply : FetchReply) (fault : ClientFault A)
+        → Awaits s asked → ReadsFetch (reading_for s asked) change reply
+        → IsReplyFault indexes index_fails asked.haves repo_old reply fault
         → IsTakeFault indexes index_fails s repo_old change fault
     read_fault s repo_old change asked reply NoOpenRequest waits reads is = absurd is
     read_fault s repo_old change asked reply (Message fault) waits reads is = absurd is
     read_fault s repo_old change asked reply (Index fault) waits reads is = (asked, waits, (reply, reads, is))
-    read_fault s repo_old change asked reply TooManySpecs waits reads is = (asked, waits, (reply, reads, is))
+    read_fault s repo_old change asked reply TooManySpecs waits reads is = absurd is
     read_fault s repo_old change asked reply (StrangeAck id) waits reads is = (asked, waits, (reply, reads, is))
-    read_fault s repo_old change asked reply TooManyWants waits reads is = (asked, waits, (reply, reads, is))
-    read_fault s repo_old change asked reply (Repo fault) waits reads is = (asked, waits, (reply, reads, is))
+    read_fault s repo_old change asked reply TooManyWants waits reads is = absurd is
+    read_fault s repo_old change asked reply (Repo (repo.Graph fault)) waits reads is =
+        (asked, waits, (reply, reads, is))
+    read_fault s repo_old change asked reply (Repo _) waits reads is = absurd is
 
-    pub read_answer : (old : SessionState A) (repo_old : RepoState A) (change : Change) (asked : FetchAsked) (reply : FetchReply) (new : SessionState A) (repo_new : RepoState A)
+    pub read_answer : (old : SessionState A) (repo_old : RepoState A) (change : Change) (asked : FetchAsked)
+        (reply : FetchReply) (new : SessionState A) (repo_new : RepoState A)
         (result : Result Taken (ClientFault A)) → Awaits old asked → ReadsFetch (reading_for old asked) change reply
         → AnswersRead indexes index_fails asked.haves old repo_old reply new repo_new result
         → AnswersReply indexes index_fails old repo_old change new repo_new result
-    read_answer old repo_old change asked reply new repo_new (Ok taken) waits reads answers = (asked, waits, (reply, reads, answers))
+    read_answer old repo_old change asked reply new repo_new (Ok taken) waits reads answers =
+        (asked, waits, (reply, reads, answers))
     read_answer old repo_old change asked reply new repo_new (Err fault) waits reads answers =
         (read_fault old repo_old change asked reply fault waits reads answers.0, answers.1, answers.2)
 
     -- the reader goes on
-    read_leaves : {S : Type 0} (is_down : S → Bool) (was now : Reader S) (haves : List (List ℕ)) (s : RepoState A) (reply : FetchReply) (fault : ClientFault A)
+    read_leaves : {S : Type 0} (is_down : S → Bool) (was now : Reader S) (haves : List (List ℕ)) (s : RepoState A)
+        (reply : FetchReply) (fault : ClientFault A)
         → LeavesReader {M = Unit {0}} is_down was now (Ok tt) → IsReplyFault indexes index_fails haves s reply fault
         → LeavesReplies {T = Taken} is_down was now (Err fault)
     read_leaves is_down was now haves s reply NoOpenRequest leaves is = absurd is
     read_leaves is_down was now haves s reply (Message fault) leaves is = absurd is
     read_leaves is_down was now haves s reply _ leaves is = leaves
 
-    pub answer_leaves : {S : Type 0} (is_down : S → Bool) (was now : Reader S) (haves : List (List ℕ)) (old : SessionState A) (repo_old : RepoState A) (reply : FetchReply)
-        (new : SessionState A) (repo_new : RepoState A) (result : Result Taken (ClientFault A)) → LeavesReader {M = Unit {0}} is_down was now (Ok tt)
-        → AnswersRead indexes index_fails haves old repo_old reply new repo_new result → LeavesReplies is_down was now result
+    pub answer_leaves : {S : Type 0} (is_down : S → Bool) (was now : Reader S) (haves : List (List ℕ))
+        (old : SessionState A) (repo_old : RepoState A) (reply : FetchReply)
+        (new : SessionState A) (repo_new : RepoState A) (result : Result Taken (ClientFault A))
+        → LeavesReader {M = Unit {0}} is_down was now (Ok tt)
+        → AnswersRead indexes index_fails haves old repo_old reply new repo_new result
+        → LeavesReplies is_down was now result
     answer_leaves is_down was now haves old repo_old reply new repo_new (Ok taken) leaves answers = leaves
     answer_leaves is_down was now haves old repo_old reply new repo_new (Err fault) leaves answers =
         read_leaves is_down was now haves repo_old reply fault leaves answers.0
 
     -- ---- a fault ends the session
 
-    pub fault_ends : (old : SessionState A) (repo_old : RepoState A) (change : Change) (between new : SessionState A) (repo_new : RepoState A) (fault : ClientFault A)
-        → AnswersReply indexes index_fails old repo_old change between repo_new (Err fault) → new ≡ after_fault between fault
+    pub fault_ends : (old : SessionState A) (repo_old : RepoState A) (change : Change) (between new : SessionState A)
+        (repo_new : RepoState A) (fault : ClientFault A)
+        → AnswersReply indexes index_fails old repo_old change between repo_new (Err fault)
+        → new ≡ after_fault between fault
         → TakesReply indexes index_fails old repo_old change new repo_new (Err fault)
     fault_ends old repo_old change between new repo_new fault answers ends =
         (answers.0, ends ∙ ap (λ (s : SessionState A). after_fault s fault) answers.1, answers.2)

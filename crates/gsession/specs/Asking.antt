@@ -1,13 +1,10 @@
 -- What a session asks for: which refs here are to stand at which ids, and which objects are wanted for that. The refs
 -- of a reply are matched refspec by refspec, and of each in the order of the reply; the first ask for a ref counts.
 -- Both are our own rules.
-use Rattle.std.specs.Prelude.{◌≡◌, ⊤, ℕ, Bool, true, List, [], ◌∷◌, ◌++◌, map, filter, All, if◌then◌else◌, Option}
-use Rattle.std.specs.Prelude.{None, Result, Ok, Err}
+use Rattle.std.specs.Prelude.{ℕ, Bool, List, [], ◌∷◌, map, filter, All, if◌then◌else◌, Option, None}
 use Rattle.std.specs.List.{flat_map, list_any}
 use Rattle.std.specs.Str.{bytes_eq}
 use Rattle.gname.specs.Names.{IsRefName, head_name}
-use Rattle.gname.specs.declared.faults.NameFault.{NameFault}
-use Rattle.gname.specs.declared.faults.NameFault.TheVariants.{Memory}
 use Rattle.glsreply.specs.RefTexts.{RefLine}
 use Rattle.gobject.specs.declared.node.Entry.{Entry}
 use Rattle.ghistory.specs.Levels.{distinct_of}
@@ -45,18 +42,6 @@ asked_of specs lines = with_asks [] (asks_by_all specs lines)
 -- each ask is for a ref name; else the reply is refused
 abbrev pub AreNamed : {A : Type 0} → List (Ask A) → Type 0
 AreNamed asks = All (λ ask. IsRefName ask.name) asks
-
--- what adding asks answers: they are added, and each is for a ref name; or one is not; or there is no memory
-abbrev pub AddsAsks : {A : Type 0} → List (Ask A) → List (Ask A) → List (Ask A) → Result Unit NameFault → Type 0
-AddsAsks old more new (Ok _) = (new ≡ with_asks old more) × AreNamed more
-AddsAsks old more new (Err Memory) = ⊤
-AddsAsks old more new (Err _) = ¬ (AreNamed more)
-
--- what asking answers: the asks; or that one is for no ref name; or that there is no memory
-abbrev pub FindsAsks : {A : Type 0} → List Refspec → List RefLine → Result (List (Ask A)) NameFault → Type 0
-FindsAsks {A} specs lines (Ok asks) = (asks ≡ asked_of specs lines) × AreNamed {A = A} (asks_by_all specs lines)
-FindsAsks specs lines (Err Memory) = ⊤
-FindsAsks {A} specs lines (Err _) = ¬ (AreNamed {A = A} (asks_by_all specs lines))
 
 -- the wants: the distinct asked ids whose whole ancestry is not held, in order
 abbrev pub AreWants : {A : Type 0} → List (Entry A) → List (Ask A) → List (List ℕ) → Type 0

@@ -51,6 +51,7 @@ pub record AreOffered {A : Type 0} (s : SessionState A) : Type 0 where
   pub commons : All (Contains s.sent) s.commons
   pub haves : (asked : FetchAsked) → Awaits s asked → All (Contains s.sent) asked.haves
 
+-- a session begins so
 abbrev pub BeginsOffered : Type 0 → Type 0
 BeginsOffered A =
     (repo : RepoState A) (refspecs : List Refspec) (limit : ℕ) (ends : Ends) (session : SessionState A)
@@ -105,6 +106,7 @@ pub record IsCounted {A : Type 0} (s : SessionState A) : Type 0 where
   pub few : s.rounds ≤ length s.sent + 1
   pub due : HasAskedLast s ⊎ (s.rounds ≤ length s.sent)
 
+-- a session begins so
 abbrev pub BeginsCounted : Type 0 → Type 0
 BeginsCounted A =
     (repo : RepoState A) (refspecs : List Refspec) (limit : ℕ) (ends : Ends) (session : SessionState A)
@@ -116,12 +118,13 @@ CountedStays {A} indexes index_fails =
     (repo : RepoState A) (old new : SessionState A)
     → IsCounted old → HasCalled indexes index_fails repo old new → IsCounted new
 
--- a session asks for objects at most once more than there are ids that its tips reach
+-- then it asks for objects at most once more than there are ids that its tips reach
 abbrev pub CountedAreFew : Type 0 → Type 0
 CountedAreFew A =
     (g : List (Entry A)) (s : SessionState A) (held parents : ℕ)
     → IsCounted s → BeganOn g s → CountsReached g s.tips held parents → s.rounds ≤ held + 1
 
+-- and so does every session that began on the graph
 abbrev pub RoundsAreFew : Type 0 → Type 0
 RoundsAreFew A =
     (g : List (Entry A)) (s : SessionState A) (held parents : ℕ)

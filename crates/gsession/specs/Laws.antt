@@ -20,7 +20,7 @@ use Rattle.gsession.specs.Requesting.{MakesNext, Requests}
 use Rattle.gsession.specs.Sessions.{SessionState, Hears}
 use Rattle.gsession.specs.SettlingRefs.{SettlesSession}
 use Rattle.gsession.specs.TakingRefs.{TakesLs}
-use Rattle.gsession.specs.TakingReplies.{TakesRead, TakesReply, acks_of}
+use Rattle.gsession.specs.TakingReplies.{TakesRead, TakesReply, acknowledged_by}
 use Rattle.gsession.specs.declared.fault.ClientFault.{ClientFault}
 use Rattle.gsession.specs.declared.taken.LsTaken.{LsTaken}
 use Rattle.gsession.specs.declared.taken.Taken.{Taken}
@@ -41,6 +41,7 @@ pub record IsAskOf {A : Type 0} (specs : List Refspec) (lines : List RefLine) (a
   pub matched : matches spec line.name ≡ true
   pub is : ask ≡ ask_of spec line
 
+-- so is each ask of a reply
 abbrev pub AsksAreOfLines : Type 0 → Type 0
 AsksAreOfLines A =
     (specs : List Refspec) (lines : List RefLine) → All (IsAskOf {A = A} specs lines) (asked_of specs lines)
@@ -51,6 +52,7 @@ pub record AreExactWants {A : Type 0} (g : List (Entry A)) (asks : List (Ask A))
   pub missing : All (λ a. ¬ (IsFull g a)) wants
   pub others : All (λ a. Contains wants a ⊎ IsFull g a) (asked_ids asks)
 
+-- the wants of a reply are exact
 abbrev pub WantsAreExact : Type 0 → Type 0
 WantsAreExact A =
     (g : List (Entry A)) (asks : List (Ask A)) (wants : List (List ℕ)) → AreWants g asks wants
@@ -86,11 +88,12 @@ pub record AreCommonsAfter (haves acks old new : List (List ℕ)) : Type 0 where
   pub others : All (λ a. Contains old a ⊎ Contains acks a) new
   pub named : All (Contains haves) acks
 
+-- so they are after each reply that is taken
 abbrev pub RepliesAddCommons : {A : Type 0} → Indexes A → IndexFails → Type 0
 RepliesAddCommons {A} indexes index_fails =
     (haves : List (List ℕ)) (old new : SessionState A) (repo after : RepoState A) (reply : FetchReply) (taken : Taken)
     → TakesRead indexes index_fails haves old repo reply new after taken
-    → AreCommonsAfter haves (acks_of reply) old.commons new.commons
+    → AreCommonsAfter haves (acknowledged_by reply) old.commons new.commons
 
 -- after every call each common id was common, or was a have of the request that waited
 abbrev pub CommonsAreHaves : {A : Type 0} → Indexes A → IndexFails → Type 0
@@ -105,8 +108,9 @@ pub record OnlyGrows {A : Type 0} (old new : RepoState A) : Type 0 where
   pub grows : Grows old.graph.entries new.graph.entries
   pub format : new.graph.format ≡ old.graph.format
   pub refs : new.refs ≡ old.refs
-  pub known : new.known ≡ old.known
+  pub marks : new.known ≡ old.known
 
+-- so it is after each reply, taken or not
 abbrev pub TakingOnlyGrows : {A : Type 0} → Indexes A → IndexFails → Type 0
 TakingOnlyGrows {A} indexes index_fails =
     (old new : SessionState A) (repo after : RepoState A) (change : Change) (result : Result Taken (ClientFault A))
@@ -114,28 +118,32 @@ TakingOnlyGrows {A} indexes index_fails =
 
 -- ---- a session that is over
 
--- each call of a session that is over does not fit, and reads and changes nothing
+-- Each call of a session that is over does not fit, and reads and changes nothing: it hears no advertisement.
 abbrev pub OverHearsNone : Type 0 → Type 0
 OverHearsNone A =
     (old new : SessionState A) (capabilities : List Capability) (result : Result (Unit {0}) (ClientFault A))
     → IsOver old → Hears old capabilities new result → IsOutOfTurn old new result
 
+-- it asks for nothing more
 abbrev pub OverRequestsNone : Type 0 → Type 0
 OverRequestsNone A =
     (g : List (Entry A)) (old new : SessionState A) (result : Result Asked (ClientFault A))
     → IsOver old → Requests old g new result → IsOutOfTurn old new result
 
+-- it takes no reply to ls-refs
 abbrev pub OverTakesNoRefs : Type 0 → Type 0
 OverTakesNoRefs A =
     (g : List (Entry A)) (old new : SessionState A) (change : Change) (result : Result (LsTaken A) (ClientFault A))
     → IsOver old → TakesLs old g change new result → IsOutOfTurn old new result × (change.new ≡ change.old)
 
+-- it takes no reply to fetch
 abbrev pub OverTakesNoReply : {A : Type 0} → Indexes A → IndexFails → Type 0
 OverTakesNoReply {A} indexes index_fails =
     (old new : SessionState A) (repo after : RepoState A) (change : Change) (result : Result Taken (ClientFault A))
     → IsOver old → TakesReply indexes index_fails old repo change new after result
     → IsOutOfTurn old new result × (change.new ≡ change.old) × (after ≡ repo)
 
+-- and it settles nothing
 abbrev pub OverSettlesNone : Type 0 → Type 0
 OverSettlesNone A =
     (old new : SessionState A) (repo after : RepoState A)

@@ -7,7 +7,7 @@ pub mod SettlingRefs
 pub mod Calls
 pub mod Bounds
 pub mod Laws
-pub mod Feeding
+pub mod Steps
 pub mod Faults
 pub use Rattle.gspec.specs.Refspecs
 pub use Rattle.grepo.specs.Changes

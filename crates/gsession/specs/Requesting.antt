@@ -1,9 +1,9 @@
 -- The next request of a session. gitprotocol-v2(5), "ls-refs" and "fetch", says what a request has; which ids are
 -- offered as haves, and when the client is done, is our own rule: batches of 16, 32, 64, 128 and then 256 ids.
-use Rattle.std.specs.Prelude.{◌≡◌, ℕ, ◌+◌, Bool, true, false, List, [], ◌∷◌, ◌++◌, length, map, nat_le, ◌==◌}
-use Rattle.std.specs.Prelude.{cond, if◌then◌else◌, Option, Some, None, Result, Ok, Err}
+use Rattle.std.specs.Prelude.{◌≡◌, ℕ, ◌+◌, Bool, true, false, List, [], ◌++◌, length, map, nat_le, ◌==◌}
+use Rattle.std.specs.Prelude.{if◌then◌else◌, Option, Some, None, Result, Ok, Err}
 use Rattle.gobject.specs.declared.node.Entry.{Entry}
-use Rattle.ghistory.specs.Levels.{distinct_of, is_in}
+use Rattle.ghistory.specs.Levels.{distinct_of}
 use Rattle.ghistory.specs.Offer.{IsOffer}
 use Rattle.ghistory.specs.declared.fault.GraphFault.TheVariants as graph
 use Rattle.gspec.specs.Refspecs.{Refspec}
@@ -11,7 +11,7 @@ use Rattle.grepo.specs.declared.fault.RepoFault.TheVariants as repo
 use Rattle.grequest.specs.Asked.{Asked, Empty, Ls, Fetches, LsRefsAsked, FetchAsked, max_haves}
 use Rattle.gsession.specs.Sessions.{SessionState, over}
 use Rattle.gsession.specs.declared.stage.Stage.{Stage}
-use Rattle.gsession.specs.declared.stage.Stage.TheVariants.{Listing, Fetching, Settling, Over}
+use Rattle.gsession.specs.declared.stage.Stage.TheVariants.{Listing, Fetching}
 use Rattle.gsession.specs.declared.fault.ClientFault.{ClientFault}
 use Rattle.gsession.specs.declared.fault.ClientFault.TheVariants.{NoOpenRequest, Repo}
 
@@ -25,10 +25,6 @@ ls_request specs unborn = record {
   unborn = unborn;
   prefixes = distinct_of (map (λ spec. spec.source) specs);
 }
-
--- a prefix more, unless it is there
-abbrev pub with_prefix : List (List ℕ) → List ℕ → List (List ℕ)
-with_prefix prefixes prefix = cond (is_in prefixes prefix) prefixes (prefixes ++ prefix ∷ [])
 
 -- how many ids are offered after so many rounds
 abbrev pub batch_size : ℕ → ℕ
@@ -86,11 +82,11 @@ is_due Listing None = true
 is_due Fetching None = true
 is_due _ _ = false
 
--- what asking for the next request answers: it, and it waits for its reply; or that none is due; or that there is no
--- memory, and the session is over
+-- what asking for the next request answers: the one that is due, and it waits for its reply; or that none is due; or
+-- that there is no memory, and the session is over
 abbrev pub Requests : {A : Type 0} → SessionState A → List (Entry A) → SessionState A
     → Result Asked (ClientFault A) → Type 0
-Requests old g new (Ok asked) = (old.pending ≡ None) × MakesNext old g new asked
+Requests old g new (Ok asked) = (is_due old.stage old.pending ≡ true) × MakesNext old g new asked
 Requests old g new (Err NoOpenRequest) = (is_due old.stage old.pending ≡ false) × (new ≡ old)
 Requests old g new (Err (Repo (repo.Graph graph.Memory))) = (is_due old.stage old.pending ≡ true) × (new ≡ over old)
 Requests old g new (Err _) = ⊥

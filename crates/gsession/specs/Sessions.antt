@@ -1,6 +1,6 @@
 -- A session: a client's conversation with one server, from the request for refs to the refs here that move. The order
 -- of requests is that of gitprotocol-v2(5), "Command Request"; what a session keeps is our own.
-use Rattle.std.specs.Prelude.{◌≡◌, ℕ, ◌+◌, ◌≤◌, ◌<◌, Bool, true, false, List, [], ◌++◌, length, All, Contains, codes}
+use Rattle.std.specs.Prelude.{◌≡◌, ℕ, ◌+◌, ◌≤◌, ◌<◌, Bool, true, false, List, [], length, All, Contains, codes}
 use Rattle.std.specs.Prelude.{if◌then◌else◌, Option, Some, None, Result, Ok, Err}
 use Rattle.std.specs.List.{IsDistinct}
 use Rattle.std.specs.Map.{values_of}
@@ -18,7 +18,7 @@ use Rattle.gspec.specs.Refspecs.{Refspec}
 use Rattle.grepo.specs.declared.ask.Ask.{Ask}
 use Rattle.grepo.specs.declared.fault.RepoFault.TheVariants as repo
 use Rattle.grepo.specs.Repos.{RepoState}
-use Rattle.grequest.specs.Asked.{Asked, Empty, Ls, Fetches, FetchAsked, is_direct, max_haves, max_wants}
+use Rattle.grequest.specs.Asked.{Asked, Ls, Fetches, FetchAsked, is_direct, max_haves, max_wants}
 use Rattle.gsession.specs.declared.stage.Stage.{Stage}
 use Rattle.gsession.specs.declared.stage.Stage.TheVariants.{Listing, Fetching, Settling, Over}
 use Rattle.gsession.specs.declared.fault.ClientFault.{ClientFault}
@@ -43,7 +43,7 @@ pub record SessionState (A : Type 0) : Type 0 where
   pub sent : List (List ℕ)
   pub rounds : ℕ
 
--- the most refspecs of a session
+-- the most refspecs of a session (our own rule)
 abbrev pub max_specs : ℕ
 max_specs = 16
 
@@ -51,7 +51,7 @@ max_specs = 16
 -- another one may follow it, there were no more of them than ids were offered.
 pub record IsOpenFetch {A : Type 0} (s : SessionState A) (asked : FetchAsked) : Type 0 where
   pub wants : asked.wants ≡ s.wants
-  pub names : All (Contains asked.haves) s.commons
+  pub commons : All (Contains asked.haves) s.commons
   pub ids : All (IsIdOf s.format) asked.haves
   pub few : length asked.haves ≤ max_haves
   pub goes_on : is_direct asked ≡ false → s.rounds ≤ length s.sent
@@ -83,12 +83,6 @@ pub record IsSession {A : Type 0} (s : SessionState A) : Type 0 where
   pub sent : IsDistinct bytes_eq s.sent
   pub rounds : s.rounds ≤ length s.sent + 1
   pub stage : FitsStage s s.stage s.pending
-
--- a batch that was not offered before, and for which a request has room beside the common ids
-pub record FitsBatch {A : Type 0} (s : SessionState A) (batch : List (List ℕ)) : Type 0 where
-  pub ids : All (IsIdOf s.format) batch
-  pub room : length s.commons + length batch ≤ max_haves
-  pub fresh : IsDistinct bytes_eq (s.sent ++ batch)
 
 -- a session that is over; every further call is refused
 abbrev pub over : {A : Type 0} → SessionState A → SessionState A

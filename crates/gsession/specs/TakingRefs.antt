@@ -1,5 +1,5 @@
--- Taking the reply to ls-refs (gitprotocol-v2(5), "ls-refs").
-use Rattle.std.specs.Prelude.{◌≡◌, ◌⊎◌, ℕ, ◌<◌, ◌≤◌, List, [], ◌∷◌, length, Option, Some, None, Result, Ok, Err}
+-- Taking the reply to ls-refs (gitprotocol-v2(5), "ls-refs"). What is asked for and wanted of it is our own rule.
+use Rattle.std.specs.Prelude.{◌≡◌, ◌⊎◌, ℕ, ◌<◌, ◌≤◌, List, [], ◌∷◌, length, Some, None, Result, Ok, Err}
 use Rattle.gpkt.specs.Change.{Change}
 use Rattle.gpkt.specs.Packets.{Packet}
 use Rattle.ggrammar.specs.Kinds.{ReadsMessage}
@@ -11,7 +11,7 @@ use Rattle.glsreply.specs.WellFormed.{last_frame}
 use Rattle.gobject.specs.declared.node.Entry.{Entry}
 use Rattle.ghistory.specs.declared.fault.GraphFault.TheVariants as graph
 use Rattle.grepo.specs.declared.fault.RepoFault.TheVariants as repo
-use Rattle.grequest.specs.Asked.{Asked, Ls, LsRefsAsked, max_wants}
+use Rattle.grequest.specs.Asked.{Ls, LsRefsAsked, max_wants}
 use Rattle.gsession.specs.Asking.{AreNamed, AreWants, asked_of, asks_by_all, unborn_told}
 use Rattle.gsession.specs.Sessions.{SessionState, after_fault}
 use Rattle.gsession.specs.declared.stage.Stage.{Stage}
@@ -46,13 +46,14 @@ pub record TakesLines {A : Type 0} (old : SessionState A) (g : List (Entry A)) (
   pub count : taken.wants ≡ length wants
   pub unborn : taken.unborn ≡ unborn_told old.refspecs reply.unborn
 
--- a ref that is asked for can't have its name; the reply's last packet is reported, since it was read to its end
+-- a ref that is asked for can't have its name; the reply's last packet is reported, since it was read to its end (our
+-- own rule)
 pub record IsMisnamed {A : Type 0} (s : SessionState A) (reply : LsReply) (fault : MessageFault) : Type 0 where
   pub unnamed : ¬ (AreNamed {A = A} (asks_by_all s.refspecs reply.lines))
   pub frame : fault.frame ≡ last_frame s.ends reply
   pub why : fault.why ≡ BadName
 
--- too many objects are wanted
+-- more objects are wanted than a request takes (our own rule)
 pub record WantsTooMuch {A : Type 0} (s : SessionState A) (g : List (Entry A)) (reply : LsReply) : Type 0 where
   pub named : AreNamed {A = A} (asks_by_all s.refspecs reply.lines)
   pub wants : List (List ℕ)
@@ -79,29 +80,19 @@ RefusesRefs s change fault =
 abbrev pub ReadsUntaken : {A : Type 0} → SessionState A → List (Entry A) → Change → ClientFault A → Type 0
 ReadsUntaken s g change fault = (reply : LsReply) × ReadsRefs s change reply × IsRefsFault s g reply fault
 
--- why no reply to ls-refs is taken: none is due, and nothing is read; or it is refused; or a whole one is read, and its
--- refs are not taken
+-- why no reply to ls-refs is taken: none is due, and nothing is read; or it is refused; or a whole one is read, and a
+-- ref can't have its name, too much is wanted, or there is no memory
 abbrev pub IsLsFault : {A : Type 0} → SessionState A → List (Entry A) → Change → ClientFault A → Type 0
 IsLsFault s g change NoOpenRequest = ¬ (AwaitsRefs s) × (change.new ≡ change.old)
 IsLsFault s g change (Message fault) =
     AwaitsRefs s × (RefusesRefs s change fault ⊎ ReadsUntaken s g change (Message fault))
-IsLsFault s g change fault = AwaitsRefs s × ReadsUntaken s g change fault
-
--- what taking the refs of a reply answers
-abbrev pub AnswersRefs : {A : Type 0} → SessionState A → List (Entry A) → LsReply → SessionState A
-    → Result (LsTaken A) (ClientFault A) → Type 0
-AnswersRefs old g reply new (Ok taken) = TakesLines old g reply new taken
-AnswersRefs old g reply new (Err fault) = IsRefsFault old g reply fault × (new ≡ old)
-
--- what taking a reply answers, before a fault ends the session
-abbrev pub AnswersLs : {A : Type 0} → SessionState A → List (Entry A) → Change → SessionState A
-    → Result (LsTaken A) (ClientFault A) → Type 0
-AnswersLs old g change new (Ok taken) =
-    AwaitsRefs old × ((reply : LsReply) × ReadsRefs old change reply × TakesLines old g reply new taken)
-AnswersLs old g change new (Err fault) = IsLsFault old g change fault × (new ≡ old)
+IsLsFault s g change TooManyWants = AwaitsRefs s × ReadsUntaken s g change TooManyWants
+IsLsFault s g change (Repo fault) = AwaitsRefs s × ReadsUntaken s g change (Repo fault)
+IsLsFault s g change _ = ⊥
 
 -- what taking a reply answers: a whole one is read, and its refs are taken; or why not
 abbrev pub TakesLs : {A : Type 0} → SessionState A → List (Entry A) → Change → SessionState A
     → Result (LsTaken A) (ClientFault A) → Type 0
-TakesLs old g change new (Ok taken) = AnswersLs old g change new (Ok taken)
+TakesLs old g change new (Ok taken) =
+    AwaitsRefs old × ((reply : LsReply) × ReadsRefs old change reply × TakesLines old g reply new taken)
 TakesLs old g change new (Err fault) = IsLsFault old g change fault × (new ≡ after_fault old fault)

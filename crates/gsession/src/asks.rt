@@ -8,7 +8,8 @@ ghost use Rattle.glsreply.specs.WellFormed.{IsRefLine};
 ghost use Rattle.ghistory.specs.Reach.{IsFull};
 ghost use Rattle.ghistory.specs.Walks.{Misses};
 ghost use Rattle.ghistory.specs.declared.fault.GraphFault.TheVariants.{Memory};
-ghost use Rattle.gsession.specs.Asking.{AddsAsks, AreWants, FindsAsks, asks_by, takes_head, unborn_told};
+ghost use Rattle.gsession.specs.Asking.{AreWants, asks_by, takes_head, unborn_told};
+ghost use Rattle.gsession.specs.Steps.{AddsAsks, FindsAsks};
 
 use ggraph::graph_laws::{distinct_are_once, places_are_nodes};
 use ggraph::{GraphFault, distinct_ids, missing};
@@ -19,7 +20,7 @@ use gspec::Spec;
 use std::alloc::{AllocError, Allocator};
 
 /// What refspecs ask for of the refs of a reply. It fails with the name fault of a destination, and with `Memory`.
-pub(crate) fn asks_of<A: Allocator + Copy>(
+pub(crate) fn asked_of<A: Allocator + Copy>(
     alloc: A,
     specs: &[Spec<A>],
     reply: &LsReply<A>,

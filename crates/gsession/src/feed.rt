@@ -2,7 +2,7 @@
 #![tactic(auto)]
 
 ghost use Rattle.std.specs.Prelude.{◌≡◌, ◌++◌, [], List, ℕ, MatchResult};
-ghost use Rattle.gsession.specs.Feeding.{MayHaveFed};
+ghost use Rattle.gsession.specs.Steps.{MayHaveFed};
 
 use gfetchreply::PackSink;
 use ggraph::{Entry, IndexFault, Indexer};

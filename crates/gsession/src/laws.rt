@@ -1,6 +1,7 @@
 // Laws of sessions. A call does nothing, and gives its caller's proof the law.
 #![tactic(auto)]
 
+ghost use Rattle.std.specs.Prelude.{◌≡◌};
 ghost use Rattle.gsession.specs.Bounds.{BeganBegins, BeganStays, BeganStaysOn, BeginsCounted, BeginsOffered};
 ghost use Rattle.gsession.specs.Bounds.{CountedAreFew, CountedStays, DoneAsksLast, LastStays, NoneFollows};
 ghost use Rattle.gsession.specs.Bounds.{OfferedStays, OffersAreNew, RoundsAreFew};
@@ -9,7 +10,9 @@ ghost use Rattle.gsession.specs.Laws.{ListingIsDecided, OverHearsNone, OverReque
 ghost use Rattle.gsession.specs.Laws.{OverTakesNoRefs, OverTakesNoReply, RepliesAddCommons};
 ghost use Rattle.gsession.specs.Laws.{TakingOnlyGrows, WantsAreExact};
 ghost use Rattle.gsession.specs.TakingReplies.{DoneIsLast, TakingIsDecided};
+ghost use Rattle.gsession.specs.Sessions.{max_specs};
 
+use crate::MAX_SPECS;
 use gfetchreply::laws::reads_exactly;
 use ggraph::Indexer;
 use ggraph::graph_laws::{
@@ -17,6 +20,11 @@ use ggraph::graph_laws::{
     reaching_goes_on,
 };
 use std::alloc::Allocator;
+
+/// The constant is the limit that the definitions name.
+pub fn limits_are_the_constants()
+    ensures { MAX_SPECS ≡ max_specs }
+{}
 
 // ---- how often objects are asked for
 

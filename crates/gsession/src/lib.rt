@@ -29,13 +29,14 @@
 //!
 //! # Only tested
 //!
-//! Whole conversations with the bytes of a peer; that a pack may come in any pieces, and goes to the indexer before its
-//! reply has ended; that memory which is there is used.
+//! The order of calls with the bytes of a peer, and that a pack goes to the indexer before its reply has ended; in the
+//! tests of `gclient` whole conversations, and that a pack may come in any pieces; that memory which is there is used.
 //!
 //! # What a body can still get away with
 //!
-//! It may report out of memory as often as it likes. It may keep all of a pack and feed it once, take as long as it
-//! likes, and more memory than it needs. The texts of faults are neither proved nor tested.
+//! It may report out of memory as often as it likes. It may keep all of a pack and feed it once, start the indexer more
+//! often than it has to, or feed it after its fault; take as long as it likes, and more memory than it needs. The texts
+//! of faults are neither proved nor tested.
 //!
 //! # What it costs
 //!

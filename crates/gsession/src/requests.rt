@@ -7,8 +7,9 @@ ghost use Rattle.ggrammar.specs.declared.fault.Why.TheVariants.{Memory};
 ghost use Rattle.grequest.specs.Asked.{Ls, Fetches, max_haves, max_prefixes, max_wants};
 ghost use Rattle.grequest.specs.RequestValues.{asked_by_request, ids_format};
 ghost use Rattle.ghistory.specs.Levels.{is_in};
-ghost use Rattle.gsession.specs.Requesting.{batch_size, fetch_request, ls_request, with_prefix};
+ghost use Rattle.gsession.specs.Requesting.{batch_size, fetch_request, ls_request};
 ghost use Rattle.gsession.specs.Sessions.{max_specs};
+ghost use Rattle.gsession.specs.Steps.{with_prefix};
 
 use ggrammar::MessageFault;
 use gname::{Format, Oid, Prefix};

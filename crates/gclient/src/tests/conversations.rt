@@ -114,7 +114,8 @@ const TALKS: &[Talk] = &[
     },
     // Two refspecs share a source: by force a ref moves aside, else only forward.
     Talk {
-        client: b"gitv2 1\nc {a}\nc {b} {a}\nc {c} {b}\nr {c} refs/remotes/x/main\nr {c} refs/remotes/y/main\nh none\nend\n",
+        client: b"gitv2 1\nc {a}\nc {b} {a}\nc {c} {b}\n\
+            r {c} refs/remotes/x/main\nr {c} refs/remotes/y/main\nh none\nend\n",
         specs: &[
             b"+refs/heads/main:refs/remotes/x/main",
             b"refs/heads/main:refs/remotes/y/main",
@@ -122,16 +123,19 @@ const TALKS: &[Talk] = &[
         read: &[
             ADVERT,
             b"003d{e} refs/heads/main\n0000",
-            b"0014acknowledgments\n0031ACK {c}\n0031ACK {b}\n0031ACK {a}\n000aready\n0001000dpackfile\n0064\x01GPK1\nc {e} {b}\nend 1\n0000",
+            b"0014acknowledgments\n0031ACK {c}\n0031ACK {b}\n0031ACK {a}\n000aready\n0001\
+            000dpackfile\n0064\x01GPK1\nc {e} {b}\nend 1\n0000",
         ],
         written: &[
             ASK_REFS,
-            b"0012command=fetch\n00010010no-progress\n0010include-tag\n0032want {e}\n0032have {c}\n0032have {b}\n0032have {a}\n0000",
+            b"0012command=fetch\n00010010no-progress\n0010include-tag\n0032want {e}\n\
+            0032have {c}\n0032have {b}\n0032have {a}\n0000",
             END,
         ],
         updates: &[RefUpdate::Moved, RefUpdate::NotForward],
         requests: 1,
-        after: b"gitv2 1\nc {a}\nc {b} {a}\nc {c} {b}\nc {e} {b}\nr {e} refs/remotes/x/main\nr {c} refs/remotes/y/main\nh none\nend\n",
+        after: b"gitv2 1\nc {a}\nc {b} {a}\nc {c} {b}\nc {e} {b}\n\
+            r {e} refs/remotes/x/main\nr {c} refs/remotes/y/main\nh none\nend\n",
     },
     // The server says that two commits are each other's parents. It takes force to move there.
     Talk {
@@ -192,7 +196,8 @@ const TALKS: &[Talk] = &[
         ],
         written: &[
             b"0014command=ls-refs\n0019object-format=sha256\n0001000bunborn\n001fref-prefix refs/heads/main\n0000",
-            b"0012command=fetch\n0019object-format=sha256\n00010010no-progress\n0010include-tag\n004awant [c]\n0009done\n0000",
+            b"0012command=fetch\n0019object-format=sha256\n00010010no-progress\n0010include-tag\n\
+            004awant [c]\n0009done\n0000",
             END,
         ],
         updates: &[RefUpdate::Moved],

@@ -194,7 +194,7 @@ impl Sink for Unflushed {
     }
 }
 
-// The flush fails behind so many that do not: the number of the fault, and how much is not read.
+// The flush fails after so many that do not: the number of the fault, and how much is not read.
 fn fetch_flushing(alloc: Global, flushes_left: usize) -> Result<(Option<u32>, usize), Fail> {
     let input = input(alloc)?;
     let mut source = SliceSource::new(input.as_slice());

@@ -1,5 +1,5 @@
-//! Memory that ends: in an arena with a little more room each time, each allocation of a call is at some time
-//! the first that is refused. Until there is room a call answers that, and then what it answers with enough.
+//! Memory that ends, in an arena with a little more room each time: at many places of a call's work. Until there is
+//! room a call answers that, and then what it answers with enough.
 use super::makers::spelled;
 use crate::{LoadFault, Order, SaveFault, load, save};
 use bumpalo::Bump;

@@ -1,20 +1,27 @@
 // Loading a repository text.
 #![tactic(auto)]
 
-ghost use Rattle.std.specs.Prelude.{◌≡◌, ◌++◌, MatchOption, IfOk, IfErr};
+ghost use Rattle.std.specs.Prelude.{◌≡◌, ◌++◌, ◌≤◌, MatchOption, IfOk, IfErr};
 ghost use Rattle.gobject.specs.PlainPackText.{IsInLine, line};
+ghost use Rattle.ghistory.specs.Graphs.{max_nodes};
 ghost use Rattle.ggraph.specs.Loading.{AcceptsText, StopsAt};
 ghost use Rattle.ggraph.specs.RepositoryText.{IsLoadable, repository_text};
 
 use crate::fault::LoadFault;
 use crate::text::laws::text_laws;
-use crate::text::parts::ParentRoom;
+use crate::text::parts::Room;
 use crate::text::reading::{Reading, Stage};
 use crate::text::{Order, Repository};
-use ghistory::Graph;
+use ghistory::{Graph, MAX_NODES};
 use grefs::{Head, Refs};
-use memchr::memchr;
+use memchr::{memchr, memchr_iter};
 use std::alloc::Allocator;
+
+// How many bytes at the front of a text tell how many nodes are expected of it.
+const SAMPLE: usize = 65_536;
+
+// The fewest bytes of a node's line: a letter, a space, the forty digits of an id, and an LF.
+const SHORTEST_NODE: usize = 43;
 
 /// Reads the text that keeps a repository, whose first line says the format of its ids.
 ///
@@ -35,7 +42,7 @@ pub fn load<A: Allocator + Copy>(
 {
     text_laws();
     let mut reading = Reading::new(alloc);
-    let mut room = ParentRoom::new();
+    let mut room = Room::new(expected_nodes(text));
     let mut rest = text;
     let mut number = 1;
     while let Some(pair) = split_line(rest) {
@@ -51,6 +58,16 @@ pub fn load<A: Allocator + Copy>(
         refs: reading.refs,
         head: reading.head,
     })
+}
+
+// How many nodes the text has, if it goes on as it begins. There are never more than its length, or a graph, allows.
+fn expected_nodes(text: &[u8]) -> usize
+    ensures { result ≤ max_nodes }
+{
+    let front = &text[..text.len().min(SAMPLE)];
+    let lines = memchr_iter(b'\n', front).count();
+    let expected = lines.saturating_mul(text.len().div_ceil(SAMPLE));
+    expected.min(text.len() / SHORTEST_NODE).min(MAX_NODES)
 }
 
 // The first line, without its LF, and what follows the LF.

@@ -1,7 +1,8 @@
 // The parts of a line: ids in lower case, and names.
 #![tactic(auto)]
 
-ghost use Rattle.std.specs.Prelude.{◌≡◌, ◌++◌, ◌≤◌, MatchOption, MatchResult, All, IsTrue, ◌↔◌, codes, length, take};
+ghost use Rattle.std.specs.Prelude.{◌≡◌, ◌++◌, ◌≤◌, MatchOption, MatchResult, All, IsTrue, ◌↔◌, codes, false, length, take};
+ghost use Rattle.std.specs.Char.{is_ascii_uppercase};
 ghost use Rattle.gname.specs.Ids.{IsIdOf, id_text};
 ghost use Rattle.gobject.specs.Objects.{max_parents};
 ghost use Rattle.gobject.specs.PlainPackText.{ids_text};
@@ -9,7 +10,7 @@ ghost use Rattle.grefs.specs.RefLists.{IsBelowRefs};
 ghost use Rattle.ggraph.specs.NoSuchPart.{BeginsWithNoId, BeginsWithNoSpacedId, IsNoParents};
 
 use crate::text::laws::text_laws;
-use gname::{Format, MAX_ID_TEXT, NameFault, Oid, RefName};
+use gname::{Format, NameFault, Oid, RefName};
 use gobject::MAX_PARENTS;
 use std::alloc::{AllocError, Allocator};
 
@@ -26,7 +27,7 @@ pub(crate) fn take_id(format: Format, text: &[u8]) -> Option<(Oid, &[u8])>
     let (digits, rest) = text.split_at(length);
     match Oid::from_hex_in(format, digits) {
         Ok(id) => {
-            if is_lower(&id, digits) {
+            if is_lower(digits) {
                 Some((id, rest))
             } else {
                 None
@@ -36,13 +37,11 @@ pub(crate) fn take_id(format: Format, text: &[u8]) -> Option<(Oid, &[u8])>
     }
 }
 
-// Whether these are the digits that the id is written with.
-fn is_lower(id: &Oid, digits: &[u8]) -> bool
-    ensures { IsTrue result ↔ (digits.now ≡ id_text id.now) }
+// Whether no digit is an upper-case letter.
+fn is_lower(digits: &[u8]) -> bool
+    ensures { IsTrue result ↔ All (λ digit. is_ascii_uppercase digit ≡ false) digits.now }
 {
-    let mut out = [0; MAX_ID_TEXT];
-    let length = id.to_hex(&mut out);
-    digits == &out[..length]
+    digits.iter().all(|digit| !digit.is_ascii_uppercase())
 }
 
 /// The id at the front after a space, and what follows it.
@@ -53,18 +52,20 @@ pub(crate) fn take_spaced(format: Format, text: &[u8]) -> Option<(Oid, &[u8])>
     take_id(format, text.strip_prefix(b" ")?)
 }
 
-/// Room for the ids of a node's parents. A text has one for all of its lines.
+/// The room that all lines of a text share: for the ids of a node's parents, and in the graph for so many nodes.
 #[derive(Drop)]
-pub(crate) struct ParentRoom {
+pub(crate) struct Room {
     ids: [Oid; MAX_PARENTS],
+    pub nodes: usize,
 }
 
-impl ParentRoom {
-    /// Room whose ids say nothing yet.
-    pub(crate) fn new() -> ParentRoom {
+impl Room {
+    /// Room for a text of which so many nodes are expected. The ids say nothing yet.
+    pub(crate) fn new(nodes: usize) -> Room {
         let blank = Oid::from_hex(&[b'0'; 40]).unwrap();
-        ParentRoom {
+        Room {
             ids: [blank; MAX_PARENTS],
+            nodes,
         }
     }
 

@@ -13,7 +13,7 @@ use crate::fault::LoadFault;
 use crate::text::Order;
 use crate::text::laws::text_laws;
 use crate::text::lines::{format_of, head_of, node_parts, ref_parts};
-use crate::text::parts::{ParentRoom, name_of, take_spaced};
+use crate::text::parts::{Room, name_of, take_spaced};
 use ghistory::{Graph, MAX_NODES};
 use gname::{Format, Oid};
 use gobject::{Entry, Kind, MAX_PARENTS, Node, Parents};
@@ -65,7 +65,7 @@ impl<A: Allocator + Copy> Reading<A> {
     pub(crate) fn take(
         &mut self,
         alloc: A,
-        room: &mut ParentRoom,
+        room: &mut Room,
         order: Order,
         line: &[u8],
         number: usize,
@@ -74,7 +74,7 @@ impl<A: Allocator + Copy> Reading<A> {
         ensures refused { IfErr result (RefusesLine order self.old line.now number) }
     {
         match self.stage {
-            Stage::First => self.take_first(alloc, line, number),
+            Stage::First => self.take_first(alloc, room.nodes, line, number),
             Stage::Nodes => match node_parts(line) {
                 Some(parts) => self.take_node(alloc, room, order, parts.0, parts.1, number),
                 None => self.take_ref(alloc, line, number),
@@ -85,7 +85,14 @@ impl<A: Allocator + Copy> Reading<A> {
         }
     }
 
-    fn take_first(&mut self, alloc: A, line: &[u8], number: usize) -> Result<(), LoadFault>
+    // Takes the first line, and makes room for the nodes that are expected.
+    fn take_first(
+        &mut self,
+        alloc: A,
+        nodes: usize,
+        line: &[u8],
+        number: usize,
+    ) -> Result<(), LoadFault>
         requires { self.old.stage ≡ Stage.First }
         ensures ok { ((order : Order) → OnOk result (ComesNext order self.old line.now self.new)) }
         ensures refused { ((order : Order) → IfErr result (RefusesLine order self.old line.now number)) }
@@ -94,6 +101,7 @@ impl<A: Allocator + Copy> Reading<A> {
             Some(format) => {
                 self.stage = Stage::Nodes;
                 self.graph = Graph::new_in(alloc, format);
+                self.graph.make_room(nodes);
                 Ok(())
             }
             None => Err(LoadFault::Text { line: number }),
@@ -116,7 +124,7 @@ impl<A: Allocator + Copy> Reading<A> {
     fn take_node(
         &mut self,
         alloc: A,
-        room: &mut ParentRoom,
+        room: &mut Room,
         order: Order,
         kind: Kind,
         text: &[u8],

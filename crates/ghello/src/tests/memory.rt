@@ -1,5 +1,5 @@
-// Memory that ends: in an arena with a little more room each time, each allocation is at some time the first
-// that is refused. What was built takes no more, whatever it is asked.
+// Memory that ends, in an arena with a little more room each time: at many places of a call's work. What was built
+// takes no more, whatever it is asked.
 use crate::tests::reading::{check_advert_written, check_hello_written};
 use crate::{Advert, Hello, read_advert, read_hello};
 use bumpalo::Bump;

@@ -1,5 +1,4 @@
-//! Memory that ends: in an arena with a little more room each time, each allocation is at some time the first
-//! that is refused.
+//! Memory that ends, in an arena with a little more room each time: at many places of a call's work.
 use super::makers::{Row, entries_in, entry_in, id};
 use crate::{Graph, GraphFault};
 use bumpalo::Bump;

@@ -1,5 +1,4 @@
-// Memory that ends: in an arena with a little more room each time, each allocation of a read is at some time the
-// first that is refused.
+// Memory that ends, in an arena with a little more room each time: at many places of a read.
 use crate::read_ls_reply;
 use bumpalo::Bump;
 use ggrammar::Ends;

@@ -1,5 +1,5 @@
-//! Memory that ends: in an arena with a little more room each time, each allocation of a call is at some time
-//! the first that is refused. The refs are then as before.
+//! Memory that ends, in an arena with a little more room each time: at many places of a call's work. The refs are
+//! then as before.
 use super::makers::id;
 use crate::{Head, Refs, RefsFault, Target};
 use bumpalo::Bump;

@@ -1,6 +1,5 @@
-//! Memory that ends: in an arena with a little more room each time, each allocation of a connection is at some time the
-//! first that is refused. What is written is then a beginning of the ample output that ends with a message, and the
-//! line of the refusal.
+//! Memory that ends, in an arena with a little more room each time: at many places of a connection. What is written
+//! is then a beginning of the ample output that ends with a message, and the line of the refusal.
 use super::samples::{
     ADVERT, CLONE, CLONE_REPLY, Ending, FETCH, FETCH_REPLY, NO_MEMORY, PACK_FAILED, SERVER,
     ending_of, ending_of_one, joined, server_in,

@@ -26,9 +26,10 @@ impl<A: Allocator + Copy> Session<A> {
     ghost use Rattle.ghistory.specs.Levels.{distinct_of};
     ghost use Rattle.ghistory.specs.Reach.{Grows};
     ghost use Rattle.grequest.specs.Asked.{FetchAsked, is_direct};
-    ghost use Rattle.gsession.specs.Feeding.{MayHaveFed};
     ghost use Rattle.gsession.specs.Sessions.{AreCommons, LeavesReplies};
-    ghost use Rattle.gsession.specs.TakingReplies.{AnswersRead, AnswersReply, Awaits, AwaitsObjects, FitsHead, HasPack, IsAcksFault, TakesReply, acks_of, reading_for, with_acks};
+    ghost use Rattle.gsession.specs.Steps.{AnswersRead, AnswersReply, FitsHead, IsAcksFault, MayHaveFed};
+    ghost use Rattle.gsession.specs.TakingReplies.{Awaits, AwaitsObjects, HasPack, TakesReply};
+    ghost use Rattle.gsession.specs.TakingReplies.{acknowledged_by, after_acks, reading_for};
 
     /// Takes the reply to a request for objects, and nothing after it. Its pack goes to the indexer as it comes. Once
     /// the reply was read to its end, each acknowledged id must be one of the request's haves, and is common from then
@@ -122,7 +123,7 @@ impl<A: Allocator + Copy> Session<A> {
     fn take_acks(&mut self, acks: &[Oid]) -> Result<Taken, ClientFault<A>>
         requires { (asked : FetchAsked) × Awaits self.old asked × (is_direct asked ≡ false) }
         ensures { (asked : FetchAsked) → Awaits self.old asked → MatchResult result
-            (λ taken. All (Contains asked.haves) acks.now × (self.new ≡ with_acks self.old Stage.Fetching acks.now)
+            (λ taken. All (Contains asked.haves) acks.now × (self.new ≡ after_acks self.old Stage.Fetching acks.now)
             × (taken ≡ Taken.Round (length self.new.commons)))
             (λ fault. IsAcksFault asked.haves acks.now fault × (self.new ≡ self.old)) }
     {
@@ -142,7 +143,7 @@ impl<A: Allocator + Copy> Session<A> {
         feed: PackFeed<'_, K, A>,
     ) -> Result<Taken, ClientFault<A>>
         requires { AwaitsObjects self.old }
-        ensures { (asked : FetchAsked) (reply : FetchReply) → Awaits self.old asked → acks_of reply ≡ acks.now
+        ensures { (asked : FetchAsked) (reply : FetchReply) → Awaits self.old asked → acknowledged_by reply ≡ acks.now
             → HasPack reply
             → MayHaveFed (K.fed feed.entry.indexer.now) (K.index_fails feed.entry.indexer.now) feed.entry.feed
             (pack_of reply)

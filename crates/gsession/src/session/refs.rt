@@ -6,7 +6,7 @@ ghost use Rattle.gobject.specs.declared.node.Entry.{Entry};
 ghost use Rattle.gpkt.specs.Change.{change_of};
 ghost use Rattle.gsession.specs.TakingRefs.{stage_for};
 
-use crate::asks::{asks_of, unborn_of, wants_of};
+use crate::asks::{asked_of, unborn_of, wants_of};
 use crate::fault::ClientFault;
 use crate::session::Session;
 use crate::stage::Stage;
@@ -23,9 +23,9 @@ impl<A: Allocator + Copy> Session<A> {
     ghost use Rattle.glsreply.specs.WellFormed.{IsLsReplyIn};
     ghost use Rattle.gname.specs.Ids.{IsIdOf};
     ghost use Rattle.grequest.specs.Asked.{max_wants};
-    ghost use Rattle.gsession.specs.Asking.{FindsAsks};
     ghost use Rattle.gsession.specs.Sessions.{LeavesReplies};
-    ghost use Rattle.gsession.specs.TakingRefs.{AnswersLs, AnswersRefs, AwaitsRefs, IsRefsFault, TakesLs};
+    ghost use Rattle.gsession.specs.Steps.{AnswersLs, AnswersRefs, FindsAsks};
+    ghost use Rattle.gsession.specs.TakingRefs.{AwaitsRefs, IsRefsFault, TakesLs};
 
     /// Takes the reply to ls-refs, and nothing after it: what is asked for, which of its objects are wanted, and the
     /// target of an unborn `HEAD`. An ask is for the ref to which a refspec takes a name; of several asks for one ref
@@ -91,7 +91,7 @@ impl<A: Allocator + Copy> Session<A> {
         ensures { AnswersRefs self.old repo.now.graph.entries reply.now self.new result }
     {
         let alloc = self.allocator();
-        let asks = match asks_of(alloc, self.refspecs.as_slice(), reply) {
+        let asks = match asked_of(alloc, self.refspecs.as_slice(), reply) {
             Ok(asks) => asks,
             Err(fault) => return Err(self.unnamed(reply, fault)),
         };

@@ -1,5 +1,5 @@
 //! How often a session asks for objects.
-use super::makers::{asked, begun, commit, name, number_id, spelt, take, take_bytes, take_ls};
+use super::makers::{asked, begun, commit, number_id, spelt, take_bytes, take_ls};
 use crate::{Session, Taken};
 use ggraph::{Graph, Refs};
 use gname::RefName;
@@ -8,58 +8,6 @@ use grequest::Request;
 use std::process::Abort;
 
 const E_ALONE: &[u8] = b"000dpackfile\n003b\x01GPK1\nc E\nend 1\n0000";
-
-const NOTHING: &[u8] = b"0014acknowledgments\n0008NAK\n0000";
-
-// A chain of so many commits, with a ref at its end.
-fn chain(rt: &(impl Abort + AllocGlobal), count: usize) -> Repo {
-    let mut graph = Graph::new(rt.alloc());
-    let mut refs = Refs::new(rt.alloc());
-    let mut entries = Vec::new(rt.alloc());
-    for number in 0..count {
-        let parent = [number_id(rt, number.saturating_sub(1))];
-        let parents = &parent[..number.min(1)];
-        let entry = commit(rt, number_id(rt, number), parents);
-        entries.push(entry).expect(rt, "memory");
-    }
-    graph.insert_all(entries.as_slice()).expect(rt, "a graph");
-    if count > 0 {
-        refs.set(name(rt, "refs/heads/end"), number_id(rt, count - 1))
-            .expect(rt, "a ref");
-    }
-    Repo::new(graph, refs).expect(rt, "a repository")
-}
-
-// Asks until the client is done. The server has nothing of what is offered.
-fn rounds(rt: &(impl Abort + AllocGlobal), session: &mut Session, repo: &mut Repo) -> usize {
-    for round in 1..64 {
-        let request = asked(rt, session, repo).expect(rt, "a request");
-        if request.as_slice().ends_with(b"0009done\n0000") {
-            let taken = take(rt, session, repo, E_ALONE);
-            assert_eq!(rt; taken, Ok(Taken::PackTaken { added: 1 }));
-            return round;
-        }
-        assert_eq!(rt;
-            take(rt, session, repo, NOTHING),
-            Ok(Taken::Round { common: 0 })
-        );
-    }
-    0
-}
-
-const CHAINS: [(usize, usize); 6] = [(0, 1), (1, 2), (16, 2), (17, 3), (100, 4), (5_000, 24)];
-
-#[test]
-fn rounds_go_with_the_length_of_a_chain(rt: HostRuntime) {
-    for (count, due) in CHAINS {
-        let mut repo = chain(&rt, count);
-        let mut session = begun(&rt, &repo, &[b"refs/heads/main:refs/remotes/origin/main"]);
-        asked(&rt, &mut session, &repo).expect(&rt, "a request");
-        let reply = b"003dE refs/heads/main\n0000";
-        assert_eq!(rt; take_ls(&rt, &mut session, &repo, reply), Ok((1, 1)));
-        assert_eq!(rt; rounds(&rt, &mut session, &mut repo), due, "{count}");
-    }
-}
 
 // So many commits without parents, with a ref at each.
 fn refs_only(rt: &(impl Abort + AllocGlobal), count: usize) -> Repo {

@@ -1,18 +1,16 @@
-//! Replies that come one after the other, and packs in pieces.
-use super::makers::{
-    MAIN, MAIN_AT_C, SPEC, asked, begun, check_ref, client_a, settled, spelt, take_bytes, waiting,
-};
+//! Replies that come one after the other, and advertisements.
+use super::makers::{MAIN_AT_C, SPEC, asked, begun, client_a, spelt, take_bytes};
 use crate::Taken;
 use ggrammar::Capability;
 use ggraph::PlainPack;
 use ghello::Advert;
 use gpkt::LineReader;
 use gpkt::memory::SliceSource;
-use std::process::Abort;
 
 // Two replies, and what comes after them.
-const REPLIES: &[u8] =
-    b"003dC refs/heads/main\n00000014acknowledgments\n0031ACK A\n000aready\n0001000dpackfile\n00b8\x01GPK1\nc B A\nc C B\nend 2\n00000008NAK\n";
+const REPLIES: &[u8] = b"003dC refs/heads/main\n0000\
+    0014acknowledgments\n0031ACK A\n000aready\n0001000dpackfile\n00b8\x01GPK1\nc B A\nc C B\nend 2\n0000\
+    0008NAK\n";
 
 #[test]
 fn a_reply_is_read_to_its_end_and_no_further(rt: HostRuntime) {
@@ -38,45 +36,7 @@ fn a_reply_is_read_to_its_end_and_no_further(rt: HostRuntime) {
     assert!(rt; reader.next().is_ok_and(|line| line.is_none()));
 }
 
-const HEADING: &[u8] = b"0014acknowledgments\n0031ACK A\n000aready\n0001000dpackfile\n";
-
-const PACK: &[u8] = b"GPK1\nc B A\nc C B\nend 2\n";
-
-// The lengths of pieces, and what stands before a piece and before a shorter last one.
-const PIECES: [(usize, &[u8], &[u8]); 3] = [
-    (1, b"0006\x01", b"0006\x01"),
-    (7, b"000c\x01", b"0009\x01"),
-    (179, b"00b8\x01", b"00b8\x01"),
-];
-
-// A reply whose pack comes in pieces of so many bytes.
-fn reply_in(rt: &(impl Abort + AllocGlobal), size: usize, piece: &[u8], last: &[u8]) -> Vec<u8> {
-    assert!(rt; size > 0);
-    let mut reply = spelt(rt, HEADING);
-    let pack = spelt(rt, PACK);
-    for part in pack.as_slice().chunks(size) {
-        let before = if part.len() < size { last } else { piece };
-        reply.extend_from_slice(before).expect(rt, "memory");
-        reply.extend_from_slice(part).expect(rt, "memory");
-    }
-    reply.extend_from_slice(b"0000").expect(rt, "memory");
-    reply
-}
-
-#[test]
-fn a_pack_may_come_in_any_pieces(rt: HostRuntime) {
-    for (size, piece, last) in PIECES {
-        let reply = reply_in(&rt, size, piece, last);
-        let mut repo = client_a(&rt);
-        let mut session = waiting(&rt, &repo);
-        let taken = take_bytes(&rt, &mut session, &mut repo, reply.as_slice());
-        let taken = taken.map_err(|fault| fault.code());
-        assert_eq!(rt; taken, Ok(Taken::PackTaken { added: 2 }));
-        assert!(rt; settled(&mut session, &mut repo).is_ok());
-        check_ref(&rt, &repo, MAIN, b'c');
-    }
-}
-
+// An advertisement after the first request does not fit.
 #[test]
 fn the_last_advertisement_counts(rt: HostRuntime) {
     let repo = client_a(&rt);
@@ -92,6 +52,10 @@ fn the_last_advertisement_counts(rt: HostRuntime) {
     let bytes = asked(&rt, &mut session, &repo).expect(&rt, "a request");
     let plain = b"0014command=ls-refs\n0001001fref-prefix refs/heads/main\n0000";
     assert_eq!(rt; bytes.as_slice(), plain.as_slice());
+    assert_eq!(rt;
+        session.hear(&advert).err().map(|fault| fault.code()),
+        Some(83)
+    );
     assert!(rt; take_bytes(&rt, &mut session, &mut client_a(&rt), MAIN_AT_C).is_err());
     assert!(rt; session.pending().is_some());
 }

@@ -15,8 +15,10 @@ returns-in_err-unborn-clause-fetches g c =
     let fails = g.K.Indexer.index_fails c.args.indexer.now in
     let start = start_with c.args.session.now c.args.repo.now in
     let input = input_of g.S.Source.remaining g.S.Source.is_down c.args.reader.now.source c.talk.new.reader.source in
-    let output = output_of g.W.Sink.contents g.W.Sink.passed_on g.W.Sink.is_down c.args.writer.now.sink c.talk.new.writer.sink in
-    subst (λ (r : Result (Fetched g.row.A.Denot) (FetchFault g.row.A.Denot)). FetchesOver indexes fails start input output c.talk.new.repo r)
+    let output = output_of g.W.Sink.contents g.W.Sink.passed_on g.W.Sink.is_down c.args.writer.now.sink
+    c.talk.new.writer.sink in
+    subst (λ (r : Result (Fetched g.row.A.Denot) (FetchFault g.row.A.Denot)). FetchesOver indexes fails start input
+    output c.talk.new.repo r)
     (sym (err_of c.in_err-unborn.field-0.0 c.from_residual.result c.from_residual.ensures.1))
     c.in_err-unborn.ensures.talks
 
@@ -26,20 +28,27 @@ returns-in_err-settled-clause-fetches g c =
     let fails = g.K.Indexer.index_fails c.args.indexer.now in
     let start = start_with c.args.session.now c.args.repo.now in
     let input = input_of g.S.Source.remaining g.S.Source.is_down c.args.reader.now.source c.talk.new.reader.source in
-    let output = output_of g.W.Sink.contents g.W.Sink.passed_on g.W.Sink.is_down c.args.writer.now.sink c.close.new.writer.sink in
-    subst (λ (r : Result (Fetched g.row.A.Denot) (FetchFault g.row.A.Denot)). FetchesOver indexes fails start input output c.close.new.repo r)
-    (sym (err_of c.in_err-settled.field-0.0 c.from_residual-in_err-settled.result c.from_residual-in_err-settled.ensures.1))
-    (not_closed indexes fails start g.S.Source.remaining g.S.Source.is_down g.W.Sink.contents g.W.Sink.passed_on g.W.Sink.is_down
-    _ _ _ _ _ (client_of c.talk.new.session c.talk.new.repo c.in_ok-unborn.unborn) c.close.new.repo c.in_err-settled.field-0.0
-    c.in_ok-unborn.ensures.talks c.in_ok-unborn.ensures.over c.in_err-settled.ensures.closes)
+    let output = output_of g.W.Sink.contents g.W.Sink.passed_on g.W.Sink.is_down c.args.writer.now.sink
+    c.close.new.writer.sink in
+    subst (λ (r : Result (Fetched g.row.A.Denot) (FetchFault g.row.A.Denot)). FetchesOver indexes fails start input
+    output c.close.new.repo r)
+    (sym (err_of c.in_err-settled.field-0.0 c.from_residual-in_err-settled.result
+    c.from_residual-in_err-settled.ensures.1))
+    (not_closed indexes fails start g.S.Source.remaining g.S.Source.is_down g.W.Sink.contents g.W.Sink.passed_on
+    g.W.Sink.is_down
+    _ _ _ _ _ (client_of c.talk.new.session c.talk.new.repo c.in_ok-unborn.unborn) c.close.new.repo
+    c.in_err-settled.field-0.0
+    c.in_ok-unborn.ensures.talks c.in_ok-unborn.ensures.settles_next c.in_err-settled.ensures.closes)
 
 pub returns-clause-fetches : goal.returns-clause-fetches
 returns-clause-fetches g c =
     let start = start_with c.args.session.now c.args.repo.now in
     closed (g.K.Indexer.indexes c.args.indexer.now) (g.K.Indexer.index_fails c.args.indexer.now) start
     g.S.Source.remaining g.S.Source.is_down g.W.Sink.contents g.W.Sink.passed_on g.W.Sink.is_down
-    _ _ _ _ _ (client_of c.talk.new.session c.talk.new.repo c.in_ok-unborn.unborn) c.close.new.repo c.in_ok-settled.settled _
-    c.in_ok-unborn.ensures.talks c.in_ok-unborn.ensures.over c.in_ok-settled.ensures.closes refl c.rounds-requests.ensures.rounds refl
+    _ _ _ _ _ (client_of c.talk.new.session c.talk.new.repo c.in_ok-unborn.unborn) c.close.new.repo
+    c.in_ok-settled.settled _
+    c.in_ok-unborn.ensures.talks c.in_ok-unborn.ensures.settles_next c.in_ok-settled.ensures.closes refl
+    c.rounds-requests.ensures.rounds refl
 
 pub returns-clause-bound : goal.returns-clause-bound
 returns-clause-bound g c = λ held parents counts.
@@ -49,7 +58,8 @@ returns-clause-bound g c = λ held parents counts.
     let input = input_of g.S.Source.remaining g.S.Source.is_down c.args.reader.now.source c.talk.new.reader.source in
     let tips = same_tips (g.K.Indexer.indexes c.args.indexer.now) (g.K.Indexer.index_fails c.args.indexer.now) start
     g.S.Source.remaining g.S.Source.is_down g.W.Sink.contents g.W.Sink.passed_on g.W.Sink.is_down
-    input c.in_ok-unborn.ensures.talks.talk (client_of session c.talk.new.repo c.in_ok-unborn.unborn) IsLeft c.in_ok-unborn.ensures.talks.converses in
+    input c.in_ok-unborn.ensures.talks.talk (client_of session c.talk.new.repo c.in_ok-unborn.unborn) IsLeft
+    c.in_ok-unborn.ensures.talks.converses in
     let few : session.rounds ≤ held + 1 =
     c.rounds_are_few.ensures entries session held parents c.rounds-requests.ensures.session c.in_ok-unborn.ensures.began
     (subst (λ (ids : List (List ℕ)). CountsReached entries ids held parents) (sym tips) counts) in

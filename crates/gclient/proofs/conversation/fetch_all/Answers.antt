@@ -40,9 +40,12 @@ rounds-preserved g c =
     let new = client_of c.fetch.new.session c.fetch.new.repo None in
     let turned = c.in_ok-fetch.ensures.turns None in
     let same : Grows entries at.repo.graph.entries =
-    subst (λ (r : RepoState g.row.A.Denot). Grows entries r.graph.entries) (sym at.invariant.repo) (kept_still (client_of at.session c.args.repo.now None)).grows in
-    let began = turn_began indexes fails c.began_stays.ensures entries old turned.0.turn new same at.invariant.began turned.0.is_turn in
-    let step = round_taken indexes fails old _ _ new c.in_ok-fetch.field-0 c.in-Round.common at.invariant.stage c.in-Round.is turned in
+    subst (λ (r : RepoState g.row.A.Denot). Grows entries r.graph.entries) (sym at.invariant.repo)
+    (kept_still (client_of at.session c.args.repo.now None)).grows in
+    let began = turn_began indexes fails c.began_stays.ensures entries old turned.0.turn new same at.invariant.began
+    turned.0.is_turn in
+    let step = round_taken indexes fails old _ _ new c.in_ok-fetch.field-0 c.in-Round.common at.invariant.stage
+    c.in-Round.is turned in
     let kept = turn_kept indexes fails old turned.0.turn new turned.0.is_turn in
     record {
       talked = λ start source sink unborn h.
@@ -76,13 +79,17 @@ rounds-smaller g c =
     let new = client_of c.fetch.new.session c.fetch.new.repo None in
     let turned = c.in_ok-fetch.ensures.turns None in
     let same : Grows entries at.repo.graph.entries =
-    subst (λ (r : RepoState g.row.A.Denot). Grows entries r.graph.entries) (sym at.invariant.repo) (kept_still (client_of at.session c.args.repo.now None)).grows in
-    let began = turn_began indexes fails c.began_stays.ensures entries old turned.0.turn new same at.invariant.began turned.0.is_turn in
-    let step = round_taken indexes fails old _ _ new c.in_ok-fetch.field-0 c.in-Round.common at.invariant.stage c.in-Round.is turned in
+    subst (λ (r : RepoState g.row.A.Denot). Grows entries r.graph.entries) (sym at.invariant.repo)
+    (kept_still (client_of at.session c.args.repo.now None)).grows in
+    let began = turn_began indexes fails c.began_stays.ensures entries old turned.0.turn new same at.invariant.began
+    turned.0.is_turn in
+    let step = round_taken indexes fails old _ _ new c.in_ok-fetch.field-0 c.in-Round.common at.invariant.stage
+    c.in-Round.is turned in
     let within = rounds_within entries c.fetch.new.session c.in_ok-fetch.ensures.session step.0 turned.2 began in
     let long : length c.fetch.new.repo.graph.entries ≡ length entries =
     ap (λ (r : RepoState g.row.A.Denot). length r.graph.entries) (step.1 ∙ at.invariant.repo) in
-    let before : length at.repo.graph.entries ≡ length entries = ap (λ (r : RepoState g.row.A.Denot). length r.graph.entries) at.invariant.repo in
+    let before : length at.repo.graph.entries ≡ length entries =
+    ap (λ (r : RepoState g.row.A.Denot). length r.graph.entries) at.invariant.repo in
     let more = step.2 in
     omega (arith, within, long, before, more)
 
@@ -99,12 +106,15 @@ returns-in_err-fetch-clause-talks g c =
     let entries = c.args.repo.now.graph.entries in
     λ start source sink unborn h.
     let turned = c.in_err-fetch.ensures.turns unborn in
-    subst (λ (r : Result (Unit {0}) (FetchFault g.row.A.Denot)). TalksTo indexes fails start (input_of remaining source_down source c.fetch.new.reader.source)
-    (output_of contents passed_on sink_down sink c.fetch.new.writer.sink) (client_of c.fetch.new.session c.fetch.new.repo unborn) r)
+    subst (λ (r : Result (Unit {0}) (FetchFault g.row.A.Denot)). TalksTo indexes fails start
+    (input_of remaining source_down source c.fetch.new.reader.source)
+    (output_of contents passed_on sink_down sink c.fetch.new.writer.sink)
+    (client_of c.fetch.new.session c.fetch.new.repo unborn) r)
     (sym (err_of c.in_err-fetch.field-0.0 c.from_residual.result c.from_residual.ensures.1))
     (talk_failed indexes fails start remaining source_down contents passed_on sink_down
     source at.reader.source c.fetch.new.reader.source sink at.writer.sink c.fetch.new.writer.sink
-    (client_of at.session at.repo unborn) c.fetch.new.repo c.in_err-fetch.field-0.0 (at.invariant.talked start source sink unborn h) turned.0 turned.1)
+    (client_of at.session at.repo unborn) c.fetch.new.repo c.in_err-fetch.field-0.0
+    (at.invariant.talked start source sink unborn h) turned.0 turned.1)
 
 pub returns-in-PackTaken-clause-talks : goal.returns-in-PackTaken-clause-talks
 returns-in-PackTaken-clause-talks g c =
@@ -123,8 +133,8 @@ returns-in-PackTaken-clause-talks g c =
     (client_of at.session at.repo unborn) (client_of c.fetch.new.session c.fetch.new.repo unborn)
     (at.invariant.talked start source sink unborn h) (c.in_ok-fetch.ensures.turns unborn).0
 
-pub returns-in-PackTaken-clause-over : goal.returns-in-PackTaken-clause-over
-returns-in-PackTaken-clause-over g c =
+pub returns-in-PackTaken-clause-settles_next : goal.returns-in-PackTaken-clause-settles_next
+returns-in-PackTaken-clause-settles_next g c =
     (c.in_ok-fetch.ensures.turns None).1 ∙ ap stage_after c.in-PackTaken.is
 
 pub returns-in-PackTaken-clause-began : goal.returns-in-PackTaken-clause-began
@@ -142,6 +152,8 @@ returns-in-PackTaken-clause-began g c =
     let new = client_of c.fetch.new.session c.fetch.new.repo None in
     let turned = c.in_ok-fetch.ensures.turns None in
     let same : Grows entries at.repo.graph.entries =
-    subst (λ (r : RepoState g.row.A.Denot). Grows entries r.graph.entries) (sym at.invariant.repo) (kept_still (client_of at.session c.args.repo.now None)).grows in
-    let began = turn_began indexes fails c.began_stays.ensures entries old turned.0.turn new same at.invariant.began turned.0.is_turn in
+    subst (λ (r : RepoState g.row.A.Denot). Grows entries r.graph.entries) (sym at.invariant.repo)
+    (kept_still (client_of at.session c.args.repo.now None)).grows in
+    let began = turn_began indexes fails c.began_stays.ensures entries old turned.0.turn new same at.invariant.began
+    turned.0.is_turn in
     began

@@ -1,4 +1,5 @@
--- Each reply so far was only of acknowledgments, and both the reader and the writer go on. There are at most as many rounds
+-- Each reply so far was only of acknowledgments, and both the reader and the writer go on. There are at most as many
+-- rounds
 -- as objects.
 use Rattle.std.proofs.Common.{◌≡◌, ◌-◌, ℕ, List, length, false, Option, None}
 use Rattle.gpkt.specs.Sending.{input_of, output_of}
@@ -13,10 +14,12 @@ invariant-rounds g l = record {
   talked : (start : Start g.row.A.Denot) (source : g.row.S.Denot) (sink : g.row.W.Denot) (unborn : Option (List ℕ))
       → HasTalked (g.K.Indexer.indexes l.indexer) (g.K.Indexer.index_fails l.indexer) start
       (input_of g.S.Source.remaining g.S.Source.is_down source l.initial.reader.source)
-      (output_of g.W.Sink.contents g.W.Sink.passed_on g.W.Sink.is_down sink l.initial.writer.sink) (client_of l.initial.session l.initial.repo unborn)
+      (output_of g.W.Sink.contents g.W.Sink.passed_on g.W.Sink.is_down sink l.initial.writer.sink)
+      (client_of l.initial.session l.initial.repo unborn)
       → HasTalked (g.K.Indexer.indexes l.indexer) (g.K.Indexer.index_fails l.indexer) start
       (input_of g.S.Source.remaining g.S.Source.is_down source l.reader.source)
-      (output_of g.W.Sink.contents g.W.Sink.passed_on g.W.Sink.is_down sink l.writer.sink) (client_of l.session l.repo unborn);
+      (output_of g.W.Sink.contents g.W.Sink.passed_on g.W.Sink.is_down sink l.writer.sink)
+      (client_of l.session l.repo unborn);
   reader : l.reader.failed ≡ false;
   writer : l.writer.failed ≡ false;
   stage : l.session.stage ≡ Fetching;

@@ -5,14 +5,17 @@ use Rattle.gclient.proofs.conversation.fetch_over.Goals as goal
 pub returns-clause-settled : goal.returns-clause-settled
 returns-clause-settled g c =
     over_settles (g.K.Indexer.indexes c.args.indexer.now) (g.K.Indexer.index_fails c.args.indexer.now)
-    (start_of c.args.repo.now c.args.specs.now c.args.limit c.args.ends) _ _ c.fetch_to-fetched.new.repo c.fetch_to-fetched.result c.fetch_to-fetched.ensures.fetches
+    (start_of c.args.repo.now c.args.specs.now c.args.limit c.args.ends) _ _ c.fetch_to-fetched.new.repo
+    c.fetch_to-fetched.result c.fetch_to-fetched.ensures.fetches
 
 pub returns-clause-refs : goal.returns-clause-refs
 returns-clause-refs g c =
     over_keeps_refs (g.K.Indexer.indexes c.args.indexer.now) (g.K.Indexer.index_fails c.args.indexer.now)
-    (start_of c.args.repo.now c.args.specs.now c.args.limit c.args.ends) _ _ c.fetch_to-fetched.new.repo c.fetch_to-fetched.result c.fetch_to-fetched.ensures.fetches
+    (start_of c.args.repo.now c.args.specs.now c.args.limit c.args.ends) _ _ c.fetch_to-fetched.new.repo
+    c.fetch_to-fetched.result c.fetch_to-fetched.ensures.fetches
 
 pub returns-clause-grows : goal.returns-clause-grows
 returns-clause-grows g c =
     over_grows (g.K.Indexer.indexes c.args.indexer.now) (g.K.Indexer.index_fails c.args.indexer.now)
-    (start_of c.args.repo.now c.args.specs.now c.args.limit c.args.ends) _ _ c.fetch_to-fetched.new.repo c.fetch_to-fetched.result c.fetch_to-fetched.ensures.fetches
+    (start_of c.args.repo.now c.args.specs.now c.args.limit c.args.ends) _ _ c.fetch_to-fetched.new.repo
+    c.fetch_to-fetched.result c.fetch_to-fetched.ensures.fetches

@@ -3,7 +3,7 @@ use Rattle.gpkt.specs.Sending.{input_of, output_of}
 use Rattle.gclient.specs.Conversations.{IsLeft}
 use Rattle.gclient.specs.Steps.{Talks, client_of, start_with}
 use Rattle.gclient.specs.declared.fault.FetchFault.{FetchFault}
-use Rattle.gclient.specs.declared.fault.FetchFault.TheVariants as fault
+use Rattle.gclient.specs.declared.fault.FetchFault.TheVariants as fetch
 use Rattle.gclient.proofs.RoundLemmas.{begins_on}
 use Rattle.gclient.proofs.StepLemmas.{err_of, fresh_is_begun, is_heard, refs_held, refs_pending, refs_wanted}
 use Rattle.gclient.proofs.TalkLemmas.{not_heard, same_own, talk_failed, talked_more, talked_none}
@@ -27,21 +27,26 @@ returns-in_err-hear-clause-talks g c =
     let contents = g.W.Sink.contents in
     let passed_on = g.W.Sink.passed_on in
     let sink_down = g.W.Sink.is_down in
-    subst (λ (r : Result (Option (List ℕ)) (FetchFault g.row.A.Denot)). Talks indexes fails start (input_of remaining source_down first c.hear.new.reader.source) (output_of contents passed_on sink_down sink sink) c.hear.new.session repo r)
+    subst (λ (r : Result (Option (List ℕ)) (FetchFault g.row.A.Denot)). Talks indexes fails start
+    (input_of remaining source_down first c.hear.new.reader.source) (output_of contents passed_on sink_down sink sink)
+    c.hear.new.session repo r)
     (sym (err_of c.in_err-hear.field-0.0 c.from_residual.result c.from_residual.ensures.1))
-    (not_heard indexes fails start remaining source_down contents passed_on sink_down first c.hear.new.reader.source sink
+    (not_heard indexes fails start remaining source_down contents passed_on sink_down first c.hear.new.reader.source
+    sink
     c.args.session.now c.hear.new.session c.in_err-hear.field-0.0 c.requires.few c.in_err-hear.ensures.hears)
 
 pub ask-requires-clause-due : goal.ask-requires-clause-due
 ask-requires-clause-due g c =
     let input = input_of g.S.Source.remaining g.S.Source.is_down c.args.reader.now.source c.hear.new.reader.source in
-    let heard = is_heard c.args.repo.now.graph.format c.args.repo.now c.args.session.now c.hear.new.session input c.requires.begun c.in_ok-hear.ensures.hears in
+    let heard = is_heard c.args.repo.now.graph.format c.args.repo.now c.args.session.now c.hear.new.session input
+    c.requires.begun c.in_ok-hear.ensures.hears in
     heard.due
 
 pub ask-requires-clause-format : goal.ask-requires-clause-format
 ask-requires-clause-format g c =
     let input = input_of g.S.Source.remaining g.S.Source.is_down c.args.reader.now.source c.hear.new.reader.source in
-    let heard = is_heard c.args.repo.now.graph.format c.args.repo.now c.args.session.now c.hear.new.session input c.requires.begun c.in_ok-hear.ensures.hears in
+    let heard = is_heard c.args.repo.now.graph.format c.args.repo.now c.args.session.now c.hear.new.session input
+    c.requires.begun c.in_ok-hear.ensures.hears in
     heard.format
 
 pub returns-in_err-ask-clause-talks : goal.returns-in_err-ask-clause-talks
@@ -61,12 +66,16 @@ returns-in_err-ask-clause-talks g c =
     let none = talked_none indexes fails start remaining source_down contents passed_on sink_down first source sink
     c.args.session.now c.hear.new.session c.requires.few c.requires.begun c.in_ok-hear.ensures.hears in
     let old = client_of c.hear.new.session repo None in
-    subst (λ (r : Result (Option (List ℕ)) (FetchFault g.row.A.Denot)). Talks indexes fails start (input_of remaining source_down first source) (output_of contents passed_on sink_down sink c.ask.new.writer.sink) c.ask.new.session repo r)
+    subst (λ (r : Result (Option (List ℕ)) (FetchFault g.row.A.Denot)). Talks indexes fails start
+    (input_of remaining source_down first source) (output_of contents passed_on sink_down sink c.ask.new.writer.sink)
+    c.ask.new.session repo r)
     (sym (err_of c.in_err-ask.field-0.0 c.from_residual-in_err-ask.result c.from_residual-in_err-ask.ensures.1))
-    (talk_failed indexes fails start remaining source_down contents passed_on sink_down first source source sink sink c.ask.new.writer.sink old repo
+    (talk_failed indexes fails start remaining source_down contents passed_on sink_down first source source sink sink
+    c.ask.new.writer.sink old repo
     c.in_err-ask.field-0.0 none
     (not_asked indexes fails old c.ask.new.session (input_of remaining source_down source source)
-    (output_of contents passed_on sink_down sink c.ask.new.writer.sink) c.in_err-ask.field-0.0 c.in_err-ask.ensures.asks (record { read = refl; down = refl }))
+    (output_of contents passed_on sink_down sink c.ask.new.writer.sink) c.in_err-ask.field-0.0 c.in_err-ask.ensures.asks
+    (record { read = refl; down = refl }))
     refl)
 
 pub returns-in_err-taken-clause-talks : goal.returns-in_err-taken-clause-talks
@@ -86,16 +95,21 @@ returns-in_err-taken-clause-talks g c =
     let none = talked_none indexes fails start remaining source_down contents passed_on sink_down first source sink
     c.args.session.now c.hear.new.session c.requires.few c.requires.begun c.in_ok-hear.ensures.hears in
     let old = client_of c.hear.new.session repo None in
-    let heard = is_heard c.args.repo.now.graph.format c.args.repo.now c.args.session.now c.hear.new.session (input_of remaining source_down first source) c.requires.begun c.in_ok-hear.ensures.hears in
+    let heard = is_heard c.args.repo.now.graph.format c.args.repo.now c.args.session.now c.hear.new.session
+    (input_of remaining source_down first source) c.requires.begun c.in_ok-hear.ensures.hears in
     let asks = c.in_ok-ask.ensures.asks in
     let next = c.take_ls.new.reader.source in
     let after = c.ask.new.writer.sink in
     let cause = c.in_err-taken.field-0.0 in
-    subst (λ (r : Result (Option (List ℕ)) (FetchFault g.row.A.Denot)). Talks indexes fails start (input_of remaining source_down first next) (output_of contents passed_on sink_down sink after) c.take_ls.new.self repo r)
-    (sym (err_of (fault.Client cause) c.from_residual-in_err-taken.result c.from_residual-in_err-taken.ensures.1))
-    (talk_failed indexes fails start remaining source_down contents passed_on sink_down first source next sink sink after old repo (fault.Client cause) none
+    subst (λ (r : Result (Option (List ℕ)) (FetchFault g.row.A.Denot)). Talks indexes fails start
+    (input_of remaining source_down first next) (output_of contents passed_on sink_down sink after) c.take_ls.new.self
+    repo r)
+    (sym (err_of (fetch.Client cause) c.from_residual-in_err-taken.result c.from_residual-in_err-taken.ensures.1))
+    (talk_failed indexes fails start remaining source_down contents passed_on sink_down first source next sink sink
+    after old repo (fetch.Client cause) none
     (not_listed indexes fails source_down c.hear.new.reader c.take_ls.new.reader old c.ask.new.session asks.0
-    (input_of remaining source_down source next) (output_of contents passed_on sink_down sink after) cause heard.stage asks.1 asks.2
+    (input_of remaining source_down source next) (output_of contents passed_on sink_down sink after) cause heard.stage
+    asks.1 asks.2
     c.in_err-taken.ensures.takes.0 c.in_ok-hear.ensures.goes_on c.in_err-taken.ensures.reader refl)
     refl)
 
@@ -120,16 +134,19 @@ returns-then-taken-eq0-clause-talks g c =
     let next = c.take_ls.new.reader.source in
     let after = c.ask.new.writer.sink in
     let turned = listed indexes fails old c.ask.new.session c.take_ls.new.self asks.0
-    (input_of remaining source_down source next) (output_of contents passed_on sink_down sink after) c.in_ok-taken.taken asks.1 asks.2
+    (input_of remaining source_down source next) (output_of contents passed_on sink_down sink after) c.in_ok-taken.taken
+    asks.1 asks.2
     c.in_ok-taken.ensures.takes c.in_ok-taken.ensures.reader.2 in
     let new = client_of c.take_ls.new.self repo c.in_ok-taken.taken.unborn in
-    let talked = talked_more indexes fails start remaining source_down contents passed_on sink_down c.reads_join.ensures.join
+    let talked = talked_more indexes fails start remaining source_down contents passed_on sink_down
+    c.reads_join.ensures.join
     first source next sink sink after old new none turned in
     talked
 
-pub returns-then-taken-eq0-clause-over : goal.returns-then-taken-eq0-clause-over
-returns-then-taken-eq0-clause-over g c =
-    refs_held c.ask.new.session c.take_ls.new.self c.args.repo.now.graph.entries _ c.in_ok-taken.taken c.in_ok-taken.ensures.takes (omega arith)
+pub returns-then-taken-eq0-clause-settles_next : goal.returns-then-taken-eq0-clause-settles_next
+returns-then-taken-eq0-clause-settles_next g c =
+    refs_held c.ask.new.session c.take_ls.new.self c.args.repo.now.graph.entries _ c.in_ok-taken.taken
+    c.in_ok-taken.ensures.takes (omega arith)
 
 pub returns-then-taken-eq0-clause-began : goal.returns-then-taken-eq0-clause-began
 returns-then-taken-eq0-clause-began g c =
@@ -152,23 +169,30 @@ returns-then-taken-eq0-clause-began g c =
     let next = c.take_ls.new.reader.source in
     let after = c.ask.new.writer.sink in
     let turned = listed indexes fails old c.ask.new.session c.take_ls.new.self asks.0
-    (input_of remaining source_down source next) (output_of contents passed_on sink_down sink after) c.in_ok-taken.taken asks.1 asks.2
+    (input_of remaining source_down source next) (output_of contents passed_on sink_down sink after) c.in_ok-taken.taken
+    asks.1 asks.2
     c.in_ok-taken.ensures.takes c.in_ok-taken.ensures.reader.2 in
     let new = client_of c.take_ls.new.self repo c.in_ok-taken.taken.unborn in
-    let talked = talked_more indexes fails start remaining source_down contents passed_on sink_down c.reads_join.ensures.join
+    let talked = talked_more indexes fails start remaining source_down contents passed_on sink_down
+    c.reads_join.ensures.join
     first source next sink sink after old new none turned in
-    let heard = is_heard repo.graph.format repo c.args.session.now c.hear.new.session (input_of remaining source_down first source) c.requires.begun c.in_ok-hear.ensures.hears in
-    let began = begins_on c.distinct_are_once.ensures repo c.hear.new.session c.in_ok-hear.ensures.whole heard.tips heard.sent in
-    let begun = turn_began indexes fails c.began_stays.ensures repo.graph.entries old turned.turn new (kept_still old).grows began turned.is_turn in
+    let heard = is_heard repo.graph.format repo c.args.session.now c.hear.new.session
+    (input_of remaining source_down first source) c.requires.begun c.in_ok-hear.ensures.hears in
+    let began = begins_on c.distinct_are_once.ensures repo c.hear.new.session c.in_ok-hear.ensures.whole heard.tips
+    heard.sent in
+    let begun = turn_began indexes fails c.began_stays.ensures repo.graph.entries old turned.turn new
+    (kept_still old).grows began turned.is_turn in
     begun
 
 pub fetch_all-requires-clause-stage : goal.fetch_all-requires-clause-stage
 fetch_all-requires-clause-stage g c =
-    refs_wanted c.ask.new.session c.take_ls.new.self c.args.repo.now.graph.entries _ c.in_ok-taken.taken c.in_ok-taken.ensures.takes (omega arith)
+    refs_wanted c.ask.new.session c.take_ls.new.self c.args.repo.now.graph.entries _ c.in_ok-taken.taken
+    c.in_ok-taken.ensures.takes (omega arith)
 
 pub fetch_all-requires-clause-pending : goal.fetch_all-requires-clause-pending
 fetch_all-requires-clause-pending g c =
-    refs_pending c.ask.new.session c.take_ls.new.self c.args.repo.now.graph.entries _ c.in_ok-taken.taken c.in_ok-taken.ensures.takes
+    refs_pending c.ask.new.session c.take_ls.new.self c.args.repo.now.graph.entries _ c.in_ok-taken.taken
+    c.in_ok-taken.ensures.takes
 
 pub fetch_all-requires-clause-format : goal.fetch_all-requires-clause-format
 fetch_all-requires-clause-format g c =
@@ -191,12 +215,15 @@ fetch_all-requires-clause-format g c =
     let next = c.take_ls.new.reader.source in
     let after = c.ask.new.writer.sink in
     let turned = listed indexes fails old c.ask.new.session c.take_ls.new.self asks.0
-    (input_of remaining source_down source next) (output_of contents passed_on sink_down sink after) c.in_ok-taken.taken asks.1 asks.2
+    (input_of remaining source_down source next) (output_of contents passed_on sink_down sink after) c.in_ok-taken.taken
+    asks.1 asks.2
     c.in_ok-taken.ensures.takes c.in_ok-taken.ensures.reader.2 in
     let new = client_of c.take_ls.new.self repo c.in_ok-taken.taken.unborn in
-    let talked = talked_more indexes fails start remaining source_down contents passed_on sink_down c.reads_join.ensures.join
+    let talked = talked_more indexes fails start remaining source_down contents passed_on sink_down
+    c.reads_join.ensures.join
     first source next sink sink after old new none turned in
-    same_own indexes fails start remaining source_down contents passed_on sink_down (input_of remaining source_down first next) talked.talk new IsLeft talked.converses
+    same_own indexes fails start remaining source_down contents passed_on sink_down
+    (input_of remaining source_down first next) talked.talk new IsLeft talked.converses
 
 pub fetch_all-requires-clause-began : goal.fetch_all-requires-clause-began
 fetch_all-requires-clause-began g c =
@@ -219,14 +246,19 @@ fetch_all-requires-clause-began g c =
     let next = c.take_ls.new.reader.source in
     let after = c.ask.new.writer.sink in
     let turned = listed indexes fails old c.ask.new.session c.take_ls.new.self asks.0
-    (input_of remaining source_down source next) (output_of contents passed_on sink_down sink after) c.in_ok-taken.taken asks.1 asks.2
+    (input_of remaining source_down source next) (output_of contents passed_on sink_down sink after) c.in_ok-taken.taken
+    asks.1 asks.2
     c.in_ok-taken.ensures.takes c.in_ok-taken.ensures.reader.2 in
     let new = client_of c.take_ls.new.self repo c.in_ok-taken.taken.unborn in
-    let talked = talked_more indexes fails start remaining source_down contents passed_on sink_down c.reads_join.ensures.join
+    let talked = talked_more indexes fails start remaining source_down contents passed_on sink_down
+    c.reads_join.ensures.join
     first source next sink sink after old new none turned in
-    let heard = is_heard repo.graph.format repo c.args.session.now c.hear.new.session (input_of remaining source_down first source) c.requires.begun c.in_ok-hear.ensures.hears in
-    let began = begins_on c.distinct_are_once.ensures repo c.hear.new.session c.in_ok-hear.ensures.whole heard.tips heard.sent in
-    let begun = turn_began indexes fails c.began_stays.ensures repo.graph.entries old turned.turn new (kept_still old).grows began turned.is_turn in
+    let heard = is_heard repo.graph.format repo c.args.session.now c.hear.new.session
+    (input_of remaining source_down first source) c.requires.begun c.in_ok-hear.ensures.hears in
+    let began = begins_on c.distinct_are_once.ensures repo c.hear.new.session c.in_ok-hear.ensures.whole heard.tips
+    heard.sent in
+    let begun = turn_began indexes fails c.began_stays.ensures repo.graph.entries old turned.turn new
+    (kept_still old).grows began turned.is_turn in
     begun
 
 pub returns-in_err-fetch_all-clause-talks : goal.returns-in_err-fetch_all-clause-talks
@@ -250,13 +282,19 @@ returns-in_err-fetch_all-clause-talks g c =
     let next = c.take_ls.new.reader.source in
     let after = c.ask.new.writer.sink in
     let turned = listed indexes fails old c.ask.new.session c.take_ls.new.self asks.0
-    (input_of remaining source_down source next) (output_of contents passed_on sink_down sink after) c.in_ok-taken.taken asks.1 asks.2
+    (input_of remaining source_down source next) (output_of contents passed_on sink_down sink after) c.in_ok-taken.taken
+    asks.1 asks.2
     c.in_ok-taken.ensures.takes c.in_ok-taken.ensures.reader.2 in
     let new = client_of c.take_ls.new.self repo c.in_ok-taken.taken.unborn in
-    let talked = talked_more indexes fails start remaining source_down contents passed_on sink_down c.reads_join.ensures.join
+    let talked = talked_more indexes fails start remaining source_down contents passed_on sink_down
+    c.reads_join.ensures.join
     first source next sink sink after old new none turned in
-    subst (λ (r : Result (Option (List ℕ)) (FetchFault g.row.A.Denot)). Talks indexes fails start (input_of remaining source_down first c.fetch_all.new.reader.source) (output_of contents passed_on sink_down sink c.fetch_all.new.writer.sink) c.fetch_all.new.session c.fetch_all.new.repo r)
-    (sym (err_of c.in_err-fetch_all.field-0.0 c.from_residual-in_err-fetch_all.result c.from_residual-in_err-fetch_all.ensures.1))
+    subst (λ (r : Result (Option (List ℕ)) (FetchFault g.row.A.Denot)). Talks indexes fails start
+    (input_of remaining source_down first c.fetch_all.new.reader.source)
+    (output_of contents passed_on sink_down sink c.fetch_all.new.writer.sink) c.fetch_all.new.session
+    c.fetch_all.new.repo r)
+    (sym (err_of c.in_err-fetch_all.field-0.0 c.from_residual-in_err-fetch_all.result
+    c.from_residual-in_err-fetch_all.ensures.1))
     (c.in_err-fetch_all.ensures.talks start first sink c.in_ok-taken.taken.unborn talked)
 
 pub returns-clause-talks : goal.returns-clause-talks
@@ -280,9 +318,11 @@ returns-clause-talks g c =
     let next = c.take_ls.new.reader.source in
     let after = c.ask.new.writer.sink in
     let turned = listed indexes fails old c.ask.new.session c.take_ls.new.self asks.0
-    (input_of remaining source_down source next) (output_of contents passed_on sink_down sink after) c.in_ok-taken.taken asks.1 asks.2
+    (input_of remaining source_down source next) (output_of contents passed_on sink_down sink after) c.in_ok-taken.taken
+    asks.1 asks.2
     c.in_ok-taken.ensures.takes c.in_ok-taken.ensures.reader.2 in
     let new = client_of c.take_ls.new.self repo c.in_ok-taken.taken.unborn in
-    let talked = talked_more indexes fails start remaining source_down contents passed_on sink_down c.reads_join.ensures.join
+    let talked = talked_more indexes fails start remaining source_down contents passed_on sink_down
+    c.reads_join.ensures.join
     first source next sink sink after old new none turned in
     c.in_ok-fetch_all.ensures.talks start first sink c.in_ok-taken.taken.unborn talked

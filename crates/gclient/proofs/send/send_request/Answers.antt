@@ -12,5 +12,6 @@ returns-in-Ok-clause-goes_on g c =
 
 pub returns-in-Err-clause-sent : goal.returns-in-Err-clause-sent
 returns-in-Err-clause-sent g c =
-    passed_failed g.W.Sink.contents g.W.Sink.passed_on g.W.Sink.is_down g.W.Sink.loans _ _ _ c.in-Err.fault c.requires.well
+    passed_failed g.W.Sink.contents g.W.Sink.passed_on g.W.Sink.is_down g.W.Sink.loans _ _ _ c.in-Err.fault
+    c.requires.well
     c.in-Err.ensures

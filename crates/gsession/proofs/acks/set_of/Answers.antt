@@ -11,11 +11,14 @@ use Rattle.gsession.proofs.acks.set_of.Goals as goal
 abbrev IsMade : {S : Type 0} → List (List ℕ) → IndexSet (List ℕ) S → Type 0
 IsMade ids set = (set.keys ≡ insert_all bytes_eq [] ids) × IsFromIterResult bytes_eq ids set
 
-has_ids : {S : Type 0} (ids : List (List ℕ)) (set : IndexSet (List ℕ) S) → IsMade ids set → (id : List ℕ) → (contains bytes_eq set id ≡ true) ↔ Contains ids id
-has_ids ids set made id = (λ t. contains_from_any ids id (sym (made.1.0 id) ∙ t), λ there. made.1.0 id ∙ any_from_contains ids id there)
+has_ids : {S : Type 0} (ids : List (List ℕ)) (set : IndexSet (List ℕ) S) → IsMade ids set → (id : List ℕ)
+    → (contains bytes_eq set id ≡ true) ↔ Contains ids id
+has_ids ids set made id =
+    (λ t. contains_from_any ids id (sym (made.1.0 id) ∙ t), λ there. made.1.0 id ∙ any_from_contains ids id there)
 
 pub returns : goal.returns
 returns g c =
     let ids = c.args.ids.now in
     IfOk-weaker c.collect.result (IsMade ids) _ (has_ids ids)
-    (fact_from_collect IsMade c.collect.result c.collect.ensures.ran (YieldsList-from_copied (YieldsList-from_slice ids cc)))
+    (fact_from_collect IsMade c.collect.result c.collect.ensures.ran
+    (YieldsList-from_copied (YieldsList-from_slice ids cc)))

@@ -20,8 +20,10 @@ returns-in_err-add_line g c =
     let line = c.in-Some.line.now in
     let low : place < length lines = omega (arith, c.loop-place-test.true, c.len-place-end.ensures.len) in
     let at : get_or lines place line ≡ line = get_or_from_slice_get lines place line line (sym c.in-Some.ensures) in
-    rw same (fails_among (asks_by spec (take place lines)) (asks_by spec (line ∷ [])) (asks_by spec (drop (place + 1) lines)) (asks_by spec lines)
-    c.loop-place.asks c.add_line.new.asks c.args.asks.now c.add_line.new.asks fault (asks_by-split spec lines place line low at) c.in_err-add_line.ensures)
+    rw same (fails_among (asks_by spec (take place lines)) (asks_by spec (line ∷ []))
+    (asks_by spec (drop (place + 1) lines)) (asks_by spec lines)
+    c.loop-place.asks c.add_line.new.asks c.args.asks.now c.add_line.new.asks fault
+    (asks_by-split spec lines place line low at) c.in_err-add_line.ensures)
 
 pub loop-place-preserved : goal.loop-place-preserved
 loop-place-preserved g c =
@@ -34,9 +36,12 @@ loop-place-preserved g c =
       | in-Some+in_ok-add_line w ↦
           let line = w.in-Some.line.now in
           let new = w.add_line.new.asks in
-          let at : get_or lines place line ≡ line = get_or_from_slice_get lines place line line (sym w.in-Some.ensures) in
-          let added = added_more old c.loop-place.asks new (asks_by spec (take place lines)) (asks_by spec (line ∷ [])) c.loop-place.invariant w.in_ok-add_line.ensures in
+          let at : get_or lines place line ≡ line =
+          get_or_from_slice_get lines place line line (sym w.in-Some.ensures) in
+          let added = added_more old c.loop-place.asks new (asks_by spec (take place lines))
+          (asks_by spec (line ∷ [])) c.loop-place.invariant w.in_ok-add_line.ensures in
           subst (HasAdded old (asks_by spec (take (place + 1) lines))) (sym w.asks-is)
-          (subst (λ (more : List (Ask _)). HasAdded old more new) (sym (asks_by-more spec lines place line low at)) added)
+          (subst (λ (more : List (Ask _)). HasAdded old more new) (sym (asks_by-more spec lines place line low at))
+          added)
       | in_default w ↦ absurd (none_inside lines place low (sym c.at.ensures ∙ ap option_copied w.in_default.is))
     ]

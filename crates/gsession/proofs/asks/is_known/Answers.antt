@@ -6,6 +6,9 @@ use Rattle.gsession.proofs.asks.is_known.Goals as goal
 pub returns-in-Some : goal.returns-in-Some
 returns-in-Some g c = λ marked.
     let graph = c.args.repo.now.graph in
-    let at : place_of graph.entries c.args.id.now ≡ Some c.in-Some.number = sym (c.in-Some.ensures ∙ ap (λ h. place_of h.entries c.args.id.now) c.graph.ensures) in
-    let mark : slice_index_or c.args.repo.now.known c.in-Some.number false ≡ true = sym (ap (λ m. slice_index_or m c.in-Some.number false) c.known.ensures) ∙ sym c.marked.ensures ∙ marked in
-    known_full c.places_are_nodes.ensures graph.entries c.args.repo.now.known c.args.id.now c.in-Some.number c.format-format.ensures.graph.differ c.format-format.ensures.whole.full at mark
+    let at : place_of graph.entries c.args.id.now ≡ Some c.in-Some.number =
+    sym (c.in-Some.ensures ∙ ap (λ h. place_of h.entries c.args.id.now) c.graph.ensures) in
+    let mark : slice_index_or c.args.repo.now.known c.in-Some.number false ≡ true =
+    sym (ap (λ m. slice_index_or m c.in-Some.number false) c.known.ensures) ∙ sym c.marked.ensures ∙ marked in
+    known_full c.places_are_nodes.ensures graph.entries c.args.repo.now.known c.args.id.now c.in-Some.number
+    c.format-format.ensures.graph.differ c.format-format.ensures.whole.full at mark

@@ -26,11 +26,15 @@ loop-id-preserved g c =
     elim c.if-not-branch.branch [
       | then-not-branch+in_ok-push w ↦
           let out : P id = λ full. false≢true (sym w.if-not-branch.true ∙ c.in_ok-is_full.ensures.full.1 full) in
-          let kept : Selects P (take (k + 1) ids) (wants ++ id ∷ []) = subst (λ (l : List (List ℕ)). Selects P l (wants ++ id ∷ [])) (sym more) (selects_keep P (take k ids) wants id c.loop-id.invariant out) in
-          subst (λ v. Selects P (take (k + 1) ids) v.items) (sym w.wants-is) (subst (λ (l : List (List ℕ)). Selects P (take (k + 1) ids) l) (sym w.in_ok-push.ensures.items) kept)
+          let kept : Selects P (take (k + 1) ids) (wants ++ id ∷ []) =
+          subst (λ (l : List (List ℕ)). Selects P l (wants ++ id ∷ [])) (sym more)
+          (selects_keep P (take k ids) wants id c.loop-id.invariant out) in
+          subst (λ v. Selects P (take (k + 1) ids) v.items) (sym w.wants-is)
+          (subst (λ (l : List (List ℕ)). Selects P (take (k + 1) ids) l) (sym w.in_ok-push.ensures.items) kept)
       | else-not-branch w ↦
           let full : IsFull c.args.repo.now.graph.entries id = c.in_ok-is_full.ensures.full.0 w.if-not-branch.false in
-          let kept : Selects P (take (k + 1) ids) wants = subst (λ (l : List (List ℕ)). Selects P l wants) (sym more) (selects_skip P (take k ids) wants id c.loop-id.invariant (λ out. out full)) in
+          let kept : Selects P (take (k + 1) ids) wants = subst (λ (l : List (List ℕ)). Selects P l wants) (sym more)
+          (selects_skip P (take k ids) wants id c.loop-id.invariant (λ out. out full)) in
           subst (λ v. Selects P (take (k + 1) ids) v.items) (sym w.wants-is) kept
     ]
 
@@ -40,9 +44,12 @@ returns-clause-wants g c =
     let items = c.as_slice-id-items.result.now in
     let past : length items ≤ c.loop-id.id-index = omega (arith, c.loop-id-test.false) in
     let all : items ≡ distinct_of (asked_ids c.args.asks.now) =
-    c.as_slice-id-items.ensures.value ∙ c.in_ok-ids.ensures ∙ ap distinct_of (c.as_slice.ensures.value ∙ c.in_ok-asked.ensures) in
-    subst (λ (l : List (List ℕ)). Selects P l c.loop-id.wants.items) (take_all c.loop-id.id-index items past ∙ all) c.loop-id.invariant
+    c.as_slice-id-items.ensures.value ∙ c.in_ok-ids.ensures
+    ∙ ap distinct_of (c.as_slice.ensures.value ∙ c.in_ok-asked.ensures) in
+    subst (λ (l : List (List ℕ)). Selects P l c.loop-id.wants.items) (take_all c.loop-id.id-index items past ∙ all)
+    c.loop-id.invariant
 
 pub returns-clause-ids : goal.returns-clause-ids
 returns-clause-ids g c =
-    want_ids c.distinct_are_once.ensures c.args.repo.now.graph.entries c.args.asks.now c.loop-id.wants.items (returns-clause-wants g c)
+    want_ids c.distinct_are_once.ensures c.args.repo.now.graph.entries c.args.asks.now c.loop-id.wants.items
+    (returns-clause-wants g c)

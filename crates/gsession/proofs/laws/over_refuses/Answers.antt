@@ -1,4 +1,5 @@
-use Rattle.gsession.proofs.LawLemmas.{over_hears_none, over_requests_none, over_settles_none, over_takes_no_refs, over_takes_no_reply}
+use Rattle.gsession.proofs.LawLemmas.{over_hears_none, over_requests_none, over_settles_none, over_takes_no_refs}
+use Rattle.gsession.proofs.LawLemmas.{over_takes_no_reply}
 use Rattle.gsession.proofs.laws.over_refuses.Goals as goal
 
 pub returns-clause-hear : goal.returns-clause-hear

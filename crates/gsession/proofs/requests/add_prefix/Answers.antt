@@ -9,6 +9,7 @@ use Rattle.gsession.proofs.requests.add_prefix.Goals as goal
 pub no_memory-requires : goal.no_memory-requires
 no_memory-requires g c =
     only_memory _ _ c.in-Err.fault.why
-    (ap (λ (text : List ℕ). is_none (prefix_fault text)) c.as_bytes.ensures.bytes ∙ ap is_none c.as_bytes.ensures.prefix)
+    (ap (λ (text : List ℕ). is_none (prefix_fault text)) c.as_bytes.ensures.bytes
+    ∙ ap is_none c.as_bytes.ensures.prefix)
     (lt-ltb (length c.args.request.now.prefixes) max_prefixes c.requires)
     c.in-Err.ensures.2

@@ -10,6 +10,8 @@ no_memory-requires g c =
     let old = c.args.request.now in
     let ids = c.args.wants.now in
     only_memory _ _ c.in-Err.fault.why
-    (fits old.format now.format ids c.loop-id.id-index c.id-item.result c.requires.ids c.loop-id-test.true c.id-item.is (ap (λ (r : FormattedFetch). r.format) c.loop-id.invariant))
-    (has_room old.asked.wants now.asked.wants ids c.loop-id.id-index max_wants (ap (λ (r : FormattedFetch). r.asked.wants) c.loop-id.invariant) c.loop-id-test.true c.requires.room)
+    (fits old.format now.format ids c.loop-id.id-index c.id-item.result c.requires.ids c.loop-id-test.true c.id-item.is
+    (ap (λ (r : FormattedFetch). r.format) c.loop-id.invariant))
+    (has_room old.asked.wants now.asked.wants ids c.loop-id.id-index max_wants
+    (ap (λ (r : FormattedFetch). r.asked.wants) c.loop-id.invariant) c.loop-id-test.true c.requires.room)
     c.in-Err.ensures.2

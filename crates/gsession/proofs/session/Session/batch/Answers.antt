@@ -2,7 +2,8 @@ use Rattle.std.proofs.Common.{◌≡◌, ◌+◌, ◌≤◌, ◌<◌, ℕ, List,
 use Rattle.grequest.specs.Asked.{max_haves}
 use Rattle.gsession.proofs.BatchLemmas.{batch_none, batch_room, offer_fits}
 use Rattle.gsession.proofs.session.Session.batch.Goals as goal
-use Rattle.gsession.proofs.session.Session.batch.Goals.{else-len-le-MAX_HAVES-via-then-len-le-MAX_HAVES+else-len, else-len-le-MAX_HAVES-via-else-len-le-MAX_HAVES}
+use Rattle.gsession.proofs.session.Session.batch.Goals.{else-len-le-MAX_HAVES-via-then-len-le-MAX_HAVES+else-len}
+use Rattle.gsession.proofs.session.Session.batch.Goals.{else-len-le-MAX_HAVES-via-else-len-le-MAX_HAVES}
 
 pub returns-then-len-clause-batch : goal.returns-then-len-clause-batch
 returns-then-len-clause-batch g c =
@@ -11,7 +12,13 @@ returns-then-len-clause-batch g c =
     let room : length commons + length offer ≤ max_haves = omega arith in
     rw (← c.self.view_is) (record {
       offer = offer;
-      offered = rw (c.graph.ensures, c.as_slice.ensures.value, c.as_slice-2.ensures.value, c.as_slice-3.ensures.value, c.batch_size.ensures) at c.in_ok-offer.ensures.answer;
+      offered = rw (
+        c.graph.ensures,
+        c.as_slice.ensures.value,
+        c.as_slice-2.ensures.value,
+        c.as_slice-3.ensures.value,
+        c.batch_size.ensures,
+      ) at c.in_ok-offer.ensures.answer;
       is = batch_room commons offer room;
     })
 
@@ -21,8 +28,15 @@ returns-then-len-clause-fits g c =
     let offer = c.in_ok-offer.offer.items in
     let room : length commons + length offer ≤ max_haves = omega arith in
     rw (← c.self.view_is)
-    (offer_fits c.offers_are_exact.ensures c.places_are_nodes.ensures c.ids_have_one_format.ensures _ c.args.repo.now.graph _ offer c.self.invariant c.format-format.ensures.graph
-    (rw (c.graph.ensures, c.as_slice.ensures.value, c.as_slice-2.ensures.value, c.as_slice-3.ensures.value, c.batch_size.ensures) at c.in_ok-offer.ensures.answer) room)
+    (offer_fits c.offers_are_exact.ensures c.places_are_nodes.ensures c.ids_have_one_format.ensures _
+    c.args.repo.now.graph _ offer c.self.invariant c.format-format.ensures.graph
+    (rw (
+      c.graph.ensures,
+      c.as_slice.ensures.value,
+      c.as_slice-2.ensures.value,
+      c.as_slice-3.ensures.value,
+      c.batch_size.ensures,
+    ) at c.in_ok-offer.ensures.answer) room)
 
 pub returns-else-len-le-MAX_HAVES-clause-batch : goal.returns-else-len-le-MAX_HAVES-clause-batch
 returns-else-len-le-MAX_HAVES-clause-batch g c =
@@ -35,6 +49,12 @@ returns-else-len-le-MAX_HAVES-clause-batch g c =
     ] in
     rw (← c.self.view_is) (record {
       offer = offer;
-      offered = rw (c.graph.ensures, c.as_slice.ensures.value, c.as_slice-2.ensures.value, c.as_slice-3.ensures.value, c.batch_size.ensures) at c.in_ok-offer.ensures.answer;
+      offered = rw (
+        c.graph.ensures,
+        c.as_slice.ensures.value,
+        c.as_slice-2.ensures.value,
+        c.as_slice-3.ensures.value,
+        c.batch_size.ensures,
+      ) at c.in_ok-offer.ensures.answer;
       is = c.new.ensures.items ∙ batch_none commons offer over;
     })

@@ -9,17 +9,20 @@ use Rattle.gsession.specs.declared.stage.Stage.TheVariants.{Listing, Fetching, S
 use Rattle.gsession.proofs.session.Session.keep_wants.Goals as goal
 
 -- while refs are awaited no objects were asked for
-no_round : {A : Type 0} (s : SessionState A) (stage : Stage) (asked : LsRefsAsked) → FitsStage s stage (Some (Ls asked)) → s.rounds ≡ 0
+no_round : {A : Type 0} (s : SessionState A) (stage : Stage) (asked : LsRefsAsked) → FitsStage s stage (Some (Ls asked))
+    → s.rounds ≡ 0
 no_round s Listing asked h = h
 no_round s Fetching asked h = absurd h
 no_round s Settling asked h = absurd h
 no_round s Over asked h = absurd h
 
-fits : {A : Type 0} (s now : SessionState A) (wants : List (List ℕ)) → s.rounds ≡ 0 → now.rounds ≡ s.rounds → FitsStage now (stage_for wants) None
+fits : {A : Type 0} (s now : SessionState A) (wants : List (List ℕ)) → s.rounds ≡ 0 → now.rounds ≡ s.rounds
+    → FitsStage now (stage_for wants) None
 fits s now [] none same = tt
 fits s now (want ∷ wants) none same = omega (arith, none, same)
 
-kept : {A : Type 0} (s : SessionState A) (asks : List (Ask A)) (wants : List (List ℕ)) (stage : Stage) → stage ≡ stage_for wants
+kept : {A : Type 0} (s : SessionState A) (asks : List (Ask A)) (wants : List (List ℕ)) (stage : Stage)
+    → stage ≡ stage_for wants
     → AwaitsRefs s → IsSession s → All (IsIdOf s.format) wants → length wants ≤ max_wants
     → IsSession (record s { stage = stage; pending = None; asks = asks; wants = wants })
 kept s asks wants stage is waits old ids few =
@@ -41,4 +44,5 @@ invariant_of-self g c =
     let v = c.self.view_is in
     kept _ _ _ _ (c.stage_for-self-inside.ensures ∙ ap stage_for c.as_slice.ensures.value)
     (subst (λ (s : SessionState g.row.A.Denot). AwaitsRefs s) (sym v) c.requires.waits) c.self.invariant
-    (subst (λ (s : SessionState g.row.A.Denot). All (IsIdOf s.format) c.args.wants.items) (sym v) c.requires.ids) c.requires.few
+    (subst (λ (s : SessionState g.row.A.Denot). All (IsIdOf s.format) c.args.wants.items) (sym v) c.requires.ids)
+    c.requires.few

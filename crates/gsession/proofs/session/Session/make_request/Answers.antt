@@ -8,6 +8,9 @@ use Rattle.gsession.proofs.session.Session.make_request.Goals as goal
 pub returns-in-Listing-clause-requests : goal.returns-in-Listing-clause-requests
 returns-in-Listing-clause-requests g c =
     let s = c.args.self.now in
-    let none : s.pending ≡ None = sym (ap (λ (s : SessionState g.row.A.Denot). s.pending) c.self.view_is) ∙ none_waits c.self.inside.pending (sym c.is_some.ensures ∙ c.if-is_some.false) in
-    let listing : s.stage ≡ Listing = sym (ap (λ (s : SessionState g.row.A.Denot). s.stage) c.self.view_is) ∙ c.in-Listing.is in
-    made_next s c.ask_for_refs.new.self c.args.repo.now.graph.entries c.ask_for_refs.result none (ap₂ is_due listing none) (c.ask_for_refs.ensures.made c.args.repo.now.graph.entries)
+    let none : s.pending ≡ None = sym (ap (λ (s : SessionState g.row.A.Denot). s.pending) c.self.view_is)
+    ∙ none_waits c.self.inside.pending (sym c.is_some.ensures ∙ c.if-is_some.false) in
+    let listing : s.stage ≡ Listing =
+    sym (ap (λ (s : SessionState g.row.A.Denot). s.stage) c.self.view_is) ∙ c.in-Listing.is in
+    made_next s c.ask_for_refs.new.self c.args.repo.now.graph.entries c.ask_for_refs.result (ap₂ is_due listing none)
+    (c.ask_for_refs.ensures.made c.args.repo.now.graph.entries)

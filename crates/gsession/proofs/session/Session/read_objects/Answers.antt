@@ -1,8 +1,8 @@
 use Rattle.std.proofs.Common.{◌≡◌, [], sym, subst, ◌∙◌}
 use Rattle.gpkt.specs.Change.{change_of}
 use Rattle.gfetchreply.specs.FetchReplies.{Reading}
-use Rattle.gsession.specs.Feeding.{MayHaveFed}
-use Rattle.gsession.specs.TakingReplies.{AnswersRead, ReadsFetch, reading_for}
+use Rattle.gsession.specs.Steps.{AnswersRead, MayHaveFed}
+use Rattle.gsession.specs.TakingReplies.{ReadsFetch, reading_for}
 use Rattle.gsession.proofs.ReplyLemmas.{read_answer}
 use Rattle.gsession.proofs.session.Session.read_objects.Goals as goal
 
@@ -16,8 +16,12 @@ returns-in-Ok-clause-takes g c =
     let began = c.start-feed.ensures.indexer in
     let same = sym c.in-Ok.ensures.same ∙ began in
     let reads = subst (λ (r : Reading). ReadsFetch r change read.reply) c.in-Some.ensures.2 read.read in
-    let fed = read.pack [] (subst (λ (k : g.row.K.Denot). MayHaveFed (g.K.Indexer.fed k) (fails k) c.start-feed.result.feed []) (sym began) c.start-feed.ensures.fed) in
-    read_answer (indexes c.args.indexer.now) (fails c.args.indexer.now) c.args.self.now c.args.repo.now change asked read.reply c.take_head.new.self c.take_head.new.repo c.take_head.result
+    let fed = read.pack [] (subst
+    (λ (k : g.row.K.Denot). MayHaveFed (g.K.Indexer.fed k) (fails k) c.start-feed.result.feed [])
+    (sym began) c.start-feed.ensures.fed) in
+    read_answer (indexes c.args.indexer.now) (fails c.args.indexer.now) c.args.self.now c.args.repo.now change asked
+    read.reply c.take_head.new.self c.take_head.new.repo c.take_head.result
     c.in-Some.ensures.1 reads
-    (subst (λ (k : g.row.K.Denot). AnswersRead (indexes k) (fails k) asked.haves c.args.self.now c.args.repo.now read.reply c.take_head.new.self c.take_head.new.repo c.take_head.result) same
+    (subst (λ (k : g.row.K.Denot). AnswersRead (indexes k) (fails k) asked.haves c.args.self.now c.args.repo.now
+    read.reply c.take_head.new.self c.take_head.new.repo c.take_head.result) same
     (c.take_head.ensures asked read.reply c.in-Some.ensures.1 read.is_head fed))

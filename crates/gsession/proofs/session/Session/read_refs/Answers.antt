@@ -8,5 +8,7 @@ use Rattle.gsession.proofs.session.Session.read_refs.Goals as goal
 pub returns-in-Ok-clause-takes : goal.returns-in-Ok-clause-takes
 returns-in-Ok-clause-takes g c =
     let change = change_of g.S.Source.remaining c.args.reader.now.source c.read_ls_reply_in.new.reader.source in
-    refs_answer c.args.self.now c.args.repo.now.graph.entries change c.in-Ok.reply c.take_refs.new.self c.take_refs.result c.if-not-awaits_refs.ensures
-    (subst (λ (s : SessionState g.row.A.Denot). ReadsRefs s change c.in-Ok.reply) c.self.view_is c.in-Ok.ensures.read) c.take_refs.ensures
+    refs_answer c.args.self.now c.args.repo.now.graph.entries change c.in-Ok.reply c.take_refs.new.self
+    c.take_refs.result c.if-not-awaits_refs.ensures
+    (subst (λ (s : SessionState g.row.A.Denot). ReadsRefs s change c.in-Ok.reply) c.self.view_is c.in-Ok.ensures.read)
+    c.take_refs.ensures

@@ -20,7 +20,9 @@ returns-in_err-added g c = λ asked reply waits same has fed.
     let named = subst (λ (l : List (List ℕ)). All (Contains asked.haves) l) (sym same) counts.0 in
     let adds = rw c.as_slice.ensures.value at c.in_err-added.ensures.adds in
     rw (p.1, p.2) (
-      graph_fault (g.K.Indexer.indexes c.args.feed.indexer.now) (g.K.Indexer.index_fails c.args.feed.indexer.now) asked.haves c.args.repo.now reply c.in_err-added.field-0.0 named has (c.in_ok-entries.entries.items, c.in_ok-entries.ensures (pack_of reply) fed, adds.1),
+      graph_fault (g.K.Indexer.indexes c.args.feed.indexer.now) (g.K.Indexer.index_fails c.args.feed.indexer.now)
+          asked.haves c.args.repo.now reply c.in_err-added.field-0.0 named has
+          (c.in_ok-entries.entries.items, c.in_ok-entries.ensures (pack_of reply) fed, adds.1),
       refl,
       same_repo c.insert_all.new.self c.args.repo.now adds.0 c.in_err-added.ensures.refs c.in_err-added.ensures.known,
     )
@@ -38,7 +40,12 @@ returns g c = λ asked reply waits same has fed.
         (
           c.in_ok-entries.entries.items,
           c.in_ok-entries.ensures (pack_of reply) fed,
-          record { adds = rw c.as_slice.ensures.value at c.in_ok-added.ensures.adds; refs = c.in_ok-added.ensures.refs; known = c.in_ok-added.ensures.known },
+          record {
+            adds = rw c.as_slice.ensures.value at c.in_ok-added.ensures.adds;
+            refs =
+                c.in_ok-added.ensures.refs;
+            marks = c.in_ok-added.ensures.known;
+          },
         ),
       ),
     )

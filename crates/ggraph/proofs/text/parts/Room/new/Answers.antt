@@ -4,7 +4,7 @@ use Rattle.gname.specs.declared.formats.Format.TheVariants.{Sha1}
 use Rattle.gname.specs.declared.ids.OidFault.{OidFault}
 use Rattle.gname.specs.declared.ids.OidFault.TheVariants.{Length, Digit}
 use Rattle.gname.specs.Ids.{ReadsId}
-use Rattle.ggraph.proofs.text.parts.ParentRoom.new.Goals as goal
+use Rattle.ggraph.proofs.text.parts.Room.new.Goals as goal
 
 -- forty noughts are the text of an id
 noughts : (r : Result (List ℕ) OidFault) → ReadsId Sha1 (replicate 40 48) r → IsOk r
