@@ -20,7 +20,7 @@ use Rattle.gsession.specs.TakingReplies.{TakesHead}
 use Rattle.gsession.specs.declared.taken.Taken.{Taken}
 use Rattle.gsession.specs.declared.taken.Taken.TheVariants.{Round, PackTaken}
 use Rattle.gclient.specs.Conversations.{Start, begun, heard}
-use Rattle.gclient.specs.Laws.{NextIsFew, TalksAreFew, asked_in, count_of, objects_asked}
+use Rattle.gclient.specs.Laws.{NextIsFew, RoundsAreAsked, TalksAreFew, asked_in, count_of, objects_asked}
 use Rattle.gclient.specs.Turns.{AreTurns, AsksNext, ClientState, IsTurn, Takes, Turn}
 use Rattle.gclient.proofs.TurnLemmas.{grows_on, turn_kept, waits}
 
@@ -96,120 +96,132 @@ module _ {A : Type 0} (indexes : Indexes A) (index_fails : IndexFails) where
   taken_rounds old waiting (Fetches asked) reply new takes =
       head_rounds old.repo waiting new.session takes.reply new.repo takes.taken takes.takes.1
 
+  -- ---- rounds
+
+  next_rounds : (old : ClientState A) (asked : Asked) (waiting : SessionState A) → AsksNext old asked waiting
+      → waiting.rounds ≡ old.session.rounds + count_of asked
+  next_rounds old asked waiting made =
+      ap (λ (s : SessionState A). s.rounds) made.1.2 ∙ asked_rounds old.session asked made.1.0
+
+  turn_rounds : (old : ClientState A) (turn : Turn) (new : ClientState A) → IsTurn indexes index_fails old turn new
+      → new.session.rounds ≡ old.session.rounds + count_of turn.asked
+  turn_rounds old turn new is =
+      taken_rounds old is.waiting turn.asked turn.reply new is.takes
+      ∙ next_rounds old turn.asked is.waiting is.asks
+
+  turns_rounds : (first : ClientState A) (talk : List Turn) (last : ClientState A)
+      → AreTurns indexes index_fails first talk last
+      → last.session.rounds ≡ first.session.rounds + objects_asked (asked_in talk)
+  turns_rounds first [] last is =
+      let nothing : objects_asked (asked_in []) ≡ 0 = refl in
+      let same : last.session.rounds ≡ first.session.rounds = ap (λ (c : ClientState A). c.session.rounds) is in
+      omega (arith, same)
+  turns_rounds first (turn ∷ talk) last (next, is, rest) =
+      let more : objects_asked (asked_in (turn ∷ talk)) ≡ count_of turn.asked + objects_asked (asked_in talk) = refl in
+      omega (arith, turn_rounds first turn next is, turns_rounds next talk last rest)
+
+  pub rounds_are_asked : RoundsAreAsked indexes index_fails
+  rounds_are_asked start capabilities talk last are =
+      let none : (heard start capabilities).session.rounds ≡ 0 = refl in
+      omega (arith, turns_rounds (heard start capabilities) talk last are)
+
   -- ---- so far
 
-  -- after so many requests for objects
-  record IsGoing (start : Start A) (session : SessionState A) (repo : RepoState A) (count : ℕ) : Type 0 where
+  -- what a session keeps of its beginning
+  record IsGoing (start : Start A) (session : SessionState A) (repo : RepoState A) : Type 0 where
     counted : IsCounted session
     began : BeganOn start.repo.graph.entries session
     grows : Grows start.repo.graph.entries repo.graph.entries
     tips : session.tips ≡ tips_of start.repo
-    rounds : session.rounds ≡ count
 
   still : (start : Start A) → Grows start.repo.graph.entries start.repo.graph.entries
   still start = ([], sym (append-nil start.repo.graph.entries))
 
   -- a call more
   called : CountLaws indexes index_fails
-      → (start : Start A) (old new : SessionState A) (repo after : RepoState A) (count total : ℕ)
-      → IsGoing start old repo count
+      → (start : Start A) (old new : SessionState A) (repo after : RepoState A) → IsGoing start old repo
       → HasCalled indexes index_fails repo old new → Grows start.repo.graph.entries after.graph.entries
-      → new.rounds ≡ total → IsGoing start new after total
-  called laws start old new repo after count total was call grows rounds = record {
+      → IsGoing start new after
+  called laws start old new repo after was call grows = record {
     counted = laws.counted repo old new was.counted call;
     began = laws.stays_on start.repo.graph.entries repo old new was.grows was.began call;
     grows = grows;
     tips = (laws.goes_on repo old new call).tips ∙ was.tips;
-    rounds = rounds;
   }
 
   begun_going : CountLaws indexes index_fails → (start : Start A) → IsWhole start.repo
-      → length start.refspecs ≤ max_specs → IsGoing start (begun start) start.repo 0
+      → length start.refspecs ≤ max_specs → IsGoing start (begun start) start.repo
   begun_going laws start whole few = record {
     counted = laws.begins start.repo start.refspecs start.limit start.ends (begun start) (few, refl);
     began = laws.begins_on start.repo start.refspecs start.limit start.ends (begun start) whole (few, refl);
     grows = still start;
     tips = refl;
-    rounds = refl;
   }
 
   heard_going : CountLaws indexes index_fails → (start : Start A) (capabilities : List Capability) → IsWhole start.repo
       → length start.refspecs ≤ max_specs
-      → IsGoing start (heard start capabilities).session start.repo 0
+      → IsGoing start (heard start capabilities).session start.repo
   heard_going laws start capabilities whole few =
-      called laws start (begun start) (heard start capabilities).session start.repo start.repo 0 0
+      called laws start (begun start) (heard start capabilities).session start.repo start.repo
       (begun_going laws start whole few)
-      (heard_call capabilities (Ok tt) ((refl, refl), refl)) (still start) refl
+      (heard_call capabilities (Ok tt) ((refl, refl), refl)) (still start)
 
   -- the next request is made
   asked_going : CountLaws indexes index_fails
-      → (start : Start A) (old : ClientState A) (asked : Asked) (waiting : SessionState A) (count : ℕ)
-      → IsGoing start old.session old.repo count → AsksNext old asked waiting
-      → IsGoing start waiting old.repo (count + count_of asked)
-  asked_going laws start old asked waiting count was made =
-      called laws start old.session waiting old.repo old.repo count (count + count_of asked) was
-      (requested (Ok asked) made) was.grows
-      (ap (λ (s : SessionState A). s.rounds) made.1.2 ∙ asked_rounds old.session asked made.1.0
-      ∙ ap (λ (n : ℕ). n + count_of asked) was.rounds)
+      → (start : Start A) (old : ClientState A) (asked : Asked) (waiting : SessionState A)
+      → IsGoing start old.session old.repo → AsksNext old asked waiting → IsGoing start waiting old.repo
+  asked_going laws start old asked waiting was made =
+      called laws start old.session waiting old.repo old.repo was (requested (Ok asked) made) was.grows
 
   turn_going : CountLaws indexes index_fails
-      → (start : Start A) (old : ClientState A) (turn : Turn) (new : ClientState A) (count : ℕ)
-      → IsGoing start old.session old.repo count → IsTurn indexes index_fails old turn new
-      → IsGoing start new.session new.repo (count + count_of turn.asked)
-  turn_going laws start old turn new count was is =
-      let asked = asked_going laws start old turn.asked is.waiting count was is.asks in
-      called laws start is.waiting new.session old.repo new.repo (count + count_of turn.asked)
-      (count + count_of turn.asked) asked
+      → (start : Start A) (old : ClientState A) (turn : Turn) (new : ClientState A)
+      → IsGoing start old.session old.repo → IsTurn indexes index_fails old turn new
+      → IsGoing start new.session new.repo
+  turn_going laws start old turn new was is =
+      called laws start is.waiting new.session old.repo new.repo
+      (asked_going laws start old turn.asked is.waiting was is.asks)
       (taken_called old is.waiting turn.asked turn.reply new
       (waits old.repo.graph.entries old.session is.waiting turn.asked is.asks) is.takes)
       (grows_on start.repo.graph.entries old.repo.graph.entries new.repo.graph.entries was.grows
       (turn_kept indexes index_fails old turn new is).grows)
-      (taken_rounds old is.waiting turn.asked turn.reply new is.takes ∙ asked.rounds)
 
   turns_going : CountLaws indexes index_fails
-      → (start : Start A) (first : ClientState A) (talk : List Turn) (last : ClientState A) (count total : ℕ)
-      → IsGoing start first.session first.repo count → AreTurns indexes index_fails first talk last
-      → count + objects_asked (asked_in talk) ≡ total
-      → IsGoing start last.session last.repo total
-  turns_going laws start first [] last count total was is sum =
-      let nothing : objects_asked (asked_in []) ≡ 0 = refl in
-      let none : count ≡ total = omega (arith, sum) in
-      subst (λ (n : ℕ). IsGoing start last.session last.repo n) none
-      (subst (λ (c : ClientState A). IsGoing start c.session c.repo count) (sym is) was)
-  turns_going laws start first (turn ∷ talk) last count total was (next, is, rest) sum =
-      let more : objects_asked (asked_in (turn ∷ talk)) ≡ count_of turn.asked + objects_asked (asked_in talk) = refl in
-      turns_going laws start next talk last (count + count_of turn.asked) total
-      (turn_going laws start first turn next count was is) rest (omega (arith, sum))
+      → (start : Start A) (first : ClientState A) (talk : List Turn) (last : ClientState A)
+      → IsGoing start first.session first.repo → AreTurns indexes index_fails first talk last
+      → IsGoing start last.session last.repo
+  turns_going laws start first [] last was is =
+      subst (λ (c : ClientState A). IsGoing start c.session c.repo) (sym is) was
+  turns_going laws start first (turn ∷ talk) last was (next, is, rest) =
+      turns_going laws start next talk last (turn_going laws start first turn next was is) rest
 
   talk_going : CountLaws indexes index_fails
       → (start : Start A) (capabilities : List Capability) (talk : List Turn) (last : ClientState A)
       → IsWhole start.repo
       → length start.refspecs ≤ max_specs → AreTurns indexes index_fails (heard start capabilities) talk last
-      → IsGoing start last.session last.repo (objects_asked (asked_in talk))
+      → IsGoing start last.session last.repo
   talk_going laws start capabilities talk last whole few are =
-      turns_going laws start (heard start capabilities) talk last 0 (objects_asked (asked_in talk))
-      (heard_going laws start capabilities whole few) are (omega arith)
+      turns_going laws start (heard start capabilities) talk last
+      (heard_going laws start capabilities whole few) are
 
   going_few : CountLaws indexes index_fails
-      → (start : Start A) (session : SessionState A) (repo : RepoState A) (count held parents : ℕ)
-      → IsGoing start session repo count
-      → CountsReached start.repo.graph.entries (tips_of start.repo) held parents → count ≤ held + 1
-  going_few laws start session repo count held parents going counts =
-      let few : session.rounds ≤ held + 1 =
+      → (start : Start A) (session : SessionState A) (repo : RepoState A) (held parents : ℕ)
+      → IsGoing start session repo
+      → CountsReached start.repo.graph.entries (tips_of start.repo) held parents → session.rounds ≤ held + 1
+  going_few laws start session repo held parents going counts =
       laws.few start.repo.graph.entries session held parents going.counted going.began
       (subst (λ (ids : List (List ℕ)). CountsReached start.repo.graph.entries ids held parents)
-      (sym going.tips) counts) in
-      omega (arith, few, going.rounds)
+      (sym going.tips) counts)
 
   pub talks_are_few : CountLaws indexes index_fails → TalksAreFew indexes index_fails
   talks_are_few laws start capabilities talk last held parents whole few are counts =
-      going_few laws start last.session last.repo (objects_asked (asked_in talk)) held parents
-      (talk_going laws start capabilities talk last whole few are) counts
+      let most = going_few laws start last.session last.repo held parents
+      (talk_going laws start capabilities talk last whole few are) counts in
+      omega (arith, most, rounds_are_asked start capabilities talk last are)
 
   pub next_is_few : CountLaws indexes index_fails → NextIsFew indexes index_fails
   next_is_few laws start capabilities talk last asked waiting held parents whole few are made counts =
-      let going = asked_going laws start last asked waiting (objects_asked (asked_in talk))
+      let going = asked_going laws start last asked waiting
       (talk_going laws start capabilities talk last whole few are) made in
-      let most = going_few laws start waiting last.repo (objects_asked (asked_in talk) + count_of asked) held parents
-      going counts in
-      omega (arith, most, one_more (asked_in talk) asked)
+      let most = going_few laws start waiting last.repo held parents going counts in
+      let rounds = rounds_are_asked start capabilities talk last are in
+      omega (arith, most, rounds, next_rounds last asked waiting made, one_more (asked_in talk) asked)

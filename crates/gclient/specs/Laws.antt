@@ -32,6 +32,13 @@ objects_asked (asked ∷ requests) = count_of asked + objects_asked requests
 abbrev pub asked_in : List Turn → List Asked
 asked_in talk = map (λ turn. turn.asked) talk
 
+-- the rounds of the session are the requests for objects among the turns
+abbrev pub RoundsAreAsked : {A : Type 0} → Indexes A → IndexFails → Type 0
+RoundsAreAsked {A} indexes index_fails =
+    (start : Start A) (capabilities : List Capability) (talk : List Turn) (last : ClientState A)
+    → AreTurns indexes index_fails (heard start capabilities) talk last
+    → last.session.rounds ≡ objects_asked (asked_in talk)
+
 -- the turns ask for objects at most once more than there are ids that the refs reached at the beginning
 abbrev pub TalksAreFew : {A : Type 0} → Indexes A → IndexFails → Type 0
 TalksAreFew {A} indexes index_fails =

@@ -1,13 +1,19 @@
 // Laws of conversations. A call does nothing, and gives its caller's proof the law.
 #![tactic(auto)]
 
-ghost use Rattle.gclient.specs.Laws.{EndsAreFew, FailingKeepsRefs, FetchingGrows, NextIsFew, TalksAreFew};
+ghost use Rattle.gclient.specs.Laws.{EndsAreFew, FailingKeepsRefs, FetchingGrows, NextIsFew, RoundsAreAsked};
+ghost use Rattle.gclient.specs.Laws.{TalksAreFew};
 
 use ggraph::Indexer;
 use gsession::laws::{
     began_begins, began_stays_on, calls_go_on, counted_are_few, requests_are_counted,
 };
 use std::alloc::Allocator;
+
+/// The rounds that a session counts are the requests for objects of its conversation.
+pub fn rounds_are_asked<A: Allocator + Copy, K: Indexer<A>>()
+    ensures { (k : K) → RoundsAreAsked (K.indexes k) (K.index_fails k) }
+{}
 
 /// A conversation asks for objects at most once more than there are ids that the refs reached when it began, whatever
 /// the server says and whatever its end is, also where it failed.

@@ -16,7 +16,8 @@
 //! - After every fault the refs are as they were. In all cases to the graph objects only came, and the whole ancestry
 //!   of each ref is held.
 //! - A conversation asks for objects at most once more than there are ids that the refs reached when it began, also
-//!   where it fails ([`laws`]). So it ends where each call of its devices returns, whatever the server says.
+//!   where it fails; the rounds that its session counts are these requests ([`laws`]). So it ends where each call of
+//!   its devices returns, whatever the server says.
 //! - Each fault has the number and the name of its row.
 //!
 //! # Only tested

@@ -17,15 +17,12 @@ use ganswer::{BuildFault, ServeFault};
 use gclient::{ClientFault, FetchFault};
 use ggrammar::Why;
 use ggraph::{GraphFault, LoadFault};
-use gname::Oid;
+use gname::{HEAD, Oid};
 use gpkt::{Down, Sink, WriteFault};
 use std::alloc::Allocator;
 
 /// The most bytes of a fault's line: its words, a name of 32, three numbers of 20, and a text of 1,000.
 const MAX_FAULT_LINE: usize = 1_121;
-
-/// The name of HEAD.
-const HEAD: &[u8] = b"HEAD";
 
 /// What is printed of a fault.
 #[derive(Clone, Copy)]
@@ -278,7 +275,7 @@ fn ref_in_build<A: Allocator + Copy>(fault: &BuildFault<A>) -> Option<&[u8]>
 {
     match fault {
         BuildFault::RefMissing { name } => Some(name.as_bytes()),
-        BuildFault::HeadMissing => Some(HEAD),
+        BuildFault::HeadMissing => Some(HEAD.as_slice()),
         _ => None,
     }
 }

@@ -5,7 +5,7 @@ use Rattle.std.specs.Prelude.{Result, Ok, Err}
 use Rattle.std.specs.List.{slice_split}
 use Rattle.std.specs.Str.{bytes_eq}
 use Rattle.gname.specs.Ids.{id_text}
-use Rattle.gname.specs.Names.{name_fault}
+use Rattle.gname.specs.Names.{head_name, name_fault}
 use Rattle.gname.specs.declared.formats.Format.{Format}
 use Rattle.ggrammar.specs.Ids.{id_of_text}
 use Rattle.ggrammar.specs.PeerErrors.{after_word}
@@ -107,7 +107,7 @@ unborn_after_head parts = Err BadText
 -- `unborn HEAD symref-target:` and a name
 abbrev pub unborn_of_parts : List (List ℕ) → Result (List ℕ) Why
 unborn_of_parts [] = Err BadText
-unborn_of_parts (head ∷ parts) = if bytes_eq head (codes "HEAD") then unborn_after_head parts else Err BadText
+unborn_of_parts (head ∷ parts) = if bytes_eq head head_name then unborn_after_head parts else Err BadText
 
 pub data FirstForm : Type 0 where
   UnbornForm : (target : Result (List ℕ) Why) → FirstForm

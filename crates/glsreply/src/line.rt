@@ -8,7 +8,7 @@ ghost use Rattle.glsreply.specs.LineViews.{line_parts, line_read, attribute_view
 use bumpalo::Bump;
 use ggrammar::{Why, after_word, id_of_text};
 use gname::laws::rules_never_report_memory;
-use gname::{Format, NameFault, Oid, RefName};
+use gname::{Format, HEAD, NameFault, Oid, RefName};
 use std::alloc::Allocator;
 
 /// The parts of the line of a ref, lent from its text.
@@ -180,7 +180,7 @@ fn unborn_of_parts<A: Allocator + Copy>(alloc: A, rest: Option<&[u8]>) -> Result
         return Err(Why::BadText);
     };
     let (head, rest) = cut(rest);
-    if head == b"HEAD".as_slice() {
+    if head == HEAD.as_slice() {
         unborn_after_head(alloc, rest)
     } else {
         Err(Why::BadText)

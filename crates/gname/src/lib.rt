@@ -54,6 +54,6 @@ pub use crate::faults::NameFault;
 pub use crate::formats::Format;
 pub use crate::ids::{MAX_ID_TEXT, Oid, OidFault};
 pub use crate::limits::MAX_PACK;
-pub use crate::names::RefName;
+pub use crate::names::{HEAD, RefName};
 pub use crate::prefixes::Prefix;
 pub use crate::rules::MAX_NAME;

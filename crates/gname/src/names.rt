@@ -21,7 +21,8 @@ use std::fmt;
 use std::hash::{Hash, Hasher};
 use std::marker::Model;
 
-const HEAD: &[u8; 4] = b"HEAD";
+/// The name that says where a repository stands (gitglossary(7), "HEAD").
+pub const HEAD: &[u8; 4] = b"HEAD";
 
 /// A ref name: `HEAD`, or a name below `refs/`. Names are equal and ordered by their bytes.
 #[derive(Drop)]

@@ -1,5 +1,5 @@
 -- How a session begins, that each request offers something new, and which one is the last.
-use Rattle.std.proofs.Common.{◌≡◌, ◌==◌, ◌∙◌, ℕ, Bool, true, false, List, [], ◌∷◌, ◌++◌, length, All, Contains, Ok}
+use Rattle.std.proofs.Common.{◌≡◌, ◌∙◌, ℕ, true, false, List, [], ◌∷◌, ◌++◌, All, Contains}
 use Rattle.std.proofs.Common.{refl}
 use Rattle.std.proofs.Common.{sym, ap, subst}
 use Rattle.std.specs.Map.{values_of}
@@ -16,12 +16,13 @@ use Rattle.ghistory.specs.Laws.{DistinctAreOnce, OffersAreExact}
 use Rattle.ghistory.specs.Levels.{distinct_of}
 use Rattle.ghistory.specs.Reach.{IsFull, SomeReaches}
 use Rattle.grepo.specs.Repos.{RepoState, IsWhole}
-use Rattle.grequest.specs.Asked.{FetchAsked, is_direct}
+use Rattle.grequest.specs.Asked.{Asked, Empty, Ls, Fetches, FetchAsked, is_direct}
 use Rattle.gsession.specs.Bounds.{BeganBegins, BeganOn, OffersAreNew}
-use Rattle.gsession.specs.Requesting.{IsBatch, batch_size, fetch_request}
+use Rattle.gsession.specs.Laws.{OneNext}
+use Rattle.gsession.specs.Requesting.{IsBatch, IsNext, batch_of, batch_size, fetch_request, waiting_for}
 use Rattle.gsession.specs.Sessions.{SessionState}
 use Rattle.gsession.specs.TakingReplies.{DoneIsLast, HasPack, TakesHead, reading_for}
-use Rattle.gsession.specs.declared.stage.Stage.TheVariants.{Settling}
+use Rattle.gsession.specs.declared.stage.Stage.TheVariants.{Listing, Fetching, Settling}
 use Rattle.gsession.specs.declared.taken.Taken.{Taken}
 use Rattle.gsession.specs.declared.taken.Taken.TheVariants.{Round, PackTaken}
 use Rattle.gsession.proofs.BoundLemmas.{in_batch}
@@ -38,6 +39,9 @@ direct_pack reading (Pack pack) lines direct says = tt
 
 done_direct : (asked : FetchAsked) → asked.done ≡ true → is_direct asked ≡ true
 done_direct asked done = rw done refl
+
+stages_differ : Listing ≡ Fetching → ⊥
+stages_differ same = cc
 
 module _ {A : Type 0} where
   -- no id of a batch was offered before
@@ -66,6 +70,35 @@ module _ {A : Type 0} where
   pub offers_are_new : OffersAreExact A → OffersAreNew A
   offers_are_new exact g old new asked made goes_on =
       new_id old asked made.0 made.1.1 (fresh_batch exact old g made.0 made.1.2) goes_on
+
+  one_batch : OffersAreExact A → (s : SessionState A) (g : List (Entry A)) (batch other : List (List ℕ))
+      → IsBatch s g batch → IsBatch s g other → batch ≡ other
+  one_batch exact s g batch other is also =
+      let same : is.offer ≡ also.offer =
+      (exact g s.tips s.commons s.sent (batch_size s.rounds)).one is.offer also.offer is.offered also.offered in
+      is.is ∙ ap (batch_of s.commons) same ∙ sym also.is
+
+  -- what is asked next is one
+  one_request : OffersAreExact A → (s : SessionState A) (g : List (Entry A)) (asked also : Asked)
+      (batch other : List (List ℕ)) → IsNext s g asked batch → IsNext s g also other
+      → (asked ≡ also) × (batch ≡ other)
+  one_request exact s g Empty also batch other is too = absurd is
+  one_request exact s g (Ls asked) Empty batch other is too = absurd too
+  one_request exact s g (Ls asked) (Ls also) batch other is too =
+      (ap Ls (is.1 ∙ sym too.1), is.2 ∙ sym too.2)
+  one_request exact s g (Ls asked) (Fetches also) batch other is too = absurd (stages_differ (sym is.0 ∙ too.0))
+  one_request exact s g (Fetches asked) Empty batch other is too = absurd too
+  one_request exact s g (Fetches asked) (Ls also) batch other is too = absurd (stages_differ (sym too.0 ∙ is.0))
+  one_request exact s g (Fetches asked) (Fetches also) batch other is too =
+      let same : batch ≡ other = one_batch exact s g batch other is.2 too.2 in
+      (ap Fetches (is.1 ∙ ap (fetch_request s.wants s.commons) same ∙ sym too.1), same)
+
+  pub one_next : OffersAreExact A → OneNext A
+  one_next exact g old new other asked also made too =
+      let same = one_request exact old g asked also made.0 too.0 made.1 too.1 in (
+        same.0,
+        made.2 ∙ ap (λ (r : Asked). waiting_for old r made.0) same.0 ∙ ap (waiting_for old also) same.1 ∙ sym too.2,
+      )
 
   tips_are_full : DistinctAreOnce → (r : RepoState A) → IsWhole r
       → All (IsFull r.graph.entries) (distinct_of (values_of r.refs))

@@ -65,6 +65,12 @@ ListingIsDecided A =
     (result : Result (LsTaken A) (ClientFault A)) → TakesLs old g (known bytes left) one result
     → TakesLs old g (known bytes also) other result → one ≡ other
 
+-- the session and the graph decide the next request, and the session that then waits for its reply
+abbrev pub OneNext : Type 0 → Type 0
+OneNext A =
+    (g : List (Entry A)) (old new other : SessionState A) (asked also : Asked) → MakesNext old g new asked
+    → MakesNext old g other also → (asked ≡ also) × (new ≡ other)
+
 -- ---- haves
 
 -- the whole ancestry of each have is held, where those of the tips and of the common ids are

@@ -6,7 +6,7 @@ ghost use Rattle.gsession.specs.Bounds.{BeganBegins, BeganStays, BeganStaysOn, B
 ghost use Rattle.gsession.specs.Bounds.{CountedAreFew, CountedStays, DoneAsksLast, LastStays, NoneFollows};
 ghost use Rattle.gsession.specs.Bounds.{OfferedStays, OffersAreNew, RoundsAreFew};
 ghost use Rattle.gsession.specs.Laws.{AsksAreOfLines, CommonsAreHaves, EachGoesOn, HavesAreFull, HavesAreNew};
-ghost use Rattle.gsession.specs.Laws.{ListingIsDecided, OverHearsNone, OverRequestsNone, OverSettlesNone};
+ghost use Rattle.gsession.specs.Laws.{ListingIsDecided, OneNext, OverHearsNone, OverRequestsNone, OverSettlesNone};
 ghost use Rattle.gsession.specs.Laws.{OverTakesNoRefs, OverTakesNoReply, RepliesAddCommons};
 ghost use Rattle.gsession.specs.Laws.{TakingOnlyGrows, WantsAreExact};
 ghost use Rattle.gsession.specs.TakingReplies.{DoneIsLast, TakingIsDecided};
@@ -120,6 +120,13 @@ pub fn wants_are_exact<A: Allocator + Copy>()
     ensures { WantsAreExact A }
 {
     distinct_are_once();
+}
+
+/// The session and the graph decide the next request, and the session that then waits for its reply.
+pub fn one_next<A: Allocator + Copy>()
+    ensures { OneNext A }
+{
+    offers_are_exact::<A>();
 }
 
 /// The haves of a request are ids whose whole ancestry is held, where those of the tips and of the common ids are. Each

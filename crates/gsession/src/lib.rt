@@ -8,7 +8,8 @@
 //!   are more than 16 refspecs. [`Session::hear`] keeps whether the server tells of an unborn `HEAD`.
 //! - [`Session::request`] makes the one request that is due. For refs it has the sources of the refspecs, each once,
 //!   and asks for an unborn `HEAD` exactly where the server offers to tell of it. For objects it has the wants, the
-//!   common ids, and a batch of ids that were not offered before; without a batch the client is done.
+//!   common ids, and a batch of ids that were not offered before; without a batch the client is done. The
+//!   session and the graph decide the request, and the session that then waits for its reply ([`laws`]).
 //! - [`Session::take_ls`] reads one reply to its end, and nothing after it. It answers what is asked for, the first ask
 //!   for a ref alone; wanted is each asked id whose whole ancestry is not held. A ref that can't have its name is
 //!   reported at the reply's last packet, and before too many wants are.

@@ -11,7 +11,7 @@ use crate::fault::SpecFault;
 use crate::parse::read_spec;
 use crate::side::name_of;
 use gname::laws::names_are_clean;
-use gname::{NameFault, Prefix, RefName};
+use gname::{HEAD, NameFault, Prefix, RefName};
 use std::alloc::{AllocError, Allocator, Global};
 use std::marker::Model;
 
@@ -100,7 +100,7 @@ impl<A: Allocator + Copy> Spec<A> {
     pub fn is_head(&self) -> bool
         ensures { IsTrue result ↔ (self.now.source ≡ head_name) }
     {
-        self.source.as_bytes() == b"HEAD".as_slice()
+        self.source.as_bytes() == HEAD.as_slice()
     }
 
     /// What each name that the source matches begins with: the source, or of a pattern what stands before its `*`.
