@@ -20,7 +20,7 @@ pub enum ProgramFault<A: Allocator + Copy = Global> {
     /// 64: there is no memory for a file, for a buffer of standard input or output, or to judge a repository.
     #[error("out of memory")]
     Memory,
-    /// 95: a file could not be read.
+    /// 95: the repository's file could not be read, or could not be written after a fetch.
     #[error("the file can't be read")]
     File,
     /// 67, 68, 64: a file is no repository's text.
@@ -38,7 +38,8 @@ pub enum ProgramFault<A: Allocator + Copy = Global> {
     /// 87, 18: a word is no refspec, or there is no memory to keep those that are.
     #[error("{0}")]
     Spec(SpecFault),
-    /// 20 to 69, 75, 80, 82 and 84 to 86: a client's repository was refused, or fetching into it failed.
+    /// 20 to 25, 27 to 30, 41 to 54, 60 to 64, 66, 69, 75, 80, 82 and 84 to 86: the whole ancestry of a ref of
+    /// a client's repository is not held (80), fetching into it failed, or there is no memory.
     #[error("{0}")]
     Fetch(FetchFault<A>),
     /// 27: the output failed.

@@ -1,5 +1,5 @@
-//! What no clause says: whole runs whose bytes were written by hand, devices and memory at their worst, and the text of
-//! every fault.
+//! What no clause says: whole runs whose bytes were written by hand, devices and memory at their worst, and what is
+//! printed of a fault of each number.
 mod clients;
 mod connections;
 mod cuts;

@@ -6,6 +6,7 @@ mod lines;
 mod loading;
 mod parts;
 mod reading;
+mod recent;
 mod saving;
 
 pub(crate) use crate::text::laws::text_laws;

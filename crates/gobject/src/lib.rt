@@ -21,8 +21,7 @@
 //!
 //! # Only tested
 //!
-//! The texts of the faults, that memory which is there is used, and that the longest pack is written and
-//! read.
+//! The texts of the faults, that memory which is there is used, and that the longest pack is written.
 //!
 //! # What a body can still get away with
 //!

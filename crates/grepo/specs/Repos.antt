@@ -1,4 +1,5 @@
--- A client's repository: objects, refs, and marks of objects whose whole ancestry is held.
+-- A client's repository: objects, refs, and marks of objects whose whole ancestry is held. Git's manuals leave
+-- open what a client keeps; that it keeps these marks, and that its repository is whole at all times, is our own rule.
 use Rattle.std.specs.Prelude.{◌≡◌, ◌⊎◌, List, ℕ, Bool, ◌∷◌, ◌++◌, ◌+◌, ◌<◌, All, Contains, length, take}
 use Rattle.std.specs.Map.{values_of}
 use Rattle.gobject.specs.declared.node.Entry.{Entry}

@@ -1,4 +1,5 @@
--- How often a session asks for objects.
+-- How often a session asks for objects. Git's manuals leave that open; that each request but the last
+-- offers an id that was not offered before is our own rule.
 use Rattle.std.specs.Prelude.{◌≡◌, ◌⊎◌, ℕ, ◌+◌, ◌≤◌, true, false, List, length, All, Contains, None, Result, Ok}
 use Rattle.std.specs.List.{IsDistinct}
 use Rattle.std.specs.Str.{bytes_eq}

@@ -1,4 +1,5 @@
 -- Refspecs (git-fetch(1), "<refspec>"): which refs of another repository are fetched, and which refs here they move.
+-- Git takes more forms: that `SRC:DST` alone is taken, with `+` before it or not, is our own rule.
 use Rattle.std.specs.Prelude.{◌≡◌, ℕ, Bool, true, false, ◌&&◌, List, [], ◌++◌, length, drop, codes, nat_eq, nat_lt}
 use Rattle.std.specs.Prelude.{if◌then◌else◌, Option, None, Some, Result, Ok, Err}
 use Rattle.std.specs.List.{ends_with, starts_with}

@@ -3,8 +3,9 @@ use super::samples::{
     ADVERT, ADVERT_SHA256, ADVERT_UNBORN, ASK, ASK_ALL, ASK_REFS, CLIENT, CLIENT_AT_C, EMPTY,
     EMPTY_SHA256, END, MAIN, PACK, PACK_ALL, REFS, check_fetched, hold, joined, spelled,
 };
-use crate::RefUpdate;
+use crate::{ClientFault, FetchFault, RefUpdate};
 use ggrammar::Ends;
+use ggraph::IndexFault;
 use std::alloc::Global;
 use std::process::Abort;
 use std::test::Fail;
@@ -310,24 +311,30 @@ fn an_unborn_head_is_known(rt: HostRuntime) -> Result<(), Fail> {
     Ok(())
 }
 
+const BEFORE_PACK: &[u8] = b"0014acknowledgments\n0031ACK {a}\n000aready\n0001000dpackfile\n";
+
+const COMMITS: &[u8] = b"GPK1\nc {b} {a}\nc {c} {b}\nend 2\n";
+
+// The first line does not end where it is due.
+const NO_HEADER: &[u8] = b"GPK1xc {b} {a}\nc {c} {b}\nend 2\n";
+
+// The packet of a piece of a pack.
+fn put_piece(alloc: Global, input: &mut Vec<u8>, piece: &[u8]) -> Result<(), Fail> {
+    let count = piece.len().saturating_add(5);
+    let digits = format!(in alloc; "{count:04x}")?;
+    input.extend_from_slice(digits.as_bytes())?;
+    input.push(1)?;
+    input.extend_from_slice(piece)?;
+    Ok(())
+}
+
 // What is read where the pack comes in pieces of so many bytes.
-fn input_in(rt: &impl Abort, alloc: Global, size: usize) -> Result<Vec<u8>, Fail> {
+fn input_in(rt: &impl Abort, alloc: Global, pack: &[u8], size: usize) -> Result<Vec<u8>, Fail> {
     assert!(rt; size > 0);
-    let mut input = joined(
-        alloc,
-        &[
-            ADVERT,
-            REFS,
-            b"0014acknowledgments\n0031ACK {a}\n000aready\n0001000dpackfile\n",
-        ],
-    )?;
-    let pack = spelled(alloc, b"GPK1\nc {b} {a}\nc {c} {b}\nend 2\n")?;
+    let mut input = joined(alloc, &[ADVERT, REFS, BEFORE_PACK])?;
+    let pack = spelled(alloc, pack)?;
     for piece in pack.as_slice().chunks(size) {
-        let count = piece.len().saturating_add(5);
-        let digits = format!(in alloc; "{count:04x}")?;
-        input.extend_from_slice(digits.as_bytes())?;
-        input.push(1)?;
-        input.extend_from_slice(piece)?;
+        put_piece(alloc, &mut input, piece)?;
     }
     input.extend_from_slice(b"0000")?;
     Ok(input)
@@ -337,13 +344,61 @@ fn input_in(rt: &impl Abort, alloc: Global, size: usize) -> Result<Vec<u8>, Fail
 fn packs_come_in_pieces(rt: HostRuntime) -> Result<(), Fail> {
     let alloc = rt.alloc();
     for size in [1, 7, 179] {
-        let input = input_in(&rt, alloc, size)?;
+        let input = input_in(&rt, alloc, COMMITS, size)?;
         let held = hold(alloc, CLIENT, MAIN, Ends::Plain, input.as_slice())?;
         check_fetched(&rt, &held.fetched, &[RefUpdate::Moved], 1);
         assert_eq!(rt;
             held.repo.as_slice(),
             spelled(alloc, CLIENT_AT_C)?.as_slice()
         );
+    }
+    Ok(())
+}
+
+// The number of a fault, and the line of a pack where it has one.
+fn fault_at_line(fault: &FetchFault) -> (u32, Option<usize>) {
+    match fault {
+        FetchFault::Client(ClientFault::Index(IndexFault::Bad { line })) => {
+            (fault.code(), Some(*line))
+        }
+        other => (other.code(), None),
+    }
+}
+
+// The indexer refuses the first line, and nothing changes.
+fn check_first_line(rt: &(impl Abort + AllocGlobal), input: &[u8]) -> Result<(), Fail> {
+    let alloc = rt.alloc();
+    let held = hold(alloc, CLIENT, MAIN, Ends::Plain, input)?;
+    assert_eq!(rt;
+        held.fetched.as_ref().err().map(fault_at_line),
+        Some((66, Some(1)))
+    );
+    assert_eq!(rt; held.repo.as_slice(), spelled(alloc, CLIENT)?.as_slice());
+    assert_eq!(rt; held.left, 0);
+    Ok(())
+}
+
+#[test]
+fn a_bad_line_is_found_in_pieces(rt: HostRuntime) -> Result<(), Fail> {
+    let alloc = rt.alloc();
+    for size in [1, 7, 95] {
+        let input = input_in(&rt, alloc, NO_HEADER, size)?;
+        check_first_line(&rt, input.as_slice())?;
+    }
+    Ok(())
+}
+
+#[test]
+fn a_bad_line_is_found_at_each_cut(rt: HostRuntime) -> Result<(), Fail> {
+    let alloc = rt.alloc();
+    let pack = spelled(alloc, NO_HEADER)?;
+    let pack = pack.as_slice();
+    for cut in 1..pack.len() {
+        let mut input = joined(alloc, &[ADVERT, REFS, BEFORE_PACK])?;
+        put_piece(alloc, &mut input, &pack[..cut])?;
+        put_piece(alloc, &mut input, &pack[cut..])?;
+        input.extend_from_slice(b"0000")?;
+        check_first_line(&rt, input.as_slice())?;
     }
     Ok(())
 }

@@ -4,7 +4,8 @@ ghost use Rattle.std.specs.Prelude.{⊤};
 use super::samples::{
     ADVERT, CLIENT, MAIN, PACK, REFS, fetch_with, joined, repo, spelled, text_of,
 };
-use ggraph::{Entry, IndexFault, Indexer, Kind, Node, Parents};
+use crate::{ClientFault, FetchFault, RepoFault};
+use ggraph::{Entry, GraphFault, IndexFault, Indexer, Kind, Node, Parents};
 use gname::Oid;
 use gpkt::memory::{SliceSource, VecSink};
 use std::alloc::{Allocator, Global};
@@ -86,39 +87,62 @@ impl<X: Allocator + Copy> Indexer<X> for Lie {
     }
 }
 
-// An indexer, the fault, and the client afterwards.
-const LIES: [(Lie, u32, &[u8]); 9] = [
+// An indexer, the fault and the id that goes with it, and the client afterwards.
+const LIES: [(Lie, u32, Option<u8>, &[u8]); 9] = [
     (
         Lie::Last,
         85,
+        Some(b'b'),
         b"gitv2 1\nc {a}\nc {c} {b}\nr {a} refs/remotes/origin/main\nh none\nend\n",
     ),
-    (Lie::Nothing, 85, CLIENT),
-    (Lie::OtherNode, 60, CLIENT),
-    (Lie::ManyParents, 62, CLIENT),
-    (Lie::WideTag, 63, CLIENT),
-    (Lie::FailsFirst, 66, CLIENT),
-    (Lie::FailsAtPiece, 66, CLIENT),
-    (Lie::FailsLast, 66, CLIENT),
-    (Lie::NoMemory, 66, CLIENT),
+    (Lie::Nothing, 85, Some(b'c'), CLIENT),
+    (Lie::OtherNode, 60, Some(b'a'), CLIENT),
+    (Lie::ManyParents, 62, None, CLIENT),
+    (Lie::WideTag, 63, None, CLIENT),
+    (Lie::FailsFirst, 66, None, CLIENT),
+    (Lie::FailsAtPiece, 66, None, CLIENT),
+    (Lie::FailsLast, 66, None, CLIENT),
+    (Lie::NoMemory, 66, None, CLIENT),
 ];
 
-fn fetch_lie(alloc: Global, lie: Lie, input: &[u8]) -> Result<(Option<u32>, Vec<u8>), Fail> {
+// The number of a fault, and the id that goes with it.
+fn fault_with_id(fault: &FetchFault) -> (u32, Option<Oid>) {
+    let id = match fault {
+        FetchFault::Client(ClientFault::Repo(RepoFault::NotConnected { missing })) => Some(
+            *missing,
+        ),
+        FetchFault::Client(ClientFault::Repo(RepoFault::Graph(GraphFault::Conflict { id }))) => {
+            Some(*id)
+        }
+        _ => None,
+    };
+    (fault.code(), id)
+}
+
+fn fetch_lie(
+    alloc: Global,
+    lie: Lie,
+    input: &[u8],
+) -> Result<(Option<(u32, Option<Oid>)>, Vec<u8>), Fail> {
     let mut repo = repo(alloc, CLIENT)?;
     let mut source = SliceSource::new(input);
     let mut sink = VecSink::new(alloc);
     let fetched = fetch_with(alloc, &mut repo, &mut source, &mut sink, &lie, MAIN)?;
-    let code = fetched.as_ref().err().map(|fault| fault.code());
-    Ok((code, text_of(alloc, &repo)?))
+    let fault = fetched.as_ref().err().map(fault_with_id);
+    Ok((fault, text_of(alloc, &repo)?))
 }
 
 #[test]
 fn an_indexer_lies(rt: HostRuntime) -> Result<(), Fail> {
     let alloc = rt.alloc();
     let input = joined(alloc, &[ADVERT, REFS, PACK])?;
-    for (lie, code, after) in LIES {
+    for (lie, code, digit, after) in LIES {
+        let named = match digit {
+            Some(digit) => Some(id(digit)?),
+            None => None,
+        };
         let (fault, text) = fetch_lie(alloc, lie, input.as_slice())?;
-        assert_eq!(rt; fault, Some(code));
+        assert_eq!(rt; fault, Some((code, named)));
         assert_eq!(rt; text.as_slice(), spelled(alloc, after)?.as_slice());
     }
     Ok(())
@@ -132,7 +156,7 @@ fn a_cut_comes_before_the_indexer(rt: HostRuntime) -> Result<(), Fail> {
     let cut = input.len().saturating_sub(1);
     for lie in [Lie::FailsFirst, Lie::FailsAtPiece, Lie::FailsLast] {
         let (fault, text) = fetch_lie(alloc, lie, &input.as_slice()[..cut])?;
-        assert_eq!(rt; fault, Some(23));
+        assert_eq!(rt; fault, Some((23, None)));
         assert_eq!(rt; text.as_slice(), spelled(alloc, CLIENT)?.as_slice());
     }
     Ok(())

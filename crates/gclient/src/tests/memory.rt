@@ -1,6 +1,9 @@
 //! Memory that ends: in an arena with a little more room each time, a conversation comes a little further before an
 //! allocation is refused. The requests that were sent before stand, and the refs stay.
-use super::samples::{ADVERT, CLIENT, MAIN, PACK, REFS, joined, repo_in, request_count, specs_in};
+use super::samples::{
+    ADVERT, CLIENT, CLIENT_AT_C, MAIN, PACK, REFS, joined, repo_in, request_count, specs_in,
+    spelled, text_of,
+};
 use crate::{ClientFault, FetchFault, Repo, fetch_over};
 use bumpalo::Bump;
 use gfetchreply::PackLimit;
@@ -51,11 +54,24 @@ fn first_ref<A: Allocator + Copy>(repo: &Repo<A>) -> Option<Oid> {
     }
 }
 
-// Fetches with so much room, and answers the fault, what was sent, and what was read.
-fn fetch_within(
-    rt: &(impl Abort + AllocGlobal),
-    room: usize,
-) -> Result<(Option<u32>, Vec<u8>, usize), Fail> {
+// A conversation that was held: its fault, what was sent, how much was read, and the repository's text.
+#[derive(Drop)]
+struct Within {
+    fault: Option<u32>,
+    written: Vec<u8>,
+    read: usize,
+    text: Vec<u8>,
+}
+
+// The text of a repository in an arena, which may take more room for it.
+fn text_in(alloc: Global, arena: &Bump, repo: &Repo<&Bump>) -> Result<Vec<u8>, Fail> {
+    arena.set_allocation_limit(None);
+    let text = text_of(arena, repo)?;
+    Ok(Vec::from_slice(alloc, text.as_slice())?)
+}
+
+// Fetches with so much room.
+fn fetch_within(rt: &(impl Abort + AllocGlobal), room: usize) -> Result<Within, Fail> {
     let alloc = rt.alloc();
     let arena = Bump::try_with_capacity(alloc, CAPACITY)?;
     let mut repo = repo_in(alloc, &arena, CLIENT)?;
@@ -78,29 +94,51 @@ fn fetch_within(
     assert_eq!(rt; sink.written(), sink.passed_on());
     let digit = if code.is_some() { b'a' } else { b'c' };
     assert_eq!(rt; first_ref(&repo), Some(Oid::from_hex(&[digit; 40])?));
-    Ok((code, sink.into_written(), read))
+    Ok(Within {
+        fault: code,
+        written: sink.into_written(),
+        read,
+        text: text_in(alloc, &arena, &repo)?,
+    })
 }
 
 // Without room nothing is read.
 #[test]
 fn a_conversation_cannot_begin(rt: HostRuntime) -> Result<(), Fail> {
     for (room, code) in [(0, 64), (4_096, 28)] {
-        let (fault, written, read) = fetch_within(&rt, room)?;
-        assert_eq!(rt; fault, Some(code));
-        assert!(rt; written.is_empty());
-        assert_eq!(rt; read, 0);
+        let within = fetch_within(&rt, room)?;
+        assert_eq!(rt; within.fault, Some(code));
+        assert!(rt; within.written.is_empty());
+        assert_eq!(rt; within.read, 0);
+        check_text(&rt, &within, CLIENT)?;
     }
     Ok(())
 }
 
-// How many requests are sent with so much room; one more where the refs moved, too.
+// The client where the objects came and its ref stays.
+const GROWN: &[u8] =
+    b"gitv2 1\nc {a}\nc {b} {a}\nc {c} {b}\nr {a} refs/remotes/origin/main\nh none\nend\n";
+
+fn check_text(rt: &(impl Abort + AllocGlobal), within: &Within, text: &[u8]) -> Result<(), Fail> {
+    assert_eq!(rt;
+        within.text.as_slice(),
+        spelled(rt.alloc(), text)?.as_slice()
+    );
+    Ok(())
+}
+
+// How many requests are sent with so much room; one more where the refs moved, too. The last of them is sent once the
+// objects came.
 fn steps_within(rt: &(impl Abort + AllocGlobal), room: usize) -> Result<usize, Fail> {
-    let (fault, written, _) = fetch_within(rt, room)?;
-    let sent = request_count(rt, written.as_slice())?;
-    if fault.is_some() {
+    let within = fetch_within(rt, room)?;
+    let sent = request_count(rt, within.written.as_slice())?;
+    if within.fault.is_some() {
+        let text = if sent == 3 { GROWN } else { CLIENT };
+        check_text(rt, &within, text)?;
         return Ok(sent);
     }
     assert_eq!(rt; sent, 3);
+    check_text(rt, &within, CLIENT_AT_C)?;
     Ok(4)
 }
 

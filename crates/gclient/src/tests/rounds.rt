@@ -53,8 +53,19 @@ fn chain(alloc: Global, count: usize) -> Result<Repo, Fail> {
     }
 }
 
-// A server that has nothing of a chain of so many commits is asked so often.
-const CHAINS: [(usize, usize); 6] = [(0, 1), (1, 2), (16, 2), (17, 3), (100, 4), (5_000, 24)];
+// A server that has nothing of a chain of so many commits is asked so often: for 16, 32, 64, 128, and then for 256 each
+// time, and once more where all were offered.
+const CHAINS: [(usize, usize); 9] = [
+    (0, 1),
+    (1, 2),
+    (16, 2),
+    (17, 3),
+    (100, 4),
+    (4_080, 20),
+    (4_096, 21),
+    (4_097, 21),
+    (5_000, 24),
+];
 
 #[test]
 fn rounds_go_with_the_length_of_a_chain(rt: HostRuntime) -> Result<(), Fail> {

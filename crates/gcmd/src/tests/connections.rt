@@ -58,6 +58,8 @@ const CONNECTIONS: &[Connection] = &[
     // The client ends the connection, or is gone.
     (&[END], &[ADVERT], b""),
     (&[], &[ADVERT], b""),
+    // The conversation of `examples/connection.requests`.
+    (&[REFS, FETCH, END], &[ADVERT, REFS_REPLY, FETCH_REPLY], b""),
     (
         &[REFS, FETCH, CLONE, END],
         &[ADVERT, REFS_REPLY, FETCH_REPLY, CLONE_REPLY],

@@ -1,8 +1,10 @@
-//! The line that is printed of every fault, and its short text.
+//! The line that is printed of a fault, and its short text: of each number that a program may print, and of each fault
+//! of a refspec, of a conversation, of a session and of a client's repository.
 use crate::{ProgramFault, cmd_failed};
 use ganswer::{BuildFault, ServeFault};
+use gclient::{ClientFault, FetchFault, RepoFault, SpecFault};
 use ggrammar::{MessageFault, PeerText, Why};
-use ggraph::{GraphFault, LoadFault, PackFault, RefsFault};
+use ggraph::{GraphFault, IndexFault, LoadFault, PackFault, RefsFault};
 use gname::{Oid, RefName};
 use gpkt::memory::VecSink;
 use gpkt::{BandFault, LineFault};
@@ -275,6 +277,182 @@ fn faults_of_texts_and_programs_are_printed(rt: HostRuntime) -> Result<(), Fail>
     ];
     for (fault, texts) in rows {
         check(&rt, alloc, fault, texts)?;
+    }
+    Ok(())
+}
+
+#[test]
+fn faults_of_refspecs_are_printed(rt: HostRuntime) -> Result<(), Fail> {
+    let rows = [
+        (SpecFault::BadSpec, ("87 BadSpec", "not a refspec")),
+        (SpecFault::Memory, ("18 Memory", "out of memory")),
+    ];
+    for (fault, texts) in rows {
+        check(&rt, rt.alloc(), ProgramFault::Spec(fault), texts)?;
+    }
+    Ok(())
+}
+
+#[test]
+fn faults_of_conversations_are_printed(rt: HostRuntime) -> Result<(), Fail> {
+    let rows = [
+        (FetchFault::NoBuffer, ("28 Memory", "out of memory")),
+        (FetchFault::WriteFailed, ("27 Io", "the sink failed")),
+    ];
+    for (fault, texts) in rows {
+        check(&rt, rt.alloc(), ProgramFault::Fetch(fault), texts)?;
+    }
+    Ok(())
+}
+
+// A message that a client refuses, at its packet 3.
+fn message(why: Why) -> ClientFault<Global> {
+    ClientFault::Message(MessageFault { frame: 3, why })
+}
+
+#[test]
+fn faults_of_replies_are_printed(rt: HostRuntime) -> Result<(), Fail> {
+    let alloc = rt.alloc();
+    let said = Why::RemoteErr(PeerText::new(b"disk\xff"));
+    let rows = [
+        (
+            message(Why::Ended),
+            ("54 Ended frame 3", "packet 3: unexpected end"),
+        ),
+        (
+            message(said),
+            (
+                "49 RemoteErr frame 3 disk?",
+                "packet 3: peer reported an error",
+            ),
+        ),
+        (
+            ClientFault::Index(IndexFault::Bad { line: 6 }),
+            ("66 Index line 6", "line 6 of the pack is wrong"),
+        ),
+        (
+            ClientFault::Index(IndexFault::Memory),
+            ("66 Index", "out of memory"),
+        ),
+        (
+            ClientFault::Index(IndexFault::Other),
+            ("66 Index", "the indexer failed"),
+        ),
+    ];
+    for (fault, texts) in rows {
+        let fault = FetchFault::Client(fault);
+        check(&rt, alloc, ProgramFault::Fetch(fault), texts)?;
+    }
+    Ok(())
+}
+
+#[test]
+fn faults_of_sessions_are_printed(rt: HostRuntime) -> Result<(), Fail> {
+    let alloc = rt.alloc();
+    let id = Oid::from_hex(ID)?;
+    let rows = [
+        (
+            ClientFault::TooManySpecs,
+            ("82 TooManySpecs", "too many refspecs"),
+        ),
+        (
+            ClientFault::NoOpenRequest,
+            ("83 NoOpenRequest", "no such request is open"),
+        ),
+        (
+            ClientFault::StrangeAck { id },
+            (
+                "84 StrangeAck 00112233445566778899aabbccddeeff00112233",
+                "an id was acknowledged that was not offered",
+            ),
+        ),
+        (
+            ClientFault::TooManyWants,
+            ("86 TooManyWants", "too many wants"),
+        ),
+    ];
+    for (fault, texts) in rows {
+        let fault = FetchFault::Client(fault);
+        check(&rt, alloc, ProgramFault::Fetch(fault), texts)?;
+    }
+    Ok(())
+}
+
+// A fault of a client's repository.
+fn check_repo(
+    rt: &impl Abort,
+    alloc: Global,
+    fault: RepoFault<Global>,
+    texts: Texts<'_>,
+) -> Result<(), Fail> {
+    let fault = FetchFault::Client(ClientFault::Repo(fault));
+    check(rt, alloc, ProgramFault::Fetch(fault), texts)
+}
+
+#[test]
+fn faults_of_clients_are_printed(rt: HostRuntime) -> Result<(), Fail> {
+    let alloc = rt.alloc();
+    let id = Oid::from_hex(ID)?;
+    let name = RefName::new(alloc, b"refs/heads/a\x80")?;
+    let rows = [
+        (
+            RepoFault::MissingParent { id },
+            (
+                "72 MissingParent 00112233445566778899aabbccddeeff00112233",
+                "a parent is not held",
+            ),
+        ),
+        (
+            RepoFault::UnsafeRef { name },
+            (
+                "80 UnsafeRef refs/heads/a?",
+                "the ancestry of a ref is not held",
+            ),
+        ),
+        (
+            RepoFault::NotHeld { missing: id },
+            (
+                "81 NotHeld 00112233445566778899aabbccddeeff00112233",
+                "the ancestry of an id is not held",
+            ),
+        ),
+        (
+            RepoFault::NotConnected { missing: id },
+            (
+                "85 NotConnected 00112233445566778899aabbccddeeff00112233",
+                "the ancestries of the asked ids are not held",
+            ),
+        ),
+    ];
+    for (fault, texts) in rows {
+        check_repo(&rt, alloc, fault, texts)?;
+    }
+    Ok(())
+}
+
+#[test]
+fn faults_of_graphs_and_refs_of_clients_are_printed(rt: HostRuntime) -> Result<(), Fail> {
+    let alloc = rt.alloc();
+    let id = Oid::from_hex_in(gname::Format::Sha256, LONG_ID)?;
+    let rows = [
+        (
+            RepoFault::Graph(GraphFault::OtherFormat { id }),
+            (
+                "75 OtherFormat 00112233445566778899aabbccddeeff00112233445566778899aabbccddeeff",
+                "an id is of another object format",
+            ),
+        ),
+        (
+            RepoFault::Graph(GraphFault::Memory),
+            ("64 Memory", "out of memory"),
+        ),
+        (
+            RepoFault::Refs(RefsFault::Refs),
+            ("69 Refs", "the ref can't be set"),
+        ),
+    ];
+    for (fault, texts) in rows {
+        check_repo(&rt, alloc, fault, texts)?;
     }
     Ok(())
 }

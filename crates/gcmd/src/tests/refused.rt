@@ -194,7 +194,28 @@ fn replies_are_refused(rt: HostRuntime) -> Result<(), Fail> {
     Ok(())
 }
 
-// The same of a client that has nothing.
+// A client whose ids have 64 digits has the first commit, and a commit with one of 40 comes.
+const OTHER_FORMAT: &[Refused<'static>] = &[Refused {
+    client: b"gitv2 2 sha256\nc [a]\nr [a] refs/remotes/origin/main\nh none\nend\n",
+    specs: MAIN,
+    read: &[
+        ADVERT_SHA256,
+        b"0055[c] refs/heads/main\n0000",
+        b"0014acknowledgments\n000aready\n0001000dpackfile\n003b\x01GPK1\nc {e}\nend 1\n0000",
+    ],
+    written: &[
+        b"0014command=ls-refs\n0019object-format=sha256\n0001000bunborn\n001fref-prefix refs/heads/main\n0000",
+        b"0012command=fetch\n0019object-format=sha256\n00010010no-progress\n0010include-tag\n004awant [c]\n004ahave [a]\n0000",
+    ],
+    line: b"75 OtherFormat {e}",
+}];
+
+#[test]
+fn ids_of_40_digits_are_refused(rt: HostRuntime) -> Result<(), Fail> {
+    check(&rt, OTHER_FORMAT)
+}
+
+// What is read after the reply to ls-refs by a client that has nothing, and what follows `gitv2: fault `.
 const CLONES: &[(&[u8], &[u8])] = &[
     (b"0014acknowledgments\n", b"51 WrongSection frame 0"),
     (

@@ -1,12 +1,13 @@
 // Replies that are cut, and what a sink has then.
 use crate::FetchReading;
 use crate::tests::samples::{Outcome, PACK, READY, after_acks, direct, read_into};
+use ggrammar::Ends;
 use std::alloc::Global;
 use std::process::Abort;
 use std::test::Fail;
 
-// How many bytes each packet of a reply has, and how many of the pack come with it.
-const READY_PACKETS: [(usize, usize); 9] = [
+// How many bytes each packet of a reply has, and how many of the pack come with it. The last is a response-end.
+const READY_PACKETS: [(usize, usize); 10] = [
     (20, 0),
     (49, 0),
     (10, 0),
@@ -16,9 +17,10 @@ const READY_PACKETS: [(usize, usize); 9] = [
     (10, 0),
     (7, 2),
     (4, 0),
+    (4, 0),
 ];
 
-const PACK_PACKETS: [(usize, usize); 5] = [(13, 0), (9, 4), (10, 0), (7, 2), (4, 0)];
+const PACK_PACKETS: [(usize, usize); 6] = [(13, 0), (9, 4), (10, 0), (7, 2), (4, 0), (4, 0)];
 
 // How a reply is refused whose packet is cut after so many bytes: at the packet's beginning it ends.
 fn refusal(cut: usize, frame: u64) -> Outcome {
@@ -55,6 +57,27 @@ fn check_cuts(
 
 #[test]
 fn cut_replies_are_refused(rt: HostRuntime) -> Result<(), Fail> {
-    check_cuts(&rt, rt.alloc(), after_acks(), READY, &READY_PACKETS)?;
-    check_cuts(&rt, rt.alloc(), direct(), PACK, &PACK_PACKETS)
+    check_cuts(&rt, rt.alloc(), after_acks(), READY, &READY_PACKETS[..9])?;
+    check_cuts(&rt, rt.alloc(), direct(), PACK, &PACK_PACKETS[..5])
+}
+
+// Cuts a reply that has a response-end after its other bytes.
+fn check_ended_cuts(
+    rt: &impl Abort,
+    alloc: Global,
+    reading: FetchReading,
+    reply: &[u8],
+    packets: &[(usize, usize)],
+) -> Result<(), Fail> {
+    let ends = Ends::Response;
+    let mut bytes = Vec::from_slice(alloc, reply)?;
+    bytes.extend_from_slice(b"0002")?;
+    let stateless = FetchReading { ends, ..reading };
+    check_cuts(rt, alloc, stateless, bytes.as_slice(), packets)
+}
+
+#[test]
+fn cut_replies_are_refused_where_a_response_end_is_due(rt: HostRuntime) -> Result<(), Fail> {
+    check_ended_cuts(&rt, rt.alloc(), after_acks(), READY, &READY_PACKETS)?;
+    check_ended_cuts(&rt, rt.alloc(), direct(), PACK, &PACK_PACKETS)
 }

@@ -13,8 +13,9 @@ use std::alloc::Global;
 use std::test::Fail;
 
 // The pack `disk!!!` in one packet, in packets of one byte, and of seven and none; and an empty pack.
-const PACKS: [(&[u8], &[u8]); 7] = [
+const PACKS: [(&[u8], &[u8]); 8] = [
     (b"000dpackfile\n000c\x01disk!!!0000", b"disk!!!"),
+    (b"000Dpackfile\n000C\x01disk!!!0000", b"disk!!!"),
     (b"000cpackfile000c\x01disk!!!0000", b"disk!!!"),
     (
         b"000dpackfile\n0006\x01d0006\x01i0006\x01s0006\x01k0006\x01!0006\x01!0006\x01!0000",

@@ -11,7 +11,7 @@ use std::test::Fail;
 type Case = (&'static [u8], Outcome, usize);
 
 // Where the acknowledgments are due.
-const STARTS: [Case; 18] = [
+const STARTS: [Case; 20] = [
     (
         b"0014acknowledgments\n0008NAK\n00000002",
         Outcome::Acks(0),
@@ -21,6 +21,16 @@ const STARTS: [Case; 18] = [
     (b"0014acknowledgments\n0000", Outcome::Acks(0), 0),
     (
         b"0014acknowledgments\n000aready\n0001000dpackfile\n0000",
+        Outcome::Ready(0),
+        0,
+    ),
+    (
+        b"0014acknowledgments\n000Aready\n0001000Dpackfile\n0000",
+        Outcome::Ready(0),
+        0,
+    ),
+    (
+        b"0013acknowledgments0009ready0001000cpackfile0000",
         Outcome::Ready(0),
         0,
     ),

@@ -1,11 +1,12 @@
 // Replies that are written, what is read of them, and writers that fail.
 use crate::tests::samples::{after_acks, direct};
 use crate::{Acks, FetchReading, FetchReply, PackBytes, read_fetch_reply_in, write_fetch_reply};
+use bumpalo::Bump;
 use ggrammar::Ends;
 use gname::{Format, Oid};
 use gpkt::memory::{Limited, SliceSource, VecSink};
 use gpkt::{LineReader, LineWriter, WriteFault};
-use std::alloc::Global;
+use std::alloc::{Allocator, Global};
 use std::process::Abort;
 use std::test::Fail;
 
@@ -75,15 +76,24 @@ fn reply(
         acks.push(Oid::from_hex(id)?)?;
     }
     let pack = PackBytes::new(Vec::from_slice(alloc, pack)?)?;
+    Ok(of_kind(kind, acks, pack))
+}
+
+// A reply of a kind, with what it has of these.
+fn of_kind<A: Allocator + Copy>(kind: Kind, acks: Acks<A>, pack: PackBytes<A>) -> FetchReply<A> {
     match kind {
-        Kind::Acks => Ok(FetchReply::Acks(acks)),
-        Kind::Ready => Ok(FetchReply::Ready(acks, pack)),
-        Kind::Pack => Ok(FetchReply::Pack(pack)),
+        Kind::Acks => FetchReply::Acks(acks),
+        Kind::Ready => FetchReply::Ready(acks, pack),
+        Kind::Pack => FetchReply::Pack(pack),
     }
 }
 
 // What is written of a reply.
-fn written(alloc: Global, reply: &FetchReply<Global>, ends: Ends) -> Result<Vec<u8, Global>, Fail> {
+fn written<A: Allocator + Copy>(
+    alloc: Global,
+    reply: &FetchReply<A>,
+    ends: Ends,
+) -> Result<Vec<u8, Global>, Fail> {
     let mut writer = LineWriter::new(VecSink::new(alloc));
     write_fetch_reply(reply, ends, &mut writer)?;
     Ok(writer.into_inner().into_written())
@@ -198,6 +208,48 @@ fn packs_are_written_in_pieces(rt: HostRuntime) -> Result<(), Fail> {
                 let reading = reading_of(*kind, *ends);
                 check(&rt, rt.alloc(), reading, &reply, bytes.as_slice())?;
             }
+        }
+    }
+    Ok(())
+}
+
+// Leaves an arena without room.
+fn fill(alloc: Global, arena: &Bump) -> Result<(), Fail> {
+    arena.set_allocation_limit(Some(arena.allocated_bytes()));
+    let filler = vec![in alloc; 0u8; arena.chunk_capacity()]?;
+    arena.try_alloc_slice_copy(filler.as_slice())?;
+    Ok(())
+}
+
+// A reply in an arena that has no room once the ids and the pack are there.
+fn reply_without_room<'a>(
+    alloc: Global,
+    arena: &'a Bump,
+    kind: Kind,
+    digits: &[&[u8]],
+    pack: &[u8],
+) -> Result<FetchReply<&'a Bump>, Fail> {
+    let mut ids = Vec::new(arena);
+    for id in digits {
+        ids.push(Oid::from_hex(id)?)?;
+    }
+    let pack = Vec::from_slice(arena, pack)?;
+    fill(alloc, arena)?;
+    let acks = Acks::from_ids(Format::Sha1, ids)?;
+    Ok(of_kind(kind, acks, PackBytes::new(pack)?))
+}
+
+#[test]
+fn replies_are_built_and_written_without_memory(rt: HostRuntime) -> Result<(), Fail> {
+    for (kind, ids, pack, body) in &SAMPLES {
+        for (ends, end) in &ENDS {
+            let arena = Bump::try_with_capacity(rt.alloc(), 8_000)?;
+            let reply = reply_without_room(rt.alloc(), &arena, *kind, ids, pack)?;
+            assert!(rt; Vec::from_slice(&arena, b"x").is_err());
+            let mut bytes = Vec::from_slice(rt.alloc(), body)?;
+            bytes.extend_from_slice(end)?;
+            let met = written(rt.alloc(), &reply, *ends)?;
+            assert_eq!(rt; met.as_slice(), bytes.as_slice());
         }
     }
     Ok(())

@@ -130,3 +130,20 @@ fn lines_that_break_a_rule_take_no_memory(rt: HostRuntime) {
         assert_eq!(rt; fault, Some(*wanted), "of {short:?}");
     }
 }
+
+// Lines that are no nodes let more nodes be expected than there is memory for.
+#[test]
+fn fewer_nodes_than_expected_need_no_more_memory(rt: HostRuntime) -> Result<(), Fail> {
+    let mut text = spelled(&rt, "gitv2 1\nc A\nc B A\n");
+    for _ in 0..500usize {
+        text.extend_from_slice(&[b'x'; 60])?;
+        text.push(b'\n')?;
+    }
+    let arena = Bump::try_with_capacity(rt.alloc(), 90_000)?;
+    arena.set_allocation_limit(Some(arena.allocated_bytes()));
+    let filler = vec![in rt.alloc(); 0u8; arena.chunk_capacity().saturating_sub(20_000)]?;
+    arena.try_alloc_slice_copy(filler.as_slice())?;
+    let fault = load(&arena, text.as_slice(), Order::Any).err();
+    assert_eq!(rt; fault, Some(LoadFault::Text { line: 4 }));
+    Ok(())
+}

@@ -10,14 +10,34 @@ ghost use Rattle.grefs.specs.RefLists.{IsBelowRefs};
 ghost use Rattle.ggraph.specs.NoSuchPart.{BeginsWithNoId, BeginsWithNoSpacedId, IsNoParents};
 
 use crate::text::laws::text_laws;
+use crate::text::recent::Recent;
 use gname::{Format, NameFault, Oid, RefName};
 use gobject::MAX_PARENTS;
 use std::alloc::{AllocError, Allocator};
+
+/// An id at the front of a text, its digits there, and what follows them.
+#[derive(Clone, Copy)]
+pub(crate) struct FrontId<'a> {
+    pub id: Oid,
+    pub digits: &'a [u8],
+    pub rest: &'a [u8],
+}
 
 /// The id of the format whose digits are at the front, and what follows them.
 pub(crate) fn take_id(format: Format, text: &[u8]) -> Option<(Oid, &[u8])>
     ensures { MatchOption result (BeginsWithNoId format text.now) (λ pair.
         (text.now ≡ id_text pair.0 ++ pair.1.now) × IsIdOf format pair.0) }
+{
+    match front_id(format, text) {
+        Some(found) => Some((found.id, found.rest)),
+        None => None,
+    }
+}
+
+// The id of the format whose digits are at the front.
+fn front_id(format: Format, text: &[u8]) -> Option<FrontId<'_>>
+    ensures { MatchOption result (BeginsWithNoId format text.now) (λ found.
+        (text.now ≡ id_text found.id ++ found.rest.now) × (found.digits.now ≡ id_text found.id) × IsIdOf format found.id) }
 {
     text_laws();
     let length = format.id_text_length();
@@ -28,7 +48,7 @@ pub(crate) fn take_id(format: Format, text: &[u8]) -> Option<(Oid, &[u8])>
     match Oid::from_hex_in(format, digits) {
         Ok(id) => {
             if is_lower(digits) {
-                Some((id, rest))
+                Some(FrontId { id, digits, rest })
             } else {
                 None
             }
@@ -44,28 +64,46 @@ fn is_lower(digits: &[u8]) -> bool
     digits.iter().all(|digit| !digit.is_ascii_uppercase())
 }
 
-/// The id at the front after a space, and what follows it.
-pub(crate) fn take_spaced(format: Format, text: &[u8]) -> Option<(Oid, &[u8])>
+/// The id at the front after a space.
+pub(crate) fn take_spaced(format: Format, text: &[u8]) -> Option<FrontId<'_>>
+    ensures { MatchOption result (BeginsWithNoSpacedId format text.now) (λ found.
+        (text.now ≡ codes " " ++ (id_text found.id ++ found.rest.now)) × (found.digits.now ≡ id_text found.id)
+        × IsIdOf format found.id) }
+{
+    front_id(format, text.strip_prefix(b" ")?)
+}
+
+// The parent at the front after a space, and what follows it. Most parents are on one of the lines before.
+fn take_parent<'t>(format: Format, recent: &Recent<'_>, text: &'t [u8]) -> Option<(Oid, &'t [u8])>
     ensures { MatchOption result (BeginsWithNoSpacedId format text.now) (λ pair.
         (text.now ≡ codes " " ++ (id_text pair.0 ++ pair.1.now)) × IsIdOf format pair.0) }
 {
-    take_id(format, text.strip_prefix(b" ")?)
+    let text = text.strip_prefix(b" ")?;
+    if let Some(found) = recent.take(text) {
+        if found.0.format() == format {
+            return Some(found);
+        }
+    }
+    take_id(format, text)
 }
 
-/// The room that all lines of a text share: for the ids of a node's parents, and in the graph for so many nodes.
+/// What all lines of a text share: room for the ids of a node's parents, and in the graph for so many nodes, and the
+/// ids that were read last.
 #[derive(Drop)]
-pub(crate) struct Room {
+pub(crate) struct Room<'a> {
     ids: [Oid; MAX_PARENTS],
     pub nodes: usize,
+    pub recent: Recent<'a>,
 }
 
-impl Room {
+impl<'a> Room<'a> {
     /// Room for a text of which so many nodes are expected. The ids say nothing yet.
-    pub(crate) fn new(nodes: usize) -> Room {
+    pub(crate) fn new(nodes: usize) -> Room<'a> {
         let blank = Oid::from_hex(&[b'0'; 40]).unwrap();
         Room {
             ids: [blank; MAX_PARENTS],
             nodes,
+            recent: Recent::new(blank),
         }
     }
 
@@ -74,13 +112,18 @@ impl Room {
         ensures { MatchOption result (IsNoParents format text.now) (λ ids.
             (text.now ≡ ids_text ids.now) × All (IsIdOf format) ids.now × (length ids.now ≤ max_parents)) }
     {
-        let count = read_parents(format, text, &mut self.ids)?;
+        let count = read_parents(format, &self.recent, text, &mut self.ids)?;
         Some(&self.ids[..count])
     }
 }
 
 // Reads the ids of a node's parents into the first places of the array, and answers how many they are.
-fn read_parents(format: Format, text: &[u8], ids: &mut [Oid; MAX_PARENTS]) -> Option<usize>
+fn read_parents(
+    format: Format,
+    recent: &Recent<'_>,
+    text: &[u8],
+    ids: &mut [Oid; MAX_PARENTS],
+) -> Option<usize>
     ensures { MatchOption result (IsNoParents format text.now) (λ count.
         (text.now ≡ ids_text (take count ids.new)) × All (IsIdOf format) (take count ids.new)
         × (count ≤ max_parents)) }
@@ -89,7 +132,7 @@ fn read_parents(format: Format, text: &[u8], ids: &mut [Oid; MAX_PARENTS]) -> Op
     let mut rest = text;
     let mut count = 0;
     while !rest.is_empty() {
-        let Some(found) = take_spaced(format, rest) else {
+        let Some(found) = take_parent(format, recent, rest) else {
             return None;
         };
         if count == MAX_PARENTS {

@@ -62,12 +62,12 @@ impl<A: Allocator + Copy> Reading<A> {
     }
 
     /// Takes the next line, which is the one of the text with this number. Its parents are read in the room.
-    pub(crate) fn take(
+    pub(crate) fn take<'a>(
         &mut self,
         alloc: A,
-        room: &mut Room,
+        room: &mut Room<'a>,
         order: Order,
-        line: &[u8],
+        line: &'a [u8],
         number: usize,
     ) -> Result<(), LoadFault>
         ensures ok { OnOk result (ComesNext order self.old line.now self.new) }
@@ -121,13 +121,13 @@ impl<A: Allocator + Copy> Reading<A> {
     }
 
     // Takes the line of a node: the letter of its kind, and then this text.
-    fn take_node(
+    fn take_node<'a>(
         &mut self,
         alloc: A,
-        room: &mut Room,
+        room: &mut Room<'a>,
         order: Order,
         kind: Kind,
-        text: &[u8],
+        text: &'a [u8],
         number: usize,
     ) -> Result<(), LoadFault>
         requires { self.old.stage ≡ Stage.Nodes }
@@ -139,18 +139,20 @@ impl<A: Allocator + Copy> Reading<A> {
         let Some(first) = take_spaced(format, text) else {
             return Err(LoadFault::Text { line: number });
         };
-        let Some(parents) = room.read(format, first.1) else {
+        let Some(parents) = room.read(format, first.rest) else {
             return Err(LoadFault::Text { line: number });
         };
-        add_node(
+        let added = add_node(
             &mut self.graph,
             alloc,
             order,
             kind,
-            first.0,
+            first.id,
             parents,
             number,
-        )
+        );
+        room.recent.keep(first.digits, first.id);
+        added
     }
 
     // Takes the line of a ref or of HEAD.

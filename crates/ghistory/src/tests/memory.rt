@@ -125,3 +125,35 @@ fn memory_is_the_last_cause(rt: HostRuntime) -> Result<(), Fail> {
     assert!(rt; graph.is_ordered());
     Ok(())
 }
+
+// Room that was made is used: adding as many nodes without parents then takes no memory.
+#[test]
+fn room_that_was_made_is_used(rt: HostRuntime) -> Result<(), Fail> {
+    let arena = Bump::try_with_capacity(rt.alloc(), 9_000)?;
+    let mut graph = Graph::new(&arena);
+    graph.make_room(20);
+    leave_room(rt.alloc(), &arena, 0)?;
+    for number in 1..=20usize {
+        let answer = graph.insert(entry_in(&rt, &arena, Kind::Commit, number, &[]));
+        assert_eq!(rt; answer, Ok(true), "at {number}");
+    }
+    graph.make_room(1_000);
+    assert_eq!(rt; graph.len(), 20);
+    Ok(())
+}
+
+// Where there is no memory for all of the room, what there is stays free for nodes.
+#[test]
+fn room_that_is_not_there_takes_none(rt: HostRuntime) -> Result<(), Fail> {
+    for room in [20_000usize, 40_000, 60_000] {
+        let arena = Bump::try_with_capacity(rt.alloc(), 90_000)?;
+        leave_room(rt.alloc(), &arena, room)?;
+        let mut graph = Graph::new(&arena);
+        graph.make_room(1_000);
+        for number in 1..=5usize {
+            let answer = graph.insert(entry_in(&rt, &arena, Kind::Commit, number, &[]));
+            assert_eq!(rt; answer, Ok(true), "{number} of room {room}");
+        }
+    }
+    Ok(())
+}

@@ -78,3 +78,18 @@ fn cycles_of_any_length_have_no_commit(rt: HostRuntime) -> Result<(), Fail> {
     }
     Ok(())
 }
+
+// How far a cycle is followed depends on its length, not on how many nodes there are.
+#[test]
+fn a_short_cycle_of_a_large_graph_ends_each_time(rt: HostRuntime) -> Result<(), Fail> {
+    let mut graph = chain(&rt, 20_000, 0)?;
+    for (number, next) in [(20_001, 20_002), (20_002, 20_001), (20_003, 20_001)] {
+        graph.insert(entry(&rt, Kind::Tag, number, &[next]))?;
+    }
+    for turn in 0..2_000usize {
+        assert_eq!(rt; graph.peel(&id(&rt, 20_001)), None, "{turn}");
+        assert_eq!(rt; graph.peel(&id(&rt, 20_003)), None, "{turn}");
+    }
+    assert_eq!(rt; graph.peel(&id(&rt, 1)), Some(id(&rt, 0)));
+    Ok(())
+}

@@ -1,5 +1,5 @@
 // The most lines of a reply, and one more.
-use crate::tests::samples::{ID, refusal};
+use crate::tests::samples::{ID, read, refusal};
 use crate::{LsReply, MAX_LINES, RefLine};
 use ggrammar::Ends;
 use gname::{Format, Oid, RefName};
@@ -20,13 +20,26 @@ fn reply(alloc: Global, unborn: &[u8], refs: usize, end: &[u8]) -> Result<Vec<u8
     Ok(bytes)
 }
 
-// The most lines are read, and one more is not.
+// One line more than the most.
 #[test]
 fn one_more_is_refused(rt: HostRuntime) -> Result<(), Fail> {
     let alloc = rt.alloc();
     let bytes = reply(alloc, UNBORN, 65_536, REF)?;
     let met = refusal(alloc, Format::Sha1, Ends::Plain, bytes.as_slice())?;
     assert_eq!(rt; met, Some(("Limit", 65_537)));
+    Ok(())
+}
+
+// An unborn HEAD and the most refs after it are a whole reply.
+#[test]
+fn the_most_lines_are_kept(rt: HostRuntime) -> Result<(), Fail> {
+    let alloc = rt.alloc();
+    let bytes = reply(alloc, UNBORN, 65_536, b"0000")?;
+    let (met, left) = read(alloc, Format::Sha1, Ends::Plain, bytes.as_slice())?;
+    let reply = met?;
+    assert_eq!(rt; reply.len(), 65_536);
+    assert!(rt; reply.unborn().is_some());
+    assert_eq!(rt; left, 0);
     Ok(())
 }
 

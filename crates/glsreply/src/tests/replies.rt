@@ -7,8 +7,9 @@ use gpkt::LineReader;
 use gpkt::memory::{Limited, SliceSource};
 use std::test::Fail;
 
-// Bytes that are read, and those that are written of what they say.
-const REPLIES: [(Format, Ends, &[u8], &[u8]); 10] = [
+// Bytes that are read, and those that are written of what they say: with and without line feeds, and with digits of
+// lengths and of ids in either case.
+const REPLIES: [(Format, Ends, &[u8], &[u8]); 11] = [
     (Format::Sha1, Ends::Plain, b"0000", b"0000"),
     (
         Format::Sha1,
@@ -51,6 +52,12 @@ const REPLIES: [(Format, Ends, &[u8], &[u8]); 10] = [
         Ends::Plain,
         b"003abbbbbbbbbbbbbbbbbbbbbbbbbbbbbbbbbbbbbbbb refs/heads/b\n003aaaaaaaaaaaaaaaaaaaaaaaaaaaaaaaaaaaaaaaaa refs/heads/a\n003abbbbbbbbbbbbbbbbbbbbbbbbbbbbbbbbbbbbbbbb refs/heads/b\n0000",
         b"003abbbbbbbbbbbbbbbbbbbbbbbbbbbbbbbbbbbbbbbb refs/heads/b\n003aaaaaaaaaaaaaaaaaaaaaaaaaaaaaaaaaaaaaaaaa refs/heads/a\n003abbbbbbbbbbbbbbbbbbbbbbbbbbbbbbbbbbbbbbbb refs/heads/b\n0000",
+    ),
+    (
+        Format::Sha1,
+        Ends::Plain,
+        b"002Eunborn HEAD symref-target:refs/heads/main\n003Abbbbbbbbbbbbbbbbbbbbbbbbbbbbbbbbbbbbbbbb refs/heads/b\n0039aaaaaaaaaaaaaaaaaaaaaaaaaaaaaaaaaaaaaaaa refs/heads/a0000",
+        b"002eunborn HEAD symref-target:refs/heads/main\n003abbbbbbbbbbbbbbbbbbbbbbbbbbbbbbbbbbbbbbbb refs/heads/b\n003aaaaaaaaaaaaaaaaaaaaaaaaaaaaaaaaaaaaaaaaa refs/heads/a\n0000",
     ),
     (
         Format::Sha256,

@@ -57,7 +57,7 @@ const SET: [(&str, u8, u32, [bool; 4]); 7] = [
     (MAIN, b'a', 0, [true, true, true, false]),
 ];
 
-fn set(rt: &(impl Abort + AllocGlobal), repo: &mut Repo, text: &str, digit: u8) -> u32 {
+pub(super) fn set(rt: &(impl Abort + AllocGlobal), repo: &mut Repo, text: &str, digit: u8) -> u32 {
     match repo.set_local_ref(name(rt, text), id(rt, digit)) {
         Ok(()) => 0,
         Err(fault) => fault.code(),

@@ -21,7 +21,7 @@ const NEW: &str = "refs/tags/v1";
 type Stands = &'static [(&'static str, u8)];
 
 // What settling answers: what becomes of each ask, or the number of the fault.
-fn settle(
+pub(super) fn settle(
     rt: &(impl Abort + AllocGlobal),
     repo: &mut Repo,
     asked: &[Asked],

@@ -49,8 +49,8 @@ pub(super) fn join(alloc: Global, packets: &[&[u8]]) -> Result<Vec<u8>, AllocErr
 /// The packets of a request, and those that are written for what it says.
 pub(super) type Sample = (Format, &'static [&'static [u8]], &'static [&'static [u8]]);
 
-/// Requests of each kind: in any order, with and without line feeds, with repeated arguments, with digits in
-/// either case, and with and without a delimiter.
+/// Requests of each kind: in any order, with and without line feeds, with repeated arguments, with digits of
+/// lengths and of ids in either case, and with and without a delimiter.
 pub(super) const SAMPLES: &[Sample] = &[
     (Format::Sha1, &[b"0000"], &[b"0000"]),
     (Format::Sha256, &[b"0000"], &[b"0000"]),
@@ -150,6 +150,48 @@ pub(super) const SAMPLES: &[Sample] = &[
             b"004awant aaaaaaaaaaaaaaaaaaaaaaaaaaaaaaaaaaaaaaaaaaaaaaaaaaaaaaaaaaaaaaaa\n",
             b"004ahave bbbbbbbbbbbbbbbbbbbbbbbbbbbbbbbbbbbbbbbbbbbbbbbbbbbbbbbbbbbbbbbb\n",
             b"0009done\n",
+            b"0000",
+        ],
+    ),
+    (
+        Format::Sha1,
+        &[
+            b"0014command=ls-refs\n",
+            b"000Cagent=a\n",
+            b"0001",
+            b"000Csymrefs\n",
+            b"000Aunborn",
+            b"001Bref-prefix refs/heads/\n",
+            b"0000",
+        ],
+        &[
+            b"0014command=ls-refs\n",
+            b"000cagent=a\n",
+            b"0001",
+            b"000csymrefs\n",
+            b"000bunborn\n",
+            b"001bref-prefix refs/heads/\n",
+            b"0000",
+        ],
+    ),
+    (
+        Format::Sha256,
+        &[
+            b"0012command=fetch\n",
+            b"0019object-format=sha256\n",
+            b"0001",
+            b"000Eofs-delta\n",
+            b"000Fno-progress",
+            b"004Awant aaaaaaaaaaaaaaaaaaaaaaaaaaaaaaaaaaaaaaaaaaaaaaaaaaaaaaaaaaaaaaaa\n",
+            b"0000",
+        ],
+        &[
+            b"0012command=fetch\n",
+            b"0019object-format=sha256\n",
+            b"0001",
+            b"0010no-progress\n",
+            b"000eofs-delta\n",
+            b"004awant aaaaaaaaaaaaaaaaaaaaaaaaaaaaaaaaaaaaaaaaaaaaaaaaaaaaaaaaaaaaaaaa\n",
             b"0000",
         ],
     ),

@@ -1,7 +1,7 @@
 //! A pack goes on before its reply has ended.
 ghost use Rattle.std.specs.Prelude.{None, [], false, ⊤};
 
-use super::makers::{client_a, spelt, waiting};
+use super::makers::{client_a, spelt, take, waiting};
 use crate::Taken;
 use ggraph::{Entry, IndexFault, Indexer};
 use gpkt::memory::SliceSource;
@@ -92,4 +92,40 @@ fn the_first_piece_is_fed_before_the_last_byte_is_read(rt: HostRuntime) {
     assert_eq!(rt; taken, Ok(Taken::PackTaken { added: 0 }));
     assert_eq!(rt; first.get(), 57);
     assert_eq!(rt; given.get(), bytes.len());
+}
+
+// Replies whose packs come line by line, and how many of their objects the client that has A has not.
+const PACKS: [(&[u8], usize); 5] = [
+    (
+        b"0014acknowledgments\n000aready\n0001000dpackfile\n\
+        000a\x01GPK1\n0059\x01c B A\n0059\x01c C B\n000b\x01end 2\n0000",
+        2,
+    ),
+    (
+        b"0014acknowledgments\n000aready\n0001000dpackfile\n\
+        000a\x01GPK1\n0030\x01c A\n0059\x01c B A\n0059\x01c C B\n000b\x01end 3\n0000",
+        2,
+    ),
+    (
+        b"0014acknowledgments\n000aready\n0001000dpackfile\n\
+        000a\x01GPK1\n0030\x01c A\n0059\x01c C A\n000b\x01end 2\n0000",
+        1,
+    ),
+    (
+        b"0014acknowledgments\n000aready\n0001000dpackfile\n\
+        000a\x01GPK1\n0030\x01c A\n000b\x01end 1\n0000",
+        0,
+    ),
+    (REPLY, 0),
+];
+
+#[test]
+fn what_is_new_is_counted(rt: HostRuntime) {
+    for (reply, added) in PACKS {
+        let mut repo = client_a(&rt);
+        let mut session = waiting(&rt, &repo);
+        let taken = take(&rt, &mut session, &mut repo, reply);
+        assert_eq!(rt; taken, Ok(Taken::PackTaken { added }));
+        assert_eq!(rt; repo.graph().len(), added.saturating_add(1));
+    }
 }

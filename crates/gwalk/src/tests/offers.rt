@@ -1,9 +1,14 @@
 //! Offers of ids as haves.
-use super::makers::{Row, entry, graph_of, id, ids_of};
+use super::arenas::fill;
+use super::chains::{chain, far_id};
+use super::makers::{Row, graph_of, ids_of};
 use crate::haves;
-use ghistory::Graph;
+use bumpalo::Bump;
+use ghistory::GraphFault;
+use gname::Oid;
 use gobject::Kind;
 use std::process::Abort;
+use std::test::Fail;
 
 struct Case {
     rows: &'static [Row],
@@ -214,31 +219,53 @@ fn an_empty_graph_offers_nothing(rt: HostRuntime) {
     assert!(rt; offer.is_empty());
 }
 
-// So many commits, each with the one before it as its parent.
-fn chain(rt: &(impl Abort + AllocGlobal), commits: usize) -> Graph {
-    let mut graph = Graph::new(rt.alloc());
-    for number in 0..commits {
-        let before = [number.saturating_sub(1)];
-        let parents = if number > 0 { before.as_slice() } else { &[] };
-        let next = entry(rt, Kind::Commit, number, parents);
-        let answer = graph.insert(next);
-        assert!(rt; answer.is_ok());
+// The ids are those of the numbers from this one down.
+fn check_down(rt: &impl Abort, ids: &[Oid], first: usize) {
+    for (place, id) in ids.iter().enumerate() {
+        let number = first.saturating_sub(place);
+        assert!(rt; *id == far_id(rt, number), "{number}");
     }
-    graph
 }
 
 #[test]
 fn offers_of_sixteen_and_then_of_more_go_down_a_chain(rt: HostRuntime) {
-    let graph = chain(&rt, 100);
-    let tips = ids_of(&rt, &[99]);
+    let graph = chain(&rt, rt.alloc(), 100);
+    let tips = [far_id(&rt, 99)];
     let mut sent = Vec::new(rt.alloc());
     for (n, wanted) in [(16, 16), (32, 32), (64, 52), (128, 0)] {
-        let offer = haves(&graph, tips.as_slice(), &[], sent.as_slice(), n).expect(&rt, "memory");
+        let offer = haves(&graph, &tips, &[], sent.as_slice(), n).expect(&rt, "memory");
         assert_eq!(rt; offer.len(), wanted);
-        for have in offer.as_slice() {
-            let next = 99usize.saturating_sub(sent.len());
-            assert!(rt; *have == id(&rt, next), "{next}");
-            sent.push(*have).expect(&rt, "memory");
+        check_down(&rt, offer.as_slice(), 99usize.saturating_sub(sent.len()));
+        sent.extend_from_slice(offer.as_slice())
+            .expect(&rt, "memory");
+    }
+}
+
+// Offers so many ids of a chain of 20,000, with room for three marks of each and for little more; answers whether
+// that was enough. The numbers of all would take 160,000 bytes.
+fn offers_in_little_room(rt: &(impl Abort + AllocGlobal), n: usize) -> Result<bool, Fail> {
+    let arena = Bump::try_with_capacity(rt.alloc(), 12_000_000)?;
+    let graph = chain(rt, &arena, 20_000);
+    let tips = [far_id(rt, 19_999)];
+    fill(rt.alloc(), &arena, 64_000)?;
+    match haves(&graph, &tips, &[], &[], n) {
+        Ok(offer) => {
+            assert_eq!(rt; offer.len(), n);
+            check_down(rt, offer.as_slice(), 19_999);
+            Ok(true)
+        }
+        Err(fault) => {
+            assert_eq!(rt; fault, GraphFault::Memory);
+            Ok(false)
         }
     }
+}
+
+#[test]
+fn an_offer_goes_no_further_than_to_the_level_where_it_has_enough(
+    rt: HostRuntime,
+) -> Result<(), Fail> {
+    assert!(rt; offers_in_little_room(&rt, 16)?);
+    assert!(rt; !offers_in_little_room(&rt, 20_000)?);
+    Ok(())
 }

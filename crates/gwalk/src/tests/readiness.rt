@@ -1,10 +1,14 @@
 //! Common ids, and what reaches what.
-use super::chains::ladder;
+use super::arenas::fill;
+use super::chains::{chain, far_id, ladder};
 use super::makers::{Row, graph_of, id, ids_of};
 use crate::{common_ids, reaches, ready};
-use ghistory::Graph;
-use gobject::Kind;
+use bumpalo::Bump;
+use ghistory::{Graph, GraphFault};
+use gobject::{Entry, Kind, Node, Parents};
+use std::alloc::Allocator;
 use std::process::Abort;
+use std::test::Fail;
 
 // Which ids are common of some haves.
 const COMMON: &[(&[usize], &[usize])] = &[
@@ -141,4 +145,45 @@ fn each_id_of_a_ladder_is_taken_up_once(rt: HostRuntime) {
         check_reaches(&rt, &graph, 0, b, answer);
     }
     check_ready(&rt, &graph, &[0, 1], &[200, 126], true);
+}
+
+// A chain of 20,000 commits, and one commit more, whose parent is not held.
+fn unordered_chain<A: Allocator + Copy>(rt: &impl Abort, alloc: A) -> Graph<A> {
+    let mut graph = chain(rt, alloc, 20_000);
+    let absent = [far_id(rt, 30_001)];
+    let parents = Parents::from_slice(alloc, &absent).expect(rt, "memory");
+    let kind = Kind::Commit;
+    let id = far_id(rt, 30_000);
+    let node = Node { kind, parents };
+    let answer = graph.insert(Entry { id, node });
+    assert_eq!(rt; answer, Ok(true));
+    assert!(rt; !graph.is_ordered());
+    graph
+}
+
+// Whether a pack is ready for the last commit of the chain, with room for two marks of each and for little more. The
+// numbers of all would take 160,000 bytes.
+fn ready_in_little_room(
+    rt: &(impl Abort + AllocGlobal),
+    common: usize,
+) -> Result<Result<bool, GraphFault>, Fail> {
+    let arena = Bump::try_with_capacity(rt.alloc(), 12_000_000)?;
+    let graph = unordered_chain(rt, &arena);
+    let wants = [far_id(rt, 19_999)];
+    let commons = [far_id(rt, common)];
+    fill(rt.alloc(), &arena, 42_000)?;
+    Ok(ready(&graph, &wants, &commons))
+}
+
+#[test]
+fn a_walk_goes_no_further_than_to_a_common_id(rt: HostRuntime) -> Result<(), Fail> {
+    for (common, wanted) in [
+        (19_999, Ok(true)),
+        (19_998, Ok(true)),
+        (0, Err(GraphFault::Memory)),
+    ] {
+        let answer = ready_in_little_room(&rt, common)?;
+        assert_eq!(rt; answer, wanted, "{common}");
+    }
+    Ok(())
 }

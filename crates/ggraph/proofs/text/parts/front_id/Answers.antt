@@ -1,7 +1,7 @@
 use Rattle.std.proofs.Common.{refl}
 use Rattle.ggraph.proofs.LowerDigits.{lower_is_text, text_is_lower}
 use Rattle.ggraph.proofs.TextLemmas.{no_id_short, no_id_fault, no_id_upper, id_here}
-use Rattle.ggraph.proofs.text.parts.take_id.Goals as goal
+use Rattle.ggraph.proofs.text.parts.front_id.Goals as goal
 
 pub returns-then-text-length : goal.returns-then-text-length
 returns-then-text-length c = no_id_short c.text_laws.ensures c.args.format c.args.text.now (rw c.id_text_length-length.ensures at c.if-text-length.true)
@@ -11,6 +11,7 @@ returns-then-is_lower c =
     let same = lower_is_text c.split_at.result.0.now c.in-Ok.id c.in-Ok.ensures.0.spells (c.if-is_lower.ensures.0 refl) in
     let length = c.id_text_length-length.ensures in (
       id_here c.text_laws.ensures c.args.format c.args.text.now c.split_at.result.0.now c.split_at.result.1.now c.in-Ok.id (rw length at c.split_at.ensures.front) (rw length at c.split_at.ensures.back) same,
+      same,
       c.in-Ok.ensures.1,
     )
 

@@ -1,0 +1,75 @@
+// The ids that were read last.
+#![tactic(auto)]
+
+ghost use Rattle.std.specs.Prelude.{◌≡◌, ◌≢◌, ◌++◌, [], IfSome};
+ghost use Rattle.gname.specs.Ids.{id_text};
+
+use gname::Oid;
+use std::marker::Model;
+
+/// The ids of the two nodes that were read last, with their digits in the text. A node's parents are often among them,
+/// and then need no decoding. Where no node was read there are no digits.
+#[derive(Drop)]
+pub(crate) struct Recent<'a> {
+    last: Oid,
+    last_digits: &'a [u8],
+    before: Oid,
+    before_digits: &'a [u8],
+}
+
+impl<'a> Model for Recent<'a> {
+    ghost use Rattle.std.specs.Prelude.{⊤, ◌≡◌, ◌≢◌, []};
+    ghost use Rattle.gname.specs.Ids.{id_text};
+
+    ghost Value = { ⊤ };
+
+    ghost view = { λ _. tt };
+
+    ghost invariant = { λ it. (it.last_digits.now ≢ [] → it.last_digits.now ≡ id_text it.last)
+        × (it.before_digits.now ≢ [] → it.before_digits.now ≡ id_text it.before) };
+}
+
+impl<'a> Recent<'a> {
+    /// No node was read. The id says nothing.
+    pub(crate) fn new(blank: Oid) -> Recent<'a> {
+        Recent {
+            last: blank,
+            last_digits: b"",
+            before: blank,
+            before_digits: b"",
+        }
+    }
+
+    /// Keeps the id of the node that was read, whose digits these are.
+    pub(crate) fn keep(&mut self, digits: &'a [u8], id: Oid)
+        requires { digits.now ≡ id_text id }
+    {
+        self.before = self.last;
+        self.before_digits = self.last_digits;
+        self.last = id;
+        self.last_digits = digits;
+    }
+
+    /// The one of the ids that is at the front of the text, and what follows it.
+    pub(crate) fn take<'t>(&self, text: &'t [u8]) -> Option<(Oid, &'t [u8])>
+        ensures { IfSome result (λ pair. text.now ≡ id_text pair.0 ++ pair.1.now) }
+    {
+        if let Some(rest) = after(self.last_digits, text) {
+            return Some((self.last, rest));
+        }
+        if let Some(rest) = after(self.before_digits, text) {
+            return Some((self.before, rest));
+        }
+        None
+    }
+}
+
+// What follows the digits, if there are some and the text begins with them.
+fn after<'t>(digits: &[u8], text: &'t [u8]) -> Option<&'t [u8]>
+    ensures { IfSome result (λ rest. (digits.now ≢ []) × (text.now ≡ digits.now ++ rest.now)) }
+{
+    if digits.is_empty() {
+        return None;
+    }
+    text.strip_prefix(digits)
+}
