@@ -3,7 +3,7 @@ use super::samples::{
     ADVERT, ADVERT_SHA256, ASK, ASK_ALL, ASK_REFS, CLIENT, EMPTY, EMPTY_SHA256, END, MAIN, PACK,
     PACK_ALL, REFS, fault_of, hold, hold_within, joined, spelled,
 };
-use crate::{ClientFault, FetchFault, RepoFault};
+use crate::{ClientFault, FetchFault, Fetched, RefUpdate, RepoFault};
 use gfetchreply::PackLimit;
 use ggrammar::{Ends, Why};
 use ggraph::GraphFault;
@@ -369,7 +369,10 @@ fn replies_need_their_end(rt: HostRuntime) -> Result<(), Fail> {
     Ok(())
 }
 
-// Where the packets of an advertisement, of a reply to ls-refs and of one to fetch begin; and where each ends.
+// A reply that only acknowledges: nothing is common.
+const NOTHING_COMMON: &[u8] = b"0014acknowledgments\n0008NAK\n0000";
+
+// Where the packets of an advertisement, of a reply to ls-refs and of those to fetch begin; and where each ends.
 const ADVERT_PACKETS: [usize; 6] = [0, 14, 32, 44, 54, 77];
 
 const ADVERT_END: usize = 81;
@@ -381,6 +384,19 @@ const REFS_END: usize = 65;
 const PACK_PACKETS: [usize; 7] = [0, 20, 69, 79, 83, 96, 280];
 
 const PACK_END: usize = 284;
+
+const PACK_ALL_PACKETS: [usize; 3] = [0, 13, 240];
+
+const PACK_ALL_END: usize = 244;
+
+const NOTHING_COMMON_PACKETS: [usize; 3] = [0, 20, 28];
+
+const NOTHING_COMMON_END: usize = 32;
+
+// The same reply with all objects where it has an end of its own.
+const RESPONSE_PACKETS: [usize; 4] = [0, 13, 240, 244];
+
+const RESPONSE_END: usize = 248;
 
 // The number of the packet that is cut, and where.
 fn fault_at(cut: usize, packets: &[usize]) -> (u32, Option<u64>) {
@@ -398,6 +414,8 @@ fn fault_at(cut: usize, packets: &[usize]) -> (u32, Option<u64>) {
 
 fn check_cut(
     rt: &(impl Abort + AllocGlobal),
+    client: &[u8],
+    ends: Ends,
     read: &[&[u8]],
     packets: &[usize],
     end: usize,
@@ -410,9 +428,9 @@ fn check_cut(
         let left = whole.saturating_sub(end).saturating_add(cut);
         let held = hold(
             alloc,
-            CLIENT,
+            client,
             MAIN,
-            Ends::Plain,
+            ends,
             &input.as_slice()[..left.min(whole)],
         )?;
         assert_eq!(rt;
@@ -421,7 +439,7 @@ fn check_cut(
             "{cut}"
         );
         assert_eq!(rt; held.written.as_slice(), joined(alloc, written)?.as_slice());
-        assert_eq!(rt; held.repo.as_slice(), spelled(alloc, CLIENT)?.as_slice());
+        assert_eq!(rt; held.repo.as_slice(), spelled(alloc, client)?.as_slice());
     }
     Ok(())
 }
@@ -429,22 +447,79 @@ fn check_cut(
 // The input ends after each of its bytes.
 #[test]
 fn adverts_are_cut(rt: HostRuntime) -> Result<(), Fail> {
-    check_cut(&rt, &[ADVERT], &ADVERT_PACKETS, ADVERT_END, &[])
+    check_cut(
+        &rt,
+        CLIENT,
+        Ends::Plain,
+        &[ADVERT],
+        &ADVERT_PACKETS,
+        ADVERT_END,
+        &[],
+    )
 }
 
 #[test]
 fn replies_with_refs_are_cut(rt: HostRuntime) -> Result<(), Fail> {
-    check_cut(&rt, &[ADVERT, REFS], &REFS_PACKETS, REFS_END, &[ASK_REFS])
+    check_cut(
+        &rt,
+        CLIENT,
+        Ends::Plain,
+        &[ADVERT, REFS],
+        &REFS_PACKETS,
+        REFS_END,
+        &[ASK_REFS],
+    )
 }
 
 #[test]
 fn replies_with_objects_are_cut(rt: HostRuntime) -> Result<(), Fail> {
     check_cut(
         &rt,
+        CLIENT,
+        Ends::Plain,
         &[ADVERT, REFS, PACK],
         &PACK_PACKETS,
         PACK_END,
         &[ASK_REFS, ASK],
+    )
+}
+
+#[test]
+fn replies_with_all_objects_are_cut(rt: HostRuntime) -> Result<(), Fail> {
+    check_cut(
+        &rt,
+        EMPTY,
+        Ends::Plain,
+        &[ADVERT, REFS, PACK_ALL],
+        &PACK_ALL_PACKETS,
+        PACK_ALL_END,
+        &[ASK_REFS, ASK_ALL],
+    )
+}
+
+#[test]
+fn replies_that_only_acknowledge_are_cut(rt: HostRuntime) -> Result<(), Fail> {
+    check_cut(
+        &rt,
+        CLIENT,
+        Ends::Plain,
+        &[ADVERT, REFS, NOTHING_COMMON],
+        &NOTHING_COMMON_PACKETS,
+        NOTHING_COMMON_END,
+        &[ASK_REFS, ASK],
+    )
+}
+
+#[test]
+fn replies_with_an_end_are_cut(rt: HostRuntime) -> Result<(), Fail> {
+    check_cut(
+        &rt,
+        EMPTY,
+        Ends::Response,
+        &[ADVERT, REFS, b"0002", PACK_ALL, b"0002"],
+        &RESPONSE_PACKETS,
+        RESPONSE_END,
+        &[ASK_REFS, ASK_ALL],
     )
 }
 
@@ -453,35 +528,71 @@ const MOVED: &[u8] = b"c {b} {a}\nc {c} {b}\nr {c} refs/remotes/origin/main\nh n
 
 const KEPT: &[u8] = b"r {a} refs/remotes/origin/main\nh none\nend\n";
 
-// One byte of what is read is another one. The ref moves where all of its ancestry has come, and stays else.
+// What becomes of the one ask that is taken.
+const TAKEN: &[RefUpdate] = &[RefUpdate::Moved];
+
+// The bits of a byte that are changed.
+const CHANGES: [u8; 4] = [1, 4, 32, 128];
+
+fn has_taken(fetched: &Result<Fetched, FetchFault>) -> bool {
+    match fetched {
+        Ok(fetched) => fetched.settled.updates.as_slice() == TAKEN,
+        Err(_) => false,
+    }
+}
+
+// One byte of what is read is another one. The ref moves where the client says so, and it stays else, which is after
+// a fault, or where the server may have no such ref.
 fn check_changed(
     rt: &(impl Abort + AllocGlobal),
     input: &[u8],
     place: usize,
     change: u8,
+    may_stay: bool,
 ) -> Result<(), Fail> {
     let alloc = rt.alloc();
     assert!(rt; place < input.len());
     let mut changed = Vec::from_slice(alloc, input)?;
     changed[place] ^= change;
     let held = hold(alloc, CLIENT, MAIN, Ends::Plain, changed.as_slice())?;
-    let ends = if held.fetched.is_ok() { MOVED } else { KEPT };
+    let taken = has_taken(&held.fetched);
+    assert!(rt; taken || may_stay || held.fetched.is_err(), "{place}");
+    let ends = if taken { MOVED } else { KEPT };
     let ends = spelled(alloc, ends)?;
     assert!(rt; held.repo.as_slice().ends_with(ends.as_slice()), "{place}");
     Ok(())
 }
 
-// Each byte of a reply is another one.
-#[test]
-fn replies_are_changed(rt: HostRuntime) -> Result<(), Fail> {
+// Each byte from one place to another is another one.
+fn check_all_changed(
+    rt: &(impl Abort + AllocGlobal),
+    begin: usize,
+    end: usize,
+    may_stay: bool,
+) -> Result<(), Fail> {
     let input = joined(rt.alloc(), &[ADVERT, REFS, PACK])?;
-    let begin = input.len().saturating_sub(PACK_END);
-    for place in begin..input.len() {
-        for change in [1, 32] {
-            check_changed(&rt, input.as_slice(), place, change)?;
+    for place in begin..end {
+        for change in CHANGES {
+            check_changed(rt, input.as_slice(), place, change, may_stay)?;
         }
     }
     Ok(())
+}
+
+// The three messages end after 81, 146 and 430 bytes.
+#[test]
+fn adverts_are_changed(rt: HostRuntime) -> Result<(), Fail> {
+    check_all_changed(&rt, 0, 81, false)
+}
+
+#[test]
+fn replies_with_refs_are_changed(rt: HostRuntime) -> Result<(), Fail> {
+    check_all_changed(&rt, 81, 146, true)
+}
+
+#[test]
+fn replies_with_objects_are_changed(rt: HostRuntime) -> Result<(), Fail> {
+    check_all_changed(&rt, 146, 430, false)
 }
 
 // Seventeen refspecs are too many, and nothing is read. Sixteen are not.
