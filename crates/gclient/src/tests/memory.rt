@@ -64,7 +64,7 @@ struct Within {
 }
 
 // The text of a repository in an arena, which may take more room for it.
-fn text_in(alloc: Global, arena: &Bump, repo: &Repo<&Bump>) -> Result<Vec<u8>, Fail> {
+fn text_in<'a>(alloc: Global, arena: &'a Bump, repo: &Repo<&'a Bump>) -> Result<Vec<u8>, Fail> {
     arena.set_allocation_limit(None);
     let text = text_of(arena, repo)?;
     Ok(Vec::from_slice(alloc, text.as_slice())?)
