@@ -55,8 +55,6 @@ pub mod laws;
 mod ls;
 mod one_pack;
 mod server;
-#[cfg(test)]
-mod tests;
 mod write;
 
 pub use crate::answer::Reply;
