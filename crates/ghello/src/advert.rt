@@ -342,8 +342,8 @@ fn is_value_or_none(value: Option<&[u8]>) -> bool
 /// that is no capability; `Limit` for a 65th capability; and `Memory` only where a capability could not be
 /// kept. After a refusal the line reader has failed exactly where the line itself was refused.
 pub fn read_advert<S: Source, A: Allocator + Copy, B: Allocator + Copy>(
-    alloc: A,
     reader: &mut LineReader<S, B>,
+    alloc: A,
 ) -> Result<Advert<A>, MessageFault>
     ensures read { ReadsOrRefuses judge brings Says (change_of S.remaining reader.old.source reader.new.source) result }
     ensures loans { S.loans reader.new.source ≡ S.loans reader.old.source }

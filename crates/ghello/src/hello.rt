@@ -129,8 +129,8 @@ pub fn is_host(host: &[u8]) -> bool
 /// that reports an error too; `Memory` comes only where a hello could not be kept. After a refusal the line
 /// reader has failed exactly where the line itself was refused.
 pub fn read_hello<S: Source, A: Allocator + Copy, B: Allocator + Copy>(
-    alloc: A,
     reader: &mut LineReader<S, B>,
+    alloc: A,
 ) -> Result<Hello<A>, MessageFault>
     ensures read { ReadsOrRefuses judge brings Says (change_of S.remaining reader.old.source reader.new.source) result }
     ensures first { IfErr result (λ fault. fault.frame ≡ 0) }
