@@ -146,7 +146,8 @@ pub fn read_hello<S: Source, A: Allocator + Copy, B: Allocator + Copy>(
     }
 }
 
-/// Writes the line of a hello. It takes no memory.
+/// Writes the line of a hello, which then reads back as it ([`reads_back`](crate::laws::reads_back)). It takes no
+/// memory.
 ///
 /// It fails with `Io` where the sink fails, and then a beginning of the line stands written; with `Failed`
 /// where the writer had failed before.
@@ -155,7 +156,8 @@ pub fn write_hello<A: Allocator + Copy, W: Sink>(
     hello: &Hello<A>,
     writer: &mut LineWriter<W>,
 ) -> Result<(), WriteFault>
-    ensures { WritesLines W.contents W.passed_on W.is_down W.loans writer.old writer.new result (canonical_hello hello.now) }
+    ensures lines { WritesLines W.contents W.passed_on W.is_down W.loans writer.old writer.new result (canonical_hello hello.now) }
+    ensures form { IsHello hello.now }
 {
     writes_lines::<W>();
     let mut line = ArrayVec::new();
