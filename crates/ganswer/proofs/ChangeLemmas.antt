@@ -12,15 +12,16 @@ use Rattle.grefs.specs.declared.fault.RefsFault.{RefsFault}
 use Rattle.ghistory.specs.Laws.{ClosedStays}
 use Rattle.ghistory.specs.Reach.{Keeps}
 use Rattle.grefs.specs.RefLists.{IsRefs, RefList, SetsRef}
+use Rattle.ghistory.proofs.Holding.{held_node}
 use Rattle.grefs.specs.declared.head.Head.{Head}
 use Rattle.grefs.specs.declared.head.Head.TheVariants as heads
 use Rattle.ganswer.specs.Servers.{HoldsHead, HoldsRefs, IsServer, served}
-use Rattle.ganswer.proofs.FormatLemmas.{some_is, unmap}
+use Rattle.ganswer.proofs.FormatLemmas.{unmap}
 
 module _ {A : Type 0} where
   still_held : (g h : List (Entry A)) → Keeps g h → (a : List ℕ) → Holds g a → Holds h a
   still_held g h keeps a held =
-      let node = some_is (node_at g a) held in
+      let node = held_node g a held in
       subst IsSome (sym (keeps a node.0 node.1)) refl
 
   head_stays : (g h : List (Entry A)) → Keeps g h → (head : Head A) → HoldsHead g head → HoldsHead h head

@@ -23,7 +23,8 @@ use Rattle.ganswer.specs.Servers.{Server}
 use Rattle.ganswer.specs.declared.fault.BuildFault.{BuildFault}
 use Rattle.ganswer.specs.declared.fault.BuildFault.TheVariants as build
 use Rattle.ganswer.specs.declared.fault.ServeFault.TheVariants as serve
-use Rattle.ganswer.proofs.FormatLemmas.{all_held, lines_held, some_is}
+use Rattle.ghistory.proofs.Holding.{held_node}
+use Rattle.ganswer.proofs.FormatLemmas.{all_held, lines_held}
 
 pub ls_answers_are_held : {A : Type 0} → LsAnswersAreHeld A
 ls_answers_are_held server asked reply is answers =
@@ -78,12 +79,12 @@ module _ {A : Type 0} (law : CommonsAreHeld A) where
       }
 
 -- a want that is not held is none of some that are
-none_absent : {A : Type 0} (g : List (Entry A)) (wants : List (List ℕ)) (id : List ℕ) → All (Holds g) wants → IsFirstAbsent g wants id → ⊥
+pub none_absent : {A : Type 0} (g : List (Entry A)) (wants : List (List ℕ)) (id : List ℕ) → All (Holds g) wants → IsFirstAbsent g wants id → ⊥
 none_absent g wants id held first =
     let all = subst (All (Holds g)) first.parts held in
     let among = Contains-append_right first.front (id ∷ first.rest) id (Contains-get_or (id ∷ first.rest) 0 id (omega arith)) in
     let here : Holds g id = All-contains (Holds g) (first.front ++ id ∷ first.rest) id all among in
-    let node = some_is (node_at g id) here in
+    let node = held_node g id here in
     none-some node.0 (sym first.absent ∙ node.1)
 
 pub held_wants_are_served : {A : Type 0} → SentAreEntries A → (fails : PackFails A) → ServesWhatIsHeld A fails
