@@ -25,7 +25,7 @@ pub fn read_request<S: Source, A: Allocator + Copy, B: Allocator + Copy>(
     ensures reader { LeavesReader S.is_down reader.old reader.new result }
     ensures not_ended { IfErr result (λ fault. fault.why ≡ Why.Ended → 0 < fault.frame) }
 {
-    read_request_in(Format::Sha1, reader, alloc)
+    read_request_in(reader, Format::Sha1, alloc)
 }
 
 /// Reads a request to its end, and nothing after it (gitprotocol-v2(5), "Command Request"). The format is
@@ -38,8 +38,8 @@ pub fn read_request<S: Source, A: Allocator + Copy, B: Allocator + Copy>(
 /// have. What was read, a refused packet too, is taken from the source. The line reader has then failed
 /// exactly where the line itself was refused; one that had failed before is refused at once, at packet 0.
 pub fn read_request_in<S: Source, A: Allocator + Copy, B: Allocator + Copy>(
-    format: Format,
     reader: &mut LineReader<S, A>,
+    format: Format,
     alloc: B,
 ) -> Result<Option<Request<B>>, MessageFault>
     ensures read { ReadsRequest format asked_by_request (change_of S.remaining reader.old.source reader.new.source) result }
