@@ -23,6 +23,7 @@ use Rattle.ganswer.specs.Servers.{Server}
 use Rattle.ganswer.specs.declared.fault.BuildFault.{BuildFault}
 use Rattle.ganswer.specs.declared.fault.BuildFault.TheVariants as build
 use Rattle.ganswer.specs.declared.fault.ServeFault.TheVariants as serve
+use Rattle.ghistory.proofs.Growing.{comes_grows}
 use Rattle.ghistory.proofs.Holding.{held_node}
 use Rattle.ganswer.proofs.FormatLemmas.{all_held, lines_held}
 
@@ -101,19 +102,12 @@ held_wants_are_served sent fails server asked (serve.Request cause) is can refus
 -- ---- changes
 
 module _ {A : Type 0} where
-  comes_at_end : (g h : List (Entry A)) (entry : Entry A) (format : Format) → ComesIn format g entry h → Grows g h
-  comes_at_end g h entry format came =
-      elim came.comes [
-        | inl there ↦ ([], there.1 ∙ sym (append-nil g))
-        | inr new ↦ (entry ∷ [], new.1)
-      ]
-
   stays : (old new : Server A) → new ≡ old → Grows old.graph.entries new.graph.entries
   stays old new same = ([], ap (λ (s : Server A). s.graph.entries) same ∙ sym (append-nil old.graph.entries))
 
   adding : (old new : Server A) (entry : Entry A) (result : Result (Unit {0}) (BuildFault A)) → Adds old entry new result
       → (new.graph.format ≡ old.graph.format) × Grows old.graph.entries new.graph.entries
-  adding old new entry (Ok done) adds = (adds.format, comes_at_end old.graph.entries new.graph.entries entry old.graph.format adds.comes)
+  adding old new entry (Ok done) adds = (adds.format, comes_grows old.graph.format old.graph.entries entry new.graph.entries adds.comes)
   adding old new entry (Err cause) adds = (ap (λ (s : Server A). s.graph.format) adds.0, stays old new adds.0)
 
   setting : (old new : Server A) (name id : List ℕ) (result : Result (Unit {0}) (BuildFault A)) → Sets old name id new result → new.graph ≡ old.graph

@@ -50,12 +50,10 @@ mod exchange;
 pub mod laws;
 mod refusal;
 mod send;
-#[cfg(test)]
-mod tests;
 mod write;
 
 pub use crate::connection::{End, MAX_REQUESTS, Served, serve};
 pub use crate::exchange::{ExchangeEnd, serve_one};
 pub use crate::refusal::{MAX_ERR_TEXT, err_text};
 pub use crate::write::write_reply;
-pub use ganswer::{BuildFault, Reply, ServeFault, Server};
+pub use ganswer::{BuildFault, OnePack, Packing, Reply, ServeFault, Server};

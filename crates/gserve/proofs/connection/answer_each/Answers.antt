@@ -10,7 +10,7 @@ use Rattle.gserve.proofs.connection.answer_each.Goals as goal
 
 pub loop-requests-init : goal.loop-requests-init
 loop-requests-init g c = record {
-  answered = λ start passed. answered_none c.args.server.now (g.K.Packer.packs c.args.packer.now) (g.K.Packer.pack_fails c.args.packer.now) c.args.ends
+  answered = λ start passed. answered_none c.args.server.now (g.K.Packer.packs c.args.packer.now.packer) (g.K.Packer.pack_fails c.args.packer.now.packer) c.args.ends
       g.S.Source.remaining g.S.Source.is_down g.W.Sink.contents g.W.Sink.passed_on g.W.Sink.is_down c.reads_join.ensures.none
       c.args.reader.now.source start c.args.writer.now.sink passed;
   reader = c.requires.reader;
@@ -22,8 +22,8 @@ loop-requests-init g c = record {
 pub loop-requests-preserved : goal.loop-requests-preserved
 loop-requests-preserved g c =
     let server = c.args.server.now in
-    let packs = g.K.Packer.packs c.args.packer.now in
-    let fails = g.K.Packer.pack_fails c.args.packer.now in
+    let packs = g.K.Packer.packs c.args.packer.now.packer in
+    let fails = g.K.Packer.pack_fails c.args.packer.now.packer in
     let answered : c.exchange.result ≡ ended.Answered = none_is_answered c.exchange.result (sym c.end_after.ensures ∙ c.in-None.is) in
     record {
       answered = λ start passed. answered_more server packs fails c.args.ends
@@ -40,7 +40,7 @@ loop-requests-preserved g c =
 
 pub returns-in-Some-clause-serves : goal.returns-in-Some-clause-serves
 returns-in-Some-clause-serves g c = λ start passed.
-    ended_by c.args.server.now (g.K.Packer.packs c.args.packer.now) (g.K.Packer.pack_fails c.args.packer.now) c.args.ends
+    ended_by c.args.server.now (g.K.Packer.packs c.args.packer.now.packer) (g.K.Packer.pack_fails c.args.packer.now.packer) c.args.ends
     g.S.Source.remaining g.S.Source.is_down g.W.Sink.contents g.W.Sink.passed_on g.W.Sink.is_down
     _ _ _ _ _ _ c.loop-requests.requests c.exchange.result (c.loop-requests.invariant.answered start passed) c.exchange.ensures.exchange
     (omega arith) c.in-Some.end (sym c.end_after.ensures ∙ c.in-Some.is)
@@ -48,8 +48,8 @@ returns-in-Some-clause-serves g c = λ start passed.
 pub returns-clause-serves : goal.returns-clause-serves
 returns-clause-serves g c = λ start passed.
     let server = c.args.server.now in
-    let packs = g.K.Packer.packs c.args.packer.now in
-    let fails = g.K.Packer.pack_fails c.args.packer.now in
+    let packs = g.K.Packer.packs c.args.packer.now.packer in
+    let fails = g.K.Packer.pack_fails c.args.packer.now.packer in
     let all : c.loop-requests.requests ≡ max_requests = omega arith in
     answered_all server packs fails c.args.ends
     g.S.Source.remaining g.S.Source.is_down g.W.Sink.contents g.W.Sink.passed_on g.W.Sink.is_down _ _ _ _

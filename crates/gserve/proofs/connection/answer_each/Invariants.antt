@@ -10,7 +10,7 @@ abbrev pub invariant-loop-requests : goal.invariant-loop-requests
 invariant-loop-requests g l = record {
   answered : (start : g.row.W.Denot)
       → Passes (output_of g.W.Sink.contents g.W.Sink.passed_on g.W.Sink.is_down start l.initial.writer.sink) (canonical_all (advert_packets l.server.graph.format))
-      → HasAnswered l.server (g.K.Packer.packs l.packer) (g.K.Packer.pack_fails l.packer) l.ends
+      → HasAnswered l.server (g.K.Packer.packs l.initial.packer.packer) (g.K.Packer.pack_fails l.initial.packer.packer) l.ends
       (input_of g.S.Source.remaining g.S.Source.is_down l.initial.reader.source l.reader.source)
       (output_of g.W.Sink.contents g.W.Sink.passed_on g.W.Sink.is_down start l.writer.sink) l.requests;
   reader : l.reader.failed ≡ false;

@@ -11,13 +11,13 @@ pub returns-in-Ls-clause-replies : goal.returns-in-Ls-clause-replies
 returns-in-Ls-clause-replies g c =
     let sent = c.send_ls_answer.ensures.sent in
     rw c.in-Ls.is
-    (replied c.args.server.now (g.K.Packer.packs c.args.packer.now) (g.K.Packer.pack_fails c.args.packer.now) c.args.ends _ (LsAsked c.in-Ls.asked) (Ls sent.0)
+    (replied c.args.server.now (g.K.Packer.packs c.args.packer.now.packer) (g.K.Packer.pack_fails c.args.packer.now.packer) c.args.ends _ (LsAsked c.in-Ls.asked) (Ls sent.0)
     c.send_ls_answer.result c.end_of.result c.end_of.ensures (λ is. cc) sent.1 sent.2)
 
 pub returns-in-Ok-Nothing-clause-replies : goal.returns-in-Ok-Nothing-clause-replies
 returns-in-Ok-Nothing-clause-replies g c =
     let server = c.args.server.now in
-    let packs = g.K.Packer.packs c.args.packer.now in
+    let packs = g.K.Packer.packs c.args.packer.now.packer in
     let asked = asked_by_request c.args.request.now in (
       nothing_to_empty server packs asked
           (subst (λ (reply : Reply g.row.A.Denot). Answers server packs asked (reply_of reply)) c.in-Ok-Nothing.field-0-is c.in-Ok-Nothing.ensures.answer),
@@ -27,9 +27,9 @@ returns-in-Ok-Nothing-clause-replies g c =
 pub returns-in-Ok-Fetch-clause-replies : goal.returns-in-Ok-Fetch-clause-replies
 returns-in-Ok-Fetch-clause-replies g c =
     let server = c.args.server.now in
-    let packs = g.K.Packer.packs c.args.packer.now in
+    let packs = g.K.Packer.packs c.args.packer.now.packer in
     let asked = asked_by_request c.args.request.now in
-    replied server packs (g.K.Packer.pack_fails c.args.packer.now) c.args.ends _ asked (Fetch (reply_in c.in-Ok-Fetch.reply)) c.send_fetch_reply.result c.end_of-in-Ok-Fetch.result
+    replied server packs (g.K.Packer.pack_fails c.args.packer.now.packer) c.args.ends _ asked (Fetch (reply_in c.in-Ok-Fetch.reply)) c.send_fetch_reply.result c.end_of-in-Ok-Fetch.result
     c.end_of-in-Ok-Fetch.ensures (λ is. cc)
     (subst (λ (reply : Reply g.row.A.Denot). Answers server packs asked (reply_of reply)) c.in-Ok-Fetch.field-0-is c.in-Ok-Fetch.ensures.answer)
     c.send_fetch_reply.ensures.sent
@@ -37,7 +37,7 @@ returns-in-Ok-Fetch-clause-replies g c =
 pub returns-in-Err-clause-replies : goal.returns-in-Err-clause-replies
 returns-in-Err-clause-replies g c =
     let server = c.args.server.now in
-    refused_reply server (g.K.Packer.packs c.args.packer.now) (g.K.Packer.pack_fails c.args.packer.now) c.args.ends _ (asked_by_request c.args.request.now)
+    refused_reply server (g.K.Packer.packs c.args.packer.now.packer) (g.K.Packer.pack_fails c.args.packer.now.packer) c.args.ends _ (asked_by_request c.args.request.now)
     c.in-Err.fault c.refuse.result c.in-Err.ensures.answer c.refuse.ensures.refused
 
 pub returns-in-Ls-clause-goes_on : goal.returns-in-Ls-clause-goes_on
@@ -51,7 +51,7 @@ returns-in-Ok-Fetch-clause-goes_on g c =
 pub unreachable-requires : goal.unreachable-requires
 unreachable-requires g c =
     let server = c.args.server.now in
-    let packs = g.K.Packer.packs c.args.packer.now in
+    let packs = g.K.Packer.packs c.args.packer.now.packer in
     let asked = asked_by_request c.args.request.now in
     only_ls_is_listed server packs c.args.request.now _ c.in_default.not-Ls
     (subst (λ (reply : Reply g.row.A.Denot). Answers server packs asked (reply_of reply)) c.in-Ok-Ls.field-0-is c.in-Ok-Ls.ensures.answer)
