@@ -56,7 +56,7 @@ impl<'a, K> OnePack<'a, K> {
     }
 
     /// Makes it ready for another answer. It must not have failed.
-    pub fn next(&mut self)
+    pub fn renew(&mut self)
         requires { has_failed self.old.answered ≡ false }
         ensures unasked { self.new.answered ≡ packing.Unasked }
         ensures packer { self.new.packer ≡ self.old.packer }

@@ -153,7 +153,7 @@ fn answer_each<S: Source, W: Sink, A: Allocator + Copy, K: Packer<A>>(
     for requests in 0..MAX_REQUESTS {
         match end_after(exchange(server, packer, ends, reader, writer)) {
             Some(end) => return Served { requests, end },
-            None => packer.next(),
+            None => packer.renew(),
         }
     }
     Served {

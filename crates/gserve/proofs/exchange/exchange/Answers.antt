@@ -5,6 +5,8 @@ use Rattle.grequest.specs.RequestValues.{asked_by_request}
 use Rattle.grequest.specs.declared.request.Request.{Request}
 use Rattle.ghistory.specs.Graphs.{History}
 use Rattle.gserve.proofs.ExchangeLemmas.{exchanged, reading_refused, refused_to_read}
+use Rattle.ganswer.specs.declared.fault.ServeFault.TheVariants as serve
+use Rattle.gserve.proofs.PackingLemmas.{refused_packing}
 use Rattle.gserve.proofs.exchange.exchange.Goals as goal
 
 pub returns-in-Ok-Some-clause-exchange : goal.returns-in-Ok-Some-clause-exchange
@@ -25,3 +27,7 @@ returns-in-Err-clause-exchange g c =
     (refused_to_read c.format.result server.graph.format format input c.in-Err.fault c.args.reader.now.failed c.requires.reader
     c.in-Err.ensures.read c.in-Err.ensures.reader.0 c.in-Err.ensures.not_ended)
     c.refuse.ensures.refused
+
+pub returns-in-Err-clause-packing : goal.returns-in-Err-clause-packing
+returns-in-Err-clause-packing g c =
+    refused_packing (serve.Request c.in-Err.fault) _ c.refuse.result c.args.packer.now.answered c.refuse.ensures.refused c.requires.unasked
