@@ -36,7 +36,7 @@
 //! # Stands on
 //!
 //! `ggrammar` for reading and writing of messages, `gpkt` for packet lines, `gname` for ids and names, `arrayvec`
-//! for the text of a line, `bumpalo` for a place without memory, in which names are judged and not kept.
+//! for the text of a line.
 #![tactic(auto)]
 
 pub mod laws;
