@@ -1,17 +1,16 @@
 -- The rule of components finds the first part between slashes that is not allowed.
-use Rattle.std.proofs.Common.{◌≡◌, ◌≢◌, ◌↔◌, ℕ, zero, suc, ◌+◌, ◌-◌, ◌<◌, ◌≤◌, ◌==◌, ◌||◌, ◌&&◌, Bool, true, false, inl, inr, ◌⊎◌, List, [], ◌∷◌, ◌++◌, length, take, drop, get_or, slice_index, Option, Some, None, MatchOption, refl, sym, ap, ◌∙◌, subst, arith, append_assoc}
-use Rattle.std.specs.Prelude.{All, codes}
+use Rattle.std.proofs.Common.{◌≡◌, ◌↔◌, ℕ, ◌+◌, ◌-◌, ◌<◌, ◌≤◌, ◌==◌, true, false, inl, inr, List, [], ◌∷◌, ◌++◌, length, take, drop, get_or, slice_index, Option, Some, None, MatchOption, refl, sym, ap, ◌∙◌, subst, arith, append_assoc}
+use Rattle.std.specs.Prelude.{All}
 use Rattle.std.specs.List.{before_first, position_or_len}
-use Rattle.std.specs.Option.{option_map, option_or}
+use Rattle.std.specs.Option.{option_map}
 use Rattle.std.proofs.Math.ListN.{length-take}
 use Rattle.std.proofs.lemmas.Bool.{and_from, and_parts, cases_eq, cases_lt, cases_order, eqb-true, false_from_ne_true, or_cases, or_right}
 use Rattle.std.proofs.lemmas.Option.{same_Some}
 use Rattle.std.proofs.lemmas.List.{drop_all, drop_at, drop_more, get_or-take, get_or_append_left, get_or_at, length-append, take-append-drop, take_at, take_more}
 use Rattle.std.proofs.lemmas.List.Sums.{fails_before_first, passes_at_first, position_or_len_is, prefix_len-le-length}
-use Rattle.gname.specs.declared.faults.NameFault.{NameFault}
-use Rattle.gname.specs.declared.faults.NameFault.TheVariants.{BadByte, Component, Empty, NotRef, TooLong}
-use Rattle.gname.specs.Names.{IsRefName, at_brace, bad_byte, begins_bad_component, begins_component, component, component_at, double_dot, empty, end, first_place, is_bad_component, is_slash, name_fault, not_ref, too_long}
-use Rattle.gname.specs.Components.{AllowsComponents, ComesBefore, ComesBehind, ComponentFacts, IsComponent, IsFirstBadComponent, PassesEarlierRules}
+use Rattle.gname.specs.declared.faults.NameFault.TheVariants.{Component}
+use Rattle.gname.specs.Names.{begins_bad_component, begins_component, component, component_at, first_place, is_bad_component, is_slash}
+use Rattle.gname.specs.Components.{AllowsComponents, ComesBefore, ComesBehind, ComponentFacts, IsComponent, IsFirstBadComponent}
 use Rattle.gname.proofs.NameLemmas.{KeepsRules-of_name, component-fault_from, component-fault_parts}
 use Rattle.gname.proofs.PlaceLemmas.{first_place-is}
 
