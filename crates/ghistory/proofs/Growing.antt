@@ -111,7 +111,7 @@ keeps_full g h keeps a full b r =
 
 -- ---- inserting
 
-comes_grows_by : {A : Type 0} (old : List (Entry A)) (entry : Entry A) (new : List (Entry A)) → (IsNode old entry.id entry.node × (new ≡ old)) ⊎ ((node_at old entry.id ≡ None) × (new ≡ old ++ entry ∷ [])) → Grows old new
+pub comes_grows_by : {A : Type 0} (old : List (Entry A)) (entry : Entry A) (new : List (Entry A)) → (IsNode old entry.id entry.node × (new ≡ old)) ⊎ ((node_at old entry.id ≡ None) × (new ≡ old ++ entry ∷ [])) → Grows old new
 comes_grows_by old entry new (inl c) = ([], c.1 ∙ sym (append-nil old))
 comes_grows_by old entry new (inr c) = (entry ∷ [], c.1)
 

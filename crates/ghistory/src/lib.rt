@@ -25,10 +25,10 @@
 //! It may take as long as it likes, and more memory than it needs. It may report out of memory of any new
 //! object for which there is room, of any copy and of any list of distinct ids. A copy by `entry_in` may take
 //! its memory from the graph's own allocator and not from the one that is given: no clause says where memory
-//! comes from. `make_room` may make none.
+//! comes from. `make_room` may make none. A fault may be shown as another text.
 //!
-//! There are no tests here. The program `conformance` runs graphs in repositories' texts, with each allocation
-//! refused in turn: a fault of memory is met there, and that memory which is there is used.
+//! There are no tests here. The program `conformance` loads, fetches and walks histories, with each allocation
+//! refused in turn.
 //!
 //! # Stands on
 //!

@@ -172,7 +172,7 @@ impl<A: Allocator + Copy> LsReplyReader<A> {
         if self.count > 0 {
             return self.take_ref(text);
         }
-        match first_form(self.alloc, text) {
+        match first_form(text) {
             FirstText::Unborn(Ok(target)) => self.take_unborn(target),
             FirstText::Unborn(Err(why)) => Err(why),
             FirstText::Ref => self.take_ref(text),
@@ -200,7 +200,7 @@ impl<A: Allocator + Copy> LsReplyReader<A> {
             (state_in self.new ≡ with_line (state_in self.old) (line_of self.old.format text.now)) result }
     {
         texts_have_one_reading();
-        match line_of(self.alloc, self.format, text) {
+        match line_of(self.format, text) {
             Ok(line) => self.take_line(&line),
             Err(why) => Err(why),
         }
