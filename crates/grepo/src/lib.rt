@@ -62,6 +62,3 @@ pub use crate::ask::{Ask, RefUpdate};
 pub use crate::asks::Asks;
 pub use crate::fault::RepoFault;
 pub use crate::repo::Repo;
-
-#[cfg(test)]
-mod tests;

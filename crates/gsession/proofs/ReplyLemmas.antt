@@ -158,14 +158,15 @@ module _ {A : Type 0} where
         → IsAcksFault haves acks fault → IsReplyFault indexes index_fails haves s reply fault
     acks_fault haves acks s reply (StrangeAck id) same is =
         subst (λ (l : List (List ℕ)). IsFirstStrange haves l id) (sym same) is
-    acks_fault haves acks s reply (Repo (repo.Graph graph.Memory)) same is = tt
+    acks_fault haves acks s reply (Repo (repo.Graph graph.Memory)) same is =
+        subst (λ (l : List (List ℕ)). All (Contains haves) l) (sym same) is
     acks_fault haves acks s reply _ same is = absurd is
 
     pub graph_fault : (haves : List (List ℕ)) (s : RepoState A) (reply : FetchReply) (fault : GraphFault)
         → All (Contains haves) (acknowledged_by reply) → HasPack reply
         → RefusesPack indexes index_fails s (pack_of reply) fault
         → IsReplyFault indexes index_fails haves s reply (Repo (repo.Graph fault))
-    graph_fault haves s reply graph.Memory named has refuses = tt
+    graph_fault haves s reply graph.Memory named has refuses = named
     graph_fault haves s reply _ named has refuses = (named, has, refuses)
 
     -- ---- acknowledgments alone

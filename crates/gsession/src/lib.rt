@@ -61,8 +61,6 @@ mod requests;
 mod session;
 mod stage;
 mod taken;
-#[cfg(test)]
-mod tests;
 
 pub use crate::fault::ClientFault;
 pub use crate::session::{MAX_SPECS, Session};

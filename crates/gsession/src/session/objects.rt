@@ -170,7 +170,7 @@ impl<A: Allocator + Copy> Session<A> {
     {
         distinct_are_once();
         let alloc = self.allocator();
-        if let Some(id) = first_strange(alloc, self.open_haves(), acks)? {
+        if let Some(id) = first_strange(alloc, self.open_haves(), acks) {
             return Err(ClientFault::StrangeAck { id });
         }
         Ok(with_acks(alloc, self.commons.as_slice(), acks)?)
