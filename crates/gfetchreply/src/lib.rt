@@ -46,8 +46,6 @@ mod limit;
 mod reading;
 mod sections;
 mod sink;
-#[cfg(test)]
-mod tests;
 mod value;
 mod write;
 

@@ -36,7 +36,7 @@
 //! # Stands on
 //!
 //! `ggrammar` for reading and writing of messages, `gpkt` for packet lines, `gname` for ids and names, `arrayvec`
-//! for the text of a line, `bumpalo` for a place without memory, in which names are judged and not kept.
+//! for the text of a line.
 #![tactic(auto)]
 
 pub mod laws;
@@ -50,6 +50,3 @@ pub use crate::lent::{LentLine, RefText};
 pub use crate::reader::{read_ls_reply, read_ls_reply_in};
 pub use crate::reply::{LsReply, MAX_LINES, RefLine};
 pub use crate::writer::{write_end, write_ls_reply, write_ref, write_unborn};
-
-#[cfg(test)]
-mod tests;

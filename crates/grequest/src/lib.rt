@@ -60,6 +60,3 @@ pub use crate::ls_refs::{LsRefsRequest, MAX_PREFIXES};
 pub use crate::read::{read_request, read_request_in};
 pub use crate::request::Request;
 pub use crate::write::write_request;
-
-#[cfg(test)]
-mod tests;
