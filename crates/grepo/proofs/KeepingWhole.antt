@@ -12,6 +12,7 @@ use Rattle.gobject.specs.declared.node.Entry.{Entry}
 use Rattle.ghistory.specs.Graphs.{History}
 use Rattle.ghistory.specs.Laws.{ReachingGoesOn}
 use Rattle.ghistory.specs.Reach.{IsFull}
+use Rattle.ghistory.proofs.Pairs.{past}
 use Rattle.grefs.specs.Laws.{RefsComeInOrder}
 use Rattle.grefs.specs.RefLists.{AreBelow, IsRefs, RefList, ref_at}
 use Rattle.grefs.proofs.RefLemmas.{ref_at-hit, ref_at-skip}
@@ -58,11 +59,6 @@ found_there : (refs : RefList) (ref : List ℕ × List ℕ) → ref_at refs ref.
 found_there [] ref is = absurd (none-some ref.1 is)
 found_there (other ∷ refs) ref is = found_step other refs ref (bytes_eq other.0 ref.0) refl is (λ rest. found_there refs ref rest)
 
-past : {X : Type 0} (xs : List X) (k : ℕ) → slice_get xs k ≡ None → length xs ≤ k
-past [] k none = omega arith
-past (x ∷ xs) zero none = absurd (none-some x (sym none))
-past (x ∷ xs) (suc k) none = let h = past xs k none in omega arith
-
 module _ {A : Type 0} where
   asked_there : (asks : List (Ask A)) (ask : Ask A) → Contains asks ask → Contains (asked_ids asks) ask.id
   asked_there asks ask there =
@@ -93,7 +89,7 @@ module _ {A : Type 0} where
       Result = (entry : Entry A) × (slice_get g place ≡ Some entry) × IsFull g entry.id
 
       by : (found : Option (Entry A)) → slice_get g place ≡ found → Result
-      by None is = were place (sym (reached.others place (past g place is)) ∙ marked)
+      by None is = were place (sym (reached.others place (past g place (sym is))) ∙ marked)
       by (Some entry) is = (
         entry,
         is,

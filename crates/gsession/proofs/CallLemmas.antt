@@ -62,7 +62,7 @@ due_idle Over (Some asked) due = absurd (false≢true due)
 
 -- ---- a reply to a request with `done` has a pack
 
-done_direct : (asked : FetchAsked) → asked.done ≡ true → is_direct asked ≡ true
+pub done_direct : (asked : FetchAsked) → asked.done ≡ true → is_direct asked ≡ true
 done_direct asked done = ap (λ (b : Bool). b || length asked.haves == 0) done
 
 direct_pack : (direct : Bool) (pack : List ℕ) (other reply : FetchReply) → direct ≡ true

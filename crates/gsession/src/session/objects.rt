@@ -74,7 +74,7 @@ impl<A: Allocator + Copy> Session<A> {
         };
         let alloc = self.allocator();
         let mut feed = PackFeed::start(alloc, indexer);
-        match read_fetch_reply_into_in(reading, reader, &mut feed, alloc) {
+        match read_fetch_reply_into_in(reader, reading, &mut feed, alloc) {
             Ok(head) => self.take_head(repo, head, feed),
             Err(fault) => Err(ClientFault::Message(fault)),
         }
