@@ -7,6 +7,7 @@ use Rattle.std.proofs.lemmas.Bool.{false≢true}
 use Rattle.std.proofs.lemmas.List.Elements.{All-append, All-cons, All-contains, All-head, All-nil, All-push, All-tail}
 use Rattle.std.proofs.lemmas.List.Elements.{Contains-append_left, Contains-append_right}
 use Rattle.std.proofs.lemmas.Slice.Eq.{bytes_eq-Decides}
+use Rattle.ghistory.proofs.IdLists.{contains_head, contains_tail}
 use Rattle.glsreply.specs.RefTexts.{RefLine}
 use Rattle.gspec.specs.Refspecs.{Refspec, destination_of, matches}
 use Rattle.grepo.specs.declared.ask.Ask.{Ask}
@@ -27,10 +28,10 @@ module _ {A : Type 0} where
   AreElsewhere name asks = All (λ ask. ask.name ≢ name) asks
 
   has_later : (x : Ask A) (asks : List (Ask A)) (name : List ℕ) → HasAsk asks name → HasAsk (x ∷ asks) name
-  has_later x asks name has = (has.0, Contains-append_right (x ∷ []) asks has.0 has.1, has.2)
+  has_later x asks name has = (has.0, contains_tail x asks has.0 has.1, has.2)
 
   there_at_end : (asks : List (Ask A)) (ask : Ask A) → Contains (asks ++ ask ∷ []) ask
-  there_at_end asks ask = Contains-append_right asks (ask ∷ []) ask (0, omega arith, refl)
+  there_at_end asks ask = Contains-append_right asks (ask ∷ []) ask (contains_head ask [])
 
   -- ---- asks by their names
 
@@ -39,7 +40,7 @@ module _ {A : Type 0} where
   asked_has (x ∷ asks) name is = by (bytes_eq x.name name) refl
     where
       by : (same : Bool) → bytes_eq x.name name ≡ same → HasAsk (x ∷ asks) name
-      by true e = (x, (0, omega arith, refl), (bytes_eq-Decides x.name name).0 e)
+      by true e = (x, contains_head x asks, (bytes_eq-Decides x.name name).0 e)
       by false e = has_later x asks name (asked_has asks name (rw e at is))
 
   not_asked : (asks : List (Ask A)) (name : List ℕ) → AreElsewhere name asks → is_asked asks name ≡ false
@@ -199,7 +200,7 @@ module _ {A : Type 0} where
           ∙ ap (λ (s : List Refspec). asks_by_all s (take j lines ++ line ∷ drop (j + 1) lines)) specs_are ∙ parts in
       All-contains (λ (ask : Ask A). HasAsk (asked_of specs lines) ask.name) all (ask_of spec line) (has_each [] all)
       (subst (λ (l : List (Ask A)). Contains l (ask_of spec line)) (sym is)
-      (Contains-append_right _ _ (ask_of spec line) (0, omega arith, refl)))
+      (Contains-append_right _ _ (ask_of spec line) (contains_head (ask_of spec line) _)))
 
   pub first_is_asked : FirstIsAsked A
   first_is_asked = record {
