@@ -51,11 +51,8 @@ pub use crate::capability::{
     is_value, is_word_value,
 };
 pub use crate::ends::Ends;
-pub use crate::fault::{MAX_PEER_TEXT, MessageFault, PeerText, Why};
+pub use crate::fault::{MAX_PEER_TEXT, MessageFault, MsgFault, PeerText, Why};
 pub use crate::id::id_of_text;
 pub use crate::kind::Kind;
 pub use crate::message::{Message, Step, read_message};
 pub use crate::peer::{after_word, peer_error};
-
-#[cfg(test)]
-mod tests;

@@ -16,14 +16,11 @@ use Rattle.ggrammar.specs.Capabilities.{Capability, capability_of, capability_sp
 use Rattle.ggrammar.specs.declared.fault.Why.TheVariants as why
 use Rattle.ghello.specs.Adverts.{IsAdvert, Says, capabilities_in, capabilities_of, judge, judge_at, judge_capability, judge_version, max_advertised, version}
 use Rattle.ggrammar.specs.Kinds.{AsInManual}
-use Rattle.ghello.proofs.HelloLemmas.{follows_word}
+use Rattle.ggrammar.proofs.TextLemmas.{follows_word}
+use Rattle.ggrammar.proofs.VerdictLemmas.{whole_unless}
 use Rattle.ghello.proofs.AdvertShape.{HasBegun, HasBegun-first, HasBegun-push, Shape, begun_capabilities, begun_flush, begun_judge, open_shape}
 
 -- ---- what the table accepts is in the manual
-
-whole_unless : (said : Option (List ℕ)) (verdict : Verdict) → unless_error said verdict ≡ Whole → verdict ≡ Whole
-whole_unless None verdict e = e
-whole_unless (Some said) verdict e = absurd cc
 
 no_whole_version : (b : Bool) → (if b then Open else Refused why.BadText) ≡ Whole → ⊥
 no_whole_version true e = cc

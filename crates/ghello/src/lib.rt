@@ -45,8 +45,6 @@ mod advert;
 mod compose;
 mod hello;
 pub mod laws;
-#[cfg(test)]
-mod tests;
 
 pub use crate::advert::{Advert, MAX_ADVERTISED, read_advert, write_advert};
 pub use crate::hello::{Hello, MAX_HOST, MAX_PATH, is_host, is_path, read_hello, write_hello};

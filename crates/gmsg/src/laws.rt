@@ -93,6 +93,9 @@ pub fn canonical_says()
     gfetchreply::laws::canonical_says();
 }
 
+/// [`canonical_says`] by a shorter name.
+pub use self::canonical_says as canon_says;
+
 /// A message is read exactly where the bytes begin with it: that front is taken, and nothing after it. A request may
 /// be missing.
 pub fn reads_exactly()

@@ -35,8 +35,6 @@
 #![tactic(auto)]
 
 pub mod laws;
-#[cfg(test)]
-mod tests;
 
 pub use gfetchreply::{
     Acks, FetchHead, FetchReading, FetchReply, MAX_ACKS, PackBytes, PackLimit, PackSink,
@@ -44,7 +42,7 @@ pub use gfetchreply::{
     write_fetch_reply,
 };
 pub use ggrammar::{
-    Capability, Ends, MAX_CAPABILITY, MAX_PEER_TEXT, MessageFault, PeerText, Why, is_key, is_value,
+    Capability, Ends, MAX_CAPABILITY, MAX_PEER_TEXT, MessageFault, MsgFault, PeerText, Why, is_key, is_value,
     is_word_value,
 };
 pub use ghello::{

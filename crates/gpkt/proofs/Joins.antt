@@ -33,7 +33,7 @@ reads_next (Some old) (Some mid) (Some new) lines line p (front, parted, spelt) 
     reads_join (Some old) (Some mid) (Some new) lines (line ∷ []) p (front, parted, (front, [], sym (append-nil front), spelt, refl))
 
 -- bytes that were known and are kept are known
-IsSome-kept : (a b : Option (List ℕ)) → Keeps a b → IsSome a → IsSome b
+pub IsSome-kept : (a b : Option (List ℕ)) → Keeps a b → IsSome a → IsSome b
 IsSome-kept None b kept known = absurd (false≢true known)
 IsSome-kept (Some x) None kept known = absurd kept
 IsSome-kept (Some x) (Some y) kept known = refl
