@@ -13,20 +13,10 @@ use Rattle.ggrammar.specs.PeerErrors.{peer_error, unless_error}
 use Rattle.ggrammar.specs.declared.ends.Ends.{Ends}
 use Rattle.ggrammar.specs.declared.ends.Ends.TheVariants.{Plain, Response}
 use Rattle.ggrammar.specs.declared.fault.Why.TheVariants as why
+use Rattle.ggrammar.proofs.VerdictLemmas.{of_test, of_room, past_error}
 use Rattle.gfetchreply.specs.FetchReplies.{Reading, State, Place, Start, Acking, AfterNak, AfterReady, BeforePack, InPack, Over}
 use Rattle.gfetchreply.specs.FetchReplies.{ReplyForm, Acknowledgments, Nak, Readiness, Packfile, Ack, OtherForm}
 use Rattle.gfetchreply.specs.FetchReplies.{judge, judge_at, judge_there, judge_acking, judge_start, judge_before_pack, judge_late, judge_band, judge_payload, max_acks, max_packets, reply_form, state_of}
-
-of_test : (test : Bool) (one other : Verdict) → IsForPacket one → IsForPacket other → IsForPacket (cond test one other)
-of_test true one other h k = h
-of_test false one other h k = k
-
-of_room : (test : Bool) → IsForPacket (if_room test)
-of_room test = of_test test Open (Refused why.Limit) tt tt
-
-past_error : (said : Option (List ℕ)) (verdict : Verdict) → IsForPacket verdict → IsForPacket (unless_error said verdict)
-past_error (Some said) verdict h = tt
-past_error None verdict h = h
 
 -- ---- payloads
 

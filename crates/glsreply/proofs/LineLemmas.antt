@@ -10,10 +10,6 @@ use Rattle.std.proofs.lemmas.List.Elements.{All-from_get_or}
 use Rattle.std.proofs.lemmas.List.Quantifiers.{position-Some}
 use Rattle.std.proofs.lemmas.List.Splits.{slice_split_first, slice_split_none, slice_split-cons_yes, slice_split-cons_no}
 use Rattle.std.proofs.lemmas.List.Sums.{position_or_len_is, fails_before_first}
-use Rattle.gname.specs.Names.{name_fault}
-use Rattle.gname.specs.Laws.{RulesNeverReportMemory}
-use Rattle.gname.specs.declared.faults.NameFault.{NameFault}
-use Rattle.gname.specs.declared.faults.NameFault.TheVariants.{Memory}
 use Rattle.ggrammar.specs.declared.fault.Why.TheVariants.{BadText}
 use Rattle.glsreply.specs.RefTexts.{is_space, parts_of, unborn_after_head}
 
@@ -35,12 +31,6 @@ pub parts-one : (text : List ℕ) → None ≡ position is_space text → parts_
 unfolding parts_of
 parts-one text e =
     slice_split_none is_space text (All-from_get_or (λ (byte : ℕ). is_space byte ≡ false) text 0 (λ k lt. fails_before_first is_space text k 0 (omega (arith, lt, position-None is_space text (sym e)))))
-
--- a name for which there is no memory is a name
-pub named : (text : List ℕ) (fault : NameFault) → RulesNeverReportMemory → fault ≡ Memory
-    → (name_fault text ≡ Some fault) ⊎ ((fault ≡ Memory) × (name_fault text ≡ None)) → is_none (name_fault text) ≡ true
-named text fault law is (inl h) = absurd ((law text).0 (h ∙ ap (λ f. Some f) is))
-named text fault law is (inr h) = ap is_none h.1
 
 -- a text has a first part
 parts-some : (text : List ℕ) → (first : List ℕ) × (rest : List (List ℕ)) × (slice_split is_space text ≡ first ∷ rest)

@@ -13,18 +13,11 @@ use Rattle.ggrammar.specs.declared.ends.Ends.{Ends}
 use Rattle.ggrammar.specs.declared.ends.Ends.TheVariants.{Plain, Response}
 use Rattle.ggrammar.specs.declared.fault.Why.{Why}
 use Rattle.ggrammar.specs.declared.fault.Why.TheVariants.{UnexpectedFrame}
+use Rattle.ggrammar.proofs.VerdictLemmas.{of_room, past_error}
 use Rattle.glsreply.specs.RefTexts.{RefLine, FirstForm, UnbornForm, RefForm, first_form, line_of}
 use Rattle.glsreply.specs.LsReplies.{is_over, judge, judge_at, judge_body, judge_first, judge_line, judge_text, max_lines, within_limit}
 use Rattle.glsreply.proofs.GrammarLemmas.{cond_holds}
 use Rattle.glsreply.proofs.TextLemmas.{FormsWell, ReadsWell, form_well, line_well, text_fault}
-
-of_room : (test : Bool) → IsForPacket (if_room test)
-of_room true = tt
-of_room false = tt
-
-past_error : (said : Option (List ℕ)) (verdict : Verdict) → IsForPacket verdict → IsForPacket (unless_error said verdict)
-past_error (Some said) verdict h = tt
-past_error None verdict h = h
 
 of_few : (count : ℕ) (verdict : Verdict) → IsForPacket verdict → IsForPacket (within_limit count verdict)
 of_few count Open h = of_room (nat_lt count max_lines)

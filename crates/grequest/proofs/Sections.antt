@@ -12,6 +12,7 @@ use Rattle.ggrammar.specs.Grammar.{Verdict, Open, Refused, if_room}
 use Rattle.ggrammar.specs.Ids.{id_of_text}
 use Rattle.ggrammar.specs.declared.fault.Why.{Why}
 use Rattle.ggrammar.specs.declared.fault.Why.TheVariants.{Format as WrongFormat, BadName, BadId}
+use Rattle.ggrammar.proofs.VerdictLemmas.{room_left}
 use Rattle.grequest.specs.declared.command.Command.{Command}
 use Rattle.grequest.specs.declared.command.Command.TheVariants.{LsRefs, Fetch}
 use Rattle.grequest.specs.Arguments.{is_word, CapabilityForm, Agent, ObjectFormat, UnknownCapability, BadCapability, capability_form, LsArgument, Symrefs, Peel, Unborn, RefPrefix, UnknownLsArgument, ls_argument, FetchArgument, ThinPack, NoProgress, IncludeTag, OfsDelta, Done, Want, Have, UnknownFetchArgument, fetch_argument}
@@ -196,7 +197,7 @@ have_count : (format : Format) (lines : List (List ℕ)) (line : List ℕ) (form
 have_count format lines line form is =
     ap length (haves-push format lines line ∙ ap (λ (f : FetchArgument). haves format lines ++ list_of (have_value format f)) is) ∙ length-append (haves format lines) (list_of (have_value format form))
 
-at_most_one : (o : Option (List ℕ)) → length (list_of o) ≤ 1
+pub at_most_one : (o : Option (List ℕ)) → length (list_of o) ≤ 1
 at_most_one None = omega arith
 at_most_one (Some x) = omega arith
 
@@ -221,10 +222,6 @@ AreArguments-nil format command = record { are = All-nil (IsArgument format comm
 -- the judge takes the text after these
 abbrev pub TakesArgument : Format → Command → List (List ℕ) → List (List ℕ) → List ℕ → Type 0
 TakesArgument format command capabilities lines line = judge_argument format command (state_at format (InArguments command) capabilities lines) line ≡ Open
-
-room_left : (b : Bool) → if_room b ≡ Open → b ≡ true
-room_left true e = refl
-room_left false e = cc
 
 room_for : (b : Bool) → b ≡ true → if_room b ≡ Open
 room_for true e = refl
