@@ -149,13 +149,13 @@ module _ {A : Type 0} where
   pub refuses_asks : (old : RepoState A) (asks : List (Ask A)) (fault : RepoFault A) → All (IsFull old.graph.entries) (asked_ids asks)
       → IsRefusal old.refs asks fault → SettlesAsks old asks old (Err fault)
   refuses_asks old asks (Refs refs.Refs) full why = (refl, full, why)
-  refuses_asks old asks (Refs refs.Memory) full why = refl
+  refuses_asks old asks (Refs refs.Memory) full why = (refl, full)
   refuses_asks old asks (Graph graph.Memory) full why = refl
   refuses_asks old asks (Graph cause) full why = absurd why
   refuses_asks old asks fault full why = absurd why
 
   -- where it is because of the refs
   pub cannot_set_local : (old : RepoState A) (name id : List ℕ) (cause : RefsFault) → IsFull old.graph.entries id → (cause ≡ refs.Refs → CannotSet old.refs name)
-      → SetsLocal old name id old (Err (Refs cause))
-  cannot_set_local old name id refs.Refs full why = (refl, full, why refl)
-  cannot_set_local old name id refs.Memory full why = refl
+      → (CannotSet old.refs name → cause ≡ refs.Refs) → SetsLocal old name id old (Err (Refs cause))
+  cannot_set_local old name id refs.Refs full why only = (refl, full, why refl)
+  cannot_set_local old name id refs.Memory full why only = (refl, full, λ cannot. (let same = only cannot in cc))
