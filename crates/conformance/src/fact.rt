@@ -8,8 +8,8 @@ use crate::device::{Hindrance, Reader, Writer};
 use crate::script::Fact;
 use crate::trouble::Trouble;
 use gcmd::Spec;
-use ghello::read_hello;
 use ggraph::{IndexFault, Indexer, LoadFault, Order, PlainPack, load, save};
+use ghello::read_hello;
 use gname::{Format, NameFault, Oid, OidFault, Prefix, RefName};
 use gpkt::{LineReader, LineWriter};
 use scarce::Scarce;
@@ -17,7 +17,16 @@ use std::alloc::Global;
 
 /// What a line about a text begins with.
 pub const KINDS: [&str; 10] = [
-    "name", "prefix", "id", "id64", "spec", "hello", "load", "load-parents-first", "pack", "put",
+    "name",
+    "prefix",
+    "id",
+    "id64",
+    "spec",
+    "hello",
+    "load",
+    "load-parents-first",
+    "pack",
+    "put",
 ];
 
 /// What is made of the text, which is read in pieces of so many bytes where it comes from a device.

@@ -15,7 +15,15 @@ use std::alloc::Global;
 
 /// What a line about a history begins with.
 pub const KINDS: [&str; 9] = [
-    "missing", "counted", "sent", "sent-tags", "common", "ready", "reaches", "offered", "peeled",
+    "missing",
+    "counted",
+    "sent",
+    "sent-tags",
+    "common",
+    "ready",
+    "reaches",
+    "offered",
+    "peeled",
 ];
 
 // What is asked of a history.
@@ -110,19 +118,13 @@ fn look<'m>(
     }
 }
 
-fn counted<'m>(
-    graph: &Graph<&'m Scarce<Global>>,
-    ids: &[Oid],
-) -> Result<Found<'m>, GraphFault> {
+fn counted<'m>(graph: &Graph<&'m Scarce<Global>>, ids: &[Oid]) -> Result<Found<'m>, GraphFault> {
     let (missing, count) = missing_counted(graph, ids)?;
     Ok(Found::Counted(missing, count))
 }
 
 // Whether the first id reaches the second.
-fn all_reach<'m>(
-    graph: &Graph<&'m Scarce<Global>>,
-    ids: &[Oid],
-) -> Result<Found<'m>, GraphFault> {
+fn all_reach<'m>(graph: &Graph<&'m Scarce<Global>>, ids: &[Oid]) -> Result<Found<'m>, GraphFault> {
     match ids {
         [from, to] => Ok(Found::Whether(reaches(graph, from, to)?)),
         _ => Ok(Found::Id(None)),

@@ -4,6 +4,7 @@
 use crate::command::{Command, Program};
 use crate::liars::Liar;
 use crate::play::Devices;
+use ganswer::OnePack;
 use gclient::{Repo, fetch_over};
 use gcmd::{PackLimit, ProgramFault, Spec, cmd_failed};
 use ggraph::{Head, Order, load, save};
@@ -39,11 +40,7 @@ fn server_of<'m>(
     file: &[u8],
 ) -> Result<Server<&'m Scarce<Global>>, ProgramFault<&'m Scarce<Global>>> {
     let repository = load(memory, file, Order::ParentsFirst)?;
-    Ok(Server::new(
-        repository.graph,
-        repository.refs,
-        repository.head,
-    )?)
+    Ok(Server::new(repository.graph, repository.refs, repository.head)?)
 }
 
 fn answer_all<'m>(
@@ -52,9 +49,10 @@ fn answer_all<'m>(
     command: &Command<'_>,
     devices: &mut Devices<'_>,
 ) -> Result<(), ProgramFault<&'m Scarce<Global>>> {
+    let mut packer = OnePack::new(&liar);
     let served = serve(
         server,
-        &liar,
+        &mut packer,
         command.ends,
         &mut devices.input,
         &mut devices.output,
@@ -72,9 +70,10 @@ fn answer_one<'m>(
     command: &Command<'_>,
     devices: &mut Devices<'_>,
 ) -> Result<(), ProgramFault<&'m Scarce<Global>>> {
+    let mut packer = OnePack::new(&liar);
     let ended = serve_one(
         server,
-        &liar,
+        &mut packer,
         command.ends,
         &mut devices.input,
         &mut devices.output,

@@ -30,8 +30,8 @@ mod lying;
 mod play;
 mod script;
 mod spell;
-mod tally;
 mod talk;
+mod tally;
 mod trouble;
 mod vary;
 

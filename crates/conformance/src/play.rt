@@ -188,7 +188,15 @@ fn fetch<'m>(
     };
     let limit = limit_of(command);
     match command.liar {
-        Some(liar) => fetch_with(memory, file, specs.as_slice(), limit, command, liar, devices),
+        Some(liar) => fetch_with(
+            memory,
+            file,
+            specs.as_slice(),
+            limit,
+            command,
+            liar,
+            devices,
+        ),
         None => fetch_plainly(memory, file, specs.as_slice(), limit, command, devices),
     }
 }

@@ -29,10 +29,10 @@
 //! (`history.rt`).
 
 use crate::command::first_of;
-use crate::{fact, history};
 use crate::liars::Liar;
 use crate::spell::{Form, Text, number_of, spelled};
 use crate::trouble::Trouble;
+use crate::{fact, history};
 use gname::Format;
 use std::alloc::Global;
 

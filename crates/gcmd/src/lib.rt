@@ -80,6 +80,3 @@ pub use crate::upload::cmd_upload;
 pub use gclient::Spec;
 pub use gfetchreply::PackLimit;
 pub use ggrammar::Ends;
-
-#[cfg(test)]
-mod tests;
