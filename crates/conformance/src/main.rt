@@ -1,7 +1,7 @@
 //! Cases of Git's fetch protocol, from files, tried on the programs of `gcmd` and on the calls below them.
 //!
-//! The words of the command line name files of cases, after `--quick` where no byte is to be changed; `script.rt` says how
-//! one is written. Each case is run through its programs: as it stands; in pieces; with each call of each device failing in
+//! The words of the command line name files of cases, after `--quick` where no byte is to be changed, or `--once` where all
+//! is tried as it stands alone; `script.rt` says how one is written. Each case is run through its programs: as it stands; in pieces; with each call of each device failing in
 //! turn; cut after each byte; with each byte changed; and with each allocation refused in turn. What is made of a text is
 //! tried in pieces, too, and with each allocation refused. A try that goes wrong is a line on standard output, and the last
 //! lines count the tries.
@@ -29,6 +29,7 @@ mod liars;
 mod lying;
 mod play;
 mod script;
+mod shown;
 mod spell;
 mod talk;
 mod tally;
@@ -38,9 +39,10 @@ mod vary;
 use crate::command::{Program, command_of};
 use crate::judge::Row;
 use crate::script::{Case, Fact, Script};
+use crate::shown::Look;
 use crate::spell::text_named;
 use crate::talk::Talk;
-use crate::tally::Tally;
+use crate::tally::{Depth, Tally};
 use crate::trouble::Trouble;
 use crate::vary::{Bench, Way};
 use gname::Format;
@@ -64,20 +66,28 @@ where
 {
     let alloc = rt.alloc();
     let words: Vec<String> = env::args(rt)?.skip(1).collect(alloc)?;
-    let (is_quick, names) = match words.as_slice() {
-        [first, names @ ..] if first.as_str() == "--quick" => (true, names),
-        names => (false, names),
-    };
+    let (depth, names) = depth_of(words.as_slice());
     let mut files: Vec<String> = Vec::new(alloc);
     for name in names {
         files.push(fs::read_to_string(rt, name.as_str())?)?;
     }
-    let mut tally = Tally::new(is_quick);
+    let mut tally = Tally::new(depth);
     for format in [Format::Sha1, Format::Sha256] {
         try_files(rt, format, names, files.as_slice(), &mut tally)?;
     }
     show(rt, &tally)?;
     Ok(tally.wrong == 0)
+}
+
+// How much is tried, and the names of the files.
+fn depth_of(words: &[String]) -> (Depth, &[String]) {
+    let Some((first, names)) = words.split_first() else {
+        return (Depth::Full, words);
+    };
+    match Depth::of(first.as_str()) {
+        Some(depth) => (depth, names),
+        None => (Depth::Full, words),
+    }
 }
 
 // Tries the cases of the files with ids of one format.
@@ -174,6 +184,9 @@ fn wrong_answer(
         if answer.as_bytes() != fact.due.as_slice() {
             return Ok(Some(answer));
         }
+        if tally.depth == Depth::Once {
+            return Ok(None);
+        }
     }
     if fact.text.len() > LONG_TEXT {
         return Ok(None);
@@ -207,8 +220,25 @@ fn answer(
         return Ok((answer, !memory.is_due()));
     }
     memory.refuse(refused);
-    let answer = fact::answer(alloc, &memory, fact, most)?;
+    let answer = if fact.kind == shown::KIND {
+        fault_shown(alloc, fact)?
+    } else {
+        fact::answer(alloc, &memory, fact, most)?
+    };
     Ok((answer, !memory.is_due()))
+}
+
+// The line that is due, where a fault has it and this short text.
+fn fault_shown(alloc: Global, fact: &Fact<'_>) -> Result<String, Trouble> {
+    let look = Look {
+        line: fact.due.as_slice(),
+        text: fact.text.as_slice(),
+    };
+    let is_known = shown::is_known(alloc, look)?;
+    match std::str::from_utf8(look.line) {
+        Ok(line) if is_known => Ok(String::from_str(alloc, line)?),
+        _ => Ok(String::from_str(alloc, "of no fault")?),
+    }
 }
 
 // ---- cases
@@ -273,7 +303,7 @@ fn try_row<R: Print + AllocGlobal>(
 ) -> io::Result<()> {
     tally.count_row();
     for way in Way::ALL {
-        if (case.is_long && !way.is_short()) || (tally.is_quick && way.is_long()) {
+        if (case.is_long && !way.is_short()) || !tally.depth.has(way) {
             continue;
         }
         let mut bench = Bench::new(rt.alloc(), row);

@@ -25,14 +25,14 @@
 //! of SHA-256. The same lines say it with those: an id in braces has sixty-four digits, the first line of a repository
 //! and the object format of an advertisement are theirs, and behind each `C: command=` line stands the object format.
 //!
-//! A line `KIND DUE: TEXT` says what is made of a text (`fact.rt`), and after `graph NAME` of the ids of a repository
-//! (`history.rt`).
+//! A line `KIND DUE: TEXT` says what is made of a text (`fact.rt`), what is told of a fault (`shown.rt`), and after
+//! `graph NAME` what is found in a repository (`history.rt`).
 
 use crate::command::first_of;
 use crate::liars::Liar;
 use crate::spell::{Form, Text, number_of, spelled};
 use crate::trouble::Trouble;
-use crate::{fact, history};
+use crate::{fact, history, shown};
 use gname::Format;
 use std::alloc::Global;
 
@@ -339,7 +339,7 @@ impl<'a> Script<'a> {
 
 // Whether a line that begins so says what is made of a text.
 fn is_fact(word: &str) -> bool {
-    fact::KINDS.contains(&word) || history::KINDS.contains(&word)
+    word == shown::KIND || fact::KINDS.contains(&word) || history::KINDS.contains(&word)
 }
 
 // The line, as it is where ids are of this format: the first of a repository, and one that names the format.

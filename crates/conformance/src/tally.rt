@@ -1,12 +1,41 @@
-//! How often each way was tried, and what went wrong.
+//! How much is tried, how often each way was, and what went wrong.
 
 use crate::vary::Way;
+
+/// How much is tried.
+#[derive(Clone, Copy, PartialEq, Eq)]
+pub enum Depth {
+    /// Each case as it stands.
+    Once,
+    /// All but the changed bytes, which take most of the time.
+    Quick,
+    Full,
+}
+
+impl Depth {
+    /// What a word of the command line asks for, if it is none of a file.
+    pub fn of(word: &str) -> Option<Depth> {
+        match word {
+            "--once" => Some(Depth::Once),
+            "--quick" => Some(Depth::Quick),
+            _ => None,
+        }
+    }
+
+    /// Whether a case is tried in this way.
+    pub fn has(self, way: Way) -> bool {
+        match self {
+            Depth::Once => matches!(&way, Way::Whole),
+            Depth::Quick => !way.is_long(),
+            Depth::Full => true,
+        }
+    }
+}
 
 /// How often each way was tried, and what went wrong.
 #[derive(Drop)]
 pub struct Tally {
-    /// Whether no byte is changed, which takes most of the time.
-    pub is_quick: bool,
+    pub depth: Depth,
     pub rows: u64,
     pub facts: u64,
     /// How often facts were tried.
@@ -16,9 +45,9 @@ pub struct Tally {
 }
 
 impl Tally {
-    pub fn new(is_quick: bool) -> Tally {
+    pub fn new(depth: Depth) -> Tally {
         Tally {
-            is_quick,
+            depth,
             rows: 0,
             facts: 0,
             tries: 0,
