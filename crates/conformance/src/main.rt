@@ -333,7 +333,7 @@ fn tell_wrong<R: Print>(
     let row = case.name;
     let name = way.name();
     let printed = match std::str::from_utf8(printed) {
-        Ok(text) => text,
+        Ok(text) => text.trim_end(),
         Err(_) => "",
     };
     println!(rt; "{source}:{line}: {row}: {words}: {name}, {at}: {printed}")
