@@ -1,12 +1,12 @@
 -- Packets are refused for their own sake.
-use Rattle.std.proofs.Common.{ℕ, ◌+◌, ◌&&◌, Bool, true, false, cond, List, length, Option, Some, None, Result, Ok, Err}
+use Rattle.std.proofs.Common.{ℕ, ◌+◌, ◌&&◌, List, length, Result, Ok, Err}
 use Rattle.std.specs.Prelude.{is_some, nat_le, nat_lt}
 use Rattle.gpkt.specs.Packets.{Packet, Data, Flush, Delim, ResponseEnd, text}
 use Rattle.gpkt.specs.Bands.{BandPacket, Data as BandData, Progress, Fatal, band_form}
 use Rattle.gpkt.specs.declared.fault.BandFault.{BandFault}
 use Rattle.gname.specs.declared.formats.Format.{Format}
 use Rattle.ggrammar.specs.Endings.{after_flush, at_flush}
-use Rattle.ggrammar.specs.Grammar.{Verdict, Open, Refused, if_room}
+use Rattle.ggrammar.specs.Grammar.{Open, Refused, if_room}
 use Rattle.ggrammar.specs.Ids.{id_of_text}
 use Rattle.ggrammar.specs.MessageBytes.{IsForPacket, RefusesPackets}
 use Rattle.ggrammar.specs.PeerErrors.{peer_error, unless_error}

@@ -1,12 +1,11 @@
 -- What a packet more does to what the packets so far say.
-use Rattle.std.proofs.Common.{◌≡◌, ℕ, ◌+◌, Bool, List, [], ◌∷◌, ◌++◌, length, Option, Some, None, refl, sym, ap, ◌∙◌, append_assoc, append-nil, length-append, add-zero}
+use Rattle.std.proofs.Common.{◌≡◌, ℕ, ◌+◌, Bool, List, [], ◌∷◌, ◌++◌, length, Option, Some, None, refl, ap, ◌∙◌, append-nil, length-append, add-zero}
 use Rattle.std.proofs.lemmas.List.Elements.{filter_map-append}
 use Rattle.std.proofs.lemmas.Grind.{flat_map-append}
 use Rattle.gpkt.specs.Packets.{Packet, Data, text}
 use Rattle.gpkt.specs.Bands.{band_form}
 use Rattle.gname.specs.declared.formats.Format.{Format}
 use Rattle.ggrammar.specs.Ids.{id_of_text}
-use Rattle.ggrammar.specs.Places.{place_after, collected}
 use Rattle.ggrammar.proofs.PlaceLemmas.{place_after-push, collected-push}
 use Rattle.gfetchreply.specs.FetchReplies.{Reading, State, Place, Acking, InPack, ReplyForm, Ack}
 use Rattle.gfetchreply.specs.FetchReplies.{after_text, first_place, next_place, place_of, texts_there, bands_there, ack_texts, band_payloads}

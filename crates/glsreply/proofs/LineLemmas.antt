@@ -1,16 +1,16 @@
 -- The parts of a text, and what is read of them.
-use Rattle.std.proofs.Common.{◌≡◌, ℕ, ◌+◌, ◌-◌, ◌≤◌, ◌⊎◌, inl, inr, Bool, true, false, Err, List, [], ◌∷◌, length, take, drop, Some, None, refl, sym, subst, ap, ◌∙◌, arith}
-use Rattle.std.specs.Prelude.{position, is_none, Option}
+use Rattle.std.proofs.Common.{◌≡◌, ℕ, ◌+◌, ◌-◌, inl, inr, false, Err, List, [], ◌∷◌, length, take, drop, Some, None, refl, sym, subst, ap, ◌∙◌, arith}
+use Rattle.std.specs.Prelude.{position, Option}
 use Rattle.std.specs.Borrow.{Bor}
 use Rattle.std.specs.List.{slice_split, position_or_len, onto_first}
 use Rattle.std.proofs.lemmas.Bool.{cases_Bool}
-use Rattle.std.proofs.lemmas.Grind.{common_steps}
 use Rattle.std.proofs.lemmas.List.{take_rest}
 use Rattle.std.proofs.lemmas.List.Elements.{All-from_get_or}
 use Rattle.std.proofs.lemmas.List.Quantifiers.{position-Some}
 use Rattle.std.proofs.lemmas.List.Splits.{slice_split_first, slice_split_none, slice_split-cons_yes, slice_split-cons_no}
 use Rattle.std.proofs.lemmas.List.Sums.{position_or_len_is, fails_before_first}
 use Rattle.ggrammar.specs.declared.fault.Why.TheVariants.{BadText}
+use Rattle.gname.proofs.ListLemmas.{position-None}
 use Rattle.glsreply.specs.RefTexts.{is_space, parts_of, unborn_after_head}
 
 -- a text is cut at its first space
@@ -22,9 +22,6 @@ parts-at text at e =
     let same : position_or_len is_space text ≡ at = position_or_len_is is_space text at 0 (omega (arith, h.0)) h.2 (λ _. h.1) in
     subst (λ (n : ℕ). slice_split is_space text ≡ take n text ∷ slice_split is_space (take (length text - (n + 1)) (drop (n + 1) text))) same
     (rw take_rest (slice_split_first is_space text 0 (omega (arith, same, h.0))))
-
-position-None : (p : ℕ → Bool) (xs : List ℕ) → position p xs ≡ None → length xs ≤ position_or_len p xs
-position-None p xs h = grind (arith, common_steps)
 
 -- a text without a space is one part
 pub parts-one : (text : List ℕ) → None ≡ position is_space text → parts_of text ≡ text ∷ []

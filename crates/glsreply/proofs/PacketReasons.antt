@@ -1,13 +1,13 @@
 -- Packets are refused for their own sake.
-use Rattle.std.proofs.Common.{ℕ, ◌==◌, Bool, true, false, cond, List, length, Option, Some, None, Result, Ok, Err}
+use Rattle.std.proofs.Common.{ℕ, ◌==◌, Bool, true, false, cond, List, length, Result, Ok, Err}
 use Rattle.std.specs.Prelude.{nat_lt}
 use Rattle.gpkt.specs.Packets.{Packet, Data, Flush, Delim, ResponseEnd, text}
 use Rattle.gname.specs.Laws.{TextsHaveOneReading}
 use Rattle.gname.specs.declared.formats.Format.{Format}
 use Rattle.ggrammar.specs.Endings.{after_flush}
-use Rattle.ggrammar.specs.Grammar.{Verdict, Open, Whole, Refused, if_room}
+use Rattle.ggrammar.specs.Grammar.{Verdict, Open, Whole, Refused}
 use Rattle.ggrammar.specs.MessageBytes.{IsForPacket, RefusesPackets}
-use Rattle.ggrammar.specs.PeerErrors.{peer_error, unless_error}
+use Rattle.ggrammar.specs.PeerErrors.{peer_error}
 use Rattle.ggrammar.specs.Texts.{texts_of}
 use Rattle.ggrammar.specs.declared.ends.Ends.{Ends}
 use Rattle.ggrammar.specs.declared.ends.Ends.TheVariants.{Plain, Response}

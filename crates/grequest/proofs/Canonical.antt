@@ -21,7 +21,7 @@ use Rattle.grequest.specs.declared.command.Command.{Command}
 use Rattle.grequest.specs.declared.command.Command.TheVariants.{LsRefs, Fetch}
 use Rattle.grequest.specs.Arguments.{command_name, capability_form}
 use Rattle.grequest.specs.Asked.{LsRefsAsked, FetchAsked, Asked, Empty, Ls, Fetches, max_prefixes, max_wants, max_haves, max_arguments}
-use Rattle.grequest.specs.RequestLines.{agents, prefixes, wants, haves, is_thin_pack, is_no_progress, is_include_tag, is_ofs_delta, first_of, asked_by_command}
+use Rattle.grequest.specs.RequestLines.{agents, is_thin_pack, is_no_progress, is_include_tag, is_ofs_delta, first_of, asked_by_command}
 use Rattle.grequest.specs.RequestWriting.{agent_packets, format_packets, ls_argument_packets, fetch_argument_packets, command_packets, canonical_request, IsCanonicalRequest}
 use Rattle.grequest.specs.WellFormed.{IsAgent, IsLsRefsAsked, IsFetchAsked, IsAsked}
 use Rattle.grequest.specs.Manual.{IsCapability, IsArgument, NamesFormat, AreFew, IsCommandRequest, IsRequest}

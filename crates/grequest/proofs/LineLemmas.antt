@@ -1,5 +1,5 @@
 -- What packets more do to the place, and to the texts of each section.
-use Rattle.std.proofs.Common.{◌≡◌, ℕ, List, [], ◌∷◌, ◌++◌, refl, sym, ap, ◌∙◌, append_assoc, append-nil}
+use Rattle.std.proofs.Common.{◌≡◌, ℕ, List, [], ◌∷◌, ◌++◌, refl, sym, ap, ◌∙◌, append_assoc}
 use Rattle.gpkt.specs.Packets.{Packet}
 use Rattle.ggrammar.specs.Places.{place_after, collected}
 use Rattle.ggrammar.proofs.PlaceLemmas.{collected-push}

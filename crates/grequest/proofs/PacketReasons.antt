@@ -1,16 +1,16 @@
 -- Packets are refused for their own sake.
-use Rattle.std.proofs.Common.{ℕ, ◌==◌, ◌&&◌, Bool, true, false, cond, List, length, Option, Some, None}
+use Rattle.std.proofs.Common.{ℕ, ◌==◌, ◌&&◌, Bool, cond, List, length}
 use Rattle.std.specs.Prelude.{is_none, is_some, nat_lt}
 use Rattle.gpkt.specs.Packets.{Packet, Data, Flush, Delim, ResponseEnd, text}
 use Rattle.gname.specs.Names.{prefix_fault}
 use Rattle.gname.specs.Formats.{format_name}
 use Rattle.gname.specs.declared.formats.Format.{Format}
 use Rattle.gname.specs.declared.formats.Format.TheVariants.{Sha1, Sha256}
-use Rattle.ggrammar.specs.Grammar.{Verdict, Open, Whole, Refused, if_room}
+use Rattle.ggrammar.specs.Grammar.{Verdict, Open, Whole, Refused}
 use Rattle.ggrammar.specs.Ids.{id_of_text}
 use Rattle.ggrammar.specs.MessageBytes.{IsForPacket, RefusesPackets}
-use Rattle.ggrammar.specs.PeerErrors.{peer_error, unless_error}
-use Rattle.ggrammar.specs.declared.fault.Why.TheVariants.{BadText, BadName, BadId, Limit, Format as WrongFormat}
+use Rattle.ggrammar.specs.PeerErrors.{peer_error}
+use Rattle.ggrammar.specs.declared.fault.Why.TheVariants.{BadText, BadName, BadId, Format as WrongFormat}
 use Rattle.ggrammar.proofs.VerdictLemmas.{of_test, of_room, past_error}
 use Rattle.grequest.specs.declared.command.Command.TheVariants.{LsRefs, Fetch}
 use Rattle.grequest.specs.declared.command.CommandForm.{CommandForm}

@@ -7,7 +7,7 @@ use Rattle.gpkt.specs.Packets.{Packet, Data, Flush, Delim, ResponseEnd, text}
 use Rattle.gname.specs.declared.formats.Format.{Format}
 use Rattle.ggrammar.specs.Grammar.{Verdict, Open, Whole}
 use Rattle.ggrammar.specs.MessageReading.{IsAccepted}
-use Rattle.ggrammar.specs.PeerErrors.{unless_error, peer_error}
+use Rattle.ggrammar.specs.PeerErrors.{peer_error}
 use Rattle.ggrammar.specs.Places.{place_after, collected}
 use Rattle.ggrammar.proofs.VerdictLemmas.{accepted_unless}
 use Rattle.grequest.specs.declared.command.Command.{Command}

@@ -1,5 +1,5 @@
 -- Facts on the texts of a request's lines, and on the forms that they have.
-use Rattle.std.proofs.Common.{◌≡◌, ℕ, ◌+◌, ◌&&◌, Bool, true, false, cond, List, [], ◌∷◌, ◌++◌, length, take, drop, codes, ◌⊎◌, inl, inr, Option, Some, None, refl, sym, ap, subst, ◌∙◌, suc, zero, arith, nat_eq}
+use Rattle.std.proofs.Common.{◌≡◌, ℕ, ◌+◌, ◌&&◌, Bool, true, false, cond, List, [], ◌∷◌, ◌++◌, take, drop, codes, ◌⊎◌, inl, inr, Option, Some, None, refl, sym, ap, subst, ◌∙◌, suc, zero, arith}
 use Rattle.std.proofs.lemmas.Grind.{common_steps}
 use Rattle.std.proofs.lemmas.Slice.Eq.{bytes_eq-Decides}
 use Rattle.gpkt.specs.Packets.{text}
