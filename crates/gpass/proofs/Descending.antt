@@ -6,7 +6,7 @@ use Rattle.std.proofs.lemmas.Bool.{false≢true, cases_Bool, and_parts, not-true
 use Rattle.gobject.specs.declared.node.Entry.{Entry}
 use Rattle.gobject.specs.Objects.{place_of}
 use Rattle.ghistory.specs.Graphs.{HasParent}
-use Rattle.ghistory.specs.Reach.{Reaches, here, onward, SomeReaches}
+use Rattle.ghistory.specs.Reach.{here, SomeReaches}
 use Rattle.gpass.specs.Passes.{IsEdge, IsPlaceOf, IsReachedAt, IsNewAt, MarksAll, IsPassed, IsDone, is_marked, is_open, open_below}
 use Rattle.ghistory.proofs.Reaching.{place_same, place_of_node, kept_along, some_reaches}
 use Rattle.gpass.proofs.Places.{HasParentsFirst, edge_place, place_edge, edge_down, marked_inside, none_marked}

@@ -4,17 +4,16 @@ use Rattle.std.specs.List.{slice_get}
 use Rattle.std.specs.Option.{option_map}
 use Rattle.std.proofs.lemmas.List.{get_or-set_same, get_or-set_other, length-set, take_more}
 use Rattle.std.proofs.lemmas.List.Elements.{All-contains, Contains-append_left, Contains-push, Contains-push_cases}
-use Rattle.std.proofs.lemmas.Option.{none-some, same_Some, slice_get-get_or}
-use Rattle.std.proofs.lemmas.List.Quantifiers.{position-Some}
+use Rattle.std.proofs.lemmas.Option.{none-some, same_Some}
 use Rattle.std.specs.Ordering.{ord_max, nat_cmp}
 use Rattle.std.proofs.lemmas.Bool.{false≢true, cases_eq}
 use Rattle.std.proofs.lemmas.Bool.Decides.{nat_tests}
 use Rattle.gobject.specs.declared.node.Node.{Node}
 use Rattle.gobject.specs.declared.node.Entry.{Entry}
-use Rattle.gobject.specs.Objects.{has_id, node_at, place_of, IdsDiffer}
+use Rattle.gobject.specs.Objects.{node_at, place_of, IdsDiffer}
 use Rattle.ghistory.specs.Graphs.{History, Holds, HasParent, IsNode, IsGraph, IsOrdered}
 use Rattle.gpass.specs.Passes.{IsEdge, IsInOrder, IsPlaceOf, MarksAll, is_marked}
-use Rattle.ghistory.proofs.Holding.{has_id_is, own_place}
+use Rattle.ghistory.proofs.Holding.{own_place}
 use Rattle.ghistory.proofs.Reaching.{place_inside, node_at_place, place_of_node}
 use Rattle.gpass.proofs.Ids.{entry_there, one_place}
 use Rattle.ghistory.proofs.Places.{id_at_place}

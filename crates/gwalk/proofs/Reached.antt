@@ -4,12 +4,11 @@ use Rattle.std.specs.List.{slice_get}
 use Rattle.std.specs.Option.{option_map}
 use Rattle.std.proofs.lemmas.List.Sums.{sum_by-cons}
 use Rattle.std.proofs.lemmas.List.Elements.{Contains-get_or}
-use Rattle.std.proofs.lemmas.Option.{get_or_from_slice_get, slice_get_cases, none-some, same_Some}
-use Rattle.std.proofs.lemmas.List.Quantifiers.{position-Some}
+use Rattle.std.proofs.lemmas.Option.{slice_get_cases, same_Some}
 use Rattle.std.proofs.lemmas.Bool.{false≢true}
 use Rattle.gobject.specs.declared.node.Node.{Node}
 use Rattle.gobject.specs.declared.node.Entry.{Entry}
-use Rattle.gobject.specs.Objects.{node_at, place_of, has_id, IdsDiffer}
+use Rattle.gobject.specs.Objects.{node_at, place_of, IdsDiffer}
 use Rattle.ghistory.specs.Graphs.{Holds, HasParent, IsNode}
 use Rattle.ghistory.specs.Reach.{Reaches, here, onward, SomeReaches, IsFull}
 use Rattle.gwalk.specs.Marks.{AreFull, IsUnmarked, ReachesPast, there, further, stop_at}
@@ -17,7 +16,7 @@ use Rattle.ghistory.specs.Selecting.{Selects, none, keep, skip}
 use Rattle.ghistory.specs.Walks.{CountsReached, Misses}
 use Rattle.gwalk.specs.Walks.{IsWalk, AreMarked, marked, marked_parents}
 use Rattle.ghistory.proofs.Reaching.{held_at_place, node_at_place, node_at_none, place_inside, kept_along, some_reaches, place_of_node}
-use Rattle.ghistory.proofs.Holding.{own_place, has_id_is}
+use Rattle.ghistory.proofs.Holding.{own_place}
 use Rattle.gwalk.proofs.Counting.{count_marks}
 use Rattle.gwalk.proofs.LevelReach.{met_reached, reached_met}
 use Rattle.gwalk.proofs.Stopping.{bare_if, stop_place, stop_slice, stopped_entry, mapped}

@@ -1,11 +1,10 @@
 -- The offer by a test of each id.
-use Rattle.std.proofs.Common.{◌≡◌, ℕ, Bool, true, false, true≢false, ◌&&◌, not, cond, List, [], ◌∷◌, take, filter, is_some, refl, sym, subst, ◌∙◌}
+use Rattle.std.proofs.Common.{◌≡◌, ℕ, Bool, true, false, true≢false, ◌&&◌, not, List, take, filter, is_some, refl, sym}
 use Rattle.gobject.specs.declared.node.Entry.{Entry}
 use Rattle.gobject.specs.Objects.{node_at}
-use Rattle.ghistory.specs.Selecting.{Selects, none, keep, skip}
 use Rattle.ghistory.specs.Levels.{is_in, AreLevels}
 use Rattle.ghistory.specs.Offer.{IsOffer, MayBeOffered}
-use Rattle.ghistory.proofs.IdLists.{either_way, contains_from_in, absent_from_in}
+use Rattle.ghistory.proofs.IdLists.{contains_from_in, absent_from_in}
 use Rattle.gwalk.proofs.LevelReach.{met_reached, reached_met}
 use Rattle.ghistory.proofs.Choosing.{filter_selects}
 

@@ -4,17 +4,17 @@ use Rattle.std.specs.List.{slice_get, cons_option}
 use Rattle.std.specs.Option.{option_map}
 use Rattle.std.proofs.Math.Seq.{get_or-append_seam}
 use Rattle.std.proofs.lemmas.List.{nil_from_length, get_or-set_same, get_or-set_other, length-set, length-replicate, take_more}
-use Rattle.std.proofs.lemmas.Option.{none-some, slice_get_cases, same_Some}
+use Rattle.std.proofs.lemmas.Option.{none-some, same_Some}
 use Rattle.std.proofs.lemmas.Bool.{false≢true, cases_eq}
 use Rattle.std.proofs.lemmas.List.Elements.{Contains-append_left, Contains-push, Contains-push_cases, filter_map-append}
 use Rattle.gobject.specs.declared.node.Node.{Node}
 use Rattle.gobject.specs.declared.node.Entry.{Entry}
-use Rattle.gobject.specs.Objects.{node_at, place_of}
-use Rattle.ghistory.specs.Graphs.{IsNode, Holds}
+use Rattle.gobject.specs.Objects.{place_of}
+use Rattle.ghistory.specs.Graphs.{Holds}
 use Rattle.ghistory.specs.Levels.{is_in, new_ids, parents_of, AreLevels}
 use Rattle.gwalk.specs.Walks.{HasMet, IsLost, IsWalk, places}
 use Rattle.ghistory.proofs.IdLists.{either_way, nothing_in_nil, in_or_not, in_from_contains, new_ids-old, new_ids-new, contains_from_in, with_new}
-use Rattle.ghistory.proofs.Reaching.{place_inside, place_same, node_at_place, node_at_none, held_at_place}
+use Rattle.ghistory.proofs.Reaching.{place_inside, place_same, node_at_none, held_at_place}
 use Rattle.gwalk.proofs.Counting.{count_none, count_more, count_less, parents_none, parents_more}
 use Rattle.gwalk.proofs.IdLists.{with_new-nil, with_new-append}
 use Rattle.gwalk.proofs.LevelWalk.{IsWalked, walk_begins, walk_goes, walk_ends}
