@@ -1,5 +1,5 @@
 -- Which asks are the first for their refs.
-use Rattle.std.proofs.Common.{◌≡◌, ◌≢◌, ℕ, ◌+◌, ◌<◌, Bool, true, false, if◌then◌else◌, List, [], ◌∷◌, ◌++◌, length, take, drop}
+use Rattle.std.proofs.Common.{◌≡◌, ◌≢◌, ◌||◌, ℕ, ◌+◌, Bool, true, false, if◌then◌else◌, List, [], ◌∷◌, ◌++◌, length, take, drop}
 use Rattle.std.proofs.Common.{All, Contains, get_or, inl, inr, refl, sym, ap, subst, append_assoc, arith, ◌∙◌}
 use Rattle.std.specs.List.{list_any}
 use Rattle.std.specs.Str.{bytes_eq}
@@ -7,6 +7,7 @@ use Rattle.std.proofs.lemmas.Bool.{false≢true}
 use Rattle.std.proofs.lemmas.List.Elements.{All-append, All-cons, All-contains, All-head, All-nil, All-push, All-tail}
 use Rattle.std.proofs.lemmas.List.Elements.{Contains-append_left, Contains-append_right}
 use Rattle.std.proofs.lemmas.Slice.Eq.{bytes_eq-Decides}
+use Rattle.ghistory.proofs.IdLists.{contains_head, contains_tail}
 use Rattle.glsreply.specs.RefTexts.{RefLine}
 use Rattle.gspec.specs.Refspecs.{Refspec, destination_of, matches}
 use Rattle.grepo.specs.declared.ask.Ask.{Ask}
@@ -27,29 +28,31 @@ module _ {A : Type 0} where
   AreElsewhere name asks = All (λ ask. ask.name ≢ name) asks
 
   has_later : (x : Ask A) (asks : List (Ask A)) (name : List ℕ) → HasAsk asks name → HasAsk (x ∷ asks) name
-  has_later x asks name has = (has.0, Contains-append_right (x ∷ []) asks has.0 has.1, has.2)
+  has_later x asks name has = (has.0, contains_tail x asks has.0 has.1, has.2)
 
   there_at_end : (asks : List (Ask A)) (ask : Ask A) → Contains (asks ++ ask ∷ []) ask
-  there_at_end asks ask = Contains-append_right asks (ask ∷ []) ask (0, omega arith, refl)
+  there_at_end asks ask = Contains-append_right asks (ask ∷ []) ask (contains_head ask [])
 
   -- ---- asks by their names
 
+  asked_step : (x : Ask A) (asks : List (Ask A)) (name : List ℕ) (same : Bool) → bytes_eq x.name name ≡ same
+      → (same || is_asked asks name) ≡ true → (is_asked asks name ≡ true → HasAsk asks name) → HasAsk (x ∷ asks) name
+  asked_step x asks name true e is rest = (x, contains_head x asks, (bytes_eq-Decides x.name name).0 e)
+  asked_step x asks name false e is rest = has_later x asks name (rest is)
+
   asked_has : (asks : List (Ask A)) (name : List ℕ) → is_asked asks name ≡ true → HasAsk asks name
   asked_has [] name is = absurd (false≢true is)
-  asked_has (x ∷ asks) name is = by (bytes_eq x.name name) refl
-    where
-      by : (same : Bool) → bytes_eq x.name name ≡ same → HasAsk (x ∷ asks) name
-      by true e = (x, (0, omega arith, refl), (bytes_eq-Decides x.name name).0 e)
-      by false e = has_later x asks name (asked_has asks name (rw e at is))
+  asked_has (x ∷ asks) name is =
+      asked_step x asks name (bytes_eq x.name name) refl is (λ found. asked_has asks name found)
 
   not_asked : (asks : List (Ask A)) (name : List ℕ) → AreElsewhere name asks → is_asked asks name ≡ false
-  not_asked asks name else = by (is_asked asks name) refl
+  not_asked asks name apart = by (is_asked asks name) refl
     where
       by : (asked : Bool) → is_asked asks name ≡ asked → is_asked asks name ≡ false
       by false e = e
       by true e =
           let has = asked_has asks name e in
-          absurd (All-contains (λ (ask : Ask A). ask.name ≢ name) asks has.0 else has.1 has.2)
+          absurd (All-contains (λ (ask : Ask A). ask.name ≢ name) asks has.0 apart has.1 has.2)
 
   -- ---- an ask more
 
@@ -118,13 +121,13 @@ module _ {A : Type 0} where
 
   by_line : (name : List ℕ) (spec : Refspec) (line : RefLine) → LeadsElsewhere name spec line
       → AreElsewhere name (asks_by spec (line ∷ []))
-  by_line name spec line else = by (matches spec line.name) refl
+  by_line name spec line apart = by (matches spec line.name) refl
     where
       P : Ask A → Type 0
       P = λ ask. ask.name ≢ name
 
       by : (matched : Bool) → matches spec line.name ≡ matched → AreElsewhere name (asks_by spec (line ∷ []))
-      by true e = subst (All P) (sym (asks_one spec line e)) (All-cons P (ask_of spec line) [] (else e) (All-nil P))
+      by true e = subst (All P) (sym (asks_one spec line e)) (All-cons P (ask_of spec line) [] (apart e) (All-nil P))
       by false e = subst (All P) (sym (asks_none spec line e)) (All-nil P)
 
   by_lines : (name : List ℕ) (spec : Refspec) (lines : List RefLine) → All (LeadsElsewhere name spec) lines
@@ -169,14 +172,14 @@ module _ {A : Type 0} where
       ∙ sym (append_assoc first (asks_by spec above) (ask_of spec line ∷ (asks_by spec below ++ rest)))
 
   is_first : (specs : List Refspec) (lines : List RefLine) (spec : Refspec) (line : RefLine)
-      → IsFirstFor specs lines spec line → Contains {A = Ask A} (asked_of specs lines) (ask_of spec line)
+      → IsFirstFor specs lines spec line → Contains {X = Ask A} (asked_of specs lines) (ask_of spec line)
   is_first specs lines spec line is =
       let name = destination_of spec line.name in
       let P : Ask A → Type 0 = λ ask. ask.name ≢ name in
       let none = by_specs name is.before (is.above ++ line ∷ is.below)
       (subst (λ (l : List RefLine). All (λ other. All (LeadsElsewhere name other) l) is.before) is.lines_are is.no_spec) in
-      subst (λ (l : List RefLine). Contains {A = Ask A} (asked_of specs l) (ask_of spec line)) (sym is.lines_are)
-      (subst (λ (s : List Refspec). Contains {A = Ask A} (asked_of s (is.above ++ line ∷ is.below)) (ask_of spec line))
+      subst (λ (l : List RefLine). Contains {X = Ask A} (asked_of specs l) (ask_of spec line)) (sym is.lines_are)
+      (subst (λ (s : List Refspec). Contains {X = Ask A} (asked_of s (is.above ++ line ∷ is.below)) (ask_of spec line))
       (sym is.specs_are)
       (subst (λ (l : List (Ask A)). Contains (with_asks [] l) (ask_of spec line))
       (sym (all_parts is.before spec is.after is.above line is.below is.matched))
@@ -191,15 +194,18 @@ module _ {A : Type 0} where
   has_ask specs lines spec line among told e =
       let i = among.0 in
       let j = told.0 in
-      let lines_are : lines ≡ take j lines ++ line ∷ drop (j + 1) lines = at_front lines j line told.1 told.2 in
-      let specs_are : specs ≡ take i specs ++ spec ∷ drop (i + 1) specs = at_front specs i spec among.1 among.2 in
-      let parts = all_parts (take i specs) spec (drop (i + 1) specs) (take j lines) line (drop (j + 1) lines) e in
+      let ls = take j lines ++ line ∷ drop (j + 1) lines in
+      let ask : Ask A = ask_of spec line in
+      let front : List (Ask A) = asks_by_all (take i specs) ls ++ asks_by spec (take j lines) in
+      let rest : List (Ask A) = asks_by spec (drop (j + 1) lines) ++ asks_by_all (drop (i + 1) specs) ls in
       let all : List (Ask A) = asks_by_all specs lines in
-      let is : all ≡ _ = ap (λ (l : List RefLine). asks_by_all specs l) lines_are
-          ∙ ap (λ (s : List Refspec). asks_by_all s (take j lines ++ line ∷ drop (j + 1) lines)) specs_are ∙ parts in
-      All-contains (λ (ask : Ask A). HasAsk (asked_of specs lines) ask.name) all (ask_of spec line) (has_each [] all)
-      (subst (λ (l : List (Ask A)). Contains l (ask_of spec line)) (sym is)
-      (Contains-append_right _ _ (ask_of spec line) (0, omega arith, refl)))
+      let parts : all ≡ front ++ ask ∷ rest =
+      ap (λ (l : List RefLine). asks_by_all specs l) (at_front lines j line told.1 told.2)
+      ∙ ap (λ (s : List Refspec). asks_by_all s ls) (at_front specs i spec among.1 among.2)
+      ∙ all_parts (take i specs) spec (drop (i + 1) specs) (take j lines) line (drop (j + 1) lines) e in
+      All-contains (λ (a : Ask A). HasAsk (asked_of specs lines) a.name) all ask (has_each [] all)
+      (subst (λ (l : List (Ask A)). Contains l ask) (sym parts)
+      (Contains-append_right front (ask ∷ rest) ask (contains_head ask rest)))
 
   pub first_is_asked : FirstIsAsked A
   first_is_asked = record {

@@ -26,6 +26,15 @@ fits_as : {A : Type 0} (s : SessionState A) (st other : Stage) (p also : Option 
     → FitsStage s st p → FitsStage s other also
 fits_as s st other p also same same_p fits = subst (λ x. FitsStage s x also) same (subst (FitsStage s st) same_p fits)
 
+listing_fetches : Listing ≡ Fetching → ⊥
+listing_fetches same = cc
+
+settling_fetches : Settling ≡ Fetching → ⊥
+settling_fetches same = cc
+
+over_fetches : Over ≡ Fetching → ⊥
+over_fetches same = cc
+
 -- a request for refs waits before any for objects was made
 ls_waits : {A : Type 0} (s : SessionState A) (st : Stage) (asked : LsRefsAsked) → FitsStage s st (Some (Ls asked))
     → s.rounds ≡ 0
@@ -64,7 +73,7 @@ pub begun : {A : Type 0} (s : SessionState A) → length s.refspecs ≤ max_spec
 unfolding IsDistinct
 begun s few ids wants commons sent stage pending rounds = record {
   few_specs = few;
-  some = λ fetching. (let e : Listing ≡ Fetching = sym stage ∙ fetching in cc);
+  some = λ fetching. absurd (listing_fetches (sym stage ∙ fetching));
   tips = ids;
   wants = subst (All (IsIdOf s.format)) (sym wants) (All-nil (IsIdOf s.format));
   few_wants = omega (arith, ap length wants);
@@ -99,7 +108,7 @@ ended s is = record {
   commons = is.commons;
   sent = is.sent;
   rounds = is.rounds;
-  some = λ fetching. cc;
+  some = λ fetching. absurd (over_fetches fetching);
   stage = tt;
 }
 
@@ -193,9 +202,12 @@ fits_wants s [] none = tt
 fits_wants s (want ∷ wants) none = omega (arith, none)
 
 -- objects are fetched only where some are wanted
+no_head : (id : List ℕ) (ids : List (List ℕ)) → id ∷ ids ≡ [] → ⊥
+no_head id ids none = cc
+
 some_wants : (wants : List (List ℕ)) → stage_for wants ≡ Fetching → wants ≢ []
-some_wants [] fetching = cc
-some_wants (want ∷ wants) fetching = λ none. cc
+some_wants [] fetching = absurd (settling_fetches fetching)
+some_wants (want ∷ wants) fetching = no_head want wants
 
 pub refs_taken : {A : Type 0} (s : SessionState A) (asks : List (Ask A)) (wants : List (List ℕ)) (st : Stage)
     → IsSession s → AwaitsRefs s
@@ -245,6 +257,6 @@ pack_taken s commons is are = record {
   commons = are;
   sent = is.sent;
   rounds = is.rounds;
-  some = λ fetching. cc;
+  some = λ fetching. absurd (settling_fetches fetching);
   stage = tt;
 }

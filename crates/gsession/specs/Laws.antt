@@ -82,7 +82,7 @@ pub record FirstIsAsked (A : Type 0) : Type 0 where
       (ask : Ask A) × Contains (asked_of specs lines) ask × (ask.name ≡ destination_of spec line.name)
   pub once : (specs : List Refspec) (lines : List RefLine) → NamesDiffer {A = A} (asked_of specs lines)
   pub first : (specs : List Refspec) (lines : List RefLine) (spec : Refspec) (line : RefLine) →
-      IsFirstFor specs lines spec line → Contains {A = Ask A} (asked_of specs lines) (ask_of spec line)
+      IsFirstFor specs lines spec line → Contains {X = Ask A} (asked_of specs lines) (ask_of spec line)
 
 -- each want is an asked id whose whole ancestry is not held, and each other asked id's is held
 pub record AreExactWants {A : Type 0} (g : List (Entry A)) (asks : List (Ask A)) (wants : List (List ℕ)) : Type 0 where

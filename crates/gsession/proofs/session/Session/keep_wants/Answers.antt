@@ -9,8 +9,8 @@ pub invariant_of-self : goal.invariant_of-self
 invariant_of-self g c =
     let v = c.self.view_is in (
       refs_taken _ _ _ _ c.self.invariant.0
-      (subst (λ (s : SessionState g.row.A.Denot). AwaitsRefs s) (sym v) c.requires.waits)
-      (subst (λ (s : SessionState g.row.A.Denot). All (IsIdOf s.format) c.args.wants.items) (sym v) c.requires.ids)
-      c.requires.few (c.stage_for-self-inside.ensures ∙ ap stage_for c.as_slice.ensures.value),
+          (subst (λ (s : SessionState g.row.A.Denot). AwaitsRefs s) (sym v) c.requires.waits)
+          (subst (λ (s : SessionState g.row.A.Denot). All (IsIdOf s.format) c.args.wants.items) (sym v) c.requires.ids)
+          c.requires.few (c.stage_for-self-inside.ensures ∙ ap stage_for c.as_slice.ensures.value),
       tt,
     )
