@@ -59,8 +59,8 @@ mod refusal;
 mod send;
 mod write;
 
-pub use crate::connection::{End, MAX_REQUESTS, Served, serve};
-pub use crate::exchange::{ExchangeEnd, serve_one};
+pub use crate::connection::{End, MAX_REQUESTS, Served, serve, serve_with};
+pub use crate::exchange::{ExchangeEnd, serve_one, serve_one_with};
 pub use crate::refusal::{MAX_ERR_TEXT, err_text};
 pub use crate::write::write_reply;
 pub use ganswer::{BuildFault, OnePack, Packing, Reply, ServeFault, Server};
