@@ -1,5 +1,5 @@
 -- What is written says its value, in lines that fit.
-use Rattle.std.proofs.Common.{◌≡◌, ℕ, zero, suc, ◌+◌, ◌≤◌, List, [], ◌∷◌, ◌++◌, map, length, Option, Some, None, refl, sym, ap, subst, ◌∙◌, arith}
+use Rattle.std.proofs.Common.{◌≡◌, ℕ, suc, ◌+◌, ◌≤◌, List, [], ◌∷◌, ◌++◌, map, length, Option, Some, None, refl, sym, ap, subst, ◌∙◌, arith}
 use Rattle.std.specs.Prelude.{All, IfSome}
 use Rattle.std.proofs.lemmas.List.{length_push, length-append}
 use Rattle.std.proofs.lemmas.List.Elements.{All-append, All-cons, All-nil}
@@ -83,7 +83,7 @@ advert_says law texts manual capabilities are = (
     few = are.few;
   }),
   All-append Fits (Data (version ++ line_feed ∷ []) ∷ []) (map capability_packet capabilities ++ Flush ∷ [])
-      (all_one Fits (Data (version ++ line_feed ∷ [])) (omega arith)) (all_fit capabilities are.each),
+      (All-cons Fits (Data (version ++ line_feed ∷ [])) [] (omega arith) (All-nil Fits)) (all_fit capabilities are.each),
 )
 
 pub canonical_says_advert : TextOfLine → CapabilityIsItsText → AsInManual advert.Says advert.IsAdvert → CanonicalSays advert.Says AreCapabilities advert.IsCanonical

@@ -9,7 +9,7 @@ use Rattle.std.proofs.lemmas.Bool.Decides.{nat_tests}
 use Rattle.std.proofs.lemmas.Slice.Eq.{bytes_eq-Decides}
 use Rattle.gpkt.specs.Packets.{Packet, Data, Flush, Delim, ResponseEnd, text}
 use Rattle.gpkt.specs.Laws.{TextOrLine}
-use Rattle.ggrammar.specs.Grammar.{Verdict, Open, Whole, Refused, IsOpen, LawsOf, if_room}
+use Rattle.ggrammar.specs.Grammar.{Open, Whole, Refused, IsOpen, LawsOf, if_room}
 use Rattle.ggrammar.specs.PeerErrors.{peer_error, unless_error}
 use Rattle.ggrammar.specs.Texts.{TextsOfMore, texts_of}
 use Rattle.ggrammar.specs.Capabilities.{Capability, capability_of, capability_split, has_length, is_equals_sign, is_key, is_key_byte, is_value}

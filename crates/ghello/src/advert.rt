@@ -367,9 +367,10 @@ pub fn write_advert<A: Allocator + Copy, W: Sink>(
     ensures lines { WritesLines W.contents W.passed_on W.is_down W.loans writer.old writer.new result (canonical_advert advert.now) }
     ensures form { AreCapabilities advert.now }
 {
+    let capabilities = advert.capabilities.as_slice();
     writes_lines::<W>();
     write_version(writer)?;
-    write_capabilities(advert.capabilities.as_slice(), writer)?;
+    write_capabilities(capabilities, writer)?;
     write_flush(writer)
 }
 

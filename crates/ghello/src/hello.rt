@@ -170,6 +170,7 @@ fn compose<A: Allocator + Copy>(hello: &Hello<A>, line: &mut ArrayVec<u8, MAX_LI
     requires { line.old.items ≡ [] }
     ensures line { line.new.items ≡ hello_payload hello.now }
     ensures short { length line.new.items ≤ max_payload }
+    ensures form { IsHello hello.now }
 {
     add(COMMAND, line);
     add(hello.path(), line);
