@@ -33,21 +33,6 @@ use Rattle.gsession.specs.declared.taken.LsTaken.{LsTaken}
 use Rattle.gsession.specs.declared.taken.Taken.{Taken}
 use Rattle.gsession.specs.declared.taken.Taken.TheVariants.{Round, PackTaken}
 
--- it changed nothing; it ended the session; it kept what the server offers; it made a request where none waited; it
--- took
--- the reply to a request for refs, or to one for objects; or it settled
-pub data Does {A : Type 0} (g : List (Entry A)) (old new : SessionState A) : Type 0 where
-  does_nothing : new ≡ old → Does g old new
-  does_end : new ≡ over old → Does g old new
-  does_hear : (offers : Bool) → IsBegun old → new ≡ record old { offers_unborn = offers } → Does g old new
-  does_ask : (asked : Asked) → old.pending ≡ None → MakesNext old g new asked → Does g old new
-  does_list : (asked : LsRefsAsked) (reply : LsReply) (wants : List (List ℕ)) → old.pending ≡ Some (Ls asked)
-      → new ≡ with_refs old reply wants → Does g old new
-  does_take : (asked : FetchAsked) (stage : Stage) (acks : List (List ℕ)) → Awaits old asked
-      → All (Contains asked.haves) acks
-      → (asked.done ≡ true → stage ≡ Settling) → new ≡ after_acks old stage acks → Does g old new
-  does_settle : old.stage ≡ Settling → new ≡ record (over old) { asks = [] } → Does g old new
-
 -- ---- a request is due while refs or objects are to be asked for
 
 pub due_idle : (st : Stage) (p : Option Asked) → is_due st p ≡ true → (p ≡ None) × ((st ≡ Listing) ⊎ (st ≡ Fetching))
@@ -144,10 +129,16 @@ module _ {A : Type 0} where
 
   -- ---- what every call leaves as it is
 
-  no_more : (old new : SessionState A) → new.format ≡ old.format → new.tips ≡ old.tips → new.sent ≡ old.sent
-      → GoesOn old new
-  no_more old new format tips sent =
-      record { format = format; tips = tips; sent = ([], sent ∙ sym (append-nil old.sent)) }
+  no_more : (old new : SessionState A) → new.format ≡ old.format → new.refspecs ≡ old.refspecs
+      → new.limit ≡ old.limit → new.ends ≡ old.ends → new.tips ≡ old.tips → new.sent ≡ old.sent → GoesOn old new
+  no_more old new format refspecs limit ends tips sent = record {
+    format = format;
+    refspecs = refspecs;
+    limit = limit;
+    ends = ends;
+    tips = tips;
+    sent = ([], sent ∙ sym (append-nil old.sent));
+  }
 
   asked_on : (old : SessionState A) (asked : Asked) (batch : List (List ℕ)) → GoesOn old (waiting_for old asked batch)
   asked_on old Empty batch = no_more old (waiting_for old Empty batch) refl refl refl refl refl refl
