@@ -22,8 +22,8 @@ pub(crate) fn first_strange<A: Allocator + Copy>(
     ensures { MatchOption result (All (Contains haves.now) acks.now) (IsFirstStrange haves.now acks.now) }
 {
     match set_of(alloc, haves) {
-        Ok(offered) => first_unoffered(&Some(offered), haves, acks),
-        Err(_) => first_unoffered(&None, haves, acks),
+        Ok(offered) => first_unoffered::<A>(&Some(offered), haves, acks),
+        Err(_) => first_unoffered::<A>(&None, haves, acks),
     }
 }
 
