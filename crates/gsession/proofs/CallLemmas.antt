@@ -7,7 +7,6 @@ use Rattle.std.proofs.lemmas.List.{append-nil}
 use Rattle.gpkt.specs.Change.{Change}
 use Rattle.gpkt.specs.Packets.{Packet}
 use Rattle.ggrammar.specs.Capabilities.{Capability}
-use Rattle.glsreply.specs.LsReplies.{LsReply}
 use Rattle.gfetchreply.specs.FetchReplies.{FetchReply, Pack, Reading, reply_of}
 use Rattle.gobject.specs.declared.node.Entry.{Entry}
 use Rattle.gobject.specs.Packs.{Indexes, IndexFails}
@@ -16,11 +15,11 @@ use Rattle.grepo.specs.declared.ask.Ask.{Ask}
 use Rattle.grepo.specs.declared.ask.RefUpdate.{RefUpdate}
 use Rattle.grepo.specs.declared.fault.RepoFault.TheVariants as repo
 use Rattle.grepo.specs.Repos.{RepoState}
-use Rattle.grequest.specs.Asked.{Asked, Empty, Ls, Fetches, FetchAsked, LsRefsAsked, is_direct}
+use Rattle.grequest.specs.Asked.{Asked, Empty, Ls, Fetches, FetchAsked, is_direct}
 use Rattle.gsession.specs.Calls.{HasCalled, heard, requested, took_refs, took_reply, settled, GoesOn}
 use Rattle.gsession.specs.Calls.{Does, does_nothing, does_end, does_hear, does_ask, does_list, does_take, does_settle}
-use Rattle.gsession.specs.Requesting.{MakesNext, Requests, is_due, waiting_for}
-use Rattle.gsession.specs.Sessions.{SessionState, Hears, IsBegun, after_fault, ends_session, over, tells_unborn}
+use Rattle.gsession.specs.Requesting.{Requests, is_due, waiting_for}
+use Rattle.gsession.specs.Sessions.{SessionState, Hears, after_fault, ends_session, over, tells_unborn}
 use Rattle.gsession.specs.SettlingRefs.{SettlesSession}
 use Rattle.gsession.specs.TakingRefs.{TakesLs, with_refs}
 use Rattle.gsession.specs.TakingReplies.{Awaits, HasPack, TakesHead, TakesReply, acknowledged_by, after_acks}
