@@ -91,11 +91,11 @@ fn depth_of(words: &[String]) -> (Depth, &[String]) {
 }
 
 // Tries the cases of the files with ids of one format.
-fn try_files<R: Print + AllocGlobal>(
+fn try_files<'b, R: Print + AllocGlobal>(
     rt: &R,
     format: Format,
-    names: &[String],
-    files: &[String],
+    names: &'b [String],
+    files: &'b [String],
     tally: &mut Tally,
 ) -> io::Result<()> {
     let alloc = rt.alloc();
