@@ -138,6 +138,7 @@ fn pack(
     match count_entries(memory, text, most) {
         Ok(count) => Ok(format!(in alloc; "ok {count}")?),
         Err(IndexFault::Bad { line }) => told_at(alloc, 66, "Bad", "line", line),
+        Err(IndexFault::Memory) => told(alloc, 66, "Memory"),
         Err(fault) => told(alloc, fault.code(), fault.name()),
     }
 }

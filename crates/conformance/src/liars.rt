@@ -63,25 +63,30 @@ impl<A: Allocator + Copy> Packer<A> for Liar {
     ghost pack_fails = { λ _ list fault. ⊤ };
 
     fn pack(&self, alloc: A, entries: &[Entry<A>]) -> Result<Vec<u8, A>, PackFault> {
-        match self {
-            Liar::PacksNothing => pack_of(alloc, &entries[..0]),
-            Liar::PacksShort => match entries.split_last() {
-                Some((_, others)) => pack_of(alloc, others),
-                None => pack_of(alloc, entries),
-            },
-            Liar::PackTooLarge => Err(PackFault::TooLarge),
-            Liar::PackMemory => Err(PackFault::Memory),
-            _ => Err(PackFault::Other),
+        let pack = written(*self, alloc, entries)?;
+        if pack.len() > MAX_PACK {
+            return Err(PackFault::TooLarge);
         }
+        Ok(pack)
     }
 }
 
-fn pack_of<A: Allocator + Copy>(alloc: A, entries: &[Entry<A>]) -> Result<Vec<u8, A>, PackFault> {
-    let pack = PlainPack.pack(alloc, entries)?;
-    if pack.len() > MAX_PACK {
-        return Err(PackFault::TooLarge);
+// What a lying packer writes for these entries.
+fn written<A: Allocator + Copy>(
+    liar: Liar,
+    alloc: A,
+    entries: &[Entry<A>],
+) -> Result<Vec<u8, A>, PackFault> {
+    match liar {
+        Liar::PacksNothing => PlainPack.pack(alloc, &entries[..0]),
+        Liar::PacksShort => match entries.split_last() {
+            Some((_, others)) => PlainPack.pack(alloc, others),
+            None => PlainPack.pack(alloc, entries),
+        },
+        Liar::PackTooLarge => Err(PackFault::TooLarge),
+        Liar::PackMemory => Err(PackFault::Memory),
+        _ => Err(PackFault::Other),
     }
-    Ok(pack)
 }
 
 /// What a lying indexer was fed, all of it.
