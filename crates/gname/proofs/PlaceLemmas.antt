@@ -1,18 +1,13 @@
 -- The first place of a text that passes a test: what it is, and which searches find it.
 use Rattle.std.proofs.Common.{◌≡◌, ℕ, zero, suc, ◌+◌, ◌<◌, ◌≤◌, Bool, true, false, cond, inl, inr, List, length, take, drop, slice_index, Option, Some, None, MatchOption, refl, sym, ap, ◌∙◌, arith, take_all, le_refl, length-drop}
 use Rattle.std.proofs.Math.ListN.{length-take}
-use Rattle.std.proofs.lemmas.Bool.{cases_eq}
+use Rattle.std.proofs.lemmas.Bool.{cases_eq, false_from_ne_true}
 use Rattle.std.proofs.lemmas.Slice.Eq.{bytes_eq-Decides}
 use Rattle.std.proofs.lemmas.List.Sums.{position_or_len_is}
 use Rattle.std.specs.List.{before_first}
 use Rattle.memchr.specs.Find.{IsFirst, IsFirstByte, OccursAt, is_byte}
 use Rattle.memchr.proofs.lemmas.MatchLemmas.{OccursAt-part, OccursAt-from_part}
 use Rattle.gname.specs.Names.{first_place, first_place_from, is_slash, stands_at}
-
--- a test that cannot pass does not
-pub false_from : (b : Bool) → (b ≡ true → ⊥) → b ≡ false
-false_from true h = absurd (h refl)
-false_from false h = refl
 
 -- a place that passes, with none before it, is the first
 pub first_place_from-Some : (test : ℕ → Bool) (at more k : ℕ) → at ≤ k → k < at + more → test k ≡ true
@@ -51,12 +46,12 @@ pub first_place-found : (test : ℕ → Bool) (text : List ℕ) (P : ℕ → Typ
     → ((k : ℕ) → test k ≡ true → P k) → ((k : ℕ) → P k → test k ≡ true) → IsFirst P 0 (length text + 1) r
     → first_place test text ≡ r
 first_place-found test text P None sound whole h =
-    first_place-None test text (λ j b. false_from (test j) (λ t. h j (omega arith) b (sound j t)))
+    first_place-None test text (λ j b. false_from_ne_true (test j) (λ t. h j (omega arith) b (sound j t)))
 first_place-found test text P (Some k) sound whole h =
     let first = h.0 in
     let high = first.high in
     first_place-Some test text k (omega (arith, high)) (whole k h.1)
-    (λ j b. false_from (test j) (λ t. first.before j (omega arith) b (sound j t)))
+    (λ j b. false_from_ne_true (test j) (λ t. first.before j (omega arith) b (sound j t)))
 
 -- where bytes stand, they occur
 OccursAt-of_stands : (text needle : List ℕ) (k : ℕ) → 0 < length needle → stands_at text needle k ≡ true
@@ -83,13 +78,13 @@ pub component-of_search : (rest : List ℕ) (r : Option ℕ) → IsFirstByte (is
     → MatchOption r (rest ≡ before_first is_slash rest) (λ len. take len rest ≡ before_first is_slash rest)
 component-of_search rest None h =
     let whole = position_or_len_is is_slash rest (length rest) 0 (le_refl (length rest))
-    (λ j b. false_from (is_slash (slice_index rest j)) (λ t. h j (omega arith) b t)) (λ b. absurd (omega arith)) in
+    (λ j b. false_from_ne_true (is_slash (slice_index rest j)) (λ t. h j (omega arith) b t)) (λ b. absurd (omega arith)) in
     sym (ap (λ n. take n rest) whole ∙ take_all (length rest) rest (le_refl (length rest)))
 component-of_search rest (Some len) h =
     let first = h.0 in
     let high = first.high in
     let place = position_or_len_is is_slash rest len 0 (omega (arith, high))
-    (λ j b. false_from (is_slash (slice_index rest j)) (λ t. first.before j (omega arith) b t)) (λ _. h.1) in
+    (λ j b. false_from_ne_true (is_slash (slice_index rest j)) (λ t. first.before j (omega arith) b t)) (λ _. h.1) in
     sym (ap (λ n. take n rest) place)
 
 -- ---- what a first place is

@@ -1,5 +1,6 @@
--- The tables of faults: the number and the name of each, as they are printed.
-use Rattle.std.specs.Prelude.{ℕ, List, codes}
+-- The tables of faults: the number, the name and the text of each, as they are printed.
+use Rattle.std.specs.Prelude.{ℕ, List, ◌++◌, codes}
+use Rattle.std.specs.Fmt.{decimal}
 use Rattle.gname.specs.declared.faults.NameFault.{NameFault}
 use Rattle.gname.specs.declared.faults.NameFault.TheVariants as name
 use Rattle.gname.specs.declared.ids.OidFault.{OidFault}
@@ -25,3 +26,20 @@ name_fault_row (name.DoubleDot at) = (15, codes "DoubleDot")
 name_fault_row (name.AtBrace at) = (16, codes "AtBrace")
 name_fault_row name.End = (17, codes "End")
 name_fault_row name.Memory = (18, codes "Memory")
+
+-- their texts
+abbrev pub id_fault_text : OidFault → List ℕ
+id_fault_text id.Length = codes "an object id has 40 hexadecimal digits, or 64 in SHA-256"
+id_fault_text (id.Digit at) = codes "byte " ++ decimal at ++ codes " of the object id is no hexadecimal digit"
+
+abbrev pub name_fault_text : NameFault → List ℕ
+name_fault_text name.Empty = codes "a ref name has at least one byte"
+name_fault_text name.TooLong = codes "a ref name has at most 1000 bytes"
+name_fault_text name.NotRef = codes "a ref name is HEAD or begins with refs/"
+name_fault_text (name.BadByte at) = codes "byte " ++ decimal at ++ codes " is not allowed in a ref name"
+name_fault_text (name.Component at) =
+    codes "the component at byte " ++ decimal at ++ codes " is empty, begins with a dot or ends with .lock"
+name_fault_text (name.DoubleDot at) = codes "two dots in a row at byte " ++ decimal at
+name_fault_text (name.AtBrace at) = codes "@{ at byte " ++ decimal at
+name_fault_text name.End = codes "a ref name does not end with a dot"
+name_fault_text name.Memory = codes "out of memory"

@@ -5,4 +5,5 @@ pub mod Formats
 pub mod Ids
 pub mod Limits
 pub mod Names
+pub mod Components
 pub mod Laws

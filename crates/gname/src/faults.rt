@@ -1,43 +1,35 @@
 //! The faults of ref names and prefixes.
 #![tactic(auto)]
 
-ghost use Rattle.std.specs.Prelude.{◌≡◌};
-ghost use Rattle.gname.specs.Faults.{name_fault_row};
+ghost use Rattle.std.specs.Prelude.{◌≡◌, Some};
+ghost use Rattle.gname.specs.Faults.{name_fault_row, name_fault_text};
 ghost use Rattle.gname.specs.declared.faults.NameFault.TheVariants.{Memory};
 
 use std::alloc::AllocError;
-use thiserror::Error;
+use std::error::Error;
+use std::fmt;
 
 /// Why a text is no ref name, or no prefix. A text may have several faults: the first in this order
 /// is reported, with its first place in the text.
-#[derive(Clone, Copy, Debug, PartialEq, Eq, Drop, Error)]
+#[derive(Clone, Copy, Debug, PartialEq, Eq, Drop)]
 pub enum NameFault {
     /// It has no byte.
-    #[error("a ref name has at least one byte")]
     Empty,
     /// It has more than 1,000 bytes.
-    #[error("a ref name has at most 1000 bytes")]
     TooLong,
     /// It is neither `HEAD` nor begins with `refs/`.
-    #[error("a ref name is HEAD or begins with refs/")]
     NotRef,
     /// This byte is a control character, DEL, a space or one of `~ ^ : ? * [ \`.
-    #[error("byte {at} is not allowed in a ref name")]
     BadByte { at: usize },
     /// The component that begins here is empty, begins with `.` or ends with `.lock`.
-    #[error("the component at byte {at} is empty, begins with a dot or ends with .lock")]
     Component { at: usize },
     /// Two dots stand here.
-    #[error("two dots in a row at byte {at}")]
     DoubleDot { at: usize },
     /// `@{` stands here.
-    #[error("@{{ at byte {at}")]
     AtBrace { at: usize },
     /// The last byte is a dot.
-    #[error("a ref name does not end with a dot")]
     End,
     /// The text is well-formed, and there is no memory to keep it.
-    #[error("out of memory")]
     Memory,
 }
 
@@ -73,6 +65,29 @@ impl NameFault {
         }
     }
 }
+
+impl fmt::Display for NameFault {
+    ghost output = { λ fault. Some (name_fault_text fault) };
+
+    fn fmt<W: fmt::Write>(&self, f: &mut fmt::Formatter<W>) -> fmt::Result {
+        match self {
+            NameFault::Empty => f.write_str("a ref name has at least one byte"),
+            NameFault::TooLong => f.write_str("a ref name has at most 1000 bytes"),
+            NameFault::NotRef => f.write_str("a ref name is HEAD or begins with refs/"),
+            NameFault::BadByte { at } => write!(f, "byte {at} is not allowed in a ref name"),
+            NameFault::Component { at } => write!(
+                f,
+                "the component at byte {at} is empty, begins with a dot or ends with .lock"
+            ),
+            NameFault::DoubleDot { at } => write!(f, "two dots in a row at byte {at}"),
+            NameFault::AtBrace { at } => write!(f, "@{{ at byte {at}"),
+            NameFault::End => f.write_str("a ref name does not end with a dot"),
+            NameFault::Memory => f.write_str("out of memory"),
+        }
+    }
+}
+
+impl Error for NameFault {}
 
 impl From<AllocError> for NameFault {
     ghost from_gives = { λ _ fault. fault ≡ Memory };

@@ -1,7 +1,7 @@
 //! Object ids.
 #![tactic(auto)]
 
-ghost use Rattle.std.specs.Prelude.{◌≡◌, ℕ, [], ◌∷◌, List, take, drop, nat_eq};
+ghost use Rattle.std.specs.Prelude.{◌≡◌, ℕ, [], ◌∷◌, List, Some, take, drop, nat_eq};
 ghost use Rattle.std.proofs.Common.{rules};
 ghost use Rattle.std.specs.Ordering.{as_partial_cmp};
 ghost use Rattle.std.specs.Cmp as Cmp;
@@ -11,15 +11,16 @@ ghost use Rattle.std.specs.Cmp.Lexicographic.{pointwise, nat_list_eq_equiv};
 ghost use Rattle.gname.specs.declared.formats.Format.TheVariants.{Sha1};
 ghost use Rattle.gname.specs.Formats.{id_text_length};
 ghost use Rattle.gname.specs.Ids.{IsId, IsIdOf, IsIdText, ReadsId, format_of, id_cmp, id_fault_of, id_text};
-ghost use Rattle.gname.specs.Faults.{id_fault_row};
+ghost use Rattle.gname.specs.Faults.{id_fault_row, id_fault_text};
 
 use crate::digits::write_digits;
 use crate::formats::Format;
 use hex::{FromHex, FromHexError};
 use std::cmp::Ordering;
+use std::error::Error;
+use std::fmt;
 use std::hash::{Hash, Hasher};
 use std::marker::Model;
-use thiserror::Error;
 
 /// The most digits of an object id's text.
 pub const MAX_ID_TEXT: usize = 64;
@@ -163,13 +164,11 @@ impl Hash for Oid {
 }
 
 /// Why a text is no object id.
-#[derive(Clone, Copy, Debug, PartialEq, Eq, Drop, Error)]
+#[derive(Clone, Copy, Debug, PartialEq, Eq, Drop)]
 pub enum OidFault {
     /// The text does not have forty bytes, or sixty-four in SHA-256.
-    #[error("an object id has 40 hexadecimal digits, or 64 in SHA-256")]
     Length,
     /// The byte at this place is the first that is no hexadecimal digit.
-    #[error("byte {at} of the object id is no hexadecimal digit")]
     Digit { at: usize },
 }
 
@@ -198,6 +197,23 @@ impl OidFault {
         }
     }
 }
+
+impl fmt::Display for OidFault {
+    ghost output = { λ fault. Some (id_fault_text fault) };
+
+    fn fmt<W: fmt::Write>(&self, f: &mut fmt::Formatter<W>) -> fmt::Result {
+        match self {
+            OidFault::Length => {
+                f.write_str("an object id has 40 hexadecimal digits, or 64 in SHA-256")
+            }
+            OidFault::Digit { at } => {
+                write!(f, "byte {at} of the object id is no hexadecimal digit")
+            }
+        }
+    }
+}
+
+impl Error for OidFault {}
 
 impl From<FromHexError> for OidFault {
     ghost from_gives = { λ e fault. fault ≡ id_fault_of e };

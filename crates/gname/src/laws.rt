@@ -7,6 +7,7 @@ ghost use Rattle.gname.specs.Formats.{id_text_length};
 ghost use Rattle.gname.specs.declared.formats.Format.TheVariants.{Sha256};
 ghost use Rattle.gname.specs.Limits.{max_pack};
 ghost use Rattle.gname.specs.Names.{IsRefName, head_name, max_name};
+ghost use Rattle.gname.specs.Components.{ComponentsAreParts};
 ghost use Rattle.gname.specs.Laws.{FirstPlacesAreFirst, IdsHaveOneFormat, IdsHaveTexts, IdTextsAreDigits, NamesAreClean, PrefixesAreClean, RulesNeverReportMemory, TextsHaveOneReading, TextsSpellOneId};
 
 use crate::{MAX_ID_TEXT, MAX_NAME, MAX_PACK};
@@ -68,4 +69,11 @@ pub fn rules_never_report_memory()
 /// A fault's place is the first that has the fault.
 pub fn first_places_are_first()
     ensures { FirstPlacesAreFirst }
+{}
+
+/// The components of a text are its parts between slashes, and every text has one at least. A ref name has no
+/// component that is empty, begins with a dot or ends with `.lock`. The fault `Component` is that of a text exactly where
+/// it has such a component and no earlier rule finds a fault; its place is where the first such component begins.
+pub fn components_are_parts()
+    ensures { ComponentsAreParts }
 {}

@@ -7,25 +7,28 @@
 //!   SHA-256, in either case, and reports of each other text what is wrong with it and where.
 //!   [`Oid::to_hex`] writes the one text in lower case, which reads back as the id. An id has one
 //!   [`Format`].
-//! - [`RefName::new`] and [`Prefix::new`] accept exactly the names and prefixes that the rules of
-//!   git-check-ref-format(1) allow, and report of each other text the first fault in one fixed order,
-//!   with its first place. Out of memory is reported of a well-formed text alone. [`RefName::head`]
-//!   is `HEAD`, and [`RefName::copy_in`] the same name in another allocator, where there is memory.
+//! - [`RefName::new`], [`RefName::check`] and [`Prefix::new`] accept exactly the names and prefixes that
+//!   the rules of git-check-ref-format(1) allow, and report of each other text the first fault in one
+//!   fixed order, with its first place. Out of memory is reported of a well-formed text alone, and
+//!   never by `check`, which takes no memory. [`RefName::head`] is `HEAD`, and [`RefName::copy_in`] the
+//!   same name in another allocator, where there is memory.
+//! - The components that the rules judge are the parts of a text between its slashes:
+//!   [`laws::components_are_parts`].
 //! - Ids, names and prefixes are equal by their bytes. Names are ordered by their bytes, and ids by
 //!   their formats and then by their bytes: total orders. Equal ones hash alike, so ids and names may
 //!   be keys of a map.
 //! - A name or a prefix has at most [`MAX_NAME`] bytes, and no control character or space. [`MAX_NAME`],
 //!   [`MAX_ID_TEXT`] and [`MAX_PACK`] are the limits that the definitions name.
-//! - Each fault has the number and the name of its row.
+//! - Each fault has the number, the name and the text of its row.
 //! - No call panics, overflows or reads out of bounds, and each returns.
 //!
 //! [`laws`] say more of ids, names and prefixes, for the proofs of other crates.
 //!
-//! # Only tested
+//! # Only tried
 //!
-//! - That the definitions in `specs/` agree with `git check-ref-format`, by a table of names with that
-//!   program's answers.
-//! - What a fault and a value print, and that memory which is there is used.
+//! - That the definitions in `specs/` agree with `git check-ref-format`: the cases of the program
+//!   `conformance` have names with that program's answers.
+//! - What a value prints for debugging, and that memory which is there is used.
 //!
 //! # What a body can still get away with
 //!
@@ -34,8 +37,7 @@
 //!
 //! # Stands on
 //!
-//! `hex` for reading digits, `memchr` for searches in a name, `thiserror` for the texts of faults; in
-//! tests `bumpalo`, for memory that ends.
+//! `hex` for reading digits, `memchr` for searches in a name.
 #![tactic(auto)]
 
 mod digits;
@@ -47,8 +49,6 @@ mod limits;
 mod names;
 mod prefixes;
 mod rules;
-#[cfg(test)]
-mod tests;
 
 pub use crate::faults::NameFault;
 pub use crate::formats::Format;

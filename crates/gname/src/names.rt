@@ -1,7 +1,7 @@
 //! Ref names.
 #![tactic(auto)]
 
-ghost use Rattle.std.specs.Prelude.{◌≡◌, ◌≤◌, ◌↔◌, ◌++◌, [], ◌∷◌, ℕ, List, IfOk, IsTrue, Some, length, nat_eq, refl};
+ghost use Rattle.std.specs.Prelude.{◌≡◌, ◌≢◌, ◌≤◌, ◌↔◌, ◌++◌, [], ◌∷◌, ℕ, List, IfErr, IfOk, IsTrue, Some, length, nat_eq, refl};
 ghost use Rattle.std.proofs.Common.{rules};
 ghost use Rattle.std.specs.Cmp.Rules.{hashing};
 ghost use Rattle.std.specs.Hash as fed;
@@ -10,7 +10,7 @@ ghost use Rattle.std.specs.Ordering.{nat_cmp};
 ghost use Rattle.std.specs.Cmp as Cmp;
 ghost use Rattle.std.specs.Cmp.Lexicographic.{pointwise, slice_cmp, nat_list_eq_equiv, nat_list_cmp_total, texts_ties, texts_po};
 ghost use Rattle.gname.specs.Laws.{IsClean};
-ghost use Rattle.gname.specs.Names.{IsRefName, Owns, head_name, max_name, name_fault};
+ghost use Rattle.gname.specs.Names.{Finds, IsRefName, Owns, head_name, max_name, name_fault};
 
 use crate::faults::NameFault;
 use crate::prefixes::Prefix;
@@ -36,6 +36,18 @@ impl<A: Allocator + Copy> Model for RefName<A> {
     ghost view = { λ name. name.text.items };
 
     ghost invariant = { λ name. IsRefName name.text.items };
+}
+
+impl RefName {
+    /// Whether a text is a ref name, by the rules that `new` keeps: fails with its first fault in the order of
+    /// `NameFault`, and never with `Memory`. It takes no memory.
+    #[tactic(auto, using(crate::proofs::NameLemmas::name_never_memory))]
+    pub fn check(text: &[u8]) -> Result<(), NameFault>
+        ensures judged { Finds name_fault text.now result }
+        ensures no_memory { IfErr result (λ fault. fault ≢ NameFault.Memory) }
+    {
+        rules::check_name(text)
+    }
 }
 
 impl<A: Allocator + Copy> RefName<A> {

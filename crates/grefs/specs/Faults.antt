@@ -1,5 +1,5 @@
--- The table of faults: the number and the name of each.
-use Rattle.std.specs.Prelude.{codes}
+-- The table of faults: the number, the name and the text of each.
+use Rattle.std.specs.Prelude.{ℕ, List, codes}
 use Rattle.gname.specs.Faults.{FaultRow}
 use Rattle.grefs.specs.declared.fault.RefsFault.{RefsFault}
 use Rattle.grefs.specs.declared.fault.RefsFault.TheVariants as refs
@@ -8,3 +8,7 @@ use Rattle.grefs.specs.declared.fault.RefsFault.TheVariants as refs
 abbrev pub refs_fault_row : RefsFault → FaultRow
 refs_fault_row refs.Refs = (69, codes "Refs")
 refs_fault_row refs.Memory = (64, codes "Memory")
+
+abbrev pub refs_fault_text : RefsFault → List ℕ
+refs_fault_text refs.Refs = codes "the ref can't be set"
+refs_fault_text refs.Memory = codes "out of memory"

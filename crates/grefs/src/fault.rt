@@ -1,21 +1,20 @@
 // What a call on refs refuses.
 #![tactic(auto)]
 
-ghost use Rattle.std.specs.Prelude.{◌≡◌};
-ghost use Rattle.grefs.specs.Faults.{refs_fault_row};
+ghost use Rattle.std.specs.Prelude.{◌≡◌, Some};
+ghost use Rattle.grefs.specs.Faults.{refs_fault_row, refs_fault_text};
 ghost use Rattle.grefs.specs.declared.fault.RefsFault.TheVariants.{Memory};
 
 use std::alloc::{AllocError, AllocFailed};
-use thiserror::Error;
+use std::error::Error;
+use std::fmt;
 
 /// Why a ref was not set.
-#[derive(Clone, Copy, Debug, PartialEq, Eq, Drop, Error)]
+#[derive(Clone, Copy, Debug, PartialEq, Eq, Drop)]
 pub enum RefsFault {
     /// A ref that can't be set: its name is `HEAD`, or there would be more than `MAX_REFS` refs.
-    #[error("the ref can't be set")]
     Refs,
     /// There is no memory.
-    #[error("out of memory")]
     Memory,
 }
 
@@ -44,6 +43,19 @@ impl RefsFault {
         }
     }
 }
+
+impl fmt::Display for RefsFault {
+    ghost output = { λ fault. Some (refs_fault_text fault) };
+
+    fn fmt<W: fmt::Write>(&self, f: &mut fmt::Formatter<W>) -> fmt::Result {
+        match self {
+            RefsFault::Refs => f.write_str("the ref can't be set"),
+            RefsFault::Memory => f.write_str("out of memory"),
+        }
+    }
+}
+
+impl Error for RefsFault {}
 
 impl From<AllocError> for RefsFault {
     ghost from_gives = { λ _ fault. fault ≡ Memory };

@@ -10,15 +10,15 @@
 //!   is there.
 //! - A copy of refs, of a target or of a head is the same.
 //! - A [`Target`] is a name below `refs/`: any but `HEAD`.
-//! - Each fault has the number and the name of its row.
+//! - Each fault has the number, the name and the text of its row.
 //! - No call panics, overflows or reads out of bounds, and each returns.
 //!
 //! [`laws`] say that each ref could have been added after those before it, and that refs of which each name
 //! stands at the same id are the same.
 //!
-//! # Only tested
+//! # Only tried
 //!
-//! The texts of the faults, and that memory which is there is used.
+//! That memory which is there is used.
 //!
 //! # What a body can still get away with
 //!
@@ -29,7 +29,7 @@
 //!
 //! # Stands on
 //!
-//! `gname` for names and ids, `thiserror` for the texts of faults; in tests `bumpalo`, for memory that ends.
+//! `gname` for names and ids.
 #![tactic(auto)]
 
 mod fault;
@@ -40,6 +40,3 @@ mod refs;
 pub use crate::fault::RefsFault;
 pub use crate::head::{Head, Target};
 pub use crate::refs::{MAX_REFS, Refs, is_below_refs};
-
-#[cfg(test)]
-mod tests;

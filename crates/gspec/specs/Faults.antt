@@ -1,5 +1,5 @@
--- The table of faults: the number and the name of each.
-use Rattle.std.specs.Prelude.{codes}
+-- The table of faults: the number, the name and the text of each.
+use Rattle.std.specs.Prelude.{ℕ, List, codes}
 use Rattle.gname.specs.Faults.{FaultRow}
 use Rattle.gspec.specs.declared.fault.SpecFault.{SpecFault}
 use Rattle.gspec.specs.declared.fault.SpecFault.TheVariants.{BadSpec, Memory}
@@ -8,3 +8,7 @@ use Rattle.gspec.specs.declared.fault.SpecFault.TheVariants.{BadSpec, Memory}
 abbrev pub spec_fault_row : SpecFault → FaultRow
 spec_fault_row BadSpec = (87, codes "BadSpec")
 spec_fault_row Memory = (18, codes "Memory")
+
+abbrev pub spec_fault_text : SpecFault → List ℕ
+spec_fault_text BadSpec = codes "not a refspec"
+spec_fault_text Memory = codes "out of memory"

@@ -1,19 +1,18 @@
 // Why a text is no refspec.
 #![tactic(auto)]
 
-ghost use Rattle.std.specs.Prelude.{◌≡◌};
-ghost use Rattle.gspec.specs.Faults.{spec_fault_row};
+ghost use Rattle.std.specs.Prelude.{◌≡◌, Some};
+ghost use Rattle.gspec.specs.Faults.{spec_fault_row, spec_fault_text};
 
-use thiserror::Error;
+use std::error::Error;
+use std::fmt;
 
 /// Why a text was not read as a refspec.
-#[derive(Clone, Copy, Debug, PartialEq, Eq, Drop, Error)]
+#[derive(Clone, Copy, Debug, PartialEq, Eq, Drop)]
 pub enum SpecFault {
     /// The text is no refspec.
-    #[error("not a refspec")]
     BadSpec,
     /// The text is a refspec, and there is no memory to keep it.
-    #[error("out of memory")]
     Memory,
 }
 
@@ -42,3 +41,16 @@ impl SpecFault {
         }
     }
 }
+
+impl fmt::Display for SpecFault {
+    ghost output = { λ fault. Some (spec_fault_text fault) };
+
+    fn fmt<W: fmt::Write>(&self, f: &mut fmt::Formatter<W>) -> fmt::Result {
+        match self {
+            SpecFault::BadSpec => f.write_str("not a refspec"),
+            SpecFault::Memory => f.write_str("out of memory"),
+        }
+    }
+}
+
+impl Error for SpecFault {}

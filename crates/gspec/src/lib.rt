@@ -7,12 +7,12 @@
 //!   refspec at most. Out of memory is reported of the text of a refspec alone.
 //! - [`Spec::matches`] says which names the source matches, and [`Spec::destination`] where such a name goes,
 //!   or why that is no ref name.
-//! - Each fault has the number and the name of its row.
+//! - Each fault has the number, the name and the text of its row.
 //! - No call panics, overflows or reads out of bounds, and each returns.
 //!
-//! # Only tested
+//! # Only tried
 //!
-//! The texts of the faults, and that memory which is there is used.
+//! That memory which is there is used.
 //!
 //! # What a body can still get away with
 //!
@@ -22,7 +22,7 @@
 //! # Stands on
 //!
 //! `gname` for ref names and prefixes, `grefs` for which names are below `refs/`, `arrayvec` for names in
-//! the making, `thiserror` for the texts of faults; in tests `bumpalo`, for memory that ends.
+//! the making.
 #![tactic(auto)]
 
 mod fault;
@@ -30,8 +30,6 @@ pub mod laws;
 mod parse;
 mod side;
 mod spec;
-#[cfg(test)]
-mod tests;
 
 pub use crate::fault::SpecFault;
 pub use crate::spec::Spec;

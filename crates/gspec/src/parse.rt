@@ -69,7 +69,7 @@ fn names<A: Allocator + Copy>(
 ) -> Result<Spec<A>, SpecFault>
     ensures { Reads (HasSides forced false source.now destination.now) result }
 {
-    if is_name(alloc, source) && is_below_refs(alloc, destination) {
+    if is_name(source) && is_below_refs(destination) {
         return Spec::of_sides(alloc, forced, false, source, destination);
     }
     Err(SpecFault::BadSpec)
@@ -84,7 +84,7 @@ fn patterns<A: Allocator + Copy>(
 ) -> Result<Spec<A>, SpecFault>
     ensures { Reads (HasSides forced true source.now destination.now) result }
 {
-    if is_stem(alloc, source) && is_stem(alloc, destination) {
+    if is_stem(source) && is_stem(destination) {
         return Spec::of_sides(alloc, forced, true, source, destination);
     }
     Err(SpecFault::BadSpec)

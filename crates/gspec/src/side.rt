@@ -7,37 +7,31 @@ ghost use Rattle.grefs.specs.RefLists.{IsBelowRefs};
 ghost use Rattle.gspec.specs.Refspecs.{IsStem};
 
 use arrayvec::ArrayVec;
-use gname::laws::{names_are_clean, rules_never_report_memory};
+use gname::laws::names_are_clean;
 use gname::{MAX_NAME, NameFault, RefName};
 use std::alloc::Allocator;
 
 /// Whether a text is a ref name.
-pub(crate) fn is_name<A: Allocator + Copy>(alloc: A, text: &[u8]) -> bool
+pub(crate) fn is_name(text: &[u8]) -> bool
     ensures { IsTrue result ↔ IsRefName text.now }
 {
-    rules_never_report_memory();
-    match RefName::new(alloc, text) {
-        Ok(_) => true,
-        // A name for which there is no memory is one, too.
-        Err(NameFault::Memory) => true,
-        Err(_) => false,
-    }
+    RefName::check(text).is_ok()
 }
 
 /// Whether a text is a ref name below `refs/`.
-pub(crate) fn is_below_refs<A: Allocator + Copy>(alloc: A, text: &[u8]) -> bool
+pub(crate) fn is_below_refs(text: &[u8]) -> bool
     ensures { IsTrue result ↔ IsBelowRefs text.now }
 {
-    text.starts_with(b"refs/") && is_name(alloc, text)
+    text.starts_with(b"refs/") && is_name(text)
 }
 
 /// Whether a text may stand before the `*` of a pattern.
-pub(crate) fn is_stem<A: Allocator + Copy>(alloc: A, text: &[u8]) -> bool
+pub(crate) fn is_stem(text: &[u8]) -> bool
     ensures { IsTrue result ↔ IsStem text.now }
 {
     names_are_clean();
     match join(text, b"x") {
-        Some(name) => text.ends_with(b"/") && is_below_refs(alloc, name.as_slice()),
+        Some(name) => text.ends_with(b"/") && is_below_refs(name.as_slice()),
         None => false,
     }
 }

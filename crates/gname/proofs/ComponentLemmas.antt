@@ -1,0 +1,243 @@
+-- The rule of components finds the first part between slashes that is not allowed.
+use Rattle.std.proofs.Common.{◌≡◌, ◌↔◌, ℕ, ◌+◌, ◌-◌, ◌<◌, ◌≤◌, ◌==◌, true, false, inl, inr, List, [], ◌∷◌, ◌++◌, length, take, drop, get_or, slice_index, Option, Some, None, MatchOption, refl, sym, ap, ◌∙◌, subst, arith, append_assoc}
+use Rattle.std.specs.Prelude.{All}
+use Rattle.std.specs.List.{before_first, position_or_len}
+use Rattle.std.specs.Option.{option_map}
+use Rattle.std.proofs.Math.ListN.{length-take}
+use Rattle.std.proofs.lemmas.Bool.{and_from, and_parts, cases_eq, cases_lt, cases_order, eqb-true, false_from_ne_true, or_cases, or_right}
+use Rattle.std.proofs.lemmas.Option.{same_Some}
+use Rattle.std.proofs.lemmas.List.{drop_all, drop_at, drop_more, get_or-take, get_or_append_left, get_or_at, length-append, take-append-drop, take_at, take_more}
+use Rattle.std.proofs.lemmas.List.Sums.{fails_before_first, passes_at_first, position_or_len_is, prefix_len-le-length}
+use Rattle.gname.specs.declared.faults.NameFault.TheVariants.{Component}
+use Rattle.gname.specs.Names.{begins_bad_component, begins_component, component, component_at, first_place, is_bad_component, is_slash}
+use Rattle.gname.specs.Components.{AllowsComponents, ComesBefore, ComesBehind, ComponentFacts, IsComponent, IsFirstBadComponent}
+use Rattle.gname.proofs.NameLemmas.{KeepsRules-of_name, component-fault_from, component-fault_parts}
+use Rattle.gname.proofs.PlaceLemmas.{first_place-is}
+
+-- ---- where a component begins
+
+-- a byte that is a slash
+slash-is : (b : ℕ) → is_slash b ≡ true → b ≡ 47
+slash-is b h = eqb-true b 47 h
+
+slash-before : (text : List ℕ) (at : ℕ) → at ≤ length text → (at ≡ 0 → ⊥) → is_slash (slice_index text (at - 1)) ≡ true → ComesBefore (take at text)
+slash-before text at fits some slash =
+    let byte : slice_index text (at - 1) ≡ 47 = slash-is (slice_index text (at - 1)) slash in
+    let place : at - 1 + 1 ≡ at = omega arith in
+    let more : take (at - 1 + 1) text ≡ take (at - 1) text ++ slice_index text (at - 1) ∷ [] = take_more text (at - 1) 0 (omega arith) in
+    inr (
+      take (at - 1) text,
+      ap (λ (n : ℕ). take n text) (sym place) ∙ more ∙ ap (λ (b : ℕ). take (at - 1) text ++ b ∷ []) byte,
+    )
+
+before-begins : (text : List ℕ) (at : ℕ) → at ≤ length text → begins_component text at ≡ true → ComesBefore (take at text)
+before-begins text at fits begins =
+    elim (cases_eq at 0) [
+      | inl front ↦ inl (ap (λ (n : ℕ). take n text) front)
+      | inr some ↦
+          elim (or_cases (at == 0) _ begins) [
+            | inl front ↦ absurd (some (eqb-true at 0 front))
+            | inr slash ↦ slash-before text at fits some slash
+          ]
+    ]
+
+behind-ends : (rest : List ℕ) → ComesBehind (drop (length (before_first is_slash rest)) rest)
+behind-ends rest =
+    let n : ℕ = position_or_len is_slash rest in
+    let low : n ≤ length rest = prefix_len-le-length _ rest in
+    let long : length (before_first is_slash rest) ≡ n = omega (arith, length-take n rest, low) in
+    elim (cases_lt n (length rest)) [
+      | inl inside ↦
+          let slash : get_or rest n 0 ≡ 47 = slash-is (get_or rest n 0) (passes_at_first is_slash rest 0 inside) in
+          inr (drop (n + 1) rest, ap (λ (k : ℕ). drop k rest) long ∙ drop_more rest n 0 inside ∙ ap (λ (b : ℕ). b ∷ drop (n + 1) rest) slash)
+      | inr past ↦ inl (drop_all (length (before_first is_slash rest)) rest (omega (arith, long, past)))
+    ]
+
+no_slash-before : (rest : List ℕ) → All (λ b. is_slash b ≡ false) (before_first is_slash rest)
+no_slash-before rest k d low =
+    let n : ℕ = position_or_len is_slash rest in
+    let inside : k < n = omega (arith, length-take n rest, low) in
+    subst (λ (b : ℕ). is_slash b ≡ false) (sym (get_or-take n rest k d inside)) (fails_before_first is_slash rest k d inside)
+
+front-part : (rest : List ℕ) → rest ≡ before_first is_slash rest ++ drop (length (before_first is_slash rest)) rest
+front-part rest =
+    let n : ℕ = position_or_len is_slash rest in
+    let low : n ≤ length rest = prefix_len-le-length _ rest in
+    let long : length (before_first is_slash rest) ≡ n = omega (arith, length-take n rest, low) in
+    sym (take-append-drop n rest) ∙ ap (λ (k : ℕ). take n rest ++ drop k rest) (sym long)
+
+-- where a component begins, the bytes up to the next slash are it
+pub IsComponent-at : (text : List ℕ) (at : ℕ) → at ≤ length text → begins_component text at ≡ true → IsComponent text at (component_at text at)
+IsComponent-at text at fits begins = record {
+  front = take at text;
+  back = drop (length (component_at text at)) (drop at text);
+  cut = sym (take-append-drop at text) ∙ ap (λ (l : List ℕ). take at text ++ l) (front-part (drop at text));
+  begins = omega (arith, length-take at text, fits);
+  no_slash = no_slash-before (drop at text);
+  before = before-begins text at fits begins;
+  behind = behind-ends (drop at text);
+}
+
+-- ---- what a component is
+
+within : (text : List ℕ) (at : ℕ) (part : List ℕ) (h : IsComponent text at part) → at ≤ length text
+within text at part h =
+    let long : length text ≡ length h.front + length (part ++ h.back) = ap length h.cut ∙ length-append h.front (part ++ h.back) in
+    let place = h.begins in
+    omega (arith, long, place)
+
+begins-from : (text front back : List ℕ) (at : ℕ) → text ≡ front ++ back → length front ≡ at → ComesBefore front
+    → begins_component text at ≡ true
+begins-from text front back at cut place (inl none) =
+    let e : at ≡ 0 = sym place ∙ ap length none in
+    rw e refl
+begins-from text front back at cut place (inr (more, is)) =
+    let whole : text ≡ more ++ 47 ∷ back = cut ∙ ap (λ (l : List ℕ). l ++ back) is ∙ append_assoc more (47 ∷ []) back in
+    let long : length more + 1 ≡ at = sym (length-append more (47 ∷ [])) ∙ sym (ap length is) ∙ place in
+    let byte : get_or (more ++ 47 ∷ back) (at - 1) 0 ≡ 47 = get_or_at more 47 back 0 (at - 1) (omega (arith, long)) in
+    let slash : is_slash (slice_index text (at - 1)) ≡ true = ap is_slash (ap (λ (l : List ℕ). slice_index l (at - 1)) whole ∙ byte) in
+    or_right (at == 0) _ slash
+
+ends-at : (part back : List ℕ) → All (λ b. is_slash b ≡ false) part → ComesBehind back
+    → position_or_len is_slash (part ++ back) ≡ length part
+ends-at part back clean (inl none) =
+    position_or_len_is is_slash (part ++ back) (length part) 0 (omega (arith, length-append part back))
+    (λ k low. subst (λ (b : ℕ). is_slash b ≡ false) (sym (get_or_append_left part back 0 k low)) (clean k 0 low))
+    (λ inside. absurd (let long = ap length none in omega (arith, inside, long, length-append part back)))
+ends-at part back clean (inr (more, is)) =
+    let byte : get_or (part ++ back) (length part) 0 ≡ 47 =
+    ap (λ (l : List ℕ). get_or (part ++ l) (length part) 0) is ∙ get_or_at part 47 more 0 (length part) refl in
+    position_or_len_is is_slash (part ++ back) (length part) 0 (omega (arith, length-append part back))
+    (λ k low. subst (λ (b : ℕ). is_slash b ≡ false) (sym (get_or_append_left part back 0 k low)) (clean k 0 low))
+    (λ inside. ap is_slash byte)
+
+-- it begins where the rule looks, and goes on to the next slash
+begins-of : (text : List ℕ) (at : ℕ) (part : List ℕ) (h : IsComponent text at part) → begins_component text at ≡ true
+begins-of text at part h = begins-from text h.front (part ++ h.back) at h.cut h.begins h.before
+
+pub component_at-is : (text : List ℕ) (at : ℕ) (part : List ℕ) (h : IsComponent text at part) → component_at text at ≡ part
+component_at-is text at part h =
+    let rest : drop at text ≡ part ++ h.back = ap (λ (l : List ℕ). drop at l) h.cut ∙ drop_at h.front (part ++ h.back) at h.begins in
+    ap (λ (l : List ℕ). before_first is_slash l) rest
+    ∙ ap (λ (n : ℕ). take n (part ++ h.back)) (ends-at part h.back h.no_slash h.behind)
+    ∙ take_at part h.back (length part) refl
+
+-- ---- the test of the rule
+
+test-true : (text : List ℕ) (at : ℕ) → begins_bad_component text at ≡ true → (begins_component text at ≡ true) × (is_bad_component (component_at text at) ≡ true)
+unfolding begins_bad_component
+test-true text at h = and_parts _ _ h
+
+test-from : (text : List ℕ) (at : ℕ) (part : List ℕ) → IsComponent text at part → is_bad_component part ≡ true → begins_bad_component text at ≡ true
+unfolding begins_bad_component
+test-from text at part h bad =
+    and_from _ _ (begins-of text at part h) (ap is_bad_component (component_at-is text at part h) ∙ bad)
+
+-- where the test fails, a component that begins there is allowed
+allowed : (text : List ℕ) (at : ℕ) (part : List ℕ) → IsComponent text at part → begins_bad_component text at ≡ false → is_bad_component part ≡ false
+allowed text at part h fails =
+    false_from_ne_true (is_bad_component part) (λ bad. (let clash = sym (test-from text at part h bad) ∙ fails in cc))
+
+-- ---- what the rule finds
+
+-- what the first place is that passes the test
+abbrev Found : List ℕ → Option ℕ → Type 0
+Found text o =
+    MatchOption o ((j : ℕ) → j ≤ length text → begins_bad_component text j ≡ false)
+    (λ at. (at ≤ length text) × (begins_bad_component text at ≡ true) × ((j : ℕ) → j < at → begins_bad_component text j ≡ false))
+
+first-bad : (text : List ℕ) (at : ℕ) → at ≤ length text → begins_bad_component text at ≡ true → ((j : ℕ) → j < at → begins_bad_component text j ≡ false)
+    → IsFirstBadComponent text at
+first-bad text at fits here before =
+    let both = test-true text at here in
+    record {
+      part = component_at text at;
+      there = IsComponent-at text at fits both.0;
+      bad = both.1;
+      earlier = λ k other h low. allowed text k other h (before k low);
+    }
+
+allows-none : (text : List ℕ) (o : Option ℕ) → Found text o → o ≡ None → AllowsComponents text
+allows-none text None found is = λ at part h. allowed text at part h (found at (within text at part h))
+allows-none text (Some at) found is = cc is
+
+none-allows : (text : List ℕ) (o : Option ℕ) → Found text o → AllowsComponents text → o ≡ None
+none-allows text None found all = refl
+none-allows text (Some at) found all =
+    let both = test-true text at found.1 in
+    let clash = sym both.1 ∙ all at (component_at text at) (IsComponent-at text at found.0 both.0) in
+    cc clash
+
+first-found : (text : List ℕ) (o : Option ℕ) (at : ℕ) → Found text o → o ≡ Some at → IsFirstBadComponent text at
+first-found text None at found is = cc is
+first-found text (Some k) at found is =
+    subst (IsFirstBadComponent text) (same_Some k at is) (first-bad text k found.0 found.1 found.2)
+
+found-first : (text : List ℕ) (o : Option ℕ) (at : ℕ) → Found text o → IsFirstBadComponent text at → o ≡ Some at
+found-first text None at found first =
+    let here = test-from text at first.part first.there first.bad in
+    let clash = sym here ∙ found at (within text at first.part first.there) in
+    cc clash
+found-first text (Some k) at found first =
+    elim (cases_order k at) [
+      | inl same ↦ ap (λ (n : ℕ). Some n) same
+      | inr (inl low) ↦
+          let both = test-true text k found.1 in
+          let clash = sym both.1 ∙ first.earlier k (component_at text k) (IsComponent-at text k found.0 both.0) low in
+          cc clash
+      | inr (inr high) ↦
+          let clash = sym (test-from text at first.part first.there first.bad) ∙ found.2 at high in
+          cc clash
+    ]
+
+found-here : (text : List ℕ) → Found text (first_place (begins_bad_component text) text)
+found-here text = first_place-is (begins_bad_component text) text
+
+-- a fault of components is at the place that was found
+component-None : (o : Option ℕ) → (option_map Component o ≡ None) ↔ (o ≡ None)
+component-None None = (λ h. refl, λ h. refl)
+component-None (Some k) = (λ h. cc h, λ h. cc h)
+
+component-Some : (o : Option ℕ) (at : ℕ) → (option_map Component o ≡ Some (Component at)) ↔ (o ≡ Some at)
+component-Some None at = (λ h. cc h, λ h. cc h)
+component-Some (Some k) at = (λ h. cc h, λ h. cc h)
+
+rule-none : (text : List ℕ) → (component text ≡ None) ↔ AllowsComponents text
+unfolding component
+rule-none text =
+    let o = first_place (begins_bad_component text) text in
+    let same = component-None o in (
+      λ h. allows-none text o (found-here text) (same.0 h),
+      λ all. same.1 (none-allows text o (found-here text) all),
+    )
+
+rule-found : (text : List ℕ) (at : ℕ) → (component text ≡ Some (Component at)) ↔ IsFirstBadComponent text at
+unfolding component
+rule-found text at =
+    let o = first_place (begins_bad_component text) text in
+    let same = component-Some o at in (
+      λ h. first-found text o at (found-here text) (same.0 h),
+      λ first. same.1 (found-first text o at (found-here text) first),
+    )
+
+-- ---- the facts of components
+
+one-begins : (text front back : List ℕ) → text ≡ front ++ back → ComesBefore front → (part : List ℕ) × IsComponent text (length front) part
+one-begins text front back cut before =
+    let long : length text ≡ length front + length back = ap length cut ∙ length-append front back in (
+      component_at text (length front),
+      IsComponent-at text (length front) (omega (arith, long)) (begins-from text front back (length front) cut refl before),
+    )
+
+pub ComponentFacts-of : (text : List ℕ) → ComponentFacts text
+ComponentFacts-of text =
+    record {
+      each = one-begins text;
+      none_found = rule-none text;
+      found = rule-found text;
+      fault = λ at. (
+        λ h. (let parts = component-fault_parts text at h in (parts.0, (rule-found text at).0 parts.1)),
+        λ h. component-fault_from text at h.0 ((rule-found text at).1 h.1),
+      );
+      name = λ h. (rule-none text).0 (KeepsRules-of_name text h).components;
+    }
