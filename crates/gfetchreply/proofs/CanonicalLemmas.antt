@@ -13,6 +13,7 @@ use Rattle.gpkt.specs.Laws.{Fits, TextOfLine}
 use Rattle.gname.specs.Formats.{id_text_length}
 use Rattle.gname.specs.Ids.{IsIdOf, IsIdTextOf, id_text}
 use Rattle.gname.specs.Laws.{IdsHaveTexts, IdsHaveOneFormat}
+use Rattle.gname.specs.Limits.{max_pack}
 use Rattle.gname.specs.declared.formats.Format.{Format}
 use Rattle.gname.specs.declared.formats.Format.TheVariants.{Sha1, Sha256}
 use Rattle.ggrammar.specs.Endings.{ends_with}
@@ -24,7 +25,7 @@ use Rattle.ggrammar.specs.declared.ends.Ends.TheVariants.{Plain, Response}
 use Rattle.gfetchreply.specs.FetchManual.{IsAck, IsAckSection, IsPackSection, IsBody, IsDataOrProgress}
 use Rattle.gfetchreply.specs.FetchReplies.{Reading, FetchReply, Acks, Ready, Pack, reply_form, ack_id, acks_of, data_of, Says}
 use Rattle.gfetchreply.specs.FetchReplies.{ack_packet, nak_if_none, heading_packet, ready_packet, pieces, pieces_within, pack_section, body_packets, canonical_reply, IsCanonical}
-use Rattle.gfetchreply.specs.WellFormed.{AreAcks, IsPackWithin, IsReplyIn}
+use Rattle.gfetchreply.specs.WellFormed.{AreAcks, IsReplyIn}
 use Rattle.gfetchreply.proofs.ReplyForms.{ack_form-written}
 use Rattle.gfetchreply.proofs.ReplyManual.{says_from_manual}
 use Rattle.gfetchreply.proofs.StateLemmas.{acks_of-append, acks_of-one}
@@ -237,15 +238,15 @@ module _ (line_is : TextOfLine) (ids_have : IdsHaveTexts) (one_format : IdsHaveO
     are = acks_say format ids are.ids;
   }
 
-  section_is : (limit : ℕ) (pack : List ℕ) → IsPackWithin limit pack → IsPackSection limit (pack_section pack) pack
-  section_is limit pack within = record {
+  section_is : (limit : ℕ) (pack : List ℕ) → limit ≤ max_pack → length pack ≤ limit → IsPackSection limit (pack_section pack) pack
+  section_is limit pack within short = record {
     heading = codes "packfile" ++ line_feed ∷ [];
     payloads = map on_band (pieces pack);
     parts = ap (λ (xs : List Packet). text_packet (codes "packfile") ∷ (xs ++ Flush ∷ [])) (data_lines (pieces pack));
     is_heading = line_is (codes "packfile");
     are_bands = bands_are (pieces pack);
-    few = (let few = within.few in omega (arith, length-map (pieces pack) on_band, pieces_few pack (pieces pack) (pieces_are pack)));
-    short = within.short;
+    few = omega (arith, length-map (pieces pack) on_band, pieces_few pack (pieces pack) (pieces_are pack));
+    short = short;
     is_data = pieces_join pack (pieces pack) (pieces_are pack);
   }
 
@@ -266,9 +267,9 @@ module _ (line_is : TextOfLine) (ids_have : IdsHaveTexts) (one_format : IdsHaveO
   acks_body reading (id ∷ ids) direct are =
       (direct, inr (record { section = heading_packet ∷ map ack_packet (id ∷ ids); acks = ack_section reading.format (id ∷ ids) are; parts = refl }))
 
-  body_is : (reading : Reading) (reply : FetchReply) → IsReplyIn reading reply → IsBody reading (body_packets reply) reply
-  body_is reading (Acks ids) fit = acks_body reading ids fit.0 fit.1
-  body_is reading (Ready ids pack) fit = (
+  body_is : (reading : Reading) (reply : FetchReply) → reading.limit ≤ max_pack → IsReplyIn reading reply → IsBody reading (body_packets reply) reply
+  body_is reading (Acks ids) within fit = acks_body reading ids fit.0 fit.1
+  body_is reading (Ready ids pack) within fit = (
     fit.0,
     record {
       section = heading_packet ∷ map ack_packet ids;
@@ -276,17 +277,17 @@ module _ (line_is : TextOfLine) (ids_have : IdsHaveTexts) (one_format : IdsHaveO
       rest = pack_section pack;
       acks = ack_section reading.format ids fit.1;
       is_readiness = line_is (codes "ready");
-      packs = section_is reading.limit pack fit.2;
+      packs = section_is reading.limit pack within fit.2;
       parts = refl;
     },
   )
-  body_is reading (Pack pack) fit = (fit.0, section_is reading.limit pack fit.1)
+  body_is reading (Pack pack) within fit = (fit.0, section_is reading.limit pack within fit.1)
 
-  canonical_is_read : (reading : Reading) (reply : FetchReply) → IsReplyIn reading reply → Says reading (canonical_reply reading.ends reply) reply
+  canonical_is_read : (reading : Reading) (reply : FetchReply) → reading.limit ≤ max_pack → IsReplyIn reading reply → Says reading (canonical_reply reading.ends reply) reply
   unfolding canonical_reply
-  canonical_is_read reading reply fit =
+  canonical_is_read reading reply within fit =
       says_from_manual reading (canonical_reply reading.ends reply) reply
-      (record { body = body_packets reply; is_body = body_is reading reply fit; parts = refl })
+      (record { body = body_packets reply; is_body = body_is reading reply within fit; parts = refl })
 
   -- ---- each fits
 
@@ -340,6 +341,6 @@ module _ (line_is : TextOfLine) (ids_have : IdsHaveTexts) (one_format : IdsHaveO
   canonical_fits reading reply fit =
       All-append Fits (body_packets reply) (ends_with reading.ends) (body_fits reading reply fit) (ends_fit reading.ends)
 
-  pub canonical_says : (reading : Reading) → CanonicalSays (Says reading) (IsReplyIn reading) (IsCanonical reading.ends)
-  canonical_says reading lines reply fit is =
-      subst (λ (ls : List Packet). Says reading ls reply × All Fits ls) (sym is) (canonical_is_read reading reply fit, canonical_fits reading reply fit)
+  pub canonical_says : (reading : Reading) → reading.limit ≤ max_pack → CanonicalSays (Says reading) (IsReplyIn reading) (IsCanonical reading.ends)
+  canonical_says reading within lines reply fit is =
+      subst (λ (ls : List Packet). Says reading ls reply × All Fits ls) (sym is) (canonical_is_read reading reply within fit, canonical_fits reading reply fit)

@@ -2,11 +2,7 @@
 use Rattle.std.proofs.Common.{◌≡◌, List, [], ◌∷◌, ◌++◌, ◌⊎◌, inl, inr, refl, sym, ap, subst, ◌∙◌}
 use Rattle.gpkt.specs.Packets.{Packet}
 use Rattle.ggrammar.specs.Grammar.{Judge, Verdict, Open, Whole, IsOpen, IsWhole}
-
--- an empty list has no place
-nil_has_none : {X : Type 0} (front : List X) (x : X) (back : List X) → [] ≡ front ++ x ∷ back → ⊥
-nil_has_none [] x back e = cc
-nil_has_none (y ∷ front) x back e = cc
+use Rattle.ggrammar.proofs.GrammarLemmas.{nil_has_none}
 
 module _ {S : Type 0} (table : S → Packet → Verdict) (step : S → Packet → S) where
   -- the state after these packets

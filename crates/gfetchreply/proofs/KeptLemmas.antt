@@ -5,7 +5,7 @@ use Rattle.std.proofs.lemmas.List.Folds.{list_any-append}
 use Rattle.gpkt.specs.Packets.{Packet, Data, Flush, Delim, ResponseEnd, text}
 use Rattle.gpkt.specs.Bands.{band_form}
 use Rattle.gname.specs.declared.formats.Format.{Format}
-use Rattle.ggrammar.specs.Grammar.{Judge, Verdict, Open, Whole}
+use Rattle.ggrammar.specs.Grammar.{Judge, Verdict}
 use Rattle.ggrammar.specs.Ids.{id_of_text}
 use Rattle.ggrammar.specs.MessageReading.{IsReason, TakesAs, TakesPacket}
 use Rattle.ggrammar.specs.PeerErrors.{peer_error, unless_error}

@@ -1,5 +1,5 @@
 -- Replies that are read another way: as the answer to another request, or within another limit.
-use Rattle.std.proofs.Common.{◌≡◌, ℕ, ◌+◌, ◌≤◌, ◌<◌, Bool, true, false, List, [], ◌∷◌, ◌++◌, length, codes, inl, inr, Option, Some, None, Result, Ok, Err, refl, sym, subst, ap, ◌∙◌, arith}
+use Rattle.std.proofs.Common.{◌≡◌, ℕ, ◌+◌, ◌≤◌, Bool, true, false, List, [], ◌∷◌, ◌++◌, length, codes, inl, inr, Option, Some, None, Result, Ok, Err, refl, sym, subst, ap, ◌∙◌, arith}
 use Rattle.std.specs.Prelude.{◌⊎◌, ◌&&◌, nat_eq, nat_le}
 use Rattle.std.proofs.lemmas.Bool.{and_parts, and_from, false≢true, leb-true, le-leb}
 use Rattle.std.proofs.lemmas.Bool.Decides.{leb_tells}
@@ -10,15 +10,15 @@ use Rattle.gpkt.specs.Bands.{BandPacket, band_form, Data as BandData, Progress, 
 use Rattle.gpkt.specs.declared.fault.BandFault.{BandFault}
 use Rattle.ggrammar.specs.Grammar.{Judge, LawsOf, Open, Refused, Verdict, IsOpen, if_room}
 use Rattle.ggrammar.specs.Endings.{ends_with}
-use Rattle.ggrammar.specs.MessageBytes.{known, IsFront, IsOfBytes, LawsOfBytes}
-use Rattle.ggrammar.specs.MessageReading.{IsReasonAfter, ReadsRefused, ReadsRefusedPacket}
+use Rattle.ggrammar.specs.MessageBytes.{known, IsOfBytes, LawsOfBytes}
+use Rattle.ggrammar.specs.MessageReading.{IsReasonAfter, ReadsRefused}
 use Rattle.ggrammar.specs.PeerErrors.{peer_error, unless_error}
 use Rattle.ggrammar.specs.declared.fault.MessageFault.{MessageFault}
 use Rattle.ggrammar.specs.declared.fault.Why.{Why}
 use Rattle.ggrammar.specs.declared.fault.Why.TheVariants as why
-use Rattle.gfetchreply.specs.FetchManual.{IsBody, IsFetchReply, IsPackSection, IsReadyReply}
+use Rattle.gfetchreply.specs.FetchManual.{IsBody, IsPackSection}
 use Rattle.gfetchreply.specs.FetchReplies.{Reading, State, Place, Start, Acking, AfterNak, AfterReady, BeforePack, InPack, Over}
-use Rattle.gfetchreply.specs.FetchReplies.{FetchReply, Acks, Ready, Pack, Says, brings, judge, judge_at, judge_band, judge_there, max_packets, state_of}
+use Rattle.gfetchreply.specs.FetchReplies.{FetchReply, Acks, Ready, Pack, Says, brings, judge, judge_at, judge_band, judge_there, state_of}
 use Rattle.gfetchreply.specs.FetchHeads.{pack_of}
 use Rattle.gfetchreply.specs.Laws.{IsInAnyLimit, IsRefusedOverLimit, OneInWhateverReading}
 use Rattle.gfetchreply.proofs.ReplyEndings.{HasEndings-judge}

@@ -1,32 +1,22 @@
 -- Packets are refused for their own sake.
-use Rattle.std.proofs.Common.{ℕ, ◌+◌, ◌&&◌, Bool, true, false, cond, List, length, Option, Some, None, Result, Ok, Err}
+use Rattle.std.proofs.Common.{ℕ, ◌+◌, ◌&&◌, List, length, Result, Ok, Err}
 use Rattle.std.specs.Prelude.{is_some, nat_le, nat_lt}
 use Rattle.gpkt.specs.Packets.{Packet, Data, Flush, Delim, ResponseEnd, text}
 use Rattle.gpkt.specs.Bands.{BandPacket, Data as BandData, Progress, Fatal, band_form}
 use Rattle.gpkt.specs.declared.fault.BandFault.{BandFault}
 use Rattle.gname.specs.declared.formats.Format.{Format}
 use Rattle.ggrammar.specs.Endings.{after_flush, at_flush}
-use Rattle.ggrammar.specs.Grammar.{Verdict, Open, Refused, if_room}
+use Rattle.ggrammar.specs.Grammar.{Open, Refused, if_room}
 use Rattle.ggrammar.specs.Ids.{id_of_text}
 use Rattle.ggrammar.specs.MessageBytes.{IsForPacket, RefusesPackets}
 use Rattle.ggrammar.specs.PeerErrors.{peer_error, unless_error}
 use Rattle.ggrammar.specs.declared.ends.Ends.{Ends}
 use Rattle.ggrammar.specs.declared.ends.Ends.TheVariants.{Plain, Response}
 use Rattle.ggrammar.specs.declared.fault.Why.TheVariants as why
+use Rattle.ggrammar.proofs.VerdictLemmas.{of_test, of_room, past_error}
 use Rattle.gfetchreply.specs.FetchReplies.{Reading, State, Place, Start, Acking, AfterNak, AfterReady, BeforePack, InPack, Over}
 use Rattle.gfetchreply.specs.FetchReplies.{ReplyForm, Acknowledgments, Nak, Readiness, Packfile, Ack, OtherForm}
 use Rattle.gfetchreply.specs.FetchReplies.{judge, judge_at, judge_there, judge_acking, judge_start, judge_before_pack, judge_late, judge_band, judge_payload, max_acks, max_packets, reply_form, state_of}
-
-of_test : (test : Bool) (one other : Verdict) → IsForPacket one → IsForPacket other → IsForPacket (cond test one other)
-of_test true one other h k = h
-of_test false one other h k = k
-
-of_room : (test : Bool) → IsForPacket (if_room test)
-of_room test = of_test test Open (Refused why.Limit) tt tt
-
-past_error : (said : Option (List ℕ)) (verdict : Verdict) → IsForPacket verdict → IsForPacket (unless_error said verdict)
-past_error (Some said) verdict h = tt
-past_error None verdict h = h
 
 -- ---- payloads
 

@@ -11,6 +11,7 @@ use Rattle.ggrammar.specs.Endings.{after_flush}
 use Rattle.ggrammar.specs.Ids.{id_of_text}
 use Rattle.ggrammar.specs.PeerErrors.{peer_error, unless_error}
 use Rattle.ggrammar.specs.declared.fault.Why.TheVariants as why
+use Rattle.ggrammar.proofs.VerdictLemmas.{open_unless, whole_unless}
 use Rattle.gfetchreply.specs.FetchManual.{IsDataOrProgress}
 use Rattle.gfetchreply.specs.FetchReplies.{Reading, State, Place, Start, Acking, AfterNak, AfterReady, BeforePack, InPack, Over}
 use Rattle.gfetchreply.specs.FetchReplies.{ReplyForm, Acknowledgments, Nak, Readiness, Packfile, Ack, OtherForm}
@@ -61,14 +62,6 @@ not_whole_room false e = cc
 pub has_room : (test : Bool) → test ≡ true → if_room test ≡ Open
 has_room test e = ap if_room e
 
-past_error : (said : Option (List ℕ)) (verdict goal : Verdict) → unless_error said verdict ≡ Open → verdict ≡ Open
-past_error None verdict goal e = e
-past_error (Some bytes) verdict goal e = cc
-
-past_error_whole : (said : Option (List ℕ)) (verdict : Verdict) → unless_error said verdict ≡ Whole → verdict ≡ Whole
-past_error_whole None verdict e = e
-past_error_whole (Some bytes) verdict e = cc
-
 -- ---- by place
 
 pub at_place : (reading : Reading) (state : State) (place : Place) (packet : Packet) → state.place ≡ place
@@ -94,7 +87,7 @@ data_there reading Over state payload due = absurd due
 pub data_open : (reading : Reading) (state : State) (place : Place) (payload : List ℕ) → state.place ≡ place → IsDue place
     → judge_at reading state (Data payload) ≡ Open → judge_payload reading place state payload ≡ Open
 data_open reading state place payload here due e =
-    past_error (peer_error payload) _ Open (sym (at_place reading state place (Data payload) here ∙ data_there reading place state payload due) ∙ e)
+    open_unless (peer_error payload) _ (sym (at_place reading state place (Data payload) here ∙ data_there reading place state payload due) ∙ e)
 
 pub open_data : (reading : Reading) (state : State) (place : Place) (payload : List ℕ) → state.place ≡ place → IsDue place
     → peer_error payload ≡ None → judge_payload reading place state payload ≡ Open → judge_at reading state (Data payload) ≡ Open
@@ -172,7 +165,7 @@ pub data_not_whole : (reading : Reading) (state : State) (place : Place) (payloa
     → judge_at reading state (Data payload) ≡ Whole → ⊥
 data_not_whole reading state place payload here due e =
     not_whole_payload reading place state payload
-    (past_error_whole (peer_error payload) _ (sym (at_place reading state place (Data payload) here ∙ data_there reading place state payload due) ∙ e))
+    (whole_unless (peer_error payload) _ (sym (at_place reading state place (Data payload) here ∙ data_there reading place state payload due) ∙ e))
 
 -- ---- texts that go on
 
@@ -250,13 +243,13 @@ open_band limit state (Ok (Progress bytes)) h = has_room _ (lt-ltb state.band_co
 -- ---- after the flush
 
 pub over_whole : (packet : Packet) → after_flush packet ≡ Whole → packet ≡ ResponseEnd
-over_whole (Data payload) e = absurd (let no = past_error_whole (peer_error payload) _ e in cc)
+over_whole (Data payload) e = absurd (let no = whole_unless (peer_error payload) _ e in cc)
 over_whole Flush e = cc
 over_whole Delim e = cc
 over_whole ResponseEnd e = refl
 
 pub over_not_open : (packet : Packet) → after_flush packet ≡ Open → ⊥
-over_not_open (Data payload) e = let no = past_error (peer_error payload) _ Open e in cc
+over_not_open (Data payload) e = let no = open_unless (peer_error payload) _ e in cc
 over_not_open Flush e = cc
 over_not_open Delim e = cc
 over_not_open ResponseEnd e = cc

@@ -1,44 +1,31 @@
 -- What a packet more does to what the packets so far say.
-use Rattle.std.proofs.Common.{◌≡◌, ℕ, ◌+◌, Bool, List, [], ◌∷◌, ◌++◌, length, Option, Some, None, refl, sym, ap, ◌∙◌, append_assoc, append-nil, length-append, add-zero}
+use Rattle.std.proofs.Common.{◌≡◌, ℕ, ◌+◌, Bool, List, [], ◌∷◌, ◌++◌, length, Option, Some, None, refl, ap, ◌∙◌, append-nil, length-append, add-zero}
 use Rattle.std.proofs.lemmas.List.Elements.{filter_map-append}
 use Rattle.std.proofs.lemmas.Grind.{flat_map-append}
 use Rattle.gpkt.specs.Packets.{Packet, Data, text}
 use Rattle.gpkt.specs.Bands.{band_form}
 use Rattle.gname.specs.declared.formats.Format.{Format}
 use Rattle.ggrammar.specs.Ids.{id_of_text}
-use Rattle.ggrammar.specs.Places.{place_after, collected}
+use Rattle.ggrammar.proofs.PlaceLemmas.{place_after-push, collected-push}
 use Rattle.gfetchreply.specs.FetchReplies.{Reading, State, Place, Acking, InPack, ReplyForm, Ack}
 use Rattle.gfetchreply.specs.FetchReplies.{after_text, first_place, next_place, place_of, texts_there, bands_there, ack_texts, band_payloads}
 use Rattle.gfetchreply.specs.FetchReplies.{acks_of, ack_id, data_of, data_in, reply_form, state_of}
 
 -- ---- places, and what packets give there
 
-pub place_after-push : (place : Place) (front : List Packet) (packet : Packet)
-    → place_after next_place place (front ++ packet ∷ []) ≡ next_place (place_after next_place place front) packet
-place_after-push place [] packet = refl
-place_after-push place (first ∷ front) packet = place_after-push (next_place place first) front packet
-
-pub collected-push : (give : Place → Packet → List (List ℕ)) (place : Place) (front : List Packet) (packet : Packet)
-    → collected next_place give place (front ++ packet ∷ [])
-    ≡ collected next_place give place front ++ give (place_after next_place place front) packet
-collected-push give place [] packet = append-nil (give place packet)
-collected-push give place (first ∷ front) packet =
-    ap (λ xs. give place first ++ xs) (collected-push give (next_place place first) front packet)
-    ∙ sym (append_assoc (give place first) (collected next_place give (next_place place first) front) (give (place_after next_place (next_place place first) front) packet))
-
 pub place_of-push : (direct : Bool) (front : List Packet) (packet : Packet)
     → place_of direct (front ++ packet ∷ []) ≡ next_place (place_of direct front) packet
-place_of-push direct front packet = place_after-push (first_place direct) front packet
+place_of-push direct front packet = place_after-push next_place (first_place direct) front packet
 
 pub ack_texts-push : (direct : Bool) (front : List Packet) (packet : Packet)
     → ack_texts direct (front ++ packet ∷ []) ≡ ack_texts direct front ++ texts_there (place_of direct front) packet
 unfolding ack_texts
-ack_texts-push direct front packet = collected-push texts_there (first_place direct) front packet
+ack_texts-push direct front packet = collected-push next_place texts_there (first_place direct) front packet
 
 pub band_payloads-push : (direct : Bool) (front : List Packet) (packet : Packet)
     → band_payloads direct (front ++ packet ∷ []) ≡ band_payloads direct front ++ bands_there (place_of direct front) packet
 unfolding band_payloads
-band_payloads-push direct front packet = collected-push bands_there (first_place direct) front packet
+band_payloads-push direct front packet = collected-push next_place bands_there (first_place direct) front packet
 
 pub ack_texts-nil : (direct : Bool) → ack_texts direct [] ≡ []
 unfolding ack_texts

@@ -1,5 +1,5 @@
 -- The reply to fetch without its pack, which goes to a sink piece by piece.
-use Rattle.std.specs.Prelude.{ℕ, Bool, List, [], if◌then◌else◌}
+use Rattle.std.specs.Prelude.{ℕ, Bool, true, false, List, [], if◌then◌else◌}
 use Rattle.gfetchreply.specs.FetchReplies.{FetchReply}
 use Rattle.gfetchreply.specs.FetchReplies as reply
 
@@ -18,6 +18,12 @@ abbrev pub pack_of : FetchReply → List ℕ
 pack_of (reply.Acks ids) = []
 pack_of (reply.Ready ids pack) = pack
 pack_of (reply.Pack pack) = pack
+
+-- whether the pack comes alone
+abbrev pub is_alone : FetchReply → Bool
+is_alone (reply.Acks ids) = false
+is_alone (reply.Ready ids pack) = false
+is_alone (reply.Pack pack) = true
 
 -- the head, by whether the reply is direct, whether `ready` came, and the acknowledged ids
 abbrev pub head_by : Bool → Bool → List (List ℕ) → FetchHead

@@ -1,7 +1,8 @@
 //! The laws of replies to fetch. Each function does nothing, and its contract is the law: a caller that calls it
 //! may rely on the law from there on.
 
-ghost use Rattle.std.specs.Prelude.{◌≡◌};
+ghost use Rattle.std.specs.Prelude.{◌≡◌, ◌≤◌};
+ghost use Rattle.gname.specs.Limits.{max_pack};
 ghost use Rattle.ggrammar.specs.Grammar.{HasEndings, IsPrefixFree, RefusesFirstMisfits};
 ghost use Rattle.ggrammar.specs.Kinds.{AsInManual, CanonicalSays, OneMeaning, ReadsBack, ReadsExactly, SaysWhole};
 ghost use Rattle.ggrammar.specs.MessageBytes.{BeginsOrIsRefused, RefusesPackets, SpellingsPrefixFree};
@@ -83,9 +84,10 @@ pub fn every_input()
     messages_are_read();
 }
 
-/// The packets that are written of a reply say it, and each fits a packet line.
+/// The packets that are written of a reply say it, and each fits a packet line. The limit within which it is read is one
+/// that a [`PackLimit`](crate::PackLimit) can have.
 pub fn canonical_says()
-    ensures { (reading : Reading) → CanonicalSays (Says reading) (IsReplyIn reading) (IsCanonical reading.ends) }
+    ensures { (reading : Reading) → reading.limit ≤ max_pack → CanonicalSays (Says reading) (IsReplyIn reading) (IsCanonical reading.ends) }
 {
     ids_have_one_format();
     ids_have_texts();
@@ -101,9 +103,11 @@ pub fn reads_exactly()
     kinds_are_read::<Replies>();
 }
 
-/// What is written of a reply reads back, whatever follows it.
+/// What is written of a reply reads back, whatever follows it, within any limit that a [`PackLimit`](crate::PackLimit) can
+/// have and its pack keeps.
 pub fn reads_back()
-    ensures { (reading : Reading) → ReadsBack (judge reading) (brings reading) (Says reading) (IsReplyIn reading) (IsCanonical reading.ends) }
+    ensures { (reading : Reading) → reading.limit ≤ max_pack
+        → ReadsBack (judge reading) (brings reading) (Says reading) (IsReplyIn reading) (IsCanonical reading.ends) }
 {
     one_meaning();
     canonical_says();
@@ -121,7 +125,7 @@ pub fn reads_into_exactly<T: PackSink>()
 
 /// What is written of a reply reads back into a sink, whatever follows it.
 pub fn reads_back_into<T: PackSink>()
-    ensures { (reading : Reading) → ReadsBackInto T.taken reading }
+    ensures { (reading : Reading) → reading.limit ≤ max_pack → ReadsBackInto T.taken reading }
 {
     reads_back();
 }

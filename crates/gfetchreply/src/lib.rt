@@ -8,14 +8,16 @@
 //!   it had, at most as many bytes as the limit allows. Else the reply is refused at the first packet that does not fit,
 //!   with the grammar's reason (`judge` in `specs/FetchReplies.antt`), and the sink has taken exactly the data of the
 //!   packets before, within the limit too. Whatever is answered, the sink is still the same one, as its [`PackSink`] says
-//!   what that is. Out of memory comes only at an acknowledged id and at a packet with some of the pack.
+//!   what that is. A sink gets no empty piece. Out of memory stands in for no other fault: it comes only at a packet
+//!   that the grammar takes, and that brings an acknowledged id or some of the pack.
 //!   [`read_fetch_reply_into`] does the same in SHA-1; [`read_fetch_reply_in`] and [`read_fetch_reply`] keep the pack in
 //!   memory.
 //! - [`Acks`] holds ids of one format, at most 4,096, [`PackBytes`] at most `gname::MAX_PACK` bytes, and a
 //!   [`PackLimit`] is at most that; a building call reports another format first, then the limit, and changes
 //!   nothing then. A reply is built of ids and of a pack that are there, as they are.
 //! - [`write_fetch_reply`] writes exactly the bytes of the lines of a reply (`canonical_reply`), and where the sink fails
-//!   a beginning of them. A line is never too long.
+//!   a beginning of them. A line is never too long, and the reply is one that reads back, as the answer to a request of
+//!   its kind and within a limit that its pack keeps.
 //! - [`laws`]: the lists of lines that are replies are those of the manual (`specs/FetchManual.antt`), and what they
 //!   say is the same; lines say one reply, no reply and no spelling of one begins another, each beginning has a short
 //!   ending, and a refused packet is the first that does not fit. What is written says the reply and reads back,
@@ -26,18 +28,17 @@
 //!
 //! # Only tested
 //!
-//! That a sink gets no empty piece, that memory is found where there is some, and that writing, and building of ids and
-//! of a pack that are there, take none.
+//! That memory is found where there is some, and that writing, and building of ids and of a pack that are there, take
+//! none.
 //!
 //! # What a body can still get away with
 //!
-//! It may give a sink an empty piece at any time, and a piece again that the sink refused, and report out of memory at any
-//! id and at any packet with data. Any call may take memory. It may take as long as it likes.
+//! It may give a sink a piece again that the sink refused, and report out of memory at any id and at any packet with
+//! data, also where the sink was not given that data. Any call may take memory. It may take as long as it likes.
 //!
 //! # Stands on
 //!
-//! `ggrammar` for reading any message, `gpkt` for packet lines and side bands, `gname` for ids; in tests `bumpalo`, for
-//! memory that ends.
+//! `ggrammar` for reading any message, `gpkt` for packet lines and side bands, `gname` for ids.
 #![tactic(auto)]
 
 mod form;
@@ -46,8 +47,6 @@ mod limit;
 mod reading;
 mod sections;
 mod sink;
-#[cfg(test)]
-mod tests;
 mod value;
 mod write;
 

@@ -197,10 +197,10 @@ impl<T: PackSink, A: Allocator + Copy, L: Lent<T>> Message for ReplyReader<'_, T
 /// Reads the reply to fetch of a repository whose ids are SHA-1, as [`read_fetch_reply_into_in`] does: whether the
 /// pack comes at once, the most bytes of it, and how the reply ends.
 pub fn read_fetch_reply_into<S: Source, T: PackSink, A: Allocator + Copy, B: Allocator + Copy>(
+    reader: &mut LineReader<S, A>,
     direct: bool,
     limit: PackLimit,
     ends: Ends,
-    reader: &mut LineReader<S, A>,
     sink: &mut T,
     alloc: B,
 ) -> Result<FetchHead<B>, MessageFault>
@@ -217,7 +217,7 @@ pub fn read_fetch_reply_into<S: Source, T: PackSink, A: Allocator + Copy, B: All
         limit,
         ends,
     };
-    read_fetch_reply_into_in(reading, reader, sink, alloc)
+    read_fetch_reply_into_in(reader, reading, sink, alloc)
 }
 
 /// Reads one reply to fetch to its end, and nothing after it (gitprotocol-v2(5), "fetch"). The pack goes to the sink,
@@ -231,8 +231,8 @@ pub fn read_fetch_reply_into<S: Source, T: PackSink, A: Allocator + Copy, B: All
 /// and the line reader has failed exactly where the line itself was refused. Whatever is answered, the sink is still the
 /// same one.
 pub fn read_fetch_reply_into_in<S: Source, T: PackSink, A: Allocator + Copy, B: Allocator + Copy>(
-    reading: FetchReading,
     reader: &mut LineReader<S, A>,
+    reading: FetchReading,
     sink: &mut T,
     alloc: B,
 ) -> Result<FetchHead<B>, MessageFault>
@@ -262,10 +262,10 @@ pub fn read_fetch_reply_into_in<S: Source, T: PackSink, A: Allocator + Copy, B: 
 /// Reads the reply to fetch of a repository whose ids are SHA-1 with its pack in memory, as [`read_fetch_reply_in`]
 /// does.
 pub fn read_fetch_reply<S: Source, A: Allocator + Copy, B: Allocator + Copy>(
+    reader: &mut LineReader<S, A>,
     direct: bool,
     limit: PackLimit,
     ends: Ends,
-    reader: &mut LineReader<S, A>,
     alloc: B,
 ) -> Result<FetchReply<B>, MessageFault>
     ensures read { ReadsOrRefuses (judge (sha1_reading direct limit ends)) (brings (sha1_reading direct limit ends)) (Says (sha1_reading direct limit ends))
@@ -281,14 +281,14 @@ pub fn read_fetch_reply<S: Source, A: Allocator + Copy, B: Allocator + Copy>(
         limit,
         ends,
     };
-    read_fetch_reply_in(reading, reader, alloc)
+    read_fetch_reply_in(reader, reading, alloc)
 }
 
 /// Reads one reply to fetch with its pack in memory, as [`read_fetch_reply_into_in`] does. The ids and the pack are kept
 /// where `alloc` says; after a refusal nothing is.
 pub fn read_fetch_reply_in<S: Source, A: Allocator + Copy, B: Allocator + Copy>(
-    reading: FetchReading,
     reader: &mut LineReader<S, A>,
+    reading: FetchReading,
     alloc: B,
 ) -> Result<FetchReply<B>, MessageFault>
     ensures read { ReadsOrRefuses (judge (reading_in reading)) (brings (reading_in reading)) (Says (reading_in reading))
@@ -300,7 +300,7 @@ pub fn read_fetch_reply_in<S: Source, A: Allocator + Copy, B: Allocator + Copy>(
 {
     let _limit = reading.limit.bytes();
     let mut pack = Vec::new(alloc);
-    match read_fetch_reply_into_in(reading, reader, &mut pack, alloc) {
+    match read_fetch_reply_into_in(reader, reading, &mut pack, alloc) {
         Ok(head) => Ok(FetchReply::with_pack(head, pack)),
         Err(fault) => Err(fault),
     }

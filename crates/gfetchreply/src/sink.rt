@@ -1,6 +1,6 @@
 //! What takes the pack of a reply.
 
-ghost use Rattle.std.specs.Prelude.{◌≡◌, ℕ, List};
+ghost use Rattle.std.specs.Prelude.{◌≡◌, ◌≢◌, ℕ, List, []};
 ghost use Rattle.gfetchreply.specs.PackSinks.{TakesPiece};
 
 use std::alloc::Allocator;
@@ -13,8 +13,10 @@ pub trait PackSink {
     // The second is still the sink that the first is: what pieces leave as it was.
     ghost same: { Self → Self → Type 0 };
 
-    /// Takes the next piece of the pack. `false` where memory for it is refused; then nothing of it is taken.
+    /// Takes the next piece of the pack, which is never empty. `false` where memory for it is refused; then
+    /// nothing of it is taken.
     fn piece(&mut self, bytes: &[u8]) -> bool
+        requires not_empty { bytes.now ≢ [] }
         ensures takes { TakesPiece taken self.old self.new bytes.now result }
         ensures same { same self.old self.new };
 

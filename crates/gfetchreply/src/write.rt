@@ -1,13 +1,15 @@
 //! Writing a reply to fetch (gitprotocol-v2(5), "fetch").
 
-ghost use Rattle.std.specs.Prelude.{[], ◌≡◌, ◌∷◌, ◌++◌, map};
+ghost use Rattle.std.specs.Prelude.{[], ◌≡◌, ◌≤◌, ◌∷◌, ◌++◌, length, map};
 ghost use Rattle.std.specs.Slice.Iter.{chunks_rest, chunks_size};
 ghost use Rattle.gpkt.specs.Bands.{max_band};
 ghost use Rattle.gpkt.specs.Packets.{Delim, Flush};
 ghost use Rattle.ggrammar.specs.Endings.{ends_with};
 ghost use Rattle.ggrammar.specs.Writing.{WritesLines, WritesPart};
-ghost use Rattle.gfetchreply.specs.FetchReplies.{ack_packet, canonical_reply, data_packet, heading_packet, nak_if_none, pack_section, pieces, ready_packet};
-ghost use Rattle.gfetchreply.specs.Views.{reply_in};
+ghost use Rattle.gfetchreply.specs.FetchReplies.{Reading, ack_packet, canonical_reply, data_packet, heading_packet, nak_if_none, pack_section, pieces, ready_packet};
+ghost use Rattle.gfetchreply.specs.FetchHeads.{is_alone, pack_of};
+ghost use Rattle.gfetchreply.specs.Views.{IsReplyOf, reply_in};
+ghost use Rattle.gfetchreply.specs.WellFormed.{IsReplyIn};
 
 use crate::value::FetchReply;
 use ggrammar::Ends;
@@ -21,15 +23,18 @@ use std::slice::Chunks;
 /// progress. The ids and the pack are written from where they are, and it takes no memory.
 ///
 /// It fails with `Io` where the sink fails, and then a beginning of the reply stands written; with `Failed`
-/// where the writer had failed before.
+/// where the writer had failed before. A reply is what [`reads_back`](crate::laws::reads_back) asks of one, so what is
+/// written of it reads back, as the answer to a request of its kind and within a limit that its pack keeps.
 #[tactic(auto, unfolding(crate::specs::FetchReplies::canonical_reply))]
 pub fn write_fetch_reply<A: Allocator + Copy, W: Sink>(
     reply: &FetchReply<A>,
     ends: Ends,
     writer: &mut LineWriter<W>,
 ) -> Result<(), WriteFault>
-    ensures { WritesLines W.contents W.passed_on W.is_down W.loans writer.old writer.new result
+    ensures lines { WritesLines W.contents W.passed_on W.is_down W.loans writer.old writer.new result
         (canonical_reply ends (reply_in reply.now)) }
+    ensures form { (reading : Reading) → IsReplyOf reading.format reply.now → reading.direct ≡ is_alone (reply_in reply.now)
+        → length (pack_of (reply_in reply.now)) ≤ reading.limit → IsReplyIn reading (reply_in reply.now) }
 {
     match reply {
         FetchReply::Acks(acks) => write_acks(acks.ids(), ends, writer),

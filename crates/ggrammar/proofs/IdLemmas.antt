@@ -32,7 +32,7 @@ id_refused format text (Digit at) law h =
 
 -- ---- an id is what its text spells
 
-decodes : (decoded : Result (List ℕ) FromHexError) (id : List ℕ) → ok_of decoded ≡ Some id → decoded ≡ Ok id
+pub decodes : (decoded : Result (List ℕ) FromHexError) (id : List ℕ) → ok_of decoded ≡ Some id → decoded ≡ Ok id
 decodes (Ok other) id e = cc
 decodes (Err fault) id e = let none : None ≡ Some id = e in cc
 

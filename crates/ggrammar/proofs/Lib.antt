@@ -7,4 +7,6 @@ pub mod BytesLemmas
 pub mod RefusalLemmas
 pub mod KindLemmas
 pub mod PlaceLemmas
-pub mod TestGrammarLemmas
+pub mod VerdictLemmas
+pub mod TextLemmas
+pub mod BuildingLemmas

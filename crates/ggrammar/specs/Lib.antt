@@ -13,7 +13,6 @@ pub mod Writing
 pub mod Texts
 pub mod Places
 pub mod CapabilityView
-pub mod TestGrammar
 pub use Rattle.gpkt.specs.Packets
 pub use Rattle.gpkt.specs.Change
 pub use Rattle.gpkt.specs.LineReading

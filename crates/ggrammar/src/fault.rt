@@ -189,6 +189,9 @@ pub struct MessageFault {
     pub why: Why,
 }
 
+/// [`MessageFault`] by a shorter name.
+pub type MsgFault = MessageFault;
+
 impl MessageFault {
     /// The fault of a call that builds a value: no packet brought it, and its place is 0.
     pub fn of_value(why: Why) -> MessageFault

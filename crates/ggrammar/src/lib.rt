@@ -19,13 +19,10 @@
 //! - The number, the name and the phrase of each fault stand in one row, `why_row`; of a peer's error the
 //!   first 256 bytes are kept. The constants are the limits of the definitions.
 //!
-//! # Only tested
-//!
-//! That a fault displays its phrase.
-//!
 //! # What a body can still get away with
 //!
-//! It may take as long as it likes, and show anything of a peer's text by `{:?}`. Where a packet brings something
+//! It may take as long as it likes, display a fault otherwise than by its phrase, and show anything of a peer's text
+//! by `{:?}`. Where a packet brings something
 //! to keep, a message may be refused as if there were no memory. Where the bytes of a source are not known,
 //! nothing is said of the lines that were read; what a device has done is said all the same. What is kept of a
 //! message after a refusal is for its kind to say.
@@ -33,8 +30,7 @@
 //! # Stands on
 //!
 //! `gpkt` for packet lines, `gname` for ids and names, `hex` for what spells an id, `arrayvec` for texts of
-//! bounded length, `thiserror` for the text of a fault with its packet; in the tests `bumpalo`, for memory
-//! that ends.
+//! bounded length, `thiserror` for the text of a fault with its packet.
 #![tactic(auto)]
 
 mod capability;
@@ -51,11 +47,8 @@ pub use crate::capability::{
     is_value, is_word_value,
 };
 pub use crate::ends::Ends;
-pub use crate::fault::{MAX_PEER_TEXT, MessageFault, PeerText, Why};
+pub use crate::fault::{MAX_PEER_TEXT, MessageFault, MsgFault, PeerText, Why};
 pub use crate::id::id_of_text;
 pub use crate::kind::Kind;
 pub use crate::message::{Message, Step, read_message};
 pub use crate::peer::{after_word, peer_error};
-
-#[cfg(test)]
-mod tests;

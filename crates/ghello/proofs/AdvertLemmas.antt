@@ -1,9 +1,9 @@
 -- Facts on advertisements: what is kept of the packets, and what may be added.
-use Rattle.std.proofs.Common.{◌≡◌, ℕ, zero, suc, ◌+◌, ◌<◌, ◌≤◌, Bool, true, false, not, ◌&&◌, if◌then◌else◌, ◌==◌, nat_le, nat_lt, Bor, map, List, [], ◌∷◌, ◌++◌, length, drop, get_or, ◌⊎◌, inl, inr, Option, Some, None, Result, Ok, Err, refl, sym, ap, subst, ◌∙◌, append-nil, arith}
-use Rattle.std.specs.Prelude.{All, IfSome, IsTrue, ⊤}
+use Rattle.std.proofs.Common.{◌≡◌, ℕ, ◌+◌, ◌<◌, ◌≤◌, Bool, true, false, not, ◌&&◌, if◌then◌else◌, ◌==◌, nat_le, nat_lt, Bor, map, List, [], ◌∷◌, ◌++◌, length, drop, get_or, ◌⊎◌, inl, inr, Option, Some, None, Result, Ok, Err, refl, sym, ap, subst, ◌∙◌, append-nil, arith}
+use Rattle.std.specs.Prelude.{IfSome, IsTrue, ⊤}
 use Rattle.std.specs.List.{cons_option, filter_map, list_all}
 use Rattle.std.proofs.lemmas.List.{drop_more, drop_all, length_push}
-use Rattle.std.proofs.lemmas.List.Elements.{All-append}
+use Rattle.std.proofs.lemmas.List.Elements.{All-append, All-cons, All-nil}
 use Rattle.std.proofs.lemmas.Bool.{and_parts, cond-true, cond-false}
 use Rattle.std.proofs.lemmas.Bool.Decides.{nat_tests}
 use Rattle.gpkt.specs.Packets.{Packet, Data, Flush, Delim, ResponseEnd, text}
@@ -87,14 +87,10 @@ capability_form capability h =
     let parts = and_parts (is_key capability.key) (is_value_or_none capability.value) h in
     record { key = parts.0; value = value_form capability.value parts.1 }
 
-one_is : {X : Type 0} (P : X → Type 0) (x : X) → P x → All P (x ∷ [])
-one_is P x h zero d within = h
-one_is P x h (suc k) d within = absurd (omega (arith, within))
-
 pub AreCapabilities-push : (capabilities : List Capability) (capability : Capability) → AreCapabilities capabilities → IsWellFormed capability → length capabilities < max_advertised
     → AreCapabilities (capabilities ++ capability ∷ [])
 AreCapabilities-push capabilities capability are form room = record {
-  each = All-append IsWellFormed capabilities (capability ∷ []) are.each (one_is IsWellFormed capability form);
+  each = All-append IsWellFormed capabilities (capability ∷ []) are.each (All-cons IsWellFormed capability [] form (All-nil IsWellFormed));
   few = rw (length_push capabilities capability) (omega (arith, room));
 }
 

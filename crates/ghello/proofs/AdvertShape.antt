@@ -6,11 +6,13 @@ use Rattle.std.proofs.lemmas.List.{length_push, length-map, map_push}
 use Rattle.std.proofs.lemmas.Bool.Decides.{nat_tests}
 use Rattle.std.proofs.lemmas.Slice.Eq.{bytes_eq-Decides}
 use Rattle.gpkt.specs.Packets.{Packet, Data, Flush, Delim, ResponseEnd, text}
-use Rattle.ggrammar.specs.Grammar.{Verdict, Open, Whole, Refused, IsOpen, IsWhole, Begins, HasEndings, LawsOf, if_room}
+use Rattle.ggrammar.specs.Grammar.{Verdict, Open, Whole, Refused, IsOpen, IsWhole, Begins, HasEndings, LawsOf}
 use Rattle.ggrammar.specs.Texts.{texts_of}
 use Rattle.ggrammar.specs.PeerErrors.{after_word, peer_error, unless_error}
 use Rattle.ggrammar.specs.Capabilities.{Capability, capability_of}
 use Rattle.ggrammar.specs.declared.fault.Why.TheVariants as why
+use Rattle.ggrammar.proofs.TextLemmas.{texts_of-data}
+use Rattle.ggrammar.proofs.VerdictLemmas.{open_unless, room_left}
 use Rattle.ghello.specs.Adverts.{capabilities_in, capabilities_of, judge, judge_at, judge_capability, judge_text, judge_version, max_advertised, version}
 
 -- ---- what an open list is, once the version came
@@ -25,10 +27,6 @@ pub record HasBegun (front : List Packet) (capabilities : List Capability) : Typ
 
 abbrev pub Shape : List Packet → Type 0
 Shape front = (front ≡ []) ⊎ ((capabilities : List Capability) × HasBegun front capabilities)
-
-texts_of-data : (payloads : List (List ℕ)) → texts_of (map Data payloads) ≡ map text payloads
-texts_of-data [] = refl
-texts_of-data (payload ∷ payloads) = ap (λ (xs : List (List ℕ)). text payload ∷ xs) (texts_of-data payloads)
 
 listed : (payloads : List (List ℕ)) (capabilities : List Capability) → map (λ payload. capability_of (text payload)) payloads ≡ map (λ capability. Some capability) capabilities
     → filter_map capability_of (map text payloads) ≡ capabilities
@@ -65,18 +63,9 @@ begun_flush front capabilities h =
     ap (λ (xs : List (List ℕ)). if length xs == 0 then Refused why.UnexpectedFrame else Whole) (begun_texts front capabilities h)
     ∙ not_first (text h.first) (map text h.payloads) (Refused why.UnexpectedFrame) Whole
 
--- what goes on reports no error
-open_unless : (said : Option (List ℕ)) (verdict : Verdict) → unless_error said verdict ≡ Open → verdict ≡ Open
-open_unless None verdict e = e
-open_unless (Some said) verdict e = absurd cc
-
 open_version : (b : Bool) → (if b then Open else Refused why.BadText) ≡ Open → b ≡ true
 open_version true e = refl
 open_version false e = absurd cc
-
-room_left : (b : Bool) → if_room b ≡ Open → b ≡ true
-room_left true e = refl
-room_left false e = absurd cc
 
 open_capability : (count : ℕ) (found : Option Capability) → judge_capability count found ≡ Open → (capability : Capability) × (found ≡ Some capability) × (count < max_advertised)
 open_capability count None e = absurd cc

@@ -1,8 +1,8 @@
 -- What is written says its value, in lines that fit.
-use Rattle.std.proofs.Common.{◌≡◌, ℕ, zero, suc, ◌+◌, ◌≤◌, List, [], ◌∷◌, ◌++◌, map, length, Option, Some, None, refl, sym, ap, subst, ◌∙◌, arith}
+use Rattle.std.proofs.Common.{◌≡◌, ℕ, suc, ◌+◌, ◌≤◌, List, [], ◌∷◌, ◌++◌, map, length, Option, Some, None, refl, sym, ap, subst, ◌∙◌, arith}
 use Rattle.std.specs.Prelude.{All, IfSome}
 use Rattle.std.proofs.lemmas.List.{length_push, length-append}
-use Rattle.std.proofs.lemmas.List.Elements.{All-append}
+use Rattle.std.proofs.lemmas.List.Elements.{All-append, All-cons, All-nil}
 use Rattle.std.proofs.lemmas.Grind.{common_steps}
 use Rattle.gpkt.specs.Packets.{Packet, Data, Flush, text, max_payload, line_feed}
 use Rattle.gpkt.specs.Laws.{Fits, TextOfLine}
@@ -15,10 +15,6 @@ use Rattle.ghello.specs.Adverts.{AreCapabilities, canonical_advert, capability_p
 use Rattle.ghello.proofs.HelloLemmas.{path_within, host_within}
 use Rattle.ghello.proofs.AdvertLemmas.{key_within, value_within}
 
-all_one : {X : Type 0} (P : X → Type 0) (x : X) → P x → All P (x ∷ [])
-all_one P x h zero d within = h
-all_one P x h (suc k) d within = absurd (omega (arith, within))
-
 -- ---- hellos
 
 hello_fits : (said : Hello) → IsHello said → length (hello_payload said) ≤ max_payload
@@ -30,7 +26,7 @@ hello_fits said form =
 pub canonical_says_hello : CanonicalSays hello.Says IsHello hello.IsCanonical
 unfolding canonical_hello
 canonical_says_hello packets said form line =
-    (record { form = form; line = line }, rw line (all_one Fits (Data (hello_payload said)) (hello_fits said form)))
+    (record { form = form; line = line }, rw line (All-cons Fits (Data (hello_payload said)) [] (hello_fits said form) (All-nil Fits)))
 
 -- ---- advertisements
 
@@ -69,10 +65,10 @@ capability_fits capability form =
     omega (arith, key, value, all, line)
 
 all_fit : (capabilities : List Capability) → All IsWellFormed capabilities → All Fits (map capability_packet capabilities ++ Flush ∷ [])
-all_fit [] forms = all_one Fits Flush (omega arith)
+all_fit [] forms = All-cons Fits Flush [] (omega arith) (All-nil Fits)
 all_fit (capability ∷ capabilities) forms =
     All-append Fits (capability_packet capability ∷ []) (map capability_packet capabilities ++ Flush ∷ [])
-    (all_one Fits (capability_packet capability) (capability_fits capability (All-first IsWellFormed capability capabilities forms)))
+    (All-cons Fits (capability_packet capability) [] (capability_fits capability (All-first IsWellFormed capability capabilities forms)) (All-nil Fits))
     (all_fit capabilities (All-rest IsWellFormed capability capabilities forms))
 
 advert_says : TextOfLine → CapabilityIsItsText → AsInManual advert.Says advert.IsAdvert → (capabilities : List Capability) → AreCapabilities capabilities
@@ -87,7 +83,7 @@ advert_says law texts manual capabilities are = (
     few = are.few;
   }),
   All-append Fits (Data (version ++ line_feed ∷ []) ∷ []) (map capability_packet capabilities ++ Flush ∷ [])
-      (all_one Fits (Data (version ++ line_feed ∷ [])) (omega arith)) (all_fit capabilities are.each),
+      (All-cons Fits (Data (version ++ line_feed ∷ [])) [] (omega arith) (All-nil Fits)) (all_fit capabilities are.each),
 )
 
 pub canonical_says_advert : TextOfLine → CapabilityIsItsText → AsInManual advert.Says advert.IsAdvert → CanonicalSays advert.Says AreCapabilities advert.IsCanonical

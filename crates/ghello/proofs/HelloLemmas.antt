@@ -1,5 +1,5 @@
 -- Facts on hellos: the parts of a payload, and what the judge's lists are.
-use Rattle.std.proofs.Common.{◌≡◌, ℕ, ◌+◌, ◌<◌, ◌≤◌, Bool, true, false, ◌&&◌, if◌then◌else◌, nat_eq, nat_le, ◌^◌, List, [], ◌∷◌, ◌++◌, length, take, drop, codes, position, Option, Some, None, Result, Ok, Err, refl, sym, ap, subst, ◌∙◌, append_assoc, arith}
+use Rattle.std.proofs.Common.{◌≡◌, ℕ, ◌+◌, ◌<◌, ◌≤◌, Bool, true, false, ◌&&◌, nat_eq, nat_le, ◌^◌, List, [], ◌∷◌, ◌++◌, length, take, drop, codes, position, Option, Some, None, Result, Ok, Err, refl, sym, ap, subst, ◌∙◌, append_assoc, arith}
 use Rattle.std.specs.List.{All, list_all, slice_split, starts_with, join_with_byte, position_or_len}
 use Rattle.std.specs.Prelude.{⊤}
 use Rattle.std.specs.Str.{bytes_eq}
@@ -15,6 +15,7 @@ use Rattle.gpkt.specs.Packets.{Packet, Data, Flush, Delim, ResponseEnd}
 use Rattle.ggrammar.specs.Grammar.{Open, Whole, IsOpen, IsWhole, HasEndings, NothingIsOpen}
 use Rattle.ggrammar.specs.Capabilities.{is_graphic, is_printable}
 use Rattle.ggrammar.specs.PeerErrors.{after_word}
+use Rattle.ggrammar.proofs.TextLemmas.{follows_word, tested}
 use Rattle.ghello.specs.Hello.{Hello, IsHello, Says, brings, judge, judge_payload, canonical_hello, hello_of, hello_of_parts, hello_payload, hello_with, is_hello, is_host, is_nul, is_path, max_host, max_path, nul}
 use Rattle.ghello.specs.HelloReading.{hello_in}
 use Rattle.gpkt.specs.Change.{Change}
@@ -56,18 +57,6 @@ cut_nowhere text e =
     slice_split_none is_nul text (λ k d within. fails_before_first is_nul text k d (omega arith))
 
 -- ---- what the parts say
-
--- of a test that was passed
-tested : {X : Type 0} (b : Bool) (x : Option X) (y : X) → (if b then x else None) ≡ Some y → (b ≡ true) × (x ≡ Some y)
-tested true x y e = (refl, e)
-tested false x y e = absurd (let no : None ≡ Some y = e in cc)
-
-pub follows_word : (word line rest : List ℕ) → after_word word line ≡ Some rest → line ≡ word ++ rest
-unfolding after_word
-follows_word word line rest e =
-    let h = tested (starts_with nat_eq line word) (Some (drop (length word) line)) rest e in
-    let same : drop (length word) line ≡ rest = cc in
-    (starts_is Decides-eqb line word (starts_with nat_eq line word) refl).0 h.0 ∙ ap (λ (xs : List ℕ). word ++ xs) same
 
 with_says : (path host : Option (List ℕ)) (hello : Hello) → hello_with path host ≡ Some hello → (path ≡ Some hello.path) × (host ≡ Some hello.host) × IsHello hello
 with_says None host hello e = absurd cc

@@ -9,21 +9,18 @@ use Rattle.std.proofs.lemmas.Bool.Decides.{nat_tests}
 use Rattle.std.proofs.lemmas.Slice.Eq.{bytes_eq-Decides}
 use Rattle.gpkt.specs.Packets.{Packet, Data, Flush, Delim, ResponseEnd, text}
 use Rattle.gpkt.specs.Laws.{TextOrLine}
-use Rattle.ggrammar.specs.Grammar.{Verdict, Open, Whole, Refused, IsOpen, LawsOf, if_room}
+use Rattle.ggrammar.specs.Grammar.{Open, Whole, Refused, IsOpen, LawsOf, if_room}
 use Rattle.ggrammar.specs.PeerErrors.{peer_error, unless_error}
 use Rattle.ggrammar.specs.Texts.{TextsOfMore, texts_of}
 use Rattle.ggrammar.specs.Capabilities.{Capability, capability_of, capability_split, has_length, is_equals_sign, is_key, is_key_byte, is_value}
 use Rattle.ggrammar.specs.declared.fault.Why.TheVariants as why
 use Rattle.ghello.specs.Adverts.{IsAdvert, Says, capabilities_in, capabilities_of, judge, judge_at, judge_capability, judge_version, max_advertised, version}
 use Rattle.ggrammar.specs.Kinds.{AsInManual}
-use Rattle.ghello.proofs.HelloLemmas.{follows_word}
+use Rattle.ggrammar.proofs.TextLemmas.{follows_word}
+use Rattle.ggrammar.proofs.VerdictLemmas.{whole_unless}
 use Rattle.ghello.proofs.AdvertShape.{HasBegun, HasBegun-first, HasBegun-push, Shape, begun_capabilities, begun_flush, begun_judge, open_shape}
 
 -- ---- what the table accepts is in the manual
-
-whole_unless : (said : Option (List ℕ)) (verdict : Verdict) → unless_error said verdict ≡ Whole → verdict ≡ Whole
-whole_unless None verdict e = e
-whole_unless (Some said) verdict e = absurd cc
 
 no_whole_version : (b : Bool) → (if b then Open else Refused why.BadText) ≡ Whole → ⊥
 no_whole_version true e = cc

@@ -1,14 +1,15 @@
 -- Packets are refused for their own sake.
-use Rattle.std.proofs.Common.{ℕ, ◌==◌, Bool, true, false, cond, List, length, Option, Some, None}
+use Rattle.std.proofs.Common.{ℕ, ◌==◌, List, length, Option, Some, None}
 use Rattle.std.specs.Prelude.{nat_lt}
 use Rattle.std.specs.Str.{bytes_eq}
 use Rattle.gpkt.specs.Packets.{Packet, Data, Flush, Delim, ResponseEnd, text}
-use Rattle.ggrammar.specs.Grammar.{Verdict, Open, Whole, Refused}
+use Rattle.ggrammar.specs.Grammar.{Open, Whole, Refused}
 use Rattle.ggrammar.specs.Capabilities.{Capability, capability_of}
 use Rattle.ggrammar.specs.MessageBytes.{IsForPacket, RefusesPackets}
-use Rattle.ggrammar.specs.PeerErrors.{peer_error, unless_error}
+use Rattle.ggrammar.specs.PeerErrors.{peer_error}
 use Rattle.ggrammar.specs.Texts.{texts_of}
 use Rattle.ggrammar.specs.declared.fault.Why.TheVariants.{BadText, Limit, UnexpectedFrame}
+use Rattle.ggrammar.proofs.VerdictLemmas.{of_test, past_error}
 use Rattle.ghello.specs.Hello as hello
 use Rattle.ghello.specs.Adverts.{capabilities_of, judge, judge_at, judge_capability, judge_text, judge_version, max_advertised, version}
 
@@ -25,14 +26,6 @@ hello_refuses_packets front Delim = tt
 hello_refuses_packets front ResponseEnd = tt
 
 -- ---- an advertisement
-
-of_test : (test : Bool) (one other : Verdict) → IsForPacket one → IsForPacket other → IsForPacket (cond test one other)
-of_test true one other h k = h
-of_test false one other h k = k
-
-past_error : (said : Option (List ℕ)) (verdict : Verdict) → IsForPacket verdict → IsForPacket (unless_error said verdict)
-past_error (Some said) verdict h = tt
-past_error None verdict h = h
 
 of_capability : (count : ℕ) (capability : Option Capability) → IsForPacket (judge_capability count capability)
 of_capability count None = tt

@@ -342,8 +342,8 @@ fn is_value_or_none(value: Option<&[u8]>) -> bool
 /// that is no capability; `Limit` for a 65th capability; and `Memory` only where a capability could not be
 /// kept. After a refusal the line reader has failed exactly where the line itself was refused.
 pub fn read_advert<S: Source, A: Allocator + Copy, B: Allocator + Copy>(
-    alloc: A,
     reader: &mut LineReader<S, B>,
+    alloc: A,
 ) -> Result<Advert<A>, MessageFault>
     ensures read { ReadsOrRefuses judge brings Says (change_of S.remaining reader.old.source reader.new.source) result }
     ensures loans { S.loans reader.new.source ≡ S.loans reader.old.source }
@@ -355,7 +355,8 @@ pub fn read_advert<S: Source, A: Allocator + Copy, B: Allocator + Copy>(
     Ok(advert)
 }
 
-/// Writes an advertisement: the version, the capabilities in order, and a flush. It takes no memory.
+/// Writes an advertisement: the version, the capabilities in order, and a flush, which then reads back as it
+/// ([`reads_back`](crate::laws::reads_back)). It takes no memory.
 ///
 /// It fails with `Io` where the sink fails, and then a beginning of the advertisement stands written; with
 /// `Failed` where the writer had failed before.
@@ -363,11 +364,13 @@ pub fn write_advert<A: Allocator + Copy, W: Sink>(
     advert: &Advert<A>,
     writer: &mut LineWriter<W>,
 ) -> Result<(), WriteFault>
-    ensures { WritesLines W.contents W.passed_on W.is_down W.loans writer.old writer.new result (canonical_advert advert.now) }
+    ensures lines { WritesLines W.contents W.passed_on W.is_down W.loans writer.old writer.new result (canonical_advert advert.now) }
+    ensures form { AreCapabilities advert.now }
 {
+    let capabilities = advert.capabilities.as_slice();
     writes_lines::<W>();
     write_version(writer)?;
-    write_capabilities(advert.capabilities.as_slice(), writer)?;
+    write_capabilities(capabilities, writer)?;
     write_flush(writer)
 }
 

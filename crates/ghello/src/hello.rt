@@ -129,8 +129,8 @@ pub fn is_host(host: &[u8]) -> bool
 /// that reports an error too; `Memory` comes only where a hello could not be kept. After a refusal the line
 /// reader has failed exactly where the line itself was refused.
 pub fn read_hello<S: Source, A: Allocator + Copy, B: Allocator + Copy>(
-    alloc: A,
     reader: &mut LineReader<S, B>,
+    alloc: A,
 ) -> Result<Hello<A>, MessageFault>
     ensures read { ReadsOrRefuses judge brings Says (change_of S.remaining reader.old.source reader.new.source) result }
     ensures first { IfErr result (λ fault. fault.frame ≡ 0) }
@@ -146,7 +146,8 @@ pub fn read_hello<S: Source, A: Allocator + Copy, B: Allocator + Copy>(
     }
 }
 
-/// Writes the line of a hello. It takes no memory.
+/// Writes the line of a hello, which then reads back as it ([`reads_back`](crate::laws::reads_back)). It takes no
+/// memory.
 ///
 /// It fails with `Io` where the sink fails, and then a beginning of the line stands written; with `Failed`
 /// where the writer had failed before.
@@ -155,7 +156,8 @@ pub fn write_hello<A: Allocator + Copy, W: Sink>(
     hello: &Hello<A>,
     writer: &mut LineWriter<W>,
 ) -> Result<(), WriteFault>
-    ensures { WritesLines W.contents W.passed_on W.is_down W.loans writer.old writer.new result (canonical_hello hello.now) }
+    ensures lines { WritesLines W.contents W.passed_on W.is_down W.loans writer.old writer.new result (canonical_hello hello.now) }
+    ensures form { IsHello hello.now }
 {
     writes_lines::<W>();
     let mut line = ArrayVec::new();
@@ -168,6 +170,7 @@ fn compose<A: Allocator + Copy>(hello: &Hello<A>, line: &mut ArrayVec<u8, MAX_LI
     requires { line.old.items ≡ [] }
     ensures line { line.new.items ≡ hello_payload hello.now }
     ensures short { length line.new.items ≤ max_payload }
+    ensures form { IsHello hello.now }
 {
     add(COMMAND, line);
     add(hello.path(), line);

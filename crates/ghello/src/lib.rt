@@ -13,7 +13,7 @@
 //!   something to keep. After a message the line reader goes on; after a refusal it has failed exactly where
 //!   the line itself was refused.
 //! - [`write_hello`] and [`write_advert`] write the canonical lines of the value, or a beginning of them
-//!   where the sink fails.
+//!   where the sink fails. The value has the form that reads back.
 //! - What a client looks for (`specs/Offers.antt`): [`Advert::value_of`] gives the first capability with a key,
 //!   [`Advert::has_feature`] looks for a word in its value, [`Advert::format`] gives the format of the server's
 //!   ids, and [`Advert::check_in`] says why a client of an object format can't go on.
@@ -22,11 +22,6 @@
 //!   ending, and a refused packet is the first that does not fit; all bytes begin with a message or are refused
 //!   for a reason in them; what is written says its value, in lines that fit; a message is read exactly where the
 //!   bytes begin with it, and what is written reads back. The constants are the limits of the definitions.
-//!
-//! # Only tested
-//!
-//! That a value is kept where there is memory for it, and that look-ups and writers answer where there is none. Where a
-//! sink fails, that all it had taken stands written.
 //!
 //! # What a body can still get away with
 //!
@@ -38,15 +33,13 @@
 //! # Stands on
 //!
 //! `ggrammar` for reading by a grammar and for capabilities, `gpkt` for packet lines, `gname` for the names of
-//! object formats, `arrayvec` for texts of bounded length; in tests `bumpalo`, for memory that ends.
+//! object formats, `arrayvec` for texts of bounded length.
 #![tactic(auto)]
 
 mod advert;
 mod compose;
 mod hello;
 pub mod laws;
-#[cfg(test)]
-mod tests;
 
 pub use crate::advert::{Advert, MAX_ADVERTISED, read_advert, write_advert};
 pub use crate::hello::{Hello, MAX_HOST, MAX_PATH, is_host, is_path, read_hello, write_hello};

@@ -30,15 +30,12 @@ pub record LawsBelow : Type 0 where
   pub texts : IdsHaveTexts
   pub words : TextLaws
 
-same_some : {X : Type 0} (x y : X) → Some x ≡ Some y → x ≡ y
-same_some x y e = cc
-
 module _ (laws : LawsBelow) where
   name_short : (name : List ℕ) → IsRefName name → length name ≤ max_name
   name_short name h = (laws.words.names name h).within
 
   line_text : (line : List ℕ) → text (line ++ line_feed ∷ []) ≡ line
-  line_text line = same_some (text (line ++ line_feed ∷ [])) line (laws.reads line)
+  line_text line = let same : Some (text (line ++ line_feed ∷ [])) ≡ Some line = laws.reads line in cc
 
   spelt : (format : Format) (id : List ℕ) → IsIdOf format id → IsIdTextOf format (id_text id) id
   spelt format id h =

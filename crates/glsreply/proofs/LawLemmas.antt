@@ -1,5 +1,5 @@
 -- Each open list has an ending, and is short.
-use Rattle.std.proofs.Common.{◌≡◌, ℕ, suc, ◌+◌, ◌<◌, ◌≤◌, ◌^◌, Bool, true, false, List, [], ◌∷◌, ◌++◌, length, ◌==◌, Option, Some, None, Result, Ok, Err, refl, sym, ap, subst, ◌∙◌, append_assoc, append-nil, arith, length-append}
+use Rattle.std.proofs.Common.{◌≡◌, ℕ, suc, ◌+◌, ◌<◌, ◌≤◌, ◌^◌, Bool, true, false, List, [], ◌∷◌, ◌++◌, length, ◌==◌, Result, Ok, Err, refl, sym, ap, subst, ◌∙◌, append_assoc, append-nil, arith, length-append}
 use Rattle.std.specs.Prelude.{nat_lt, All, IfSome}
 use Rattle.std.proofs.lemmas.Bool.{ltb-true, or_right}
 use Rattle.std.proofs.lemmas.List.{length_push}
@@ -10,12 +10,13 @@ use Rattle.gname.specs.Names.{IsRefName}
 use Rattle.gname.specs.declared.formats.Format.{Format}
 use Rattle.ggrammar.specs.Grammar.{Verdict, Open, Whole, Refused, IsOpen, IsWhole, HasEndings, if_room}
 use Rattle.ggrammar.specs.Endings.{at_flush}
-use Rattle.ggrammar.specs.PeerErrors.{peer_error, unless_error}
+use Rattle.ggrammar.specs.PeerErrors.{peer_error}
 use Rattle.ggrammar.specs.Texts.{texts_of}
 use Rattle.ggrammar.specs.declared.ends.Ends.{Ends}
 use Rattle.ggrammar.specs.declared.ends.Ends.TheVariants.{Plain, Response}
 use Rattle.ggrammar.specs.declared.fault.Why.{Why}
 use Rattle.ggrammar.specs.declared.fault.Why.TheVariants.{UnexpectedFrame}
+use Rattle.ggrammar.proofs.VerdictLemmas.{open_unless, whole_unless}
 use Rattle.glsreply.specs.RefTexts.{RefLine, line_of, FirstForm, UnbornForm, RefForm, first_form}
 use Rattle.glsreply.specs.LsReplies.{max_lines, is_over, unborn_in, unborn_of, unborn_packets, ref_lines, reply_of, judge_line, judge_first, within_limit, judge_text, judge_at, judge}
 use Rattle.glsreply.specs.WellFormed.{IsRefLine, IsLsReplyIn}
@@ -24,10 +25,6 @@ use Rattle.glsreply.proofs.TextLemmas.{line_formed, form_well, FormsWell}
 use Rattle.glsreply.proofs.StateLemmas.{texts_push, over_push, or_false, unborn_is_no_line, refs_in, ref_lines-one, ref_lines-cons}
 
 -- ---- what goes on
-
-goes_unless : (said : Option (List ℕ)) (verdict : Verdict) → unless_error said verdict ≡ Open → verdict ≡ Open
-goes_unless (Some said) verdict h = cc
-goes_unless None verdict h = h
 
 pub goes_within : (count : ℕ) (verdict : Verdict) → within_limit count verdict ≡ Open → (count < max_lines) × (verdict ≡ Open)
 goes_within count Open h = (ltb-true _ _ (has_room (nat_lt count max_lines) h), refl) where
@@ -41,8 +38,8 @@ goes_within count (Refused why) h = cc
 pub data_goes : (format : Format) (ends : Ends) (over : Bool) (count : ℕ) (payload : List ℕ) → judge_at format ends over count (Data payload) ≡ Open
     → (over ≡ false) × (judge_text format count (text payload) ≡ Open)
 unfolding judge_at
-data_goes format ends true count payload h = absurd (let no = goes_unless (peer_error payload) (Refused UnexpectedFrame) h in cc)
-data_goes format ends false count payload h = (refl, goes_unless (peer_error payload) (judge_text format count (text payload)) h)
+data_goes format ends true count payload h = absurd (let no = open_unless (peer_error payload) (Refused UnexpectedFrame) h in cc)
+data_goes format ends false count payload h = (refl, open_unless (peer_error payload) (judge_text format count (text payload)) h)
 
 -- a flush goes on where a response-end is due after it
 pub flush_goes : (format : Format) (ends : Ends) (over : Bool) (count : ℕ) → judge_at format ends over count Flush ≡ Open
@@ -160,10 +157,6 @@ has_endings laws format ends front opened = by_over ends (is_over front) refl op
 
 -- ---- the last packet of a reply
 
-not_whole_unless : (said : Option (List ℕ)) (verdict : Verdict) → unless_error said verdict ≡ Whole → verdict ≡ Whole
-not_whole_unless (Some said) verdict h = cc
-not_whole_unless None verdict h = h
-
 not_whole_within : (count : ℕ) (verdict : Verdict) → within_limit count verdict ≡ Whole → verdict ≡ Whole
 not_whole_within count Open h = absurd (never (nat_lt count max_lines) h) where
   never : (b : Bool) → if_room b ≡ Whole → ⊥
@@ -186,9 +179,9 @@ first_part format line RefForm = line_part (line_of format line)
 
 pub data_part : (format : Format) (ends : Ends) (over : Bool) (count : ℕ) (payload : List ℕ) → judge_at format ends over count (Data payload) ≡ Whole → ⊥
 unfolding judge_at
-data_part format ends true count payload h = let no = not_whole_unless (peer_error payload) (Refused UnexpectedFrame) h in cc
+data_part format ends true count payload h = let no = whole_unless (peer_error payload) (Refused UnexpectedFrame) h in cc
 data_part format ends false count payload h =
-    let within = not_whole_unless (peer_error payload) (judge_text format count (text payload)) h in
+    let within = whole_unless (peer_error payload) (judge_text format count (text payload)) h in
     cond_holds IsPart (count == 0) (judge_first format (text payload) (first_form (text payload))) (judge_line (line_of format (text payload)))
     (λ _. first_part format (text payload) (first_form (text payload))) (λ _. line_part (line_of format (text payload))) (not_whole_within count _ within)
 

@@ -1,20 +1,16 @@
 -- The parts of a text, and what is read of them.
-use Rattle.std.proofs.Common.{◌≡◌, ℕ, ◌+◌, ◌-◌, ◌≤◌, ◌⊎◌, inl, inr, Bool, true, false, Err, List, [], ◌∷◌, length, take, drop, Some, None, refl, sym, subst, ap, ◌∙◌, arith}
-use Rattle.std.specs.Prelude.{position, is_none, Option}
+use Rattle.std.proofs.Common.{◌≡◌, ℕ, ◌+◌, ◌-◌, inl, inr, false, Err, List, [], ◌∷◌, length, take, drop, Some, None, refl, sym, subst, ap, ◌∙◌, arith}
+use Rattle.std.specs.Prelude.{position, Option}
 use Rattle.std.specs.Borrow.{Bor}
 use Rattle.std.specs.List.{slice_split, position_or_len, onto_first}
 use Rattle.std.proofs.lemmas.Bool.{cases_Bool}
-use Rattle.std.proofs.lemmas.Grind.{common_steps}
 use Rattle.std.proofs.lemmas.List.{take_rest}
 use Rattle.std.proofs.lemmas.List.Elements.{All-from_get_or}
 use Rattle.std.proofs.lemmas.List.Quantifiers.{position-Some}
 use Rattle.std.proofs.lemmas.List.Splits.{slice_split_first, slice_split_none, slice_split-cons_yes, slice_split-cons_no}
 use Rattle.std.proofs.lemmas.List.Sums.{position_or_len_is, fails_before_first}
-use Rattle.gname.specs.Names.{name_fault}
-use Rattle.gname.specs.Laws.{RulesNeverReportMemory}
-use Rattle.gname.specs.declared.faults.NameFault.{NameFault}
-use Rattle.gname.specs.declared.faults.NameFault.TheVariants.{Memory}
 use Rattle.ggrammar.specs.declared.fault.Why.TheVariants.{BadText}
+use Rattle.gname.proofs.ListLemmas.{position-None}
 use Rattle.glsreply.specs.RefTexts.{is_space, parts_of, unborn_after_head}
 
 -- a text is cut at its first space
@@ -27,20 +23,11 @@ parts-at text at e =
     subst (λ (n : ℕ). slice_split is_space text ≡ take n text ∷ slice_split is_space (take (length text - (n + 1)) (drop (n + 1) text))) same
     (rw take_rest (slice_split_first is_space text 0 (omega (arith, same, h.0))))
 
-position-None : (p : ℕ → Bool) (xs : List ℕ) → position p xs ≡ None → length xs ≤ position_or_len p xs
-position-None p xs h = grind (arith, common_steps)
-
 -- a text without a space is one part
 pub parts-one : (text : List ℕ) → None ≡ position is_space text → parts_of text ≡ text ∷ []
 unfolding parts_of
 parts-one text e =
     slice_split_none is_space text (All-from_get_or (λ (byte : ℕ). is_space byte ≡ false) text 0 (λ k lt. fails_before_first is_space text k 0 (omega (arith, lt, position-None is_space text (sym e)))))
-
--- a name for which there is no memory is a name
-pub named : (text : List ℕ) (fault : NameFault) → RulesNeverReportMemory → fault ≡ Memory
-    → (name_fault text ≡ Some fault) ⊎ ((fault ≡ Memory) × (name_fault text ≡ None)) → is_none (name_fault text) ≡ true
-named text fault law is (inl h) = absurd ((law text).0 (h ∙ ap (λ f. Some f) is))
-named text fault law is (inr h) = ap is_none h.1
 
 -- a text has a first part
 parts-some : (text : List ℕ) → (first : List ℕ) × (rest : List (List ℕ)) × (slice_split is_space text ≡ first ∷ rest)

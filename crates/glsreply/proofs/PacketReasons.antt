@@ -1,30 +1,23 @@
 -- Packets are refused for their own sake.
-use Rattle.std.proofs.Common.{ℕ, ◌==◌, Bool, true, false, cond, List, length, Option, Some, None, Result, Ok, Err}
+use Rattle.std.proofs.Common.{ℕ, ◌==◌, Bool, true, false, cond, List, length, Result, Ok, Err}
 use Rattle.std.specs.Prelude.{nat_lt}
 use Rattle.gpkt.specs.Packets.{Packet, Data, Flush, Delim, ResponseEnd, text}
 use Rattle.gname.specs.Laws.{TextsHaveOneReading}
 use Rattle.gname.specs.declared.formats.Format.{Format}
 use Rattle.ggrammar.specs.Endings.{after_flush}
-use Rattle.ggrammar.specs.Grammar.{Verdict, Open, Whole, Refused, if_room}
+use Rattle.ggrammar.specs.Grammar.{Verdict, Open, Whole, Refused}
 use Rattle.ggrammar.specs.MessageBytes.{IsForPacket, RefusesPackets}
-use Rattle.ggrammar.specs.PeerErrors.{peer_error, unless_error}
+use Rattle.ggrammar.specs.PeerErrors.{peer_error}
 use Rattle.ggrammar.specs.Texts.{texts_of}
 use Rattle.ggrammar.specs.declared.ends.Ends.{Ends}
 use Rattle.ggrammar.specs.declared.ends.Ends.TheVariants.{Plain, Response}
 use Rattle.ggrammar.specs.declared.fault.Why.{Why}
 use Rattle.ggrammar.specs.declared.fault.Why.TheVariants.{UnexpectedFrame}
+use Rattle.ggrammar.proofs.VerdictLemmas.{of_room, past_error}
 use Rattle.glsreply.specs.RefTexts.{RefLine, FirstForm, UnbornForm, RefForm, first_form, line_of}
 use Rattle.glsreply.specs.LsReplies.{is_over, judge, judge_at, judge_body, judge_first, judge_line, judge_text, max_lines, within_limit}
 use Rattle.glsreply.proofs.GrammarLemmas.{cond_holds}
 use Rattle.glsreply.proofs.TextLemmas.{FormsWell, ReadsWell, form_well, line_well, text_fault}
-
-of_room : (test : Bool) → IsForPacket (if_room test)
-of_room true = tt
-of_room false = tt
-
-past_error : (said : Option (List ℕ)) (verdict : Verdict) → IsForPacket verdict → IsForPacket (unless_error said verdict)
-past_error (Some said) verdict h = tt
-past_error None verdict h = h
 
 of_few : (count : ℕ) (verdict : Verdict) → IsForPacket verdict → IsForPacket (within_limit count verdict)
 of_few count Open h = of_room (nat_lt count max_lines)

@@ -19,9 +19,10 @@ use Rattle.ggrammar.specs.Ids.{id_of_text, ok_of}
 use Rattle.ggrammar.specs.PeerErrors.{after_word}
 use Rattle.ggrammar.specs.declared.fault.Why.{Why}
 use Rattle.ggrammar.specs.declared.fault.Why.TheVariants.{BadText, BadName}
+use Rattle.ggrammar.proofs.IdLemmas.{decodes}
 use Rattle.glsreply.specs.RefTexts.{RefLine, Attribute, Symref, Peeled, UnknownAttribute, peeled_or_unknown, symref_or_else, is_space, parts_of, is_name, attribute_of, with_attribute, with_attributes, with_id, line_with_id, line_of_parts, line_of, unborn_target, unborn_after_head, unborn_of_parts, UnbornForm, RefForm, first_of_parts, first_form, unborn_text}
 use Rattle.glsreply.specs.LsManual.{IsSymref, IsPeeled, IsAttribute, AreAttributes, IsRefText}
-use Rattle.glsreply.proofs.TextLemmas.{some_if, ok_some, name_is}
+use Rattle.glsreply.proofs.TextLemmas.{some_if, name_is}
 
 -- the laws of ids and names
 pub record TextLaws : Type 0 where
@@ -153,7 +154,7 @@ id_is_text : (format : Format) (digits id : List ℕ) → id_of_text format digi
 unfolding id_of_text
 id_is_text format digits id e =
     let h = some_if (length digits == id_text_length format) (ok_of (decode_of digits)) id e in
-    record { long = eqb-true _ _ h.0; spells = ok_some (decode_of digits) id h.1 }
+    record { long = eqb-true _ _ h.0; spells = decodes (decode_of digits) id h.1 }
 
 id_is_read : (format : Format) (digits id : List ℕ) → IsIdTextOf format digits id → id_of_text format digits ≡ Some id
 unfolding id_of_text

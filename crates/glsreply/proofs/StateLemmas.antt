@@ -15,13 +15,14 @@ use Rattle.gname.specs.declared.formats.Format.TheVariants.{Sha1, Sha256}
 use Rattle.ggrammar.specs.Grammar.{Verdict, Open, Whole, Refused, IsWhole}
 use Rattle.ggrammar.specs.Ids.{id_of_text}
 use Rattle.ggrammar.specs.MessageReading.{IsAccepted, IsReason, TakesAs, TakesPacket}
-use Rattle.ggrammar.specs.PeerErrors.{peer_error, unless_error}
+use Rattle.ggrammar.specs.PeerErrors.{peer_error}
 use Rattle.ggrammar.specs.Texts.{text_in, texts_of}
 use Rattle.ggrammar.specs.declared.ends.Ends.{Ends}
 use Rattle.ggrammar.specs.declared.fault.Why.{Why}
 use Rattle.ggrammar.specs.declared.fault.Why.TheVariants.{BadId, UnexpectedFrame}
 use Rattle.ggrammar.specs.declared.message.Step.{Step}
 use Rattle.ggrammar.specs.declared.message.Step.TheVariants as step
+use Rattle.ggrammar.proofs.VerdictLemmas.{accepted_unless}
 use Rattle.glsreply.specs.RefTexts.{RefLine, parts_of, line_of, line_of_parts, line_with_id, FirstForm, UnbornForm, RefForm, first_form, first_of_parts, unborn_of_parts}
 use Rattle.glsreply.specs.LsReplies.{is_flush, is_over, unborn_in, unborn_of, line_in, ref_lines, reply_of, judge_line, judge_first, within_limit, judge_text, judge_at, judge, brings}
 use Rattle.glsreply.specs.ReplyState.{State, Holds, IsLineText, AreLineTexts, KeepsKind, state_of, state_in, with_line, with_first, with_text, with_packet}
@@ -30,10 +31,6 @@ use Rattle.glsreply.proofs.GrammarLemmas.{cond_holds, open_induction}
 use Rattle.glsreply.proofs.TextLemmas.{some_if}
 
 -- ---- verdicts
-
-accepted_unless : (said : Option (List ℕ)) (verdict : Verdict) → IsAccepted (unless_error said verdict) → IsAccepted verdict
-accepted_unless (Some said) verdict h = absurd h
-accepted_unless None verdict h = h
 
 accepted_within : (count : ℕ) (verdict : Verdict) → IsAccepted (within_limit count verdict) → IsAccepted verdict
 accepted_within count Open h = tt

@@ -12,6 +12,7 @@ use Rattle.ggrammar.specs.Texts.{texts_of}
 use Rattle.ggrammar.specs.declared.ends.Ends.{Ends}
 use Rattle.ggrammar.specs.declared.ends.Ends.TheVariants.{Plain, Response}
 use Rattle.ggrammar.specs.declared.fault.Why.{Why}
+use Rattle.ggrammar.proofs.TextLemmas.{texts_of-data}
 use Rattle.glsreply.specs.RefTexts.{RefLine, line_of, FirstForm, UnbornForm, RefForm, first_form}
 use Rattle.glsreply.specs.LsReplies.{LsReply, Says, max_lines, is_over, ref_lines, judge_line, judge_first, judge_text, judge_at, judge}
 use Rattle.glsreply.proofs.ReadManual.{SaysRef, SaysUnborn, IsReadReply}
@@ -86,16 +87,12 @@ record IsFront (format : Format) (ends : Ends) (front : List Packet) : Type 0 wh
   pub sent : IsSent format payloads
   pub shape : (front ≡ map Data payloads) ⊎ ((front ≡ map Data payloads ++ Flush ∷ []) × (ends ≡ Response))
 
-data_texts : (payloads : List (List ℕ)) → texts_of (map Data payloads) ≡ map text payloads
-data_texts [] = refl
-data_texts (payload ∷ payloads) = ap (λ (texts : List (List ℕ)). text payload ∷ texts) (data_texts payloads)
-
 data_before : (payloads : List (List ℕ)) → is_over (map Data payloads) ≡ false
 data_before [] = refl
 data_before (payload ∷ payloads) = data_before payloads
 
 data_count : (payloads : List (List ℕ)) → length (texts_of (map Data payloads)) ≡ length payloads
-data_count payloads = ap (λ (texts : List (List ℕ)). length texts) (data_texts payloads) ∙ length-map payloads text
+data_count payloads = ap (λ (texts : List (List ℕ)). length texts) (texts_of-data payloads) ∙ length-map payloads text
 
 is_before : (front : List Packet) (payloads : List (List ℕ)) → front ≡ map Data payloads → is_over front ≡ false
 is_before front payloads e = ap is_over e ∙ data_before payloads

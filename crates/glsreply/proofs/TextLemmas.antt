@@ -4,7 +4,6 @@ use Rattle.std.specs.Prelude.{is_none}
 use Rattle.std.specs.Str.{bytes_eq}
 use Rattle.std.proofs.lemmas.Bool.{eqb-true}
 use Rattle.hex.specs.Hex.{decode_of}
-use Rattle.hex.specs.declared.error.FromHexError.{FromHexError}
 use Rattle.gname.specs.Formats.{id_text_length}
 use Rattle.gname.specs.Ids.{IsIdOf}
 use Rattle.gname.specs.Laws.{TextsHaveOneReading}
@@ -18,6 +17,7 @@ use Rattle.ggrammar.specs.MessageReading.{IsReason}
 use Rattle.ggrammar.specs.MessageBytes.{IsOfPacket}
 use Rattle.ggrammar.specs.declared.fault.Why.{Why}
 use Rattle.ggrammar.specs.declared.fault.Why.TheVariants as why
+use Rattle.ggrammar.proofs.IdLemmas.{decodes}
 use Rattle.glsreply.specs.RefTexts.{RefLine, Attribute, Symref, Peeled, UnknownAttribute, parts_of, is_name, attribute_of, with_symref, with_id, with_attribute, with_attributes, line_with_name, line_with_id, line_of_parts, line_of, unborn_target, unborn_after_head, unborn_of_parts, FirstForm, UnbornForm, RefForm, first_of_parts, first_form}
 use Rattle.glsreply.specs.WellFormed.{IsRefLine}
 use Rattle.glsreply.specs.LsReplies.{within_limit, judge_line, judge_first, judge_text}
@@ -54,15 +54,11 @@ pub some_if : {X : Type 0} (b : Bool) (found : Option X) (x : X) → cond b foun
 some_if true found x e = (refl, e)
 some_if false found x e = cc
 
-pub ok_some : (decoded : Result (List ℕ) FromHexError) (id : List ℕ) → ok_of decoded ≡ Some id → decoded ≡ Ok id
-ok_some (Ok other) id e = let same : Some other ≡ Some id = e in cc
-ok_some (Err fault) id e = cc
-
 pub id_formed : TextsHaveOneReading → (format : Format) (text id : List ℕ) → id_of_text format text ≡ Some id → IsIdOf format id
 unfolding id_of_text
 id_formed law format text id e =
     let h = some_if (length text == id_text_length format) (ok_of (decode_of text)) id e in
-    ((law format text).0 id (record { long = eqb-true _ _ h.0; spells = ok_some (decode_of text) id h.1 })).1
+    ((law format text).0 id (record { long = eqb-true _ _ h.0; spells = decodes (decode_of text) id h.1 })).1
 
 -- ---- names
 

@@ -13,7 +13,7 @@ use Rattle.ggrammar.specs.declared.fault.MessageFault.{MessageFault}
 use Rattle.ggrammar.specs.Building.{IsBuildReason}
 use Rattle.glsreply.specs.RefTexts.{RefLine}
 use Rattle.glsreply.specs.LsReplies.{LsReply, max_lines}
-use Rattle.glsreply.specs.WellFormed.{IsLine, IsRefLine, IsReplyValue, is_format, has_format_of, has_one_format, line_count, has_room, Adds, Pushes}
+use Rattle.glsreply.specs.WellFormed.{IsLine, IsRefLine, IsLsReplyIn, IsReplyValue, BeginsIn, is_format, has_format_of, has_one_format, line_count, has_room, Adds, Pushes}
 
 same_format : (a b : Format) → is_format a b ≡ true → a ≡ b
 same_format Sha1 Sha1 e = refl
@@ -54,6 +54,19 @@ module _ (law : IdsHaveOneFormat) where
       let head = All-head (IsRefLine format) first lines all in
       let same : format_of line.id ≡ format = sym (same_format (format_of first.id) (format_of line.id) parts.0) ∙ (law format first.id head.id).1 in
       (format, All-append (IsRefLine format) (first ∷ lines) (line ∷ []) all (All-cons (IsRefLine format) line [] (line_in_format format line h same parts.1) (All-nil (IsRefLine format))))
+
+  -- ---- the format of a reply
+
+  lines_begin : (other format : Format) (lines : List RefLine) → All (IsRefLine other) lines → BeginsIn format lines → All (IsRefLine format) lines
+  lines_begin other format [] all begins = All-nil (IsRefLine format)
+  lines_begin other format (line ∷ lines) all begins =
+      let is = (All-head (IsRefLine other) line lines all).id in
+      subst (λ (f : Format). All (IsRefLine f) (line ∷ lines)) (sym (law other line.id is).1 ∙ (law format line.id begins).1) all
+
+  -- a value is a reply in the format of its first id
+  pub value_in : (reply : LsReply) → IsReplyValue reply → (format : Format) → BeginsIn format reply.lines → IsLsReplyIn format reply
+  value_in reply h format begins =
+      record { unborn = h.1.unborn; lines = lines_begin h.0 format reply.lines h.1.lines begins; few = h.1.few }
 
   -- ---- the reply with the line
 

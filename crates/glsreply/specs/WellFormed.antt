@@ -28,6 +28,15 @@ pub record IsRefLine (format : Format) (line : RefLine) : Type 0 where
   pub symref : IfSome line.symref IsRefName
   pub peeled : IfSome line.peeled (IsIdOf format)
 
+-- the ids of a line are of this format
+abbrev pub HasIdsOf : Format → RefLine → Type 0
+HasIdsOf format line = IsIdOf format line.id × IfSome line.peeled (IsIdOf format)
+
+-- the ids of a reply, which has them of one format, are of this one where the first is
+abbrev pub BeginsIn : Format → List RefLine → Type 0
+BeginsIn format [] = Unit {0}
+BeginsIn format (line ∷ lines) = IsIdOf format line.id
+
 -- an unborn HEAD counts as a line
 abbrev pub line_count : LsReply → ℕ
 line_count reply = length (unborn_packets reply.unborn) + length reply.lines

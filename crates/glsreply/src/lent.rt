@@ -7,7 +7,9 @@ ghost use Rattle.gname.specs.Names.{max_name};
 ghost use Rattle.glsreply.specs.LentViews.{lent_view};
 ghost use Rattle.glsreply.specs.RefTexts.{peeled_text, ref_text, symref_text};
 ghost use Rattle.glsreply.specs.TextLengths.{max_id_text, max_peeled_text, max_ref_text, max_symref_text};
+ghost use Rattle.glsreply.specs.WellFormed.{IsLine};
 
+use crate::reply::keeps_rules;
 use arrayvec::ArrayVec;
 use gname::{MAX_ID_TEXT, Oid, RefName};
 use std::alloc::Allocator;
@@ -43,6 +45,20 @@ impl<'a, A: Allocator + Copy> LentLine<'a, A> {
             symref,
             peeled,
         }
+    }
+}
+
+// What the type of a line says of it; the call has no effect.
+pub(crate) fn keeps_forms<A: Allocator + Copy>(line: &LentLine<'_, A>)
+    ensures { IsLine (lent_view line.now) }
+{
+    let _id = line.id.as_bytes();
+    keeps_rules(line.name);
+    if let Some(target) = line.symref {
+        keeps_rules(target);
+    }
+    if let Some(id) = &line.peeled {
+        let _peeled = id.as_bytes();
     }
 }
 

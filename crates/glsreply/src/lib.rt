@@ -13,8 +13,9 @@
 //! - [`LsReply`] keeps ids of one format and the most lines; what would break that is refused, and nothing
 //!   changes. [`LsReply::last_frame`] is the number of its last packet.
 //! - [`write_ls_reply`] writes exactly the bytes of the canonical packets, and where the sink fails a beginning of
-//!   them. A line is never too long. Who has no [`LsReply`] writes the same line by line, of names that are lent,
-//!   with [`write_unborn`], [`write_ref`] and [`write_end`].
+//!   them. A line is never too long, and the reply is one that reads back, in the format of its ids. Who has no
+//!   [`LsReply`] writes the same line by line, of names that are lent, with [`write_unborn`], [`write_ref`] and
+//!   [`write_end`], and is told of each line that it is one of a reply in the format of its ids.
 //! - [`RefText`] is the text of the line of a ref.
 //! - [`laws`]: packets say one reply. No reply begins another, nor do its bytes. Each beginning has an ending, and
 //!   the packet that is refused is the first that does not fit. The whole lists of the table are exactly the
@@ -25,7 +26,7 @@
 //!
 //! # Only tested
 //!
-//! That memory is found where there is some, and what the bytes are of lines that are written one by one.
+//! That memory is found where there is some.
 //!
 //! # What a body can still get away with
 //!
@@ -36,7 +37,7 @@
 //! # Stands on
 //!
 //! `ggrammar` for reading and writing of messages, `gpkt` for packet lines, `gname` for ids and names, `arrayvec`
-//! for the text of a line, `bumpalo` for a place without memory, in which names are judged and not kept.
+//! for the text of a line.
 #![tactic(auto)]
 
 pub mod laws;
@@ -50,6 +51,3 @@ pub use crate::lent::{LentLine, RefText};
 pub use crate::reader::{read_ls_reply, read_ls_reply_in};
 pub use crate::reply::{LsReply, MAX_LINES, RefLine};
 pub use crate::writer::{write_end, write_ls_reply, write_ref, write_unborn};
-
-#[cfg(test)]
-mod tests;

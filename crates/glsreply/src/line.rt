@@ -5,11 +5,8 @@ ghost use Rattle.ggrammar.specs.PeerErrors.{after_word};
 ghost use Rattle.glsreply.specs.RefTexts.{is_space, parts_of, is_name, attribute_of, with_attributes, line_with_name, line_of, first_form, unborn_target, unborn_of_parts, unborn_after_head};
 ghost use Rattle.glsreply.specs.LineViews.{line_parts, line_read, attribute_view, form_view, target_read, parts_left};
 
-use bumpalo::Bump;
 use ggrammar::{Why, after_word, id_of_text};
-use gname::laws::rules_never_report_memory;
-use gname::{Format, HEAD, NameFault, Oid, RefName};
-use std::alloc::Allocator;
+use gname::{Format, HEAD, Oid, RefName};
 
 /// The parts of the line of a ref, lent from its text.
 #[derive(Clone, Copy)]
@@ -55,27 +52,16 @@ fn first_space(text: &[u8]) -> Option<usize>
     text.iter().position(|byte| *byte == b' ')
 }
 
-// Whether a text is a ref name. An arena without room has the name judged and not kept.
-fn is_name<A: Allocator + Copy>(alloc: A, text: &[u8]) -> bool
+// Whether a text is a ref name.
+fn is_name(text: &[u8]) -> bool
     ensures { result ≡ is_name text.now }
 {
-    rules_never_report_memory();
-    let arena = Bump::new(alloc);
-    arena.set_allocation_limit(Some(0));
-    match RefName::new(&arena, text) {
-        Ok(_name) => true,
-        Err(NameFault::Memory) => true,
-        Err(_fault) => false,
-    }
+    RefName::check(text).is_ok()
 }
 
 /// What a text says as the line of a ref, or why it is none. It takes no memory.
 #[tactic(auto, unfolding(crate::specs::RefTexts::line_of))]
-pub(crate) fn line_of<A: Allocator + Copy>(
-    alloc: A,
-    format: Format,
-    text: &[u8],
-) -> Result<LineParts<'_>, Why>
+pub(crate) fn line_of(format: Format, text: &[u8]) -> Result<LineParts<'_>, Why>
     ensures { line_read result ≡ line_of format text.now }
 {
     let (first, rest) = cut(text);
@@ -85,27 +71,21 @@ pub(crate) fn line_of<A: Allocator + Copy>(
     let Some(rest) = rest else {
         return Err(Why::BadText);
     };
-    line_with_name(alloc, format, id, rest)
+    line_with_name(format, id, rest)
 }
 
-fn line_with_name<A: Allocator + Copy>(
-    alloc: A,
-    format: Format,
-    id: Oid,
-    rest: &[u8],
-) -> Result<LineParts<'_>, Why>
+fn line_with_name(format: Format, id: Oid, rest: &[u8]) -> Result<LineParts<'_>, Why>
     ensures { line_read result ≡ line_with_name format id (parts_of rest.now) }
 {
     let (name, attributes) = cut(rest);
-    if !is_name(alloc, name) {
+    if !is_name(name) {
         return Err(Why::BadName);
     }
-    with_attributes(alloc, format, id, name, None, None, attributes)
+    with_attributes(format, id, name, None, None, attributes)
 }
 
 // The line with its attributes, of which each comes once; so this goes at most three calls deep.
-fn with_attributes<'a, A: Allocator + Copy>(
-    alloc: A,
+fn with_attributes<'a>(
     format: Format,
     id: Oid,
     name: &'a [u8],
@@ -129,10 +109,10 @@ fn with_attributes<'a, A: Allocator + Copy>(
             if symref.is_some() {
                 return Err(Why::BadText);
             }
-            if !is_name(alloc, target) {
+            if !is_name(target) {
                 return Err(Why::BadName);
             }
-            with_attributes(alloc, format, id, name, Some(target), peeled, rest)
+            with_attributes(format, id, name, Some(target), peeled, rest)
         }
         Attribute::Peeled(text) => {
             if peeled.is_some() {
@@ -141,7 +121,7 @@ fn with_attributes<'a, A: Allocator + Copy>(
             let Some(peeled) = id_of_text(format, text) else {
                 return Err(Why::BadId);
             };
-            with_attributes(alloc, format, id, name, symref, Some(peeled), rest)
+            with_attributes(format, id, name, symref, Some(peeled), rest)
         }
         Attribute::Unknown => Err(Why::BadText),
     }
@@ -162,18 +142,18 @@ fn attribute_of(part: &[u8]) -> Attribute<'_>
 
 /// What the first text of a reply is, by its first part. It takes no memory.
 #[tactic(auto, unfolding(crate::specs::RefTexts::first_form))]
-pub(crate) fn first_form<A: Allocator + Copy>(alloc: A, text: &[u8]) -> FirstText<'_>
+pub(crate) fn first_form(text: &[u8]) -> FirstText<'_>
     ensures { form_view result ≡ first_form text.now }
 {
     let (first, rest) = cut(text);
     if first == b"unborn".as_slice() {
-        FirstText::Unborn(unborn_of_parts(alloc, rest))
+        FirstText::Unborn(unborn_of_parts(rest))
     } else {
         FirstText::Ref
     }
 }
 
-fn unborn_of_parts<A: Allocator + Copy>(alloc: A, rest: Option<&[u8]>) -> Result<&[u8], Why>
+fn unborn_of_parts(rest: Option<&[u8]>) -> Result<&[u8], Why>
     ensures { target_read result ≡ unborn_of_parts (parts_left rest.entry) }
 {
     let Some(rest) = rest else {
@@ -181,31 +161,31 @@ fn unborn_of_parts<A: Allocator + Copy>(alloc: A, rest: Option<&[u8]>) -> Result
     };
     let (head, rest) = cut(rest);
     if head == HEAD.as_slice() {
-        unborn_after_head(alloc, rest)
+        unborn_after_head(rest)
     } else {
         Err(Why::BadText)
     }
 }
 
-fn unborn_after_head<A: Allocator + Copy>(alloc: A, rest: Option<&[u8]>) -> Result<&[u8], Why>
+fn unborn_after_head(rest: Option<&[u8]>) -> Result<&[u8], Why>
     ensures { target_read result ≡ unborn_after_head (parts_left rest.entry) }
 {
     let Some(rest) = rest else {
         return Err(Why::BadText);
     };
     match cut(rest) {
-        (part, None) => unborn_target(alloc, part),
+        (part, None) => unborn_target(part),
         (_part, Some(_more)) => Err(Why::BadText),
     }
 }
 
-fn unborn_target<A: Allocator + Copy>(alloc: A, part: &[u8]) -> Result<&[u8], Why>
+fn unborn_target(part: &[u8]) -> Result<&[u8], Why>
     ensures { target_read result ≡ unborn_target (after_word (codes "symref-target:") part.now) }
 {
     let Some(name) = after_word(b"symref-target:", part) else {
         return Err(Why::BadText);
     };
-    if is_name(alloc, name) {
+    if is_name(name) {
         Ok(name)
     } else {
         Err(Why::BadName)

@@ -24,8 +24,8 @@ use std::alloc::{AllocError, Allocator};
 
 /// Reads the reply to ls-refs of a repository whose ids are SHA-1, as [`read_ls_reply_in`] does.
 pub fn read_ls_reply<S: Source, A: Allocator + Copy, B: Allocator + Copy>(
-    ends: Ends,
     reader: &mut LineReader<S, A>,
+    ends: Ends,
     alloc: B,
 ) -> Result<LsReply<B>, MessageFault>
     ensures read { ReadsOrRefuses (judge format.Sha1 ends) brings (Says format.Sha1 ends) (change_of S.remaining reader.old.source reader.new.source) result }
@@ -33,7 +33,7 @@ pub fn read_ls_reply<S: Source, A: Allocator + Copy, B: Allocator + Copy>(
     ensures loans { S.loans reader.new.source ≡ S.loans reader.old.source }
     ensures reader { LeavesReader S.is_down reader.old reader.new result }
 {
-    read_ls_reply_in(Format::Sha1, ends, reader, alloc)
+    read_ls_reply_in(reader, Format::Sha1, ends, alloc)
 }
 
 /// Reads one reply to ls-refs to its end, and nothing after it (gitprotocol-v2(5), "ls-refs"). Its ids are of
@@ -45,9 +45,9 @@ pub fn read_ls_reply<S: Source, A: Allocator + Copy, B: Allocator + Copy>(
 /// 65,537 is refused with [`Why::Limit`] where its form is right. [`Why::Memory`] comes only at a line that is
 /// accepted. After a refusal the line reader has failed exactly where the line itself was refused.
 pub fn read_ls_reply_in<S: Source, A: Allocator + Copy, B: Allocator + Copy>(
+    reader: &mut LineReader<S, A>,
     format: Format,
     ends: Ends,
-    reader: &mut LineReader<S, A>,
     alloc: B,
 ) -> Result<LsReply<B>, MessageFault>
     ensures read { ReadsOrRefuses (judge format ends) brings (Says format ends) (change_of S.remaining reader.old.source reader.new.source) result }
@@ -172,7 +172,7 @@ impl<A: Allocator + Copy> LsReplyReader<A> {
         if self.count > 0 {
             return self.take_ref(text);
         }
-        match first_form(self.alloc, text) {
+        match first_form(text) {
             FirstText::Unborn(Ok(target)) => self.take_unborn(target),
             FirstText::Unborn(Err(why)) => Err(why),
             FirstText::Ref => self.take_ref(text),
@@ -200,7 +200,7 @@ impl<A: Allocator + Copy> LsReplyReader<A> {
             (state_in self.new ≡ with_line (state_in self.old) (line_of self.old.format text.now)) result }
     {
         texts_have_one_reading();
-        match line_of(self.alloc, self.format, text) {
+        match line_of(self.format, text) {
             Ok(line) => self.take_line(&line),
             Err(why) => Err(why),
         }

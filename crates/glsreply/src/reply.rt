@@ -6,9 +6,9 @@ ghost use Rattle.std.specs.Option.{option_copied};
 ghost use Rattle.gname.specs.Names.{IsRefName};
 ghost use Rattle.ggrammar.specs.declared.fault.Why.TheVariants.{Limit};
 ghost use Rattle.glsreply.specs.LentViews.{lent_view};
-ghost use Rattle.glsreply.specs.WellFormed.{Adds, IsLine, IsReplyValue, Pushes, SetsUnborn, has_one_format, has_room, last_frame, line_count};
+ghost use Rattle.glsreply.specs.WellFormed.{Adds, IsReplyValue, Pushes, SetsUnborn, has_one_format, has_room, last_frame, line_count};
 
-use crate::lent::LentLine;
+use crate::lent::{LentLine, keeps_forms};
 use ggrammar::{Ends, MessageFault, Why};
 use gname::laws::ids_have_one_format;
 use gname::{Oid, RefName};
@@ -110,7 +110,7 @@ impl<A: Allocator + Copy> LsReply<A> {
         ensures { Pushes self.old line self.new result }
     {
         ids_have_one_format();
-        keeps_forms(&line);
+        keeps_forms(&line.lend());
         if !goes_with(self.lines(), &line) {
             return Err(MessageFault::of_value(Why::BadText));
         }
@@ -168,7 +168,8 @@ impl<A: Allocator + Copy> LsReply<A> {
 
     /// The refs, in order.
     pub(crate) fn lines(&self) -> &[RefLine<A>]
-        ensures { result.now ≡ self.now.lines }
+        ensures lines { result.now ≡ self.now.lines }
+        ensures formed { IsReplyValue self.now }
     {
         self.lines.as_slice()
     }
@@ -210,22 +211,8 @@ fn add_line<A: Allocator + Copy>(
     }
 }
 
-// What the type of a line says of it; the call has no effect.
-fn keeps_forms<A: Allocator + Copy>(line: &RefLine<A>)
-    ensures { IsLine line.now }
-{
-    let _id = line.id.as_bytes();
-    keeps_rules(&line.name);
-    if let Some(target) = &line.symref {
-        keeps_rules(target);
-    }
-    if let Some(id) = &line.peeled {
-        let _peeled = id.as_bytes();
-    }
-}
-
 // What the type of a name says of it; the call has no effect.
-fn keeps_rules<A: Allocator + Copy>(name: &RefName<A>)
+pub(crate) fn keeps_rules<A: Allocator + Copy>(name: &RefName<A>)
     ensures { IsRefName name.now }
 {
     let _bytes = name.as_bytes();

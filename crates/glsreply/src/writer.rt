@@ -1,7 +1,9 @@
 //! Writing a reply.
 
-ghost use Rattle.std.specs.Prelude.{◌≡◌, ◌≢◌, ◌≤◌, ◌++◌, [], ◌∷◌, length, map};
+ghost use Rattle.std.specs.Prelude.{◌≡◌, ◌≢◌, ◌≤◌, ◌++◌, [], ◌∷◌, length, map, IfSome};
 ghost use Rattle.std.specs.Option.{option_copied};
+ghost use Rattle.gname.specs.Names.{IsRefName};
+ghost use Rattle.gname.specs.declared.formats.Format.{Format};
 ghost use Rattle.gpkt.specs.Packets.{Flush};
 ghost use Rattle.ggrammar.specs.Endings.{ends_with};
 ghost use Rattle.ggrammar.specs.Writing.{WritesLines, WritesPart};
@@ -9,12 +11,14 @@ ghost use Rattle.glsreply.specs.LentViews.{lent_view};
 ghost use Rattle.glsreply.specs.LsReplies.{canonical_reply, ref_packet, unborn_packets};
 ghost use Rattle.glsreply.specs.RefTexts.{ref_text};
 ghost use Rattle.glsreply.specs.TextLengths.{max_ref_text};
+ghost use Rattle.glsreply.specs.WellFormed.{BeginsIn, HasIdsOf, IsLsReplyIn, IsRefLine};
 
-use crate::lent::{LentLine, RefText};
+use crate::lent::{LentLine, RefText, keeps_forms};
 use crate::reply::{LsReply, RefLine};
 use ggrammar::Ends;
 use ggrammar::laws::writes_lines;
 use gname::RefName;
+use gname::laws::ids_have_one_format;
 use gpkt::{LineWriter, Sink, WriteFault};
 use std::alloc::Allocator;
 
@@ -22,18 +26,23 @@ use std::alloc::Allocator;
 /// response-end after it where replies end so (gitprotocol-v2(5), "ls-refs"). It takes no memory.
 ///
 /// It fails with `Io` where the sink fails, and then a beginning of the reply stands written; with `Failed`
-/// where the writer had failed before. It is never `Payload`.
+/// where the writer had failed before. It is never `Payload`. A reply is what
+/// [`reads_back`](crate::laws::reads_back) asks of one, in the format of its ids, so what is written of it reads
+/// back.
 pub fn write_ls_reply<A: Allocator + Copy, W: Sink>(
     reply: &LsReply<A>,
     ends: Ends,
     writer: &mut LineWriter<W>,
 ) -> Result<(), WriteFault>
-    ensures { WritesLines W.contents W.passed_on W.is_down W.loans writer.old writer.new result
+    ensures lines { WritesLines W.contents W.passed_on W.is_down W.loans writer.old writer.new result
         (canonical_reply ends reply.now) }
+    ensures form { (format : Format) → BeginsIn format reply.now.lines → IsLsReplyIn format reply.now }
 {
     writes_lines::<W>();
+    ids_have_one_format();
+    let lines = reply.lines();
     write_unborn(reply.unborn(), writer)?;
-    write_refs(reply.lines(), ends, writer)
+    write_refs(lines, ends, writer)
 }
 
 /// Writes the line of an unborn `HEAD` that points at the target, or nothing where there is none. It takes no
@@ -45,8 +54,9 @@ pub fn write_unborn<A: Allocator + Copy, W: Sink>(
     target: Option<&RefName<A>>,
     writer: &mut LineWriter<W>,
 ) -> Result<(), WriteFault>
-    ensures { WritesPart W.contents W.passed_on W.is_down W.loans writer.old writer.new result
+    ensures lines { WritesPart W.contents W.passed_on W.is_down W.loans writer.old writer.new result
         (unborn_packets (option_copied target.entry)) }
+    ensures form { IfSome (option_copied target.entry) IsRefName }
 {
     writes_lines::<W>();
     match target {
@@ -74,7 +84,8 @@ fn write_refs<A: Allocator + Copy, W: Sink>(
 
 /// Writes the line of a ref, whose text is made in `text`; what stood there is gone. It takes no memory.
 ///
-/// The ids of a reply are of one format, which is the caller's to see to; no reader takes another id.
+/// Where both ids of the line are of a format, it is a line of a reply in that format. A reply has ids of one
+/// format, which is the caller's to see to: no reader takes another id.
 pub fn write_ref<A: Allocator + Copy, W: Sink>(
     line: &LentLine<'_, A>,
     text: &mut RefText,
@@ -83,8 +94,10 @@ pub fn write_ref<A: Allocator + Copy, W: Sink>(
     ensures lines { WritesLines W.contents W.passed_on W.is_down W.loans writer.old writer.new result
         (ref_packet (lent_view line.now) ∷ []) }
     ensures text { text.new ≡ ref_text (lent_view line.now) }
+    ensures form { (format : Format) → HasIdsOf format (lent_view line.now) → IsRefLine format (lent_view line.now) }
 {
     writes_lines::<W>();
+    keeps_forms(line);
     text.set(line);
     writer.text(text.as_bytes())
 }

@@ -1,6 +1,8 @@
 //! The laws of all five messages: functions without effect, whose contracts they are. The kinds are a hello, an
 //! advertisement, a request, a reply to ls-refs and a reply to fetch, each for all that its grammar is given.
 
+ghost use Rattle.std.specs.Prelude.{◌≤◌};
+ghost use Rattle.gname.specs.Limits.{max_pack};
 ghost use Rattle.gname.specs.declared.formats.Format.{Format};
 ghost use Rattle.ggrammar.specs.Kinds.{AsInManual, CanonicalSays, OneMeaning, ReadsBack, ReadsBackIfAny, ReadsExactly, ReadsExactlyIfAny, SaysWhole};
 ghost use Rattle.ggrammar.specs.MessageBytes.{BeginsOrIsRefused};
@@ -76,7 +78,8 @@ pub fn manual()
     gfetchreply::laws::manual();
 }
 
-/// The packets that are written of a value say it, and each fits a packet line.
+/// The packets that are written of a value say it, and each fits a packet line. A reply to fetch is read within a limit
+/// that a [`PackLimit`](crate::PackLimit) can have.
 pub fn canonical_says()
     ensures hello { CanonicalSays hello.Says hello.IsHello hello.IsCanonical }
     ensures advert { CanonicalSays advert.Says advert.AreCapabilities advert.IsCanonical }
@@ -84,14 +87,18 @@ pub fn canonical_says()
         (request_writing.IsCanonicalRequest format) }
     ensures ls_reply { (format : Format) (ends : Ends) → CanonicalSays (ls_reply.Says format ends)
         (ls_reply_form.IsLsReplyIn format) (ls_reply.IsCanonicalReply ends) }
-    ensures fetch_reply { (reading : fetch_reply.Reading) → CanonicalSays (fetch_reply.Says reading)
-        (fetch_reply_form.IsReplyIn reading) (fetch_reply.IsCanonical reading.ends) }
+    ensures fetch_reply { (reading : fetch_reply.Reading) → reading.limit ≤ max_pack
+        → CanonicalSays (fetch_reply.Says reading) (fetch_reply_form.IsReplyIn reading)
+        (fetch_reply.IsCanonical reading.ends) }
 {
     ghello::laws::canonical_says();
     grequest::laws::canonical_says();
     glsreply::laws::canonical_says();
     gfetchreply::laws::canonical_says();
 }
+
+/// [`canonical_says`] by a shorter name.
+pub use self::canonical_says as canon_says;
 
 /// A message is read exactly where the bytes begin with it: that front is taken, and nothing after it. A request may
 /// be missing.
@@ -125,7 +132,8 @@ pub fn every_input()
     gfetchreply::laws::every_input();
 }
 
-/// What is written of a value is read back as it, whatever follows.
+/// What is written of a value is read back as it, whatever follows; a reply to fetch within any limit that a
+/// [`PackLimit`](crate::PackLimit) can have and its pack keeps.
 pub fn reads_back()
     ensures hello { ReadsBack hello.judge hello.brings hello.Says hello.IsHello hello.IsCanonical }
     ensures advert { ReadsBack advert.judge advert.brings advert.Says advert.AreCapabilities advert.IsCanonical }
@@ -133,9 +141,9 @@ pub fn reads_back()
         (request_form.IsAsked format) (request_writing.IsCanonicalRequest format) }
     ensures ls_reply { (format : Format) (ends : Ends) → ReadsBack (ls_reply.judge format ends) ls_reply.brings
         (ls_reply.Says format ends) (ls_reply_form.IsLsReplyIn format) (ls_reply.IsCanonicalReply ends) }
-    ensures fetch_reply { (reading : fetch_reply.Reading) → ReadsBack (fetch_reply.judge reading)
-        (fetch_reply.brings reading) (fetch_reply.Says reading) (fetch_reply_form.IsReplyIn reading)
-        (fetch_reply.IsCanonical reading.ends) }
+    ensures fetch_reply { (reading : fetch_reply.Reading) → reading.limit ≤ max_pack
+        → ReadsBack (fetch_reply.judge reading) (fetch_reply.brings reading) (fetch_reply.Says reading)
+        (fetch_reply_form.IsReplyIn reading) (fetch_reply.IsCanonical reading.ends) }
 {
     ghello::laws::reads_back();
     grequest::laws::reads_back();

@@ -19,10 +19,7 @@
 //!   [`PackSink`], and [`write_fetch_reply`].
 //! - `ggrammar`: the faults of all messages, [`MessageFault`] and [`Why`], and how any message is read.
 //!
-//! # Only tested
-//!
-//! That a message of one kind is refused, at its first packet, by the readers of the others; of the two replies it is
-//! proved that it is refused. The tests also read messages of several kinds one after the other.
+//! [`MsgFault`] and [`laws::canon_says`] are second, shorter names.
 //!
 //! # What a body can still get away with
 //!
@@ -35,8 +32,6 @@
 #![tactic(auto)]
 
 pub mod laws;
-#[cfg(test)]
-mod tests;
 
 pub use gfetchreply::{
     Acks, FetchHead, FetchReading, FetchReply, MAX_ACKS, PackBytes, PackLimit, PackSink,
@@ -44,8 +39,8 @@ pub use gfetchreply::{
     write_fetch_reply,
 };
 pub use ggrammar::{
-    Capability, Ends, MAX_CAPABILITY, MAX_PEER_TEXT, MessageFault, PeerText, Why, is_key, is_value,
-    is_word_value,
+    Capability, Ends, MAX_CAPABILITY, MAX_PEER_TEXT, MessageFault, MsgFault, PeerText, Why, is_key,
+    is_value, is_word_value,
 };
 pub use ghello::{
     Advert, Hello, MAX_ADVERTISED, MAX_HOST, MAX_PATH, is_host, is_path, read_advert, read_hello,

@@ -24,7 +24,7 @@
 //!
 //! [`laws`] say more of ids, names and prefixes, for the proofs of other crates.
 //!
-//! # Only tried
+//! # Only tested
 //!
 //! - That the definitions in `specs/` agree with `git check-ref-format`: the cases of the program
 //!   `conformance` have names with that program's answers.

@@ -1,20 +1,17 @@
 -- What is read of bytes, and that each front has a line or a reason.
-use Rattle.std.proofs.Common.{◌≡◌, ◌≢◌, ℕ, zero, suc, ◌+◌, ◌-◌, ◌<◌, ◌≤◌, ◌⊎◌, List, [], ◌∷◌, ◌++◌, length, take, drop, Option, Some, None, Result, Ok, Err, refl, sym, ap, ◌∙◌, inl, inr, arith, length-append, length-take-le, take-append-drop, append_assoc}
+use Rattle.std.proofs.Common.{◌≡◌, ℕ, zero, suc, ◌+◌, ◌-◌, ◌<◌, ◌≤◌, ◌⊎◌, List, [], ◌∷◌, ◌++◌, length, take, drop, Option, Some, None, Result, Ok, Err, refl, sym, ap, ◌∙◌, inl, inr, arith, length-append, length-take-le, take-append-drop, append_assoc}
 use Rattle.gpkt.specs.declared.fault.LineFault.{LineFault}
 use Rattle.gpkt.specs.declared.fault.LineFault.TheVariants.{BadDigits, Reserved, TooLong, Truncated, Io, Failed, Memory}
 use Rattle.gpkt.specs.Packets.{Packet, Data, Flush, Delim, ResponseEnd, number_of, max_packet}
 use Rattle.gpkt.specs.LineReading.{NoLine, Gives}
 use Rattle.gpkt.specs.Laws.{IsOfBytes, OneFault, OneOutcome, SpellsAtFront, EveryFront}
-use Rattle.gpkt.proofs.Readings.{one_reading_lem, refused_lem, has_four_bytes_lem}
+use Rattle.gpkt.proofs.Readings.{one_reading_lem, refused_lem, has_four_bytes_lem, some_value}
 
 -- ---- one outcome
 
-some_number : (a b : ℕ) → Some a ≡ Some b → a ≡ b
-some_number a b h = cc
-
 -- two numbers that the same digits stand for
 same_number : (digits : List ℕ) (a b : ℕ) → number_of digits ≡ Some a → number_of digits ≡ Some b → a ≡ b
-same_number digits a b p q = some_number a b (sym p ∙ q)
+same_number digits a b p q = some_value a b (sym p ∙ q)
 
 no_number : {X : Type 0} (digits : List ℕ) (n : ℕ) → number_of digits ≡ None → number_of digits ≡ Some n → X
 no_number digits n p q = cc (p, q)

@@ -1,12 +1,10 @@
 -- Lines read, and bytes written, one after the other.
-use Rattle.std.proofs.Common.{◌≡◌, ◌≢◌, ℕ, Bool, List, [], ◌∷◌, ◌++◌, Option, Some, None, Result, Ok, Err, refl, sym, ap, ◌∙◌, append_assoc, append-nil}
+use Rattle.std.proofs.Common.{◌≢◌, ℕ, Bool, List, [], ◌∷◌, ◌++◌, Option, Some, None, Ok, Err, refl, sym, ap, ◌∙◌, append_assoc, append-nil}
 use Rattle.std.specs.Io.KnownBytes.{Keeps}
 use Rattle.std.specs.Prelude.{IsSome}
 use Rattle.std.proofs.KnownBytes.{Appends-trans, Appends-kept, Keeps-trans}
 use Rattle.std.proofs.lemmas.Bool.{false≢true}
-use Rattle.gpkt.specs.declared.fault.WriteFault.{WriteFault}
 use Rattle.gpkt.specs.declared.fault.WriteFault.TheVariants.{Failed, Payload, Io}
-use Rattle.gpkt.specs.LineWriting.{Writer, HasWritten, HasPushed}
 use Rattle.gpkt.specs.Laws.{WritesJoin, FailsOfMore, PushesWritten, ReadsNone, ReadsNext, ReadsJoin}
 use Rattle.gpkt.proofs.Pieces.{AppendsFront-more, AppendsFront-after}
 use Rattle.gpkt.proofs.Readings.{spellings_join_lem}
@@ -33,7 +31,7 @@ reads_next (Some old) (Some mid) (Some new) lines line p (front, parted, spelt) 
     reads_join (Some old) (Some mid) (Some new) lines (line ∷ []) p (front, parted, (front, [], sym (append-nil front), spelt, refl))
 
 -- bytes that were known and are kept are known
-IsSome-kept : (a b : Option (List ℕ)) → Keeps a b → IsSome a → IsSome b
+pub IsSome-kept : (a b : Option (List ℕ)) → Keeps a b → IsSome a → IsSome b
 IsSome-kept None b kept known = absurd (false≢true known)
 IsSome-kept (Some x) None kept known = absurd kept
 IsSome-kept (Some x) (Some y) kept known = refl

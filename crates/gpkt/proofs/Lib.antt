@@ -6,3 +6,4 @@ pub mod Readings
 pub mod Bands
 pub mod Joins
 pub mod Fronts
+pub mod SendingLemmas

@@ -100,7 +100,7 @@ parts_of Flush bytes h = record { digits = bytes; split = sym (append-nil bytes)
 parts_of Delim bytes h = record { digits = bytes; split = sym (append-nil bytes); four = number_of-four bytes 1 h; number = h; fits = omega arith }
 parts_of ResponseEnd bytes h = record { digits = bytes; split = sym (append-nil bytes); four = number_of-four bytes 2 h; number = h; fits = omega arith }
 
-some_value : (a b : ℕ) → Some a ≡ Some b → a ≡ b
+pub some_value : (a b : ℕ) → Some a ≡ Some b → a ≡ b
 some_value a b h = cc
 
 -- ---- one reading

@@ -34,25 +34,23 @@
 //!
 //! # Only tested
 //!
-//! - A device over std's readers and writers, or over memory, goes down only where these failed, and
-//!   passes a flush on.
-//! - A device's call is made once and not tried again, of whatever kind its error is; how many calls
-//!   are made, and how many bytes each asks for.
-//! - How [`memory::Limited`] hinders, and how often a [`memory::VecSink`] says that it was flushed.
-//! - The texts of the faults, and that memory is found where there is some; that no call but the constructor
-//!   takes memory, and that a source is not read where the constructor fails.
+//! - A device over std's readers and writers goes down only where these failed, or where a write took none
+//!   of some bytes, and passes a flush on.
+//! - Its call is made once and not tried again, of whatever kind its error is; a line is read in no more
+//!   calls than it has bytes, and nothing is flushed before a push.
 //!
 //! # What a body can still get away with
 //!
 //! A device that is always down; a source that gives a byte a call, and a sink that takes one; a
-//! buffer that is never made; another text for a fault. A sink that passes bytes on at once says that
+//! buffer that is never made, and a constructor that reads before it fails; another text for a fault; a
+//! [`memory::Limited`] that hinders otherwise than it was told, and a [`memory::VecSink`] that counts no
+//! flush. A sink that passes bytes on at once says that
 //! it is not known which were passed on, since a write keeps what is known. A flush that fails may have
 //! passed on any of what was held back.
 //!
 //! # Stands on
 //!
-//! `hex` for the digits, `thiserror` for the texts of the faults, std's `Read` and `Write`; in the
-//! tests `bumpalo`, for memory that ends.
+//! `hex` for the digits, `thiserror` for the texts of the faults, std's `Read` and `Write`.
 #![tactic(auto)]
 
 mod band;

@@ -16,7 +16,7 @@
 //! [`laws`] say that each ref could have been added after those before it, and that refs of which each name
 //! stands at the same id are the same.
 //!
-//! # Only tried
+//! # Only tested
 //!
 //! That memory which is there is used.
 //!

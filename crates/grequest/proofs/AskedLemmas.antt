@@ -8,9 +8,9 @@ use Rattle.grequest.specs.Asked.{LsRefsAsked}
 use Rattle.grequest.specs.RequestLines.{ls_refs_asked, has_ls_argument, is_symrefs, is_peel, is_unborn, prefixes, prefix_value}
 use Rattle.grequest.specs.RequestState.{with_ls_argument}
 
-same_asked : {a b : LsRefsAsked} → a.agent ≡ b.agent → a.symrefs ≡ b.symrefs → a.peel ≡ b.peel → a.unborn ≡ b.unborn
+pub same_ls : {a b : LsRefsAsked} → a.agent ≡ b.agent → a.symrefs ≡ b.symrefs → a.peel ≡ b.peel → a.unborn ≡ b.unborn
     → a.prefixes ≡ b.prefixes → a ≡ b
-same_asked agent symrefs peel unborn prefixes =
+same_ls agent symrefs peel unborn prefixes =
     λ i. record { agent = agent i; symrefs = symrefs i; peel = peel i; unborn = unborn i; prefixes = prefixes i }
 
 -- a flag with one argument more
@@ -56,12 +56,12 @@ pub ls_refs_asked-push : (capabilities arguments : List (List ℕ)) (line : List
     → ls_refs_asked capabilities (arguments ++ line ∷ []) ≡ with_ls_argument (ls_refs_asked capabilities arguments) form
 unfolding prefixes_in
 ls_refs_asked-push capabilities arguments line Symrefs is =
-    same_asked refl (flag_set is_symrefs arguments line Symrefs is refl) (flag_same is_peel arguments line Symrefs is refl) (flag_same is_unborn arguments line Symrefs is refl) (prefixes_more arguments line Symrefs is ∙ append-nil (prefixes arguments))
+    same_ls refl (flag_set is_symrefs arguments line Symrefs is refl) (flag_same is_peel arguments line Symrefs is refl) (flag_same is_unborn arguments line Symrefs is refl) (prefixes_more arguments line Symrefs is ∙ append-nil (prefixes arguments))
 ls_refs_asked-push capabilities arguments line Peel is =
-    same_asked refl (flag_same is_symrefs arguments line Peel is refl) (flag_set is_peel arguments line Peel is refl) (flag_same is_unborn arguments line Peel is refl) (prefixes_more arguments line Peel is ∙ append-nil (prefixes arguments))
+    same_ls refl (flag_same is_symrefs arguments line Peel is refl) (flag_set is_peel arguments line Peel is refl) (flag_same is_unborn arguments line Peel is refl) (prefixes_more arguments line Peel is ∙ append-nil (prefixes arguments))
 ls_refs_asked-push capabilities arguments line Unborn is =
-    same_asked refl (flag_same is_symrefs arguments line Unborn is refl) (flag_same is_peel arguments line Unborn is refl) (flag_set is_unborn arguments line Unborn is refl) (prefixes_more arguments line Unborn is ∙ append-nil (prefixes arguments))
+    same_ls refl (flag_same is_symrefs arguments line Unborn is refl) (flag_same is_peel arguments line Unborn is refl) (flag_set is_unborn arguments line Unborn is refl) (prefixes_more arguments line Unborn is ∙ append-nil (prefixes arguments))
 ls_refs_asked-push capabilities arguments line (RefPrefix prefix) is =
-    same_asked refl (flag_same is_symrefs arguments line (RefPrefix prefix) is refl) (flag_same is_peel arguments line (RefPrefix prefix) is refl) (flag_same is_unborn arguments line (RefPrefix prefix) is refl) (prefixes_more arguments line (RefPrefix prefix) is)
+    same_ls refl (flag_same is_symrefs arguments line (RefPrefix prefix) is refl) (flag_same is_peel arguments line (RefPrefix prefix) is refl) (flag_same is_unborn arguments line (RefPrefix prefix) is refl) (prefixes_more arguments line (RefPrefix prefix) is)
 ls_refs_asked-push capabilities arguments line UnknownLsArgument is =
-    same_asked refl (flag_same is_symrefs arguments line UnknownLsArgument is refl) (flag_same is_peel arguments line UnknownLsArgument is refl) (flag_same is_unborn arguments line UnknownLsArgument is refl) (prefixes_more arguments line UnknownLsArgument is ∙ append-nil (prefixes arguments))
+    same_ls refl (flag_same is_symrefs arguments line UnknownLsArgument is refl) (flag_same is_peel arguments line UnknownLsArgument is refl) (flag_same is_unborn arguments line UnknownLsArgument is refl) (prefixes_more arguments line UnknownLsArgument is ∙ append-nil (prefixes arguments))

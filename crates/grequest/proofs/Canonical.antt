@@ -14,11 +14,14 @@ use Rattle.gname.specs.Names.{IsPrefix}
 use Rattle.ggrammar.specs.Grammar.{Judge, LawsOf}
 use Rattle.ggrammar.specs.Kinds.{CanonicalSays}
 use Rattle.ggrammar.specs.Texts.{text_packet}
+use Rattle.grequest.proofs.AskedLemmas.{same_ls}
+use Rattle.grequest.proofs.FetchAskedLemmas.{same_fetch}
+use Rattle.grequest.proofs.Sections.{at_most_one}
 use Rattle.grequest.specs.declared.command.Command.{Command}
 use Rattle.grequest.specs.declared.command.Command.TheVariants.{LsRefs, Fetch}
 use Rattle.grequest.specs.Arguments.{command_name, capability_form}
 use Rattle.grequest.specs.Asked.{LsRefsAsked, FetchAsked, Asked, Empty, Ls, Fetches, max_prefixes, max_wants, max_haves, max_arguments}
-use Rattle.grequest.specs.RequestLines.{agents, prefixes, wants, haves, is_thin_pack, is_no_progress, is_include_tag, is_ofs_delta, first_of, asked_by_command}
+use Rattle.grequest.specs.RequestLines.{agents, is_thin_pack, is_no_progress, is_include_tag, is_ofs_delta, first_of, asked_by_command}
 use Rattle.grequest.specs.RequestWriting.{agent_packets, format_packets, ls_argument_packets, fetch_argument_packets, command_packets, canonical_request, IsCanonicalRequest}
 use Rattle.grequest.specs.WellFormed.{IsAgent, IsLsRefsAsked, IsFetchAsked, IsAsked}
 use Rattle.grequest.specs.Manual.{IsCapability, IsArgument, NamesFormat, AreFew, IsCommandRequest, IsRequest}
@@ -36,10 +39,6 @@ use Rattle.grequest.proofs.WrittenArguments.{says_ls, flags_texts, then_ids, don
 first_of_list : (o : Option (List ℕ)) → first_of (list_of o) ≡ o
 first_of_list None = refl
 first_of_list (Some value) = refl
-
-one_of_list : (o : Option (List ℕ)) → length (list_of o) ≤ 1
-one_of_list None = omega arith
-one_of_list (Some value) = omega arith
 
 command_parts : (format : Format) (command : Command) (agent : Option (List ℕ)) (packets : List Packet) (texts : List (List ℕ)) → packets ≡ map text_packet texts
     → command_packets format command agent packets
@@ -69,20 +68,12 @@ command_request format command agent packets texts asked e able are few room ask
       is_command = text_of_line (codes "command=" ++ command_name command);
       are_capabilities = subst (All (λ line. IsCapability format (capability_form line))) (sym read) able.are;
       are_arguments = subst (All (IsArgument format command)) (sym back) are;
-      one_agent = (let count : length (agents (map text (map line_of words))) ≡ length (list_of agent) = ap (λ (xs : List (List ℕ)). length (agents xs)) read ∙ ap length able.named in omega (arith, one_of_list agent));
+      one_agent = (let count : length (agents (map text (map line_of words))) ≡ length (list_of agent) = ap (λ (xs : List (List ℕ)). length (agents xs)) read ∙ ap length able.named in omega (arith, at_most_one agent));
       one_format = subst (NamesFormat format) (sym read) able.one_format;
       few = subst (AreFew format command) (sym back) few;
       few_arguments = omega (arith, room, length-map texts line_of);
       asks = asks ∙ sym (λ i. asked_by_command format command (read i) (back i));
     }
-
-same_ls : {a b : LsRefsAsked} → a.agent ≡ b.agent → a.symrefs ≡ b.symrefs → a.peel ≡ b.peel → a.unborn ≡ b.unborn → a.prefixes ≡ b.prefixes → a ≡ b
-same_ls agent symrefs peel unborn prefixes = λ i. record { agent = agent i; symrefs = symrefs i; peel = peel i; unborn = unborn i; prefixes = prefixes i }
-
-same_fetch : {a b : FetchAsked} → a.agent ≡ b.agent → a.wants ≡ b.wants → a.haves ≡ b.haves → a.done ≡ b.done → a.thin_pack ≡ b.thin_pack
-    → a.no_progress ≡ b.no_progress → a.include_tag ≡ b.include_tag → a.ofs_delta ≡ b.ofs_delta → a ≡ b
-same_fetch agent wants haves done thin_pack no_progress include_tag ofs_delta =
-    λ i. record { agent = agent i; wants = wants i; haves = haves i; done = done i; thin_pack = thin_pack i; no_progress = no_progress i; include_tag = include_tag i; ofs_delta = ofs_delta i }
 
 flag_count : (word : List ℕ) (is_set : Bool) → length (flag_texts word is_set) ≤ 1
 flag_count word false = omega arith

@@ -10,9 +10,9 @@ use Rattle.grequest.specs.Asked.{FetchAsked}
 use Rattle.grequest.specs.RequestLines.{fetch_asked, has_fetch_argument, is_thin_pack, is_no_progress, is_include_tag, is_ofs_delta, is_done, want_value, have_value, wants, haves}
 use Rattle.grequest.specs.RequestState.{with_fetch_argument}
 
-same_asked : {a b : FetchAsked} → a.agent ≡ b.agent → a.wants ≡ b.wants → a.haves ≡ b.haves → a.done ≡ b.done → a.thin_pack ≡ b.thin_pack
+pub same_fetch : {a b : FetchAsked} → a.agent ≡ b.agent → a.wants ≡ b.wants → a.haves ≡ b.haves → a.done ≡ b.done → a.thin_pack ≡ b.thin_pack
     → a.no_progress ≡ b.no_progress → a.include_tag ≡ b.include_tag → a.ofs_delta ≡ b.ofs_delta → a ≡ b
-same_asked agent wants haves done thin_pack no_progress include_tag ofs_delta =
+same_fetch agent wants haves done thin_pack no_progress include_tag ofs_delta =
     λ i. record { agent = agent i; wants = wants i; haves = haves i; done = done i; thin_pack = thin_pack i; no_progress = no_progress i; include_tag = include_tag i; ofs_delta = ofs_delta i }
 
 flag_more : (is_it : FetchArgument → Bool) (texts : List (List ℕ)) (line : List ℕ) (form : FetchArgument) → fetch_argument line ≡ form
@@ -56,56 +56,56 @@ haves_more format texts line form is =
 pub fetch_asked-push : (format : Format) (capabilities arguments : List (List ℕ)) (line : List ℕ) (form : FetchArgument) → fetch_argument line ≡ form
     → fetch_asked format capabilities (arguments ++ line ∷ []) ≡ with_fetch_argument format (fetch_asked format capabilities arguments) form
 fetch_asked-push format capabilities arguments line ThinPack is =
-    same_asked refl (wants_more format arguments line ThinPack is ∙ append-nil (wants format arguments)) (haves_more format arguments line ThinPack is ∙ append-nil (haves format arguments))
+    same_fetch refl (wants_more format arguments line ThinPack is ∙ append-nil (wants format arguments)) (haves_more format arguments line ThinPack is ∙ append-nil (haves format arguments))
     (flag_same is_done arguments line ThinPack is refl)
     (flag_set is_thin_pack arguments line ThinPack is refl)
     (flag_same is_no_progress arguments line ThinPack is refl)
     (flag_same is_include_tag arguments line ThinPack is refl)
     (flag_same is_ofs_delta arguments line ThinPack is refl)
 fetch_asked-push format capabilities arguments line NoProgress is =
-    same_asked refl (wants_more format arguments line NoProgress is ∙ append-nil (wants format arguments)) (haves_more format arguments line NoProgress is ∙ append-nil (haves format arguments))
+    same_fetch refl (wants_more format arguments line NoProgress is ∙ append-nil (wants format arguments)) (haves_more format arguments line NoProgress is ∙ append-nil (haves format arguments))
     (flag_same is_done arguments line NoProgress is refl)
     (flag_same is_thin_pack arguments line NoProgress is refl)
     (flag_set is_no_progress arguments line NoProgress is refl)
     (flag_same is_include_tag arguments line NoProgress is refl)
     (flag_same is_ofs_delta arguments line NoProgress is refl)
 fetch_asked-push format capabilities arguments line IncludeTag is =
-    same_asked refl (wants_more format arguments line IncludeTag is ∙ append-nil (wants format arguments)) (haves_more format arguments line IncludeTag is ∙ append-nil (haves format arguments))
+    same_fetch refl (wants_more format arguments line IncludeTag is ∙ append-nil (wants format arguments)) (haves_more format arguments line IncludeTag is ∙ append-nil (haves format arguments))
     (flag_same is_done arguments line IncludeTag is refl)
     (flag_same is_thin_pack arguments line IncludeTag is refl)
     (flag_same is_no_progress arguments line IncludeTag is refl)
     (flag_set is_include_tag arguments line IncludeTag is refl)
     (flag_same is_ofs_delta arguments line IncludeTag is refl)
 fetch_asked-push format capabilities arguments line OfsDelta is =
-    same_asked refl (wants_more format arguments line OfsDelta is ∙ append-nil (wants format arguments)) (haves_more format arguments line OfsDelta is ∙ append-nil (haves format arguments))
+    same_fetch refl (wants_more format arguments line OfsDelta is ∙ append-nil (wants format arguments)) (haves_more format arguments line OfsDelta is ∙ append-nil (haves format arguments))
     (flag_same is_done arguments line OfsDelta is refl)
     (flag_same is_thin_pack arguments line OfsDelta is refl)
     (flag_same is_no_progress arguments line OfsDelta is refl)
     (flag_same is_include_tag arguments line OfsDelta is refl)
     (flag_set is_ofs_delta arguments line OfsDelta is refl)
 fetch_asked-push format capabilities arguments line Done is =
-    same_asked refl (wants_more format arguments line Done is ∙ append-nil (wants format arguments)) (haves_more format arguments line Done is ∙ append-nil (haves format arguments))
+    same_fetch refl (wants_more format arguments line Done is ∙ append-nil (wants format arguments)) (haves_more format arguments line Done is ∙ append-nil (haves format arguments))
     (flag_set is_done arguments line Done is refl)
     (flag_same is_thin_pack arguments line Done is refl)
     (flag_same is_no_progress arguments line Done is refl)
     (flag_same is_include_tag arguments line Done is refl)
     (flag_same is_ofs_delta arguments line Done is refl)
 fetch_asked-push format capabilities arguments line (Want id) is =
-    same_asked refl (wants_more format arguments line (Want id) is) (haves_more format arguments line (Want id) is ∙ append-nil (haves format arguments))
+    same_fetch refl (wants_more format arguments line (Want id) is) (haves_more format arguments line (Want id) is ∙ append-nil (haves format arguments))
     (flag_same is_done arguments line (Want id) is refl)
     (flag_same is_thin_pack arguments line (Want id) is refl)
     (flag_same is_no_progress arguments line (Want id) is refl)
     (flag_same is_include_tag arguments line (Want id) is refl)
     (flag_same is_ofs_delta arguments line (Want id) is refl)
 fetch_asked-push format capabilities arguments line (Have id) is =
-    same_asked refl (wants_more format arguments line (Have id) is ∙ append-nil (wants format arguments)) (haves_more format arguments line (Have id) is)
+    same_fetch refl (wants_more format arguments line (Have id) is ∙ append-nil (wants format arguments)) (haves_more format arguments line (Have id) is)
     (flag_same is_done arguments line (Have id) is refl)
     (flag_same is_thin_pack arguments line (Have id) is refl)
     (flag_same is_no_progress arguments line (Have id) is refl)
     (flag_same is_include_tag arguments line (Have id) is refl)
     (flag_same is_ofs_delta arguments line (Have id) is refl)
 fetch_asked-push format capabilities arguments line UnknownFetchArgument is =
-    same_asked refl (wants_more format arguments line UnknownFetchArgument is ∙ append-nil (wants format arguments)) (haves_more format arguments line UnknownFetchArgument is ∙ append-nil (haves format arguments))
+    same_fetch refl (wants_more format arguments line UnknownFetchArgument is ∙ append-nil (wants format arguments)) (haves_more format arguments line UnknownFetchArgument is ∙ append-nil (haves format arguments))
     (flag_same is_done arguments line UnknownFetchArgument is refl)
     (flag_same is_thin_pack arguments line UnknownFetchArgument is refl)
     (flag_same is_no_progress arguments line UnknownFetchArgument is refl)

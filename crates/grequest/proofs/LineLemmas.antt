@@ -1,7 +1,8 @@
 -- What packets more do to the place, and to the texts of each section.
-use Rattle.std.proofs.Common.{◌≡◌, ℕ, List, [], ◌∷◌, ◌++◌, refl, sym, ap, ◌∙◌, append_assoc, append-nil}
+use Rattle.std.proofs.Common.{◌≡◌, ℕ, List, [], ◌∷◌, ◌++◌, refl, sym, ap, ◌∙◌, append_assoc}
 use Rattle.gpkt.specs.Packets.{Packet}
 use Rattle.ggrammar.specs.Places.{place_after, collected}
+use Rattle.ggrammar.proofs.PlaceLemmas.{collected-push}
 use Rattle.grequest.specs.RequestLines.{Place, First, next_place, place_of, capability_there, argument_there}
 use Rattle.grequest.specs.RequestLines.{capability_texts, argument_texts}
 
@@ -16,13 +17,6 @@ collected-append give place (x ∷ xs) ys =
     ap (λ (zs : List (List ℕ)). give place x ++ zs) (collected-append give (next_place place x) xs ys)
     ∙ sym (append_assoc (give place x) (collected next_place give (next_place place x) xs) (collected next_place give (place_after next_place (next_place place x) xs) ys))
 
--- one packet more
-collected-push : (give : Place → Packet → List (List ℕ)) (place : Place) (front : List Packet) (packet : Packet)
-    → collected next_place give place (front ++ packet ∷ []) ≡ collected next_place give place front ++ give (place_after next_place place front) packet
-collected-push give place front packet =
-    collected-append give place front (packet ∷ [])
-    ∙ ap (λ (xs : List (List ℕ)). collected next_place give place front ++ xs) (append-nil (give (place_after next_place place front) packet))
-
 pub place_of-push : (front : List Packet) (packet : Packet)
     → place_of (front ++ packet ∷ []) ≡ next_place (place_of front) packet
 place_of-push front packet = place_after-append First front (packet ∷ [])
@@ -30,9 +24,9 @@ place_of-push front packet = place_after-append First front (packet ∷ [])
 pub capability_texts-push : (front : List Packet) (packet : Packet)
     → capability_texts (front ++ packet ∷ []) ≡ capability_texts front ++ capability_there (place_of front) packet
 unfolding capability_texts
-capability_texts-push front packet = collected-push capability_there First front packet
+capability_texts-push front packet = collected-push next_place capability_there First front packet
 
 pub argument_texts-push : (front : List Packet) (packet : Packet)
     → argument_texts (front ++ packet ∷ []) ≡ argument_texts front ++ argument_there (place_of front) packet
 unfolding argument_texts
-argument_texts-push front packet = collected-push argument_there First front packet
+argument_texts-push front packet = collected-push next_place argument_there First front packet

@@ -1,16 +1,17 @@
 -- Packets are refused for their own sake.
-use Rattle.std.proofs.Common.{ℕ, ◌==◌, ◌&&◌, Bool, true, false, cond, List, length, Option, Some, None}
+use Rattle.std.proofs.Common.{ℕ, ◌==◌, ◌&&◌, Bool, cond, List, length}
 use Rattle.std.specs.Prelude.{is_none, is_some, nat_lt}
 use Rattle.gpkt.specs.Packets.{Packet, Data, Flush, Delim, ResponseEnd, text}
 use Rattle.gname.specs.Names.{prefix_fault}
 use Rattle.gname.specs.Formats.{format_name}
 use Rattle.gname.specs.declared.formats.Format.{Format}
 use Rattle.gname.specs.declared.formats.Format.TheVariants.{Sha1, Sha256}
-use Rattle.ggrammar.specs.Grammar.{Verdict, Open, Whole, Refused, if_room}
+use Rattle.ggrammar.specs.Grammar.{Verdict, Open, Whole, Refused}
 use Rattle.ggrammar.specs.Ids.{id_of_text}
 use Rattle.ggrammar.specs.MessageBytes.{IsForPacket, RefusesPackets}
-use Rattle.ggrammar.specs.PeerErrors.{peer_error, unless_error}
-use Rattle.ggrammar.specs.declared.fault.Why.TheVariants.{BadText, BadName, BadId, Limit, Format as WrongFormat}
+use Rattle.ggrammar.specs.PeerErrors.{peer_error}
+use Rattle.ggrammar.specs.declared.fault.Why.TheVariants.{BadText, BadName, BadId, Format as WrongFormat}
+use Rattle.ggrammar.proofs.VerdictLemmas.{of_test, of_room, past_error}
 use Rattle.grequest.specs.declared.command.Command.TheVariants.{LsRefs, Fetch}
 use Rattle.grequest.specs.declared.command.CommandForm.{CommandForm}
 use Rattle.grequest.specs.declared.command.CommandForm.TheVariants.{Known, Unknown as UnknownCommand, Bad as BadCommand}
@@ -18,17 +19,6 @@ use Rattle.grequest.specs.Arguments.{is_word, command_form, CapabilityForm, Agen
 use Rattle.grequest.specs.Asked.{max_prefixes, max_wants, max_haves}
 use Rattle.grequest.specs.RequestLines.{Place, First, InCapabilities, InArguments}
 use Rattle.grequest.specs.Requests.{State, agent_of, has_room, of_few, prefixes_of, wants_of, haves_of, judge, judge_command, judge_capability, judge_ls_argument, judge_fetch_argument, judge_text, judge_delim, judge_flush, judge_at, state_of, unless_unnamed}
-
-of_test : (test : Bool) (one other : Verdict) → IsForPacket one → IsForPacket other → IsForPacket (cond test one other)
-of_test true one other h k = h
-of_test false one other h k = k
-
-of_room : (test : Bool) → IsForPacket (if_room test)
-of_room test = of_test test Open (Refused Limit) tt tt
-
-past_error : (said : Option (List ℕ)) (verdict : Verdict) → IsForPacket verdict → IsForPacket (unless_error said verdict)
-past_error (Some said) verdict h = tt
-past_error None verdict h = h
 
 -- ---- texts
 

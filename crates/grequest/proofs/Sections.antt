@@ -4,7 +4,7 @@ use Rattle.std.proofs.Common.{◌≡◌, ℕ, ◌+◌, ◌<◌, ◌≤◌, ◌&&
 use Rattle.std.specs.Prelude.{All, is_none, is_some, nat_lt}
 use Rattle.std.proofs.lemmas.Bool.{and_parts, and_from, ltb-true, lt-ltb, eqb-true, eq-eqb}
 use Rattle.std.proofs.lemmas.List.{length-append, length_push, nil_from_length}
-use Rattle.std.proofs.lemmas.List.Elements.{All-nil, All-push, All-head, All-tail, All-cons, filter_map-append}
+use Rattle.std.proofs.lemmas.List.Elements.{All-nil, All-push, All-head, All-tail, filter_map-append}
 use Rattle.gname.specs.Names.{prefix_fault}
 use Rattle.gname.specs.Formats.{format_name}
 use Rattle.gname.specs.declared.formats.Format.{Format}
@@ -12,6 +12,8 @@ use Rattle.ggrammar.specs.Grammar.{Verdict, Open, Refused, if_room}
 use Rattle.ggrammar.specs.Ids.{id_of_text}
 use Rattle.ggrammar.specs.declared.fault.Why.{Why}
 use Rattle.ggrammar.specs.declared.fault.Why.TheVariants.{Format as WrongFormat, BadName, BadId}
+use Rattle.ggrammar.proofs.VerdictLemmas.{room_left}
+use Rattle.gname.proofs.ListLemmas.{All-parts}
 use Rattle.grequest.specs.declared.command.Command.{Command}
 use Rattle.grequest.specs.declared.command.Command.TheVariants.{LsRefs, Fetch}
 use Rattle.grequest.specs.Arguments.{is_word, CapabilityForm, Agent, ObjectFormat, UnknownCapability, BadCapability, capability_form, LsArgument, Symrefs, Peel, Unborn, RefPrefix, UnknownLsArgument, ls_argument, FetchArgument, ThinPack, NoProgress, IncludeTag, OfsDelta, Done, Want, Have, UnknownFetchArgument, fetch_argument}
@@ -23,12 +25,6 @@ use Rattle.grequest.proofs.StateLemmas.{state_at, list_of, agents-push, formats-
 use Rattle.grequest.proofs.Texts.{word_is, is_word-same}
 
 -- ---- lists
-
-pub All-parts : {X : Type 0} (P : X → Type 0) (xs : List X) (x : X) → All P (xs ++ x ∷ []) → All P xs × P x
-All-parts P [] x h = (All-nil P, All-head P x [] h)
-All-parts P (y ∷ xs) x h =
-    let rest = All-parts P xs x (All-tail P y (xs ++ x ∷ []) h) in
-    (All-cons P y xs (All-head P y (xs ++ x ∷ []) h) rest.0, rest.1)
 
 pub is_none-None : {X : Type 0} (o : Option X) → is_none o ≡ true → o ≡ None
 is_none-None None e = refl
@@ -196,7 +192,7 @@ have_count : (format : Format) (lines : List (List ℕ)) (line : List ℕ) (form
 have_count format lines line form is =
     ap length (haves-push format lines line ∙ ap (λ (f : FetchArgument). haves format lines ++ list_of (have_value format f)) is) ∙ length-append (haves format lines) (list_of (have_value format form))
 
-at_most_one : (o : Option (List ℕ)) → length (list_of o) ≤ 1
+pub at_most_one : (o : Option (List ℕ)) → length (list_of o) ≤ 1
 at_most_one None = omega arith
 at_most_one (Some x) = omega arith
 
@@ -221,10 +217,6 @@ AreArguments-nil format command = record { are = All-nil (IsArgument format comm
 -- the judge takes the text after these
 abbrev pub TakesArgument : Format → Command → List (List ℕ) → List (List ℕ) → List ℕ → Type 0
 TakesArgument format command capabilities lines line = judge_argument format command (state_at format (InArguments command) capabilities lines) line ≡ Open
-
-room_left : (b : Bool) → if_room b ≡ Open → b ≡ true
-room_left true e = refl
-room_left false e = cc
 
 room_for : (b : Bool) → b ≡ true → if_room b ≡ Open
 room_for true e = refl

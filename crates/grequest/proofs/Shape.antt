@@ -5,6 +5,7 @@ use Rattle.gpkt.specs.Packets.{Packet, Data, Flush, Delim, ResponseEnd, text}
 use Rattle.gname.specs.declared.formats.Format.{Format}
 use Rattle.ggrammar.specs.Grammar.{Judge, Open, IsOpen, LawsOf}
 use Rattle.ggrammar.specs.Places.{place_after, collected}
+use Rattle.gname.proofs.ListLemmas.{All-parts}
 use Rattle.grequest.specs.declared.command.Command.{Command}
 use Rattle.grequest.specs.declared.command.CommandForm.TheVariants.{Known}
 use Rattle.grequest.specs.Arguments.{command_name, command_form, capability_form}
@@ -15,7 +16,7 @@ use Rattle.grequest.specs.Manual.{IsCapability, IsArgument, NamesFormat}
 use Rattle.grequest.proofs.LineLemmas.{place_after-append, collected-append}
 use Rattle.grequest.proofs.StateLemmas.{state_at}
 use Rattle.grequest.proofs.Texts.{command_form-line, no_error, command_no_error, capability_no_error, argument_no_error}
-use Rattle.grequest.proofs.Sections.{All-parts, AreCapabilities, AreCapabilities-nil, AreCapabilities-push, AreCapabilities-parts, TakesCapability, few_capabilities, AreArguments, AreArguments-nil, AreArguments-push, AreArguments-parts, TakesArgument}
+use Rattle.grequest.proofs.Sections.{AreCapabilities, AreCapabilities-nil, AreCapabilities-push, AreCapabilities-parts, TakesCapability, few_capabilities, AreArguments, AreArguments-nil, AreArguments-push, AreArguments-parts, TakesArgument}
 use Rattle.grequest.proofs.Verdicts.{text-open, open-text, known_command, judge-delim, response_end-never_open, flush-never_open, names_format, named-taken}
 
 -- ---- lists that grow

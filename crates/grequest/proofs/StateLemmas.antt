@@ -7,8 +7,9 @@ use Rattle.gpkt.specs.Packets.{Packet, Data, Flush, Delim, ResponseEnd, text}
 use Rattle.gname.specs.declared.formats.Format.{Format}
 use Rattle.ggrammar.specs.Grammar.{Verdict, Open, Whole}
 use Rattle.ggrammar.specs.MessageReading.{IsAccepted}
-use Rattle.ggrammar.specs.PeerErrors.{unless_error, peer_error}
+use Rattle.ggrammar.specs.PeerErrors.{peer_error}
 use Rattle.ggrammar.specs.Places.{place_after, collected}
+use Rattle.ggrammar.proofs.VerdictLemmas.{accepted_unless}
 use Rattle.grequest.specs.declared.command.Command.{Command}
 use Rattle.grequest.specs.declared.command.Command.TheVariants.{LsRefs, Fetch}
 use Rattle.grequest.specs.declared.command.CommandForm.{CommandForm}
@@ -201,17 +202,13 @@ text_adds format (InArguments command) capabilities arguments payload no_capabil
     ap (λ (xs : List (List ℕ)). state_at format (InArguments command) xs (arguments ++ text payload ∷ [])) (append-nil capabilities)
     ∙ argument_adds format command capabilities arguments (text payload)
 
-pub past_error : (said : Option (List ℕ)) (verdict : Verdict) → IsAccepted (unless_error said verdict) → IsAccepted verdict
-past_error None verdict h = h
-past_error (Some said) verdict h = absurd h
-
 packet_adds : (format : Format) (place : Place) (capabilities arguments : List (List ℕ)) (packet : Packet)
     → (place ≡ First → capabilities ≡ []) → (place ≡ First → arguments ≡ [])
     → IsAccepted (judge_at format (state_at format place capabilities arguments) packet)
     → state_more format place capabilities arguments packet ≡ with_packet format (state_at format place capabilities arguments) packet
 unfolding state_more judge_at with_packet
 packet_adds format place capabilities arguments (Data payload) no_capability no_argument h =
-    text_adds format place capabilities arguments payload no_capability no_argument (past_error (peer_error payload) _ h)
+    text_adds format place capabilities arguments payload no_capability no_argument (accepted_unless (peer_error payload) _ h)
 packet_adds format First capabilities arguments Flush no_capability no_argument h = no_text format First capabilities arguments
 packet_adds format (InCapabilities command) capabilities arguments Flush no_capability no_argument h = no_text format (InCapabilities command) capabilities arguments
 packet_adds format (InArguments command) capabilities arguments Flush no_capability no_argument h = no_text format (InArguments command) capabilities arguments

@@ -1,13 +1,12 @@
 -- Facts on the texts of a request's lines, and on the forms that they have.
-use Rattle.std.proofs.Common.{◌≡◌, ℕ, ◌+◌, ◌&&◌, Bool, true, false, cond, List, [], ◌∷◌, ◌++◌, length, take, drop, codes, ◌⊎◌, inl, inr, Option, Some, None, refl, sym, ap, subst, ◌∙◌, suc, zero, arith, nat_eq}
-use Rattle.std.specs.List.{starts_with}
-use Rattle.std.proofs.lemmas.Bool.Decides.{Decides-eqb}
+use Rattle.std.proofs.Common.{◌≡◌, ℕ, ◌+◌, ◌&&◌, Bool, true, false, cond, List, [], ◌∷◌, ◌++◌, take, drop, codes, ◌⊎◌, inl, inr, Option, Some, None, refl, sym, ap, subst, ◌∙◌, suc, zero, arith}
 use Rattle.std.proofs.lemmas.Grind.{common_steps}
-use Rattle.std.proofs.lemmas.Slice.Eq.{bytes_eq-Decides, starts_is}
+use Rattle.std.proofs.lemmas.Slice.Eq.{bytes_eq-Decides}
 use Rattle.gpkt.specs.Packets.{text}
 use Rattle.gname.specs.declared.formats.Format.{Format}
 use Rattle.ggrammar.specs.Capabilities.{Capability, capability_of, capability_split, is_key, is_value}
 use Rattle.ggrammar.specs.PeerErrors.{after_word, peer_error}
+use Rattle.ggrammar.proofs.TextLemmas.{follows_word}
 use Rattle.grequest.specs.declared.command.Command.{Command}
 use Rattle.grequest.specs.declared.command.Command.TheVariants.{LsRefs, Fetch}
 use Rattle.grequest.specs.declared.command.CommandForm.TheVariants.{Known, Unknown as UnknownCommand, Bad as BadCommand}
@@ -21,17 +20,6 @@ word_is word line h = (bytes_eq-Decides line word).0 h
 
 pub is_word-same : (word line : List ℕ) → line ≡ word → is_word word line ≡ true
 is_word-same word line e = (bytes_eq-Decides line word).1 e
-
-after_if : (b : Bool) (word line rest : List ℕ) → (b ≡ true → line ≡ word ++ drop (length word) line) → cond b (Some (drop (length word) line)) None ≡ Some rest
-    → line ≡ word ++ rest
-after_if true word line rest begins e = let same : drop (length word) line ≡ rest = cc in begins refl ∙ ap (λ (xs : List ℕ). word ++ xs) same
-after_if false word line rest begins e = cc
-
--- a line with a word at its front
-pub after_word-Some : (word line rest : List ℕ) → after_word word line ≡ Some rest → line ≡ word ++ rest
-unfolding after_word
-after_word-Some word line rest e =
-    after_if (starts_with nat_eq line word) word line rest (λ h. (starts_is Decides-eqb line word (starts_with nat_eq line word) refl).0 h) e
 
 -- ---- texts
 
@@ -56,7 +44,7 @@ error_front payload (x ∷ words) more e at = (words, (let no : x ∷ (words ++ 
 error_text : (payload said : List ℕ) → peer_error payload ≡ Some said → (rest : List ℕ) × (text payload ≡ first_of_error ∷ rest)
 error_text payload said e =
     let more = drop 1 (codes "ERR ") ++ said in
-    let at : payload ≡ first_of_error ∷ more = after_word-Some (codes "ERR ") payload said e in
+    let at : payload ≡ first_of_error ∷ more = follows_word (codes "ERR ") payload said e in
     elim (text_or_line payload) [ inl h ↦ (more, sym h ∙ at) | inr h ↦ error_front payload (text payload) more h at ]
 
 no_error_by : (payload : List ℕ) (said : Option (List ℕ)) → peer_error payload ≡ said → ((rest : List ℕ) → text payload ≡ first_of_error ∷ rest → ⊥) → said ≡ None
@@ -72,7 +60,7 @@ no_error payload other = no_error_by payload (peer_error payload) refl other
 after_command : (key : Option (List ℕ)) (line : List ℕ) (command : Command) → after_word (codes "command=") line ≡ key → command_after key ≡ Known command
     → (word : List ℕ) × (line ≡ codes "command=" ++ word) × (command_of_key word ≡ Known command)
 after_command None line command e h = cc
-after_command (Some word) line command e h = (word, after_word-Some (codes "command=") line word e, h)
+after_command (Some word) line command e h = (word, follows_word (codes "command=") line word e, h)
 
 known_by : (ls fetch key : Bool) (command : Command) → cond ls (Known LsRefs) (cond fetch (Known Fetch) (cond key UnknownCommand BadCommand)) ≡ Known command
     → ((ls ≡ true) × (command ≡ LsRefs)) ⊎ ((fetch ≡ true) × (command ≡ Fetch))

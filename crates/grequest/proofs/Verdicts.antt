@@ -1,5 +1,5 @@
 -- What the judge of requests says of a packet, and that a flush alone ends a request.
-use Rattle.std.proofs.Common.{◌≡◌, ℕ, ◌≤◌, ◌==◌, ◌&&◌, Bool, true, false, cond, List, length, Option, Some, None, refl, sym, ap, ◌∙◌, arith}
+use Rattle.std.proofs.Common.{◌≡◌, ℕ, ◌≤◌, ◌==◌, ◌&&◌, Bool, true, false, cond, List, length, Option, None, refl, sym, ap, ◌∙◌, arith}
 use Rattle.std.specs.Prelude.{is_none, is_some, nat_lt}
 use Rattle.std.proofs.lemmas.Bool.{eqb-false, ne_eqb}
 use Rattle.gpkt.specs.Packets.{Packet, Data, Flush, Delim, ResponseEnd, text}
@@ -12,6 +12,7 @@ use Rattle.ggrammar.specs.Ids.{id_of_text}
 use Rattle.ggrammar.specs.PeerErrors.{peer_error, unless_error}
 use Rattle.ggrammar.specs.declared.fault.Why.{Why}
 use Rattle.ggrammar.specs.declared.fault.Why.TheVariants.{BadText, BadName, BadId, Limit, Format as WrongFormat}
+use Rattle.ggrammar.proofs.VerdictLemmas.{open_unless, whole_unless}
 use Rattle.grequest.specs.declared.command.Command.{Command}
 use Rattle.grequest.specs.declared.command.Command.TheVariants.{LsRefs, Fetch}
 use Rattle.grequest.specs.declared.command.CommandForm.{CommandForm}
@@ -25,18 +26,10 @@ use Rattle.grequest.proofs.StateLemmas.{state_at}
 
 -- ---- the peer's errors come first
 
-pub open_past : (said : Option (List ℕ)) (verdict : Verdict) → unless_error said verdict ≡ Open → verdict ≡ Open
-open_past None verdict e = e
-open_past (Some said) verdict e = cc
-
-whole_past : (said : Option (List ℕ)) (verdict : Verdict) → unless_error said verdict ≡ Whole → verdict ≡ Whole
-whole_past None verdict e = e
-whole_past (Some said) verdict e = cc
-
 -- a text that goes on is one of its place
 pub text-open : (format : Format) (state : State) (payload : List ℕ) → judge_at format state (Data payload) ≡ Open → judge_text format state.place state (text payload) ≡ Open
 unfolding judge_at
-text-open format state payload e = open_past (peer_error payload) _ e
+text-open format state payload e = open_unless (peer_error payload) _ e
 
 -- and a text of its place goes on, unless it reports an error
 pub open-text : (format : Format) (state : State) (payload : List ℕ) → peer_error payload ≡ None → judge_text format state.place state (text payload) ≡ Open → judge_at format state (Data payload) ≡ Open
@@ -160,7 +153,7 @@ delim_never format (InArguments command) state e = cc
 
 pub ends-flush : (format : Format) (state : State) (packet : Packet) → judge_at format state packet ≡ Whole → packet ≡ Flush
 unfolding judge_at
-ends-flush format state (Data payload) e = absurd (text_never format state.place state (text payload) (whole_past (peer_error payload) _ e))
+ends-flush format state (Data payload) e = absurd (text_never format state.place state (text payload) (whole_unless (peer_error payload) _ e))
 ends-flush format state Flush e = refl
 ends-flush format state Delim e = absurd (delim_never format state.place state e)
 ends-flush format state ResponseEnd e = cc

@@ -1,13 +1,10 @@
 -- What reading a request keeps of the packets so far, and what it answers.
-use Rattle.std.specs.Prelude.{◌≡◌, ◌↔◌, ℕ, ◌<◌, Bool, true, false, List, [], Option, Some, None, Result, Ok, Err}
+use Rattle.std.specs.Prelude.{◌≡◌, ◌↔◌, ℕ, ◌<◌, Bool, true, false, List, [], Option, None, Result, Ok}
 use Rattle.std.specs.Prelude.{IfErr}
 use Rattle.gpkt.specs.Packets.{Packet, Data, text}
-use Rattle.gpkt.specs.Change.{Change}
-use Rattle.gpkt.specs.LineReading.{Reads}
 use Rattle.gname.specs.declared.formats.Format.{Format}
-use Rattle.ggrammar.specs.Kinds.{ReadsMessage, ReadsIfAny}
+use Rattle.ggrammar.specs.Kinds.{ReadsIfAny}
 use Rattle.ggrammar.specs.MessageBytes.{known, IsOfBytes}
-use Rattle.ggrammar.specs.MessageReading.{ReadsRefused}
 use Rattle.ggrammar.specs.declared.fault.Why.TheVariants.{Ended}
 use Rattle.ggrammar.specs.declared.fault.MessageFault.{MessageFault}
 use Rattle.grequest.specs.Arguments.{CapabilityForm, Agent}
@@ -42,13 +39,6 @@ CarriesWord _ = Unit {0}
 abbrev pub packet_brings : Place → Packet → Bool
 packet_brings place (Data payload) = text_brings place (text payload)
 packet_brings place _ = false
-
--- reading a request that may be missing: one is read whole; the input is empty; or it is refused, and why
-abbrev pub ReadsRequest : {T : Type 0} → Format → (T → Asked) → Change → Result (Option T) MessageFault → Type 0
-ReadsRequest format asks bytes (Ok (Some request)) = ReadsMessage (judge format) (Says format) bytes (asks request)
-ReadsRequest format asks bytes (Ok None) = Reads bytes (Ok None)
-ReadsRequest format asks bytes (Err fault) =
-    (front : List Packet) × ReadsRefused (judge format) brings front bytes fault
 
 -- the fault comes of the bytes, and the end of the input is one only after the first packet
 abbrev pub IsNotMissing : MessageFault → Type 0

@@ -1,6 +1,7 @@
 -- What a request says, without where it lies in memory.
-use Rattle.std.specs.Prelude.{◌≡◌, Option, Some, None, IfSome}
+use Rattle.std.specs.Prelude.{◌≡◌, Option, Some, None, IfSome, Result, Ok, Err}
 use Rattle.gname.specs.declared.formats.Format.{Format}
+use Rattle.ggrammar.specs.declared.fault.MessageFault.{MessageFault}
 use Rattle.grequest.specs.Asked.{Asked, Empty, Ls, Fetches}
 use Rattle.grequest.specs.declared.request.Request.{Request}
 use Rattle.grequest.specs.declared.request.Request.TheVariants as request
@@ -19,3 +20,9 @@ ids_format (request.Fetch fetch) = Some fetch.format
 -- its ids are of this format
 abbrev pub IsOfFormat : {A : Type 0} → Format → Request A → Type 0
 IsOfFormat format request = IfSome (ids_format request) (λ other. other ≡ format)
+
+-- what was read asks, if there is a request
+abbrev pub asked_result : {A : Type 0} → Result (Option (Request A)) MessageFault → Result (Option Asked) MessageFault
+asked_result (Ok (Some request)) = Ok (Some (asked_by_request request))
+asked_result (Ok None) = Ok None
+asked_result (Err fault) = Err fault

@@ -17,7 +17,8 @@
 //! - A copy of a request asks the same, and its ids have the same format; `asks_as` holds exactly where two
 //!   requests ask the same.
 //! - [`write_request`] writes the one list of lines that a request has (`specs/RequestWriting.antt`), or a
-//!   beginning of it where the sink fails. The caller gives a request with ids the format of these ids.
+//!   beginning of it where the sink fails. The caller gives a request with ids the format of these ids, and is told
+//!   that the request is one that reads back.
 //! - [`laws`]: the requests that are read are those of the manual (`specs/Manual.antt`); a request asks one
 //!   thing; neither its packets nor its bytes begin another; each beginning of one can be ended, and a packet
 //!   that is refused is the first that does not fit; the lines that are written ask what was asked, and fit
@@ -39,7 +40,7 @@
 //! # Stands on
 //!
 //! `ggrammar` for the reader and the laws that all messages share, `gpkt` for packet lines, `gname` for ids
-//! and prefixes, `hex` for what spells an id; in tests `bumpalo`, for memory that ends.
+//! and prefixes, `hex` for what spells an id.
 #![tactic(auto)]
 
 mod command;
@@ -60,6 +61,3 @@ pub use crate::ls_refs::{LsRefsRequest, MAX_PREFIXES};
 pub use crate::read::{read_request, read_request_in};
 pub use crate::request::Request;
 pub use crate::write::write_request;
-
-#[cfg(test)]
-mod tests;

@@ -3,9 +3,10 @@
 ghost use Rattle.std.specs.Prelude.{◌≡◌, ◌<◌, ◌↔◌, [], IsTrue, IfOk, IfErr, IfSome};
 ghost use Rattle.gname.specs.declared.formats.Format.TheVariants.{Sha1};
 ghost use Rattle.gpkt.specs.Change.{change_of};
+ghost use Rattle.ggrammar.specs.Kinds.{ReadsIfAny};
 ghost use Rattle.ggrammar.specs.MessageReading.{LeavesReader};
-ghost use Rattle.grequest.specs.RequestReading.{ReadsRequest};
-ghost use Rattle.grequest.specs.RequestValues.{asked_by_request, IsOfFormat};
+ghost use Rattle.grequest.specs.Requests.{Says, brings, judge};
+ghost use Rattle.grequest.specs.RequestValues.{asked_result, IsOfFormat};
 
 use crate::reading::RequestReader;
 use crate::request::Request;
@@ -19,13 +20,13 @@ pub fn read_request<S: Source, A: Allocator + Copy, B: Allocator + Copy>(
     reader: &mut LineReader<S, A>,
     alloc: B,
 ) -> Result<Option<Request<B>>, MessageFault>
-    ensures read { ReadsRequest Sha1 asked_by_request (change_of S.remaining reader.old.source reader.new.source) result }
+    ensures read { ReadsIfAny (judge Sha1) brings (Says Sha1) (change_of S.remaining reader.old.source reader.new.source) (asked_result result) }
     ensures format { IfOk result (λ read. IfSome read (IsOfFormat Sha1)) }
     ensures loans { S.loans reader.new.source ≡ S.loans reader.old.source }
     ensures reader { LeavesReader S.is_down reader.old reader.new result }
     ensures not_ended { IfErr result (λ fault. fault.why ≡ Why.Ended → 0 < fault.frame) }
 {
-    read_request_in(Format::Sha1, reader, alloc)
+    read_request_in(reader, Format::Sha1, alloc)
 }
 
 /// Reads a request to its end, and nothing after it (gitprotocol-v2(5), "Command Request"). The format is
@@ -38,11 +39,11 @@ pub fn read_request<S: Source, A: Allocator + Copy, B: Allocator + Copy>(
 /// have. What was read, a refused packet too, is taken from the source. The line reader has then failed
 /// exactly where the line itself was refused; one that had failed before is refused at once, at packet 0.
 pub fn read_request_in<S: Source, A: Allocator + Copy, B: Allocator + Copy>(
-    format: Format,
     reader: &mut LineReader<S, A>,
+    format: Format,
     alloc: B,
 ) -> Result<Option<Request<B>>, MessageFault>
-    ensures read { ReadsRequest format asked_by_request (change_of S.remaining reader.old.source reader.new.source) result }
+    ensures read { ReadsIfAny (judge format) brings (Says format) (change_of S.remaining reader.old.source reader.new.source) (asked_result result) }
     ensures format { IfOk result (λ read. IfSome read (IsOfFormat format)) }
     ensures loans { S.loans reader.new.source ≡ S.loans reader.old.source }
     ensures reader { LeavesReader S.is_down reader.old reader.new result }

@@ -2,6 +2,7 @@
 
 ghost use Rattle.std.specs.Prelude.{◌≡◌, ◌≤◌, ◌++◌, [], ◌∷◌, codes, length, map};
 ghost use Rattle.std.specs.Option.{option_copied};
+ghost use Rattle.gname.specs.declared.formats.Format.{Format};
 ghost use Rattle.gpkt.specs.Packets.{Delim};
 ghost use Rattle.ggrammar.specs.Capabilities.{max_capability};
 ghost use Rattle.ggrammar.specs.Texts.{text_packet};
@@ -9,7 +10,7 @@ ghost use Rattle.ggrammar.specs.Writing.{WritesLines, WritesPart};
 ghost use Rattle.grequest.specs.Asked.{Ls, Fetches};
 ghost use Rattle.grequest.specs.RequestWriting.{agent_packets, canonical_request, command_packet, flag_packets, format_packets, id_packet, max_word, prefix_packet};
 ghost use Rattle.grequest.specs.RequestValues.{IsOfFormat, asked_by_request};
-ghost use Rattle.grequest.specs.WellFormed.{IsAgent};
+ghost use Rattle.grequest.specs.WellFormed.{IsAgent, IsAsked};
 
 use crate::command::Command;
 use crate::fetch::FetchRequest;
@@ -25,21 +26,39 @@ use std::alloc::Allocator;
 /// format of these ids.
 ///
 /// It fails with `Io` where the sink fails, and then a beginning of the request stands written; with `Failed`
-/// where the writer had failed before.
+/// where the writer had failed before. A request is what [`reads_back`](crate::laws::reads_back) asks of one, so
+/// what is written of it reads back.
 pub fn write_request<A: Allocator + Copy, W: Sink>(
     request: &Request<A>,
     format: Format,
     writer: &mut LineWriter<W>,
 ) -> Result<(), WriteFault>
     requires { IsOfFormat format request.now }
-    ensures { WritesLines W.contents W.passed_on W.is_down W.loans writer.old writer.new result
+    ensures lines { WritesLines W.contents W.passed_on W.is_down W.loans writer.old writer.new result
         (canonical_request format (asked_by_request request.now)) }
+    ensures form { IsAsked format (asked_by_request request.now) }
 {
     writes_lines::<W>();
+    keeps_forms(request);
     match request {
         Request::Empty => writer.flush_pkt(),
         Request::Ls(asked) => write_ls_refs(asked, format, writer),
         Request::Fetch(asked) => write_fetch(asked, format, writer),
+    }
+}
+
+// What the type of a request says of it; the call has no effect.
+fn keeps_forms<A: Allocator + Copy>(request: &Request<A>)
+    ensures { (format : Format) → IsOfFormat format request.now → IsAsked format (asked_by_request request.now) }
+{
+    match request {
+        Request::Empty => {}
+        Request::Ls(asked) => {
+            let _agent = asked.agent();
+        }
+        Request::Fetch(asked) => {
+            let _agent = asked.agent();
+        }
     }
 }
 

@@ -10,7 +10,7 @@
 //! - Each fault has the number, the name and the text of its row.
 //! - No call panics, overflows or reads out of bounds, and each returns.
 //!
-//! # Only tried
+//! # Only tested
 //!
 //! That memory which is there is used.
 //!

@@ -3,4 +3,4 @@ use Rattle.glsreply.proofs.LineLemmas.{length_left}
 use Rattle.glsreply.proofs.line.+with_attributes.Given as goal
 
 abbrev pub decreases-with_attributes : goal.decreases-with_attributes
-decreases-with_attributes g l = length_left l.rest
+decreases-with_attributes l = length_left l.rest

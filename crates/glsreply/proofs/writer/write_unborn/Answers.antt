@@ -9,8 +9,8 @@ use Rattle.glsreply.specs.LsReplies.{unborn_packets}
 use Rattle.glsreply.proofs.WritingLemmas.{unborn_line, unborn_fits}
 use Rattle.glsreply.proofs.writer.write_unborn.Goals as goal
 
-pub returns-in-Some : goal.returns-in-Some
-returns-in-Some g c =
+pub returns-in-Some-clause-lines : goal.returns-in-Some-clause-lines
+returns-in-Some-clause-lines g c =
     let law = c.writes_lines.ensures in
     let name = c.as_bytes.result.now in
     let same = ap (λ target. unborn_packets (option_copied target)) c.in-Some.is

@@ -2,7 +2,7 @@ use Rattle.gpkt.specs.Packets.{Flush}
 use Rattle.grequest.specs.RequestWriting.{canonical_request}
 use Rattle.grequest.proofs.write.write_request.Goals as goal
 
-pub returns-in-Empty : goal.returns-in-Empty
+pub returns-in-Empty-clause-lines : goal.returns-in-Empty-clause-lines
 unfolding canonical_request
-returns-in-Empty g c =
+returns-in-Empty-clause-lines g c =
     rw c.in-Empty.is (c.writes_lines.ensures.line _ _ _ Flush c.flush_pkt.ensures.written c.flush_pkt.ensures.fits)

@@ -1,5 +1,5 @@
 use Rattle.std.proofs.Common.{refl, false}
-use Rattle.gpkt.specs.Packets.{Data, Flush, Delim, ResponseEnd}
+use Rattle.gpkt.specs.Packets.{Flush, Delim, ResponseEnd}
 use Rattle.gfetchreply.specs.FetchReplies.{payload_brings}
 use Rattle.gfetchreply.specs.Views.{reading_with}
 use Rattle.gfetchreply.specs.ReplyState.{data_at, kept_in, place_in, state_in, with_packet, with_payload}

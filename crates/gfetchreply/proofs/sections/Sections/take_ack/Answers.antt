@@ -1,4 +1,4 @@
-use Rattle.std.proofs.Common.{Some, ◌∙◌, ap}
+use Rattle.std.proofs.Common.{◌∙◌, ap}
 use Rattle.ggrammar.specs.Ids.{id_of_text}
 use Rattle.gfetchreply.proofs.IdOfLemmas.{id_is_of}
 use Rattle.gfetchreply.proofs.sections.Sections.take_ack.Goals as goal

@@ -1,0 +1,25 @@
+-- Why a value was not built.
+use Rattle.std.proofs.Common.{◌≡◌, Bool, true, sym, refl, ◌∙◌}
+use Rattle.std.proofs.lemmas.Bool.{false≢true}
+use Rattle.ggrammar.specs.Building.{IsBuildReason}
+use Rattle.ggrammar.specs.declared.fault.Why.{Why}
+use Rattle.ggrammar.specs.declared.fault.Why.TheVariants as why
+
+-- of a right form, and where there is room, it is for want of memory
+pub only_memory : (well_formed has_room : Bool) (reason : Why) → well_formed ≡ true → has_room ≡ true → IsBuildReason well_formed has_room reason → reason ≡ why.Memory
+only_memory w r why.BadText fits room is = absurd (false≢true (sym is ∙ fits))
+only_memory w r why.Limit fits room is = absurd (false≢true (sym is.1 ∙ room))
+only_memory w r why.Memory fits room is = refl
+only_memory w r (why.Line fault) fits room is = absurd is
+only_memory w r (why.Band fault) fits room is = absurd is
+only_memory w r why.UnexpectedFrame fits room is = absurd is
+only_memory w r why.UnknownCommand fits room is = absurd is
+only_memory w r why.UnknownCapability fits room is = absurd is
+only_memory w r why.UnknownArgument fits room is = absurd is
+only_memory w r why.BadId fits room is = absurd is
+only_memory w r why.BadName fits room is = absurd is
+only_memory w r (why.RemoteErr said) fits room is = absurd is
+only_memory w r (why.RemoteFatal said) fits room is = absurd is
+only_memory w r why.WrongSection fits room is = absurd is
+only_memory w r why.Format fits room is = absurd is
+only_memory w r why.Ended fits room is = absurd is
