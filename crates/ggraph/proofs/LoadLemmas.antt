@@ -10,16 +10,11 @@ use Rattle.ggraph.specs.declared.text.reading.Reading.{Reading}
 use Rattle.gobject.specs.PlainPackText.{line, text_of}
 use Rattle.ggraph.specs.Reading.{Item, MayCome, ComesNext, after, line_of, nothing_read}
 use Rattle.ggraph.proofs.Items.{HasRead, ReadsTo, items_text}
+use Rattle.gobject.proofs.PlainPackLines.{text_of-append}
 
 pub reads_more : {A : Type 0} (order : Order) (old mid new : Reading A) (items : List (Item A)) (item : Item A) → ReadsTo order old items mid → MayCome order mid item → new ≡ after mid item → ReadsTo order old (items ++ item ∷ []) new
 reads_more {A} order old mid new [] item here may e = (subst (λ (r : Reading A). MayCome order r item) here may, e ∙ ap (λ (r : Reading A). after r item) here)
 reads_more order old mid new (first ∷ items) item (may_first, rest) may e = (may_first, reads_more order (after old first) mid new items item rest may e)
-
-pub text_of-append : (lines more : List (List ℕ)) → text_of (lines ++ more) ≡ text_of lines ++ text_of more
-text_of-append [] more = refl
-text_of-append (first ∷ lines) more =
-    ap (λ (t : List ℕ). line first ++ t) (text_of-append lines more)
-    ∙ sym (append_assoc (line first) (text_of lines) (text_of more))
 
 -- a line more at the end
 pub text_of-push : (lines : List (List ℕ)) (last : List ℕ) → text_of (lines ++ last ∷ []) ≡ text_of lines ++ line last

@@ -12,7 +12,8 @@ use Rattle.grefs.specs.RefLists.{RefList}
 use Rattle.grefs.specs.declared.head.Head.{Head}
 use Rattle.ggraph.specs.RepositoryText.{first_line, head_line, last_line, ref_line, repository_text}
 use Rattle.ggraph.specs.Saving.{IsFirstOther, head_ids, named_ids, ref_ids}
-use Rattle.ggraph.proofs.LoadLemmas.{text_of-append, text_of-push}
+use Rattle.gobject.proofs.PlainPackLines.{text_of-append}
+use Rattle.ggraph.proofs.LoadLemmas.{text_of-push}
 use Rattle.ggraph.proofs.TextLemmas.{ids_text-append}
 
 map_push : {X Y : Type 0} (f : X → Y) (xs : List X) (x : X) → map f (xs ++ x ∷ []) ≡ map f xs ++ f x ∷ []

@@ -19,22 +19,19 @@
 //! - Each fault has the number and the name of its row.
 //! - No call panics, overflows or reads out of bounds, and each returns.
 //!
-//! # Only tested
-//!
-//! The texts of the faults; that large repositories are loaded and saved; that memory which is there is
-//! used.
-//!
 //! # What a body can still get away with
 //!
 //! Loading may report out of memory at any line that is right and keeps something, saving of anything that
 //! can be saved, and `is_safe` of any refs, as often as they like. A call may take as long as it likes, and
-//! more memory than it needs.
+//! more memory than it needs. A fault may be shown as another text.
+//!
+//! There are no tests here. The program `conformance` loads and saves texts, among them the largest, and runs
+//! programs on them with each allocation refused in turn.
 //!
 //! # Stands on
 //!
 //! `gobject`, `ghistory` and `grefs` for what a repository holds, `gname` for ids and names, `memchr` for
-//! the ends of lines, `gwalk` for what the ancestries of refs miss, `thiserror` for the texts of faults; in tests
-//! `bumpalo`, for memory that ends.
+//! the ends of lines, `gwalk` for what the ancestries of refs miss, `thiserror` for the texts of faults.
 #![tactic(auto)]
 
 mod fault;
@@ -55,6 +52,3 @@ pub use gwalk::{
     Count, FullMarks, common_ids, haves, laws as walk_laws, mark_full, missing, missing_counted,
     missing_known, reaches, ready, send_list, send_list_tags,
 };
-
-#[cfg(test)]
-mod tests;

@@ -14,7 +14,7 @@ use Rattle.ghistory.specs.Insert.{IsCause}
 pub too_many : {most count : ℕ} → most < count → count ≤ most → ⊥
 too_many more few = omega (arith, more, few)
 
-full : {most count : ℕ} → count ≡ most → count < most → ⊥
+pub full : {most count : ℕ} → count ≡ most → count < most → ⊥
 full all room = omega (arith, all, room)
 
 module _ {A : Type 0} (format : Format) (g : List (Entry A)) (entry : Entry A) where

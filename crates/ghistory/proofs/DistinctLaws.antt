@@ -1,5 +1,5 @@
 -- The distinct ids of a list are its ids, each once.
-use Rattle.std.proofs.Common.{◌≡◌, ◌↔◌, ◌∙◌, ℕ, List, [], ◌++◌, Contains, bytes_eq, ap}
+use Rattle.std.proofs.Common.{◌∙◌, ℕ, List, [], bytes_eq, ap}
 use Rattle.std.specs.List.{IsDistinct}
 use Rattle.ghistory.specs.Levels.{distinct_of, new_ids}
 use Rattle.ghistory.specs.Laws.{AreDistinct}

@@ -1,5 +1,6 @@
 -- What a graph keeps as entries come in.
 use Rattle.std.proofs.Common.{◌≡◌, ◌⊎◌, inl, inr, ℕ, zero, suc, ◌+◌, ◌<◌, ◌≤◌, false, List, [], ◌∷◌, ◌++◌, length, get_or, take, All, Contains, None, refl, sym, ap, ◌∙◌, subst, arith, append_assoc, drop, add-one}
+use Rattle.std.specs.Option.{is_some}
 use Rattle.std.proofs.lemmas.List.{length-append, append-nil, take_more, take-append-drop, length-take}
 use Rattle.std.proofs.Math.Seq.{take-append_seam, drop-cons}
 use Rattle.ghistory.specs.declared.fault.GraphFault.{GraphFault}
@@ -9,7 +10,7 @@ use Rattle.std.proofs.lemmas.Bool.{false≢true}
 use Rattle.gobject.specs.declared.node.Node.{Node}
 use Rattle.gobject.specs.declared.node.Entry.{Entry}
 use Rattle.gobject.specs.Objects.{has_id, node_at, IdsDiffer, IsShaped}
-use Rattle.ghistory.specs.Graphs.{History, IsNode, HasParent, HasIdsOf, IsGraph, max_nodes}
+use Rattle.ghistory.specs.Graphs.{History, Holds, IsNode, HasParent, HasIdsOf, IsGraph, max_nodes}
 use Rattle.ghistory.specs.Reach.{Reaches, here, onward, IsFull, Grows, Keeps}
 use Rattle.ghistory.specs.Insert.{ComesIn, Inserts, IsRefused, IsCause}
 use Rattle.gname.specs.declared.formats.Format.{Format}
@@ -86,6 +87,9 @@ grows_keeps {A} g h grows a node is =
     let P : List (Entry A) → Type 0 = λ x. IsNode x a node in
     subst P (sym grows.1) (node_in_front g grows.0 a node is)
 
+pub keeps_held : {A : Type 0} (g h : List (Entry A)) → Keeps g h → (a : List ℕ) → Holds g a → Holds h a
+keeps_held g h keeps a held = let n = held_node g a held in ap is_some (keeps a n.0 n.1)
+
 pub keeps_reaching : {A : Type 0} (g h : List (Entry A)) → Keeps g h → (a b : List ℕ) → Reaches g a b → Reaches h a b
 keeps_reaching g h keeps a b here = here
 keeps_reaching g h keeps a b (onward {b = m} p r) =
@@ -107,7 +111,7 @@ keeps_full g h keeps a full b r =
 
 -- ---- inserting
 
-comes_grows_by : {A : Type 0} (old : List (Entry A)) (entry : Entry A) (new : List (Entry A)) → (IsNode old entry.id entry.node × (new ≡ old)) ⊎ ((node_at old entry.id ≡ None) × (new ≡ old ++ entry ∷ [])) → Grows old new
+pub comes_grows_by : {A : Type 0} (old : List (Entry A)) (entry : Entry A) (new : List (Entry A)) → (IsNode old entry.id entry.node × (new ≡ old)) ⊎ ((node_at old entry.id ≡ None) × (new ≡ old ++ entry ∷ [])) → Grows old new
 comes_grows_by old entry new (inl c) = ([], c.1 ∙ sym (append-nil old))
 comes_grows_by old entry new (inr c) = (entry ∷ [], c.1)
 

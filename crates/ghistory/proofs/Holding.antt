@@ -63,7 +63,7 @@ own_place g k entry differ at =
     let same = h.0 in let inside = h.1 in
     rw same (grind (arith, nat_tests))
 
-some_is : {X : Type 0} (o : Option X) → IsSome o → (x : X) × (o ≡ Some x)
+pub some_is : {X : Type 0} (o : Option X) → IsSome o → (x : X) × (o ≡ Some x)
 some_is None is = absurd (false≢true is)
 some_is (Some x) is = (x, refl)
 
@@ -71,7 +71,7 @@ some_is (Some x) is = (x, refl)
 pub held_node : {A : Type 0} (g : List (Entry A)) (a : List ℕ) → Holds g a → (node : Node A) × IsNode g a node
 held_node g a held = some_is (node_at g a) held
 
-none_is : {X : Type 0} (o : Option X) → ¬ (IsSome o) → o ≡ None
+pub none_is : {X : Type 0} (o : Option X) → ¬ (IsSome o) → o ≡ None
 none_is None out = refl
 none_is (Some x) out = absurd (out refl)
 

@@ -64,7 +64,7 @@ parents_at_value {A} [] k node at = absurd (none-some node at)
 parents_at_value {A} (pair ∷ pairs) zero node at = ap (λ (o : Option (Node A)). option_map (λ (n : Node A). n.parents) o) at
 parents_at_value {A} (pair ∷ pairs) (suc k) node at = parents_at_value pairs k node at
 
-past : {X : Type 0} (xs : List X) (k : ℕ) → None ≡ slice_get xs k → length xs ≤ k
+pub past : {X : Type 0} (xs : List X) (k : ℕ) → None ≡ slice_get xs k → length xs ≤ k
 past [] k none = omega arith
 past (x ∷ xs) zero none = absurd (none-some x none)
 past (x ∷ xs) (suc k) none = let h = past xs k none in omega arith

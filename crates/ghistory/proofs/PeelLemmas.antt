@@ -16,7 +16,7 @@ use Rattle.ghistory.proofs.Holding.{one_node}
 use Rattle.ghistory.specs.Peeling.{IsTagOf, IsCommit, Tags, PeelsTo}
 
 module _ {A : Type 0} (g : List (Entry A)) where
-  no_tag : (a b : List ℕ) → IsCommit g a → IsTagOf g a b → ⊥
+  pub no_tag : (a b : List ℕ) → IsCommit g a → IsTagOf g a b → ⊥
   no_tag a b commit tag =
       let same = one_node g a commit.node tag.node commit.held tag.held in
       let kinds = sym commit.commit ∙ ap (λ (n : Node A). n.kind) same ∙ tag.tag in cc
@@ -64,7 +64,7 @@ module _ {A : Type 0} (g : List (Entry A)) where
           let same = one_node g b one.node node one.held held in
           let clash = sym one.names ∙ ap (λ (n : Node A). slice_get n.parents 0) same ∙ none in cc
 
-  tags_more : (m : ℕ) (a b c : List ℕ) → Tags g m a b → IsTagOf g b c → Tags g (suc m) a c
+  pub tags_more : (m : ℕ) (a b c : List ℕ) → Tags g m a b → IsTagOf g b c → Tags g (suc m) a c
   tags_more zero a b c here tag = (c, subst (λ (x : List ℕ). IsTagOf g x c) (sym here) tag, refl)
   tags_more (suc m) a b c (next, first, rest) tag = (next, first, tags_more m next b c rest tag)
 
@@ -73,7 +73,7 @@ module _ {A : Type 0} (g : List (Entry A)) where
       tags_more m a b c chain (record { node = node; held = held; tag = tag; names = names })
 
   -- no tag is on a chain from itself, where the chain ends
-  no_cycle : (fuel m k : ℕ) (a c : List ℕ) → m ≤ fuel → Tags g m a c → IsCommit g c → Tags g (suc k) a a → ⊥
+  pub no_cycle : (fuel m k : ℕ) (a c : List ℕ) → m ≤ fuel → Tags g m a c → IsCommit g c → Tags g (suc k) a a → ⊥
   no_cycle zero m k a c le chain commit (next, tag, rest) =
       let more = onward m (suc k) a a c chain commit (next, tag, rest) in omega (arith, more.1)
   no_cycle (suc fuel) m k a c le chain commit (next, tag, rest) =
@@ -81,7 +81,7 @@ module _ {A : Type 0} (g : List (Entry A)) where
       no_cycle fuel more.0 k a c (omega (arith, more.1)) more.2 commit (next, tag, rest)
 
   -- what is left of a longer chain from the same id
-  rest_of : (i m d : ℕ) (a b c : List ℕ) → m ≡ i + d → Tags g i a b → Tags g m a c → Tags g d b c
+  pub rest_of : (i m d : ℕ) (a b c : List ℕ) → m ≡ i + d → Tags g i a b → Tags g m a c → Tags g d b c
   rest_of zero m d a b c e here more =
       let same : m ≡ d = omega (arith, e) in
       subst (λ (x : List ℕ). Tags g d x c) here (subst (λ (k : ℕ). Tags g k a c) same more)

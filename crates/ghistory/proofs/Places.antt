@@ -13,7 +13,7 @@ use Rattle.ghistory.proofs.Ordering.{entry_at_place}
 use Rattle.ghistory.proofs.Reaching.{place_inside, place_of_node}
 use Rattle.ghistory.proofs.Sharing.{entry_is, own_node}
 
-id_at_place : {A : Type 0} (g : List (Entry A)) (a : List ℕ) (p : ℕ) (entry : Entry A) → place_of g a ≡ Some p → slice_get g p ≡ Some entry → entry.id ≡ a
+pub id_at_place : {A : Type 0} (g : List (Entry A)) (a : List ℕ) (p : ℕ) (entry : Entry A) → place_of g a ≡ Some p → slice_get g p ≡ Some entry → entry.id ≡ a
 id_at_place [] a p entry place at = absurd (none-some p place)
 id_at_place {A} (first ∷ g) a p entry place at =
     let found = (position-Some (has_id a) (first ∷ g) p first place).1 in

@@ -218,6 +218,15 @@ module _ {A : Type 0} (s c list new : List (Entry A)) (wants commons tips : List
       let among = Contains-get_or wants k d inside in
       (λ b way. arrives b (want, among, wanted_there want among b way), λ b way. arrives b (want, among, way))
 
+-- it still is once the graph from which they are sent has more
+has_still : {A : Type 0} (s t h : List (Entry A)) (want : List ℕ) → IsClosed s → Keeps s t → Holds s want → IsFull h want × ((a : List ℕ) → Reaches s want a → Holds h a) → IsFull h want × ((a : List ℕ) → Reaches t want a → Holds h a)
+has_still s t h want closed keeps held has =
+    (has.0, λ a way. has.1 a (reached_already s t want a keeps (full_in_closed s closed want held) way))
+
+pub has_all_still : {A : Type 0} (s t h : List (Entry A)) (wants : List (List ℕ)) → IsClosed s → Keeps s t → All (Holds s) wants → HasAll s wants h → HasAll t wants h
+has_all_still s t h wants closed keeps held has k d inside =
+    has_still s t h (get_or wants k d) closed keeps (held k d inside) (has k d inside)
+
 -- ---- peeling
 
 pub peels_to_one : {A : Type 0} (g : List (Entry A)) (a b c : List ℕ) → PeelsTo g a b → PeelsTo g a c → b ≡ c

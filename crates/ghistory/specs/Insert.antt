@@ -11,13 +11,14 @@ use Rattle.gobject.specs.Objects.{node_at, entry_of, IsShaped, IsTagShaped, max_
 use Rattle.ghistory.specs.Graphs.{History, IsNode, HasIdsOf, HasParent, max_nodes}
 
 -- one entry comes in: its ids are of the graph's format, its node has its shape, and it was there with that node or
--- comes at the end
+-- comes at the end; one that is new comes in only where there is room for it
 pub record ComesIn {A : Type 0} (format : Format) (old : List (Entry A)) (entry : Entry A)
     (new : List (Entry A)) : Type 0 where
   pub ids : HasIdsOf format entry
   pub shaped : IsShaped entry.node
   pub comes :
       (IsNode old entry.id entry.node × (new ≡ old)) ⊎ ((node_at old entry.id ≡ None) × (new ≡ old ++ entry ∷ []))
+  pub room : node_at old entry.id ≡ None → length old < max_nodes
 
 -- the entries come in, one after the other
 abbrev pub Inserts : {A : Type 0} → Format → List (Entry A) → List (Entry A) → List (Entry A) → Type 0

@@ -1,5 +1,5 @@
 -- Laws of graphs, over all graphs and lists.
-use Rattle.std.specs.Prelude.{◌≡◌, ◌<◌, ◌≤◌, ◌⊎◌, ◌↔◌, ℕ, List, ◌∷◌, ◌++◌, length, All, Contains, None, Some, slice_get}
+use Rattle.std.specs.Prelude.{◌≡◌, ◌≢◌, ◌<◌, ◌≤◌, ◌⊎◌, ◌↔◌, ℕ, List, ◌∷◌, ◌++◌, length, All, Contains, None, Some, slice_get}
 use Rattle.std.specs.List.{IsDistinct}
 use Rattle.std.specs.Str.{bytes_eq}
 use Rattle.gobject.specs.declared.node.Entry.{Entry}
@@ -38,6 +38,21 @@ OneCause A =
     (format : Format) (g : List (Entry A)) (entry : Entry A) (fault other : GraphFault)
     → IsCause format g entry fault → IsCause format g entry other → fault ≡ other
 
+-- a list is refused in one way, out of memory aside
+abbrev pub OneRefusal : Type 0 → Type 0
+OneRefusal A =
+    (format : Format) (old entries : List (Entry A)) (fault other : GraphFault)
+    → IsRefused format old entries fault → IsRefused format old entries other
+    → fault ≢ Memory → other ≢ Memory → fault ≡ other
+
+-- a list that comes in whole is refused for want of memory alone, and the graph that it makes is one
+abbrev pub WholeListsComeIn : Type 0 → Type 0
+WholeListsComeIn A =
+    (format : Format) (old entries new : List (Entry A))
+    → Inserts format old entries new
+    → ((fault : GraphFault) → IsRefused format old entries fault → fault ≡ Memory)
+    × ((other : List (Entry A)) → Inserts format old entries other → new ≡ other)
+
 -- a graph is closed exactly where the whole ancestry of each id that it holds is held
 abbrev pub ClosedIsFull : Type 0 → Type 0
 ClosedIsFull A = (g : List (Entry A)) → IsClosed g ↔ ((a : List ℕ) → Holds g a → IsFull g a)
@@ -59,6 +74,23 @@ PathsAreShared A = (g h : List (Entry A)) (a b : List ℕ) → Agree g h → IsF
 -- what grows keeps what it held
 abbrev pub GrowingKeeps : Type 0 → Type 0
 GrowingKeeps A = (g h : List (Entry A)) → Grows g h → Keeps g h
+
+-- what grows from a graph that grew grows from the first
+abbrev pub GrowingGoesOn : Type 0 → Type 0
+GrowingGoesOn A = (f g h : List (Entry A)) → Grows f g → Grows g h → Grows f h
+
+-- a graph grows as an entry comes in
+abbrev pub ComingGrows : Type 0 → Type 0
+ComingGrows A =
+    (format : Format) (g : List (Entry A)) (entry : Entry A) (h : List (Entry A)) → ComesIn format g entry h → Grows g h
+
+-- an id that is held has a node
+abbrev pub HoldingIsANode : Type 0 → Type 0
+HoldingIsANode A = (g : List (Entry A)) (a : List ℕ) → Holds g a → (node : Node A) × IsNode g a node
+
+-- where a graph keeps what it held, an id that was held is held
+abbrev pub KeepingHolds : Type 0 → Type 0
+KeepingHolds A = (g h : List (Entry A)) (a : List ℕ) → Keeps g h → Holds g a → Holds h a
 
 -- where a graph keeps what it held, a path is still there
 abbrev pub KeepingReaches : Type 0 → Type 0
@@ -146,6 +178,12 @@ SendingIsEnough A =
     (s c list new : List (Entry A)) (wants commons tips : List (List ℕ)) (format : Format)
     → IdsDiffer s → IsClosed s → Agree s c → All (Holds s) wants → All (IsFull c) commons
     → IsListToSend s wants commons tips list → Inserts format c list new → HasAll s wants new
+
+-- what completes the wants of a closed graph still does once that graph has more: the wants reach nothing new there
+abbrev pub KeepingHasAll : Type 0 → Type 0
+KeepingHasAll A =
+    (s t h : List (Entry A)) (wants : List (List ℕ))
+    → IsClosed s → Keeps s t → All (Holds s) wants → HasAll s wants h → HasAll t wants h
 
 -- ---- counts
 

@@ -2,7 +2,7 @@
 #![tactic(auto)]
 
 ghost use Rattle.std.specs.Prelude.{◌≡◌};
-ghost use Rattle.ghistory.specs.Laws.{EntriesComeInOrder, OneCause, ClosedIsFull, ReachingGoesOn, FullStaysFull, PathsAreShared, GrowingKeeps, KeepingReaches, AgreeingStays, AgreeingEntriesFit, PeelsToOne, PeelsAlongTags, OrderedIsClosed, ReachingGoesDown, ClosedStays, PlacesAreNodes, OneListToSend, SentAreEntries, SendingIsEnough, ReachedAreCounted, CountsStay, LevelsAreDistances, LevelsAreReached, OffersAreExact, CommonsAreHeld, DistinctAreOnce};
+ghost use Rattle.ghistory.specs.Laws.{EntriesComeInOrder, OneCause, OneRefusal, WholeListsComeIn, ClosedIsFull, ReachingGoesOn, FullStaysFull, PathsAreShared, GrowingKeeps, GrowingGoesOn, ComingGrows, HoldingIsANode, KeepingHolds, KeepingReaches, AgreeingStays, AgreeingEntriesFit, PeelsToOne, PeelsAlongTags, OrderedIsClosed, ReachingGoesDown, ClosedStays, PlacesAreNodes, OneListToSend, SentAreEntries, SendingIsEnough, KeepingHasAll, ReachedAreCounted, CountsStay, LevelsAreDistances, LevelsAreReached, OffersAreExact, CommonsAreHeld, DistinctAreOnce};
 ghost use Rattle.ghistory.specs.Graphs.{max_nodes};
 
 use crate::MAX_NODES;
@@ -21,6 +21,16 @@ pub fn entries_come_in_order<A: Allocator + Copy>()
 /// An entry that is refused has one cause: the first in the order of `Graph::insert_all`.
 pub fn one_cause<A: Allocator + Copy>()
     ensures { OneCause A }
+{}
+
+/// A list of entries is refused in one way, out of memory aside.
+pub fn one_refusal<A: Allocator + Copy>()
+    ensures { OneRefusal A }
+{}
+
+/// A list of entries that can come in whole is refused for want of memory alone, and makes one graph.
+pub fn whole_lists_come_in<A: Allocator + Copy>()
+    ensures { WholeListsComeIn A }
 {}
 
 /// No parent is missing exactly where the whole ancestry of each id that is held is held.
@@ -46,6 +56,26 @@ pub fn paths_are_shared<A: Allocator + Copy>()
 /// A graph to which objects only came holds what it held, with the same nodes.
 pub fn growing_keeps<A: Allocator + Copy>()
     ensures { GrowingKeeps A }
+{}
+
+/// A graph that grew from one that grew from a third grew from the third.
+pub fn growing_goes_on<A: Allocator + Copy>()
+    ensures { GrowingGoesOn A }
+{}
+
+/// A graph grows as an entry comes in.
+pub fn coming_grows<A: Allocator + Copy>()
+    ensures { ComingGrows A }
+{}
+
+/// An id that is held has a node.
+pub fn holding_is_a_node<A: Allocator + Copy>()
+    ensures { HoldingIsANode A }
+{}
+
+/// Where a graph keeps what it held, an id that was held is held.
+pub fn keeping_holds<A: Allocator + Copy>()
+    ensures { KeepingHolds A }
 {}
 
 /// Where a graph keeps what it held, what an id reached it still reaches.
@@ -114,6 +144,12 @@ pub fn sent_are_entries<A: Allocator + Copy>()
 /// wants, and all that they reach in the server's.
 pub fn sending_is_enough<A: Allocator + Copy>()
     ensures { SendingIsEnough A }
+{}
+
+/// What completes the wants of a server's graph still does once that graph has more. Each parent was held there, and so
+/// were the wants: they reach nothing new.
+pub fn keeping_has_all<A: Allocator + Copy>()
+    ensures { KeepingHasAll A }
 {}
 
 /// Distinct held ids that some tips reach are at most as many as are counted.

@@ -9,7 +9,8 @@
 //! - It knows exactly whether each object came after all its parents.
 //! - `insert` and `insert_all` add each new object after the others, and nothing else; they refuse an entry
 //!   for its first cause alone, in a fixed order, and then the graph is as it was. Memory is a cause only
-//!   where an object is new and there is room for it.
+//!   where an object is new and there is room for it. A list is refused in one way, out of memory aside: by
+//!   its first entry that can't come in; a list that can come in whole is refused for want of memory alone.
 //! - `is_closed` answers whether no parent is missing. `peel` answers the commit at the end of a chain of
 //!   tags exactly where there is one. Neither takes memory.
 //! - `first_absent` answers the first of some ids that is not held.
@@ -19,21 +20,20 @@
 //!   the levels about some tips, of the ids to offer, of distinct ids, and that a list to send, once it is
 //!   inserted, completes the ancestries of the wants at the client.
 //!
-//! # Only tested
-//!
-//! That memory, where there is some, is found, and that room that was made is used.
-//!
 //! # What a body can still get away with
 //!
 //! It may take as long as it likes, and more memory than it needs. It may report out of memory of any new
 //! object for which there is room, of any copy and of any list of distinct ids. A copy by `entry_in` may take
 //! its memory from the graph's own allocator and not from the one that is given: no clause says where memory
-//! comes from. `make_room` may make none.
+//! comes from. `make_room` may make none. A fault may be shown as another text.
+//!
+//! There are no tests here. The program `conformance` loads, fetches and walks histories, with each allocation
+//! refused in turn.
 //!
 //! # Stands on
 //!
 //! `gname` for ids, `gobject` for nodes and entries, `indexmap` for the map from ids to nodes and the set
-//! of distinct ids, and `thiserror` for the texts of faults; in tests `bumpalo`, for memory that ends.
+//! of distinct ids, and `thiserror` for the texts of faults.
 #![tactic(auto)]
 
 mod closed;
@@ -43,8 +43,6 @@ mod graph;
 mod insert;
 pub mod laws;
 mod peel;
-#[cfg(test)]
-mod tests;
 
 pub use crate::distinct::distinct_ids;
 pub use crate::fault::GraphFault;

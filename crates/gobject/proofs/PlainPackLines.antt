@@ -215,7 +215,7 @@ line_parts (c ∷ a) (d ∷ b) x y h k same =
     (ap (λ byte. byte ∷ a) first ∙ ap (λ (text : List ℕ). d ∷ text) parts.0, parts.1)
 
 -- the text of some lines and of others
-text_of-append : (lines more : List (List ℕ)) → text_of (lines ++ more) ≡ text_of lines ++ text_of more
+pub text_of-append : (lines more : List (List ℕ)) → text_of (lines ++ more) ≡ text_of lines ++ text_of more
 text_of-append [] more = refl
 text_of-append (first ∷ lines) more =
     ap (λ (text : List ℕ). line first ++ text) (text_of-append lines more) ∙ sym (append_assoc (line first) (text_of lines) (text_of more))

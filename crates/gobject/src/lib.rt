@@ -19,23 +19,21 @@
 //! - Each fault has the number and the name of its row.
 //! - No call panics, overflows or reads out of bounds, and each returns.
 //!
-//! # Only tested
-//!
-//! The texts of the faults, that memory which is there is used, and that the longest pack is written.
-//!
 //! # What a body can still get away with
 //!
 //! It may report out of memory of any list whose text is not too long, of any bytes in which an entry is
 //! there to keep, and of any copy, as often as it likes: so where a line is bad and an entry stands before
 //! it, it may report out of memory in place of the bad line. A copy may take its memory from another
 //! allocator of the same type than the one that is given. It may take as long as it likes, and more memory
-//! than it needs.
+//! than it needs. A fault may be shown as another text.
+//!
+//! There are no tests here. The program `conformance` reads and writes packs, whole and in pieces, with each
+//! allocation refused in turn.
 //!
 //! # Stands on
 //!
 //! `gname` for ids, `memchr` for the ends of parts, `arrayvec` for a part that is cut, `itoa` for the
-//! count in a pack, `thiserror` for the texts of faults; the proofs cite `hex`. In tests `bumpalo`, for
-//! memory that ends.
+//! count in a pack, `thiserror` for the texts of faults; the proofs cite `hex`.
 #![tactic(auto)]
 
 mod fault;
@@ -43,8 +41,6 @@ pub mod laws;
 mod node;
 mod pack;
 mod plain_pack;
-#[cfg(test)]
-mod tests;
 
 pub use crate::fault::{IndexFault, PackFault};
 pub use crate::node::{Entry, Kind, MAX_PARENTS, Node, Parents};

@@ -6,25 +6,13 @@ use Rattle.std.proofs.lemmas.Bool.{false≢true, cases_Bool, and_parts, not-true
 use Rattle.gobject.specs.declared.node.Entry.{Entry}
 use Rattle.gobject.specs.Objects.{place_of}
 use Rattle.ghistory.specs.Graphs.{HasParent}
-use Rattle.ghistory.specs.Reach.{Reaches, here, onward, SomeReaches}
+use Rattle.ghistory.specs.Reach.{here, SomeReaches}
 use Rattle.gpass.specs.Passes.{IsEdge, IsPlaceOf, IsReachedAt, IsNewAt, MarksAll, IsPassed, IsDone, is_marked, is_open, open_below}
-use Rattle.gpass.proofs.Ids.{place_same, held_place}
+use Rattle.ghistory.proofs.Reaching.{place_same, place_of_node, kept_along, some_reaches}
 use Rattle.gpass.proofs.Places.{HasParentsFirst, edge_place, place_edge, edge_down, marked_inside, none_marked}
 use Rattle.gpass.proofs.Counting.{open_least, open_if}
 
 -- ---- reaching
-
-reaches_parent : {A : Type 0} (g : List (Entry A)) (a b c : List ℕ) → Reaches g a b → HasParent g b c → Reaches g a c
-reaches_parent g a b c here p = onward p here
-reaches_parent g a b c (onward {b = m} q r) p = onward q (reaches_parent g m b c r p)
-
--- what is kept along each step is kept along the whole way
-kept_along : {A : Type 0} (g : List (Entry A)) (P : List ℕ → Type 0) → ((a b : List ℕ) → P a → HasParent g a b → P b) → (a b : List ℕ) → Reaches g a b → P a → P b
-kept_along g P step a b here h = h
-kept_along g P step a b (onward {b = m} q r) h = kept_along g P step m b r (step a m h q)
-
-some_reaches : {A : Type 0} (g : List (Entry A)) (ids : List (List ℕ)) (a b : List ℕ) → SomeReaches g ids a → HasParent g a b → SomeReaches g ids b
-some_reaches g ids a b s p = (s.0, s.1, reaches_parent g s.0 a b s.2 p)
 
 -- ---- what is reached, place by place
 
@@ -43,7 +31,7 @@ at_reached g ids P start step p r =
     let Q : List ℕ → Type 0 = λ a. (k : ℕ) → place_of g a ≡ Some k → P k in
     let begin : Q r.reached.0 = λ k e. start k (record { id = r.reached.0; among = r.reached.1; at = e }) in
     let on : (a b : List ℕ) → Q a → HasParent g a b → Q b = λ a b q h k e. (
-    let there = held_place g a h.0 h.1 in
+    let there = place_of_node g a h.0 h.1 in
     step there.0 k (record { child = a; parent = b; edge = h; child_at = there.1; parent_at = e }) (q there.0 there.1)
     ) in
     kept_along g Q on r.reached.0 r.id r.reached.2 begin p r.at

@@ -4,17 +4,19 @@ use Rattle.std.specs.List.{slice_get}
 use Rattle.std.specs.Option.{option_map}
 use Rattle.std.proofs.lemmas.List.{get_or-set_same, get_or-set_other, length-set, take_more}
 use Rattle.std.proofs.lemmas.List.Elements.{All-contains, Contains-append_left, Contains-push, Contains-push_cases}
-use Rattle.std.proofs.lemmas.Option.{none-some, same_Some, slice_get-get_or}
-use Rattle.std.proofs.lemmas.List.Quantifiers.{position-Some}
+use Rattle.std.proofs.lemmas.Option.{none-some, same_Some}
 use Rattle.std.specs.Ordering.{ord_max, nat_cmp}
 use Rattle.std.proofs.lemmas.Bool.{false≢true, cases_eq}
 use Rattle.std.proofs.lemmas.Bool.Decides.{nat_tests}
 use Rattle.gobject.specs.declared.node.Node.{Node}
 use Rattle.gobject.specs.declared.node.Entry.{Entry}
-use Rattle.gobject.specs.Objects.{has_id, node_at, place_of, IdsDiffer}
+use Rattle.gobject.specs.Objects.{node_at, place_of, IdsDiffer}
 use Rattle.ghistory.specs.Graphs.{History, Holds, HasParent, IsNode, IsGraph, IsOrdered}
 use Rattle.gpass.specs.Passes.{IsEdge, IsInOrder, IsPlaceOf, MarksAll, is_marked}
-use Rattle.gpass.proofs.Ids.{has_id_is, own_place, place_inside, node_at_place, held_place, entry_there, one_place}
+use Rattle.ghistory.proofs.Holding.{own_place}
+use Rattle.ghistory.proofs.Reaching.{place_inside, node_at_place, place_of_node}
+use Rattle.gpass.proofs.Ids.{entry_there, one_place}
+use Rattle.ghistory.proofs.Places.{id_at_place}
 
 pub contains_none : {X : Type 0} (x : X) → Contains [] x → ⊥
 contains_none x h = let k : h.0 < 0 = h.1 in omega arith
@@ -26,7 +28,7 @@ only_one a x (suc k, inside, is) = absurd (omega arith)
 -- ---- parents
 
 -- the parents at the place of an id are those of its node
-parents_are : {A : Type 0} (g : List (Entry A)) (a : List ℕ) (p : ℕ) (parents : List (List ℕ)) → place_of g a ≡ Some p → option_map (λ entry. entry.node.parents) (slice_get g p) ≡ Some parents → (node : Node A) × IsNode g a node × (node.parents ≡ parents)
+pub parents_are : {A : Type 0} (g : List (Entry A)) (a : List ℕ) (p : ℕ) (parents : List (List ℕ)) → place_of g a ≡ Some p → option_map (λ entry. entry.node.parents) (slice_get g p) ≡ Some parents → (node : Node A) × IsNode g a node × (node.parents ≡ parents)
 parents_are {A} g a p parents e are =
     let there = entry_there g p (place_inside g a p e) in
     let node : Node A = (there.0).node in
@@ -59,12 +61,6 @@ in_order g graph ordered = record { differ = graph.differ; shaped = graph.shaped
 abbrev pub HasParentsFirst : {A : Type 0} → List (Entry A) → Type 0
 HasParentsFirst g = (a b : List ℕ) (p : ℕ) → place_of g a ≡ Some p → HasParent g a b → (q : ℕ) × (place_of g b ≡ Some q) × (q < p)
 
-id_there : {A : Type 0} (g : List (Entry A)) (a : List ℕ) (p : ℕ) (entry : Entry A) → place_of g a ≡ Some p → slice_get g p ≡ Some entry → entry.id ≡ a
-id_there g a p entry e there =
-    let found = position-Some (has_id a) g p entry e in
-    let same : get_or g p entry ≡ entry = same_Some (get_or g p entry) entry (sym (slice_get-get_or g p entry found.0) ∙ there) in
-    has_id_is a entry (ap (has_id a) (sym same) ∙ found.1)
-
 taken : {X : Type 0} (xs : List X) (n p : ℕ) (x : X) → slice_get (take n xs) p ≡ Some x → (p < n) × (slice_get xs p ≡ Some x)
 taken xs zero p x at = absurd (none-some x at)
 taken [] (suc n) p x at = absurd (none-some x at)
@@ -75,11 +71,11 @@ taken (y ∷ xs) (suc n) (suc p) x at = let h = taken xs n p x at in let low = h
 held_before : {A : Type 0} (g : List (Entry A)) (n : ℕ) (b : List ℕ) (o : Option (Node A)) → node_at (take n g) b ≡ o → IsSome o → IdsDiffer g → (q : ℕ) × (place_of g b ≡ Some q) × (q < n)
 held_before g n b None e held differ = absurd (search (rules, held))
 held_before {A} g n b (Some node) e held differ =
-    let at = held_place (take n g) b node e in
+    let at = place_of_node (take n g) b node e in
     let there = entry_there (take n g) at.0 (place_inside (take n g) b at.0 at.1) in
     let low = taken g n at.0 there.0 there.1 in
     let P : List ℕ → Type 0 = λ a. place_of g a ≡ Some at.0 in
-    (at.0, subst P (id_there (take n g) b at.0 there.0 at.1 there.1) (own_place g at.0 there.0 differ low.1), low.0)
+    (at.0, subst P (id_at_place (take n g) b at.0 there.0 at.1 there.1) (own_place g at.0 there.0 differ low.1), low.0)
 
 pub parents_first : {A : Type 0} (g : List (Entry A)) → IsInOrder g → HasParentsFirst g
 parents_first {A} g order a b p at h =

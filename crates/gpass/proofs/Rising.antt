@@ -12,7 +12,9 @@ use Rattle.gobject.specs.declared.node.Entry.{Entry}
 use Rattle.gobject.specs.Objects.{place_of}
 use Rattle.ghistory.specs.Reach.{Reaches, here, onward}
 use Rattle.gpass.specs.Passes.{IsEdge, IsInOrder, IsPlaceOf, IsReachingAt, MarksAll, HasMarked, MarksReaching, is_marked}
-use Rattle.gpass.proofs.Ids.{own_place, place_same, held_place, entry_there}
+use Rattle.ghistory.proofs.Holding.{own_place}
+use Rattle.ghistory.proofs.Reaching.{place_same, place_of_node}
+use Rattle.gpass.proofs.Ids.{entry_there}
 use Rattle.gpass.proofs.Places.{HasParentsFirst, parents_first, edge_place, place_edge, edge_down, only_one, set_cases, set_there, set_kept, none_marked}
 
 -- ---- one of the goals
@@ -144,7 +146,7 @@ module _ {A : Type 0} (g : List (Entry A)) (goals : List (List ℕ)) (a : List �
   way_absent : (b : List ℕ) → place_of g a ≡ None → Reaches g a b → Contains goals b → Contains goals a
   way_absent b absent here among = among
   way_absent b absent (onward h way) among =
-      let at = held_place g a h.0 h.1 in absurd (none-some at.0 (sym absent ∙ at.1))
+      let at = place_of_node g a h.0 h.1 in absurd (none-some at.0 (sym absent ∙ at.1))
 
   pub good_absent : (b : Bool) → place_of g a ≡ None → IsAnyAnswer (λ y t. bytes_eq y a ≡ t) goals b → (b ≡ true) ↔ Any (Reaches g a) goals
   good_absent b absent answer =

@@ -10,7 +10,9 @@ use Rattle.ghistory.specs.Peeling.{IsTagOf, Tags}
 use Rattle.ghistory.specs.Selecting.{Selects, none, keep, skip}
 use Rattle.ghistory.specs.Sending.{IsNew, IsTagToSend, IsToSend, IsListToSend}
 use Rattle.gpass.specs.Passes.{IsInOrder, IsDone, IsOpenTag, MarksTags, is_marked, is_open}
-use Rattle.gpass.proofs.Ids.{own_place, place_same, held_place, entry_there}
+use Rattle.ghistory.proofs.Holding.{own_place}
+use Rattle.ghistory.proofs.Reaching.{place_same, place_of_node}
+use Rattle.gpass.proofs.Ids.{entry_there}
 use Rattle.gpass.proofs.Places.{parents_first, marked_inside}
 use Rattle.gpass.proofs.TagChains.{tags_on, chain_peels, commit_below}
 use Rattle.gpass.proofs.Counting.{shut_idle}
@@ -31,13 +33,13 @@ module _ {A : Type 0} (g : List (Entry A)) (wants commons tips : List (List ℕ)
   -- where tags lead to an id that is held, they begin at one
   led_place : (m : ℕ) (a b : List ℕ) (q : ℕ) → place_of g b ≡ Some q → Tags g m a b → (p : ℕ) × (place_of g a ≡ Some p)
   led_place zero a b q at same = (q, ap (place_of g) same ∙ at)
-  led_place (suc m) a b q at (on, tag, rest) = held_place g a tag.node tag.held
+  led_place (suc m) a b q at (on, tag, rest) = place_of_node g a tag.node tag.held
 
   sends_open_tag : (a : List ℕ) (p : ℕ) → place_of g a ≡ Some p → IsTagToSend g wants commons tips a → IsOpenTag g tips wanted known p
   sends_open_tag a p at x =
       let start = led_place x.steps x.tip a p at x.leads in
       let commit = x.peels.2 in
-      let end = held_place g x.commit commit.node commit.held in
+      let end = place_of_node g x.commit commit.node commit.held in
       let all = tags_on g x.steps x.peels.0 x.tip a x.commit x.leads x.peels.1 in
       record {
         start = start.0;

@@ -13,7 +13,9 @@ use Rattle.gobject.specs.Objects.{place_of, IsShaped}
 use Rattle.ghistory.specs.Graphs.{HasParent, IsNode}
 use Rattle.ghistory.specs.Peeling.{IsTagOf, IsCommit, Tags, PeelsTo}
 use Rattle.gpass.specs.Passes.{IsInOrder, IsPlaceOf, IsCommitAt, IsTagAt, IsLedTo, IsPeeledAt, IsOnChain, MarksChain, IsOpenTag, MarksTags, is_marked, is_open}
-use Rattle.gpass.proofs.Ids.{own_place, place_same, node_at_place, one_place, entry_there}
+use Rattle.ghistory.proofs.Holding.{own_place}
+use Rattle.ghistory.proofs.Reaching.{place_same, node_at_place}
+use Rattle.gpass.proofs.Ids.{one_place, entry_there}
 use Rattle.gpass.proofs.Places.{HasParentsFirst, parents_first, contains_none, set_cases, set_there, set_kept, none_marked, place_next, one_more}
 
 contains_first : (xs : List (List ℕ)) (b : List ℕ) → slice_get xs 0 ≡ Some b → Contains xs b

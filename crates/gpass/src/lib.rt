@@ -11,17 +11,15 @@
 //! - Each of them fails with `Memory` alone, and may be called only where `Graph::is_ordered` holds.
 //! - The pass down takes a further step only while something below is wanted and not known.
 //!
-//! # Only tested
-//!
-//! How far a pass goes: where one commit of a long history is new, the pass down looks at that one alone, and it
-//! looks at each object once, however many paths lead there. That memory, where there is some, is found.
-//!
 //! # What a body can still get away with
 //!
 //! It may look at an object more often than once, and use more memory than it needs: a pass clears up to three
 //! bytes for each object up to the last id that it starts from, whether it gets there or not. A pass may start
 //! earlier than it has to: the pass down above the last of its ids, the pass up below the first. No clause
 //! speaks of the work. It may report out of memory at any time.
+//!
+//! There are no tests here. The program `conformance` runs fetches of histories in which parents come first, with
+//! each allocation refused in turn.
 //!
 //! # Stands on
 //!
@@ -32,8 +30,6 @@ mod down;
 mod marks;
 mod send;
 mod tags;
-#[cfg(test)]
-mod tests;
 mod up;
 
 pub use crate::send::send_list;

@@ -1,5 +1,4 @@
 pub mod Counting
-pub mod Holding
 pub mod IdLists
 pub mod LevelReach
 pub mod LevelWalk
@@ -7,12 +6,11 @@ pub mod Looking
 pub mod Marking
 pub mod Misses
 pub mod Offering
+pub mod Passing
 pub mod Reached
-pub mod Reaching
 pub mod SentMarks
 pub mod Staying
 pub mod Stopping
-pub mod TagChains
 pub mod Tagging
 pub mod Untold
 pub mod Walking

@@ -3,7 +3,7 @@ use Rattle.std.proofs.Common.{◌≡◌, inl, inr, ◌↔◌, ℕ, zero, suc, �
 use Rattle.std.specs.List.{Any, AllByRecursion, slice_get, cons_option}
 use Rattle.std.specs.Option.{option_map}
 use Rattle.std.proofs.lemmas.Bool.{false≢true}
-use Rattle.std.proofs.lemmas.Option.{none-some}
+use Rattle.std.proofs.lemmas.Option.{none-some, same_Some}
 use Rattle.std.proofs.lemmas.List.Elements.{Contains-append_left, Contains-append_right, Contains-append_cases, Contains-push_cases}
 use Rattle.gobject.specs.declared.node.Entry.{Entry}
 use Rattle.gobject.specs.Objects.{node_at, place_of}
@@ -11,10 +11,12 @@ use Rattle.ghistory.specs.Reach.{Reaches, SomeReaches}
 use Rattle.ghistory.specs.Levels.{new_ids, parents_of, parents_of_each}
 use Rattle.gwalk.specs.Common.{AreGoals, ids_at}
 use Rattle.gwalk.specs.Walks.{HasMet, places}
-use Rattle.gwalk.proofs.IdLists.{either_way, nothing_in_nil, new_ids-from, new_ids-has, contains_head, contains_tail, contains_cases, with_new}
-use Rattle.gwalk.proofs.LevelReach.{parent_from, below_reached, reached_met}
+use Rattle.ghistory.proofs.IdLists.{either_way, nothing_in_nil, new_ids-from, new_ids-has, contains_head, contains_tail, contains_cases, with_new}
+use Rattle.ghistory.proofs.LevelLaws.{parent_from}
+use Rattle.ghistory.proofs.LevelReach.{in_reached}
+use Rattle.ghistory.proofs.Reaching.{node_at_none, held_at_place, place_inside, reaches_parent}
+use Rattle.gwalk.proofs.LevelReach.{reached_met}
 use Rattle.gwalk.proofs.LevelWalk.{IsWalked}
-use Rattle.gwalk.proofs.Reaching.{node_at_none, held_at_place, place_inside, reaches_parent}
 use Rattle.gwalk.proofs.Reached.{found_at}
 use Rattle.gwalk.proofs.Walking.{IsUnderway, IsNext, none_left, ends_levels}
 
@@ -68,7 +70,7 @@ goals_are g ids marks met lost parents absent h is = record {
 
 pub walked_reached : {A : Type 0} (g : List (Entry A)) (starts ids : List (List ℕ)) (at : ℕ) → IsWalked g starts ids at → (a : List ℕ) → Contains ids a → SomeReaches g starts a
 walked_reached g starts ids at w a c =
-    below_reached g starts (suc (suc w.k)) a
+    in_reached g starts (suc (suc w.k)) a
     (subst (λ (l : List (List ℕ)). Contains l a) w.ahead (Contains-append_left ids (new_ids ids (parents_of_each g w.rest)) a c))
 
 one_start : {A : Type 0} (g : List (Entry A)) (start b : List ℕ) → SomeReaches g (start ∷ []) b → Reaches g start b
@@ -148,7 +150,7 @@ module _ {A : Type 0} (g : List (Entry A)) (start : List ℕ) (goals : List Bool
                   | inr after ↦ elim (Contains-push_cases n.mid n.id a after) [
                     | inl between ↦ no_place a p between e
                     | inr same ↦
-                        let place : x ≡ p = Some-same (sym n.place ∙ ap (place_of g) same ∙ e) in
+                        let place : x ≡ p = same_Some x p (sym n.place ∙ ap (place_of g) same ∙ e) in
                         false≢true (sym free ∙ ap (λ i. get_or goals i false) place ∙ t)
                   ]
                 ];
@@ -159,9 +161,6 @@ module _ {A : Type 0} (g : List (Entry A)) (start : List ℕ) (goals : List Bool
                 ];
           }
         where
-          Some-same : {p q : ℕ} → Some p ≡ Some q → p ≡ q
-          Some-same e = cc
-
           no_place : (a : List ℕ) (p : ℕ) → Contains n.mid a → place_of g a ≡ Some p → ⊥
           no_place a p c e = unplaced g n.mid a p c e n.absent
 

@@ -8,7 +8,7 @@ use Rattle.gobject.specs.declared.node.Entry.{Entry}
 use Rattle.gwalk.specs.Marks.{AreFull, MarksReached}
 use Rattle.ghistory.specs.Reach.{IsFull, SomeReaches}
 use Rattle.gwalk.specs.Walks.{AreMarked}
-use Rattle.gwalk.proofs.Reaching.{reaches_on}
+use Rattle.ghistory.proofs.Reaching.{reaches_on}
 
 -- a mark more of a list
 pub take_same : (marks : List Bool) (i : ℕ) (b : Bool) → i < length marks → get_or marks i false ≡ b → get_or (take (i + 1) marks) i false ≡ b
@@ -41,7 +41,7 @@ pub record IsEither (reached old marks : List Bool) (i : ℕ) : Type 0 where
   pub long : length reached ≤ length marks
   pub each : (p : ℕ) → get_or marks p false ≡ (get_or reached p false || get_or (take i old) p false)
 
-none_in : (p : ℕ) → get_or [] p false ≡ false
+pub none_in : (p : ℕ) → get_or [] p false ≡ false
 none_in zero = refl
 none_in (suc p) = refl
 

@@ -10,12 +10,12 @@ use Rattle.ghistory.specs.Levels.{is_in, new_ids, parents_of_each, level, levels
 use Rattle.ghistory.specs.Laws.{LevelsAreDistances}
 use Rattle.ghistory.specs.Offer.{IsOffer}
 use Rattle.gwalk.specs.Walks.{HasMet, places}
-use Rattle.gwalk.proofs.IdLists.{either_way, contains_from_in, in_from_contains}
+use Rattle.ghistory.proofs.IdLists.{either_way, contains_from_in, in_from_contains}
+use Rattle.ghistory.proofs.Reaching.{node_at_none, held_at_place}
 use Rattle.gwalk.proofs.LevelWalk.{IsWalked}
 use Rattle.gwalk.proofs.Looking.{new_same, placed}
 use Rattle.gwalk.proofs.Untold.{is_untold, offer_by_filter}
 use Rattle.gwalk.proofs.Reached.{found_at}
-use Rattle.gwalk.proofs.Reaching.{node_at_none, held_at_place}
 use Rattle.gwalk.proofs.Walking.{IsUnderway, IsNext, ends_levels, none_left}
 
 -- ---- the test by marks

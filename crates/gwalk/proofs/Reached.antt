@@ -4,23 +4,23 @@ use Rattle.std.specs.List.{slice_get}
 use Rattle.std.specs.Option.{option_map}
 use Rattle.std.proofs.lemmas.List.Sums.{sum_by-cons}
 use Rattle.std.proofs.lemmas.List.Elements.{Contains-get_or}
-use Rattle.std.proofs.lemmas.Option.{get_or_from_slice_get, slice_get_cases, none-some, same_Some}
-use Rattle.std.proofs.lemmas.List.Quantifiers.{position-Some}
+use Rattle.std.proofs.lemmas.Option.{slice_get_cases, same_Some}
 use Rattle.std.proofs.lemmas.Bool.{false≢true}
 use Rattle.gobject.specs.declared.node.Node.{Node}
 use Rattle.gobject.specs.declared.node.Entry.{Entry}
-use Rattle.gobject.specs.Objects.{node_at, place_of, has_id, IdsDiffer}
+use Rattle.gobject.specs.Objects.{node_at, place_of, IdsDiffer}
 use Rattle.ghistory.specs.Graphs.{Holds, HasParent, IsNode}
 use Rattle.ghistory.specs.Reach.{Reaches, here, onward, SomeReaches, IsFull}
-use Rattle.gwalk.specs.Marks.{AreFull, stop_at}
+use Rattle.gwalk.specs.Marks.{AreFull, IsUnmarked, ReachesPast, there, further, stop_at}
 use Rattle.ghistory.specs.Selecting.{Selects, none, keep, skip}
 use Rattle.ghistory.specs.Walks.{CountsReached, Misses}
 use Rattle.gwalk.specs.Walks.{IsWalk, AreMarked, marked, marked_parents}
-use Rattle.gwalk.proofs.Reaching.{held_at_place, node_at_place, node_at_none, place_inside, kept_along, some_reaches, place_of_node}
-use Rattle.gwalk.proofs.Holding.{own_place, has_id_is}
+use Rattle.ghistory.proofs.Reaching.{held_at_place, node_at_place, node_at_none, place_inside, kept_along, some_reaches, place_of_node}
+use Rattle.ghistory.proofs.Holding.{own_place}
 use Rattle.gwalk.proofs.Counting.{count_marks}
 use Rattle.gwalk.proofs.LevelReach.{met_reached, reached_met}
-use Rattle.gwalk.proofs.Stopping.{bare_if, stop_place, stop_slice, stopped_entry}
+use Rattle.gwalk.proofs.Stopping.{bare_if, stop_place, stop_slice, stopped_entry, mapped}
+use Rattle.ghistory.proofs.Places.{id_at_place}
 
 -- the marked places are those of the ids that are reached
 pub marks_reached : {A : Type 0} (g : List (Entry A)) (starts : List (List ℕ)) (marks : List Bool) (met : List ℕ) (lost : Option (List ℕ)) (parents : ℕ) → IdsDiffer g → IsWalk g starts marks met lost parents → AreMarked (SomeReaches g starts) g marks
@@ -75,10 +75,6 @@ counts_reached {A} g starts marks met lost parents differ walk =
 
 -- ---- what is missing, where the walk stopped at ids that are full
 
-mapped : {X Y : Type 0} (f : X → Y) (o : Option X) (y : Y) → option_map f o ≡ Some y → (x : X) × (o ≡ Some x) × (f x ≡ y)
-mapped f None y e = absurd (none-some y e)
-mapped f (Some x) y e = (x, refl, let e2 : Some (f x) ≡ Some y = e in cc)
-
 -- the entry that holds an id
 pub record IsHeldBy {A : Type 0} (g : List (Entry A)) (a : List ℕ) (node : Node A) : Type 0 where
   pub place : ℕ
@@ -88,17 +84,10 @@ pub record IsHeldBy {A : Type 0} (g : List (Entry A)) (a : List ℕ) (node : Nod
   pub node_is : entry.node ≡ node
   pub id_is : entry.id ≡ a
 
-found_id : {A : Type 0} (g : List (Entry A)) (a : List ℕ) (p : ℕ) (entry : Entry A) → place_of g a ≡ Some p → slice_get g p ≡ Some entry → entry.id ≡ a
-found_id [] a p entry e at = absurd (none-some p e)
-found_id {A} (first ∷ g) a p entry e at =
-    let h = position-Some (has_id a) (first ∷ g) p entry e in
-    let is : get_or (first ∷ g) p entry ≡ entry = get_or_from_slice_get (first ∷ g) p entry entry at in
-    has_id_is a entry (subst (λ (x : Entry A). has_id a x ≡ true) is h.1)
-
 pub found_at : {A : Type 0} (g : List (Entry A)) (a : List ℕ) (p : ℕ) → place_of g a ≡ Some p → (entry : Entry A) × (slice_get g p ≡ Some entry) × (entry.id ≡ a)
 found_at {A} g a p e =
     elim (slice_get_cases g p).1 [
-      | inl w ↦ (w.0, w.2, found_id g a p w.0 e w.2)
+      | inl w ↦ (w.0, w.2, id_at_place g a p w.0 e w.2)
       | inr w ↦ absurd (let h = place_inside g a p e in omega (arith, w.0, h))
     ]
 
@@ -106,7 +95,7 @@ pub held_by : {A : Type 0} (g : List (Entry A)) (a : List ℕ) (node : Node A) �
 held_by {A} g a node held =
     let p = place_of_node g a node held in
     let m = mapped (λ (entry : Entry A). entry.node) (slice_get g p.0) node (sym (node_at_place g a p.0 p.1) ∙ held) in
-    record { place = p.0; place_is = p.1; entry = m.0; at = m.1; node_is = m.2; id_is = found_id g a p.0 m.0 p.1 m.1 }
+    record { place = p.0; place_is = p.1; entry = m.0; at = m.1; node_is = m.2; id_is = id_at_place g a p.0 m.0 p.1 m.1 }
 
 module _ {A : Type 0} (known : List Bool) (g : List (Entry A)) where
   stopped_at : (p : ℕ) (mark : Bool) (entry : Entry A) → get_or known p false ≡ mark → slice_get g p ≡ Some entry → slice_get (stop_at known g) p ≡ Some (bare_if mark entry)
@@ -152,6 +141,35 @@ module _ {A : Type 0} (known : List Bool) (g : List (Entry A)) where
       let c : Contains (bare_if (get_or known h.place false) w.0).node.parents b =
       subst (λ (node : Node A). Contains node.parents b) (sym (ap (λ (entry : Entry A). entry.node) w.2 ∙ h.node_is)) parent.2 in
       ((w.0).node, is, bare_parent (get_or known h.place false) w.0 b c)
+
+  -- a step here leaves an unmarked id
+  bare_free : (mark : Bool) (entry : Entry A) (b : List ℕ) → Contains (bare_if mark entry).node.parents b → mark ≡ false
+  bare_free true entry b c = absurd (let k : c.0 < 0 = c.1 in omega arith)
+  bare_free false entry b c = refl
+
+  stop_leaves : (a b : List ℕ) → HasParent (stop_at known g) a b → IsUnmarked g known a
+  stop_leaves a b parent =
+      let h = held_by (stop_at known g) a parent.0 parent.1 in
+      let w = stopped_entry known g h.place h.entry h.at in
+      let c : Contains (bare_if (get_or known h.place false) w.0).node.parents b =
+      subst (λ (node : Node A). Contains node.parents b) (sym (ap (λ (entry : Entry A). entry.node) w.2 ∙ h.node_is)) parent.2 in
+      (h.place, sym (stop_place known g a) ∙ h.place_is, bare_free (get_or known h.place false) w.0 b c)
+
+  parent_left : (a b : List ℕ) → IsUnmarked g known a → HasParent g a b → HasParent (stop_at known g) a b
+  parent_left a b free parent =
+      let h = held_by g a parent.0 parent.1 in
+      let same : free.0 ≡ h.place = same_Some free.0 h.place (sym free.1 ∙ h.place_is) in
+      let is : get_or known h.place false ≡ false = subst (λ (p : ℕ). get_or known p false ≡ false) same free.2 in
+      let c = subst (λ (node : Node A). Contains node.parents b) (sym h.node_is) parent.2 in
+      ((h.entry).node, node_then a parent.0 h false is, c)
+
+  pub past_from : (a b : List ℕ) → Reaches (stop_at known g) a b → ReachesPast g known a b
+  past_from a b here = there
+  past_from a b (onward {b = c} parent more) = further (stop_leaves a c parent) (stop_parent a c parent) (past_from c b more)
+
+  pub past_to : (a b : List ℕ) → ReachesPast g known a b → Reaches (stop_at known g) a b
+  past_to a b there = here
+  past_to a b (further {b = c} free parent more) = onward (parent_left a c free parent) (past_to c b more)
 
   pub stop_reaches : (a b : List ℕ) → Reaches (stop_at known g) a b → Reaches g a b
   stop_reaches a b here = here

@@ -12,7 +12,8 @@ use Rattle.ghistory.specs.Reach.{SomeReaches}
 use Rattle.ghistory.specs.Sending.{IsNew}
 use Rattle.gwalk.specs.Common.{ids_at}
 use Rattle.gwalk.specs.Walks.{AreMarked, marked}
-use Rattle.gwalk.proofs.Marking.{take_same, take_other, take_past}
+use Rattle.gwalk.proofs.Marking.{take_same, take_other, take_past, none_in}
+use Rattle.gname.proofs.PlaceLemmas.{false_from}
 
 -- ---- what was wanted, without what is known
 
@@ -28,10 +29,6 @@ and_false : (b c : Bool) → c ≡ true → false ≡ (b && not c)
 and_false true true e = refl
 and_false false true e = refl
 and_false b false e = absurd (false≢true e)
-
-none_in : (p : ℕ) → get_or [] p false ≡ false
-none_in zero = refl
-none_in (suc p) = refl
 
 pub less_begins : (wanted known : List Bool) → IsLess wanted known wanted 0
 less_begins wanted known = record {
@@ -78,10 +75,6 @@ both_back true false e f = refl
 both_back true true e f = absurd (false≢true (sym f))
 both_back false b e f = absurd (false≢true e)
 
-not_true : (b : Bool) → (b ≡ true → ⊥) → b ≡ false
-not_true true f = absurd (f refl)
-not_true false f = refl
-
 pub less_ends : {A : Type 0} (g : List (Entry A)) (wants commons : List (List ℕ)) (wanted known marks : List Bool) (i : ℕ) → AreMarked (SomeReaches g wants) g wanted → AreMarked (SomeReaches g commons) g known → IsLess wanted known marks i → length known ≤ i → AreMarked (IsNew g wants commons) g marks
 less_ends g wants commons wanted known marks i w k now end =
     let all : take i known ≡ known = take_all i known end in
@@ -91,7 +84,7 @@ less_ends g wants commons wanted known marks i w k now end =
           let is : get_or marks p false ≡ (get_or wanted p false && not (get_or known p false)) = now.each p ∙ ap (λ l. get_or wanted p false && not (get_or l p false)) all in (
             λ t. (let b = both (get_or wanted p false) (get_or known p false) (sym is ∙ t) in
                 record { wanted = (w.each p entry at).0 b.0; unknown = λ s. false≢true (sym b.1 ∙ (k.each p entry at).1 s) }),
-            λ new. is ∙ both_back (get_or wanted p false) (get_or known p false) ((w.each p entry at).1 new.wanted) (not_true (get_or known p false) (λ t. new.unknown ((k.each p entry at).0 t))),
+            λ new. is ∙ both_back (get_or wanted p false) (get_or known p false) ((w.each p entry at).1 new.wanted) (false_from (get_or known p false) (λ t. new.unknown ((k.each p entry at).0 t))),
           );
     }
 

@@ -8,8 +8,8 @@ use Rattle.gobject.specs.Objects.{place_of}
 use Rattle.ghistory.specs.Laws.{FullStaysFull, GrowingKeeps}
 use Rattle.ghistory.specs.Reach.{IsFull, Reaches}
 use Rattle.gwalk.specs.Marks.{CoveringStays, MarksStayFull}
-use Rattle.gwalk.proofs.Holding.{own_place}
-use Rattle.gwalk.proofs.Reaching.{place_at}
+use Rattle.ghistory.proofs.Holding.{own_place}
+use Rattle.ghistory.proofs.Reaching.{place_at}
 
 slice_in_front : {X : Type 0} (xs ys : List X) (place : ℕ) (x : X) → slice_get xs place ≡ Some x → slice_get (xs ++ ys) place ≡ Some x
 slice_in_front [] ys place x at = absurd (none-some x at)

@@ -6,6 +6,7 @@ use Rattle.std.proofs.lemmas.Option.{none-some, slice_get_within, get_or_from_sl
 use Rattle.gobject.specs.declared.node.Entry.{Entry}
 use Rattle.gobject.specs.Objects.{has_id, place_of, entry_of, node_of, IsShaped}
 use Rattle.gwalk.specs.Marks.{stop_at}
+use Rattle.gwalk.proofs.Marking.{none_in}
 
 -- an entry whose node has no parents
 abbrev pub bare : {A : Type 0} → Entry A → Entry A
@@ -33,16 +34,12 @@ stop_position (mark ∷ marks) (entry ∷ g) a =
 pub stop_place : {A : Type 0} (marks : List Bool) (g : List (Entry A)) (a : List ℕ) → place_of (stop_at marks g) a ≡ place_of g a
 stop_place marks g a = rw (stop_position marks g a, stop_length marks g) refl
 
-none_marked : (p : ℕ) → get_or [] p false ≡ false
-none_marked zero = refl
-none_marked (suc p) = refl
-
 same_entry : {A : Type 0} (o : Option (Entry A)) (mark : Bool) → mark ≡ false → o ≡ option_map (bare_if mark) o
 same_entry None mark e = refl
 same_entry (Some entry) mark e = rw e refl
 
 pub stop_slice : {A : Type 0} (marks : List Bool) (g : List (Entry A)) (p : ℕ) → slice_get (stop_at marks g) p ≡ option_map (bare_if (get_or marks p false)) (slice_get g p)
-stop_slice [] g p = same_entry (slice_get g p) (get_or [] p false) (none_marked p)
+stop_slice [] g p = same_entry (slice_get g p) (get_or [] p false) (none_in p)
 stop_slice (mark ∷ marks) [] p = refl
 stop_slice (mark ∷ marks) (entry ∷ g) zero = refl
 stop_slice (mark ∷ marks) (entry ∷ g) (suc p) = stop_slice marks g p
@@ -51,7 +48,7 @@ narrow_if : {A : Type 0} (mark : Bool) (entry : Entry A) → length entry.node.p
 narrow_if true entry few = omega arith
 narrow_if false entry few = few
 
-mapped : {X Y : Type 0} (f : X → Y) (o : Option X) (y : Y) → option_map f o ≡ Some y → (x : X) × (o ≡ Some x) × (f x ≡ y)
+pub mapped : {X Y : Type 0} (f : X → Y) (o : Option X) (y : Y) → option_map f o ≡ Some y → (x : X) × (o ≡ Some x) × (f x ≡ y)
 mapped f None y e = absurd (none-some y e)
 mapped f (Some x) y e = (x, refl, let e2 : Some (f x) ≡ Some y = e in cc)
 

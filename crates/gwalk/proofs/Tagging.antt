@@ -10,17 +10,12 @@ use Rattle.ghistory.specs.Selecting.{Selects}
 use Rattle.ghistory.specs.Sending.{IsNew, IsTagToSend, IsToSend}
 use Rattle.gwalk.specs.Tags.{AreTagged, IsTagAmong, IsTagFrom, LeadsToMarked}
 use Rattle.gwalk.specs.Walks.{AreMarked, marked}
-use Rattle.gwalk.proofs.Holding.{own_place}
-use Rattle.gwalk.proofs.TagChains.{onward, rest_of, tags_more}
-use Rattle.gwalk.proofs.Reaching.{place_inside, place_same}
+use Rattle.ghistory.proofs.Holding.{own_place}
+use Rattle.ghistory.proofs.PeelLemmas.{onward, rest_of, tags_more}
+use Rattle.ghistory.proofs.Reaching.{place_inside, place_same}
+use Rattle.ghistory.proofs.IdLists.{nothing_in_nil}
 use Rattle.gwalk.proofs.Reached.{held_by, marked_selects}
-use Rattle.gwalk.proofs.IdLists.{nothing_in_nil}
-
-pub Some-same : {p q : ℕ} → Some p ≡ Some q → p ≡ q
-Some-same e = cc
-
-pub Some-is : {X : Type 0} (x y : X) → Some x ≡ Some y → x ≡ y
-Some-is x y e = cc
+use Rattle.std.proofs.lemmas.Option.{same_Some}
 
 -- ---- one chain
 
@@ -82,7 +77,7 @@ module _ {A : Type 0} (g : List (Entry A)) (tip : List ℕ) (old new : List Bool
             | inr l ↦
                 let same : k ≡ i = omega (arith, less, l) in
                 let none = rest_of g i k 0 tip at a (omega (arith, same)) now.leads leads in
-                absurd (other (Some-same (sym e ∙ ap (place_of g) none ∙ at_q)))
+                absurd (other (same_Some p q (sym e ∙ ap (place_of g) none ∙ at_q)))
           ]
 
   -- the chain has no further tag
@@ -111,7 +106,7 @@ module _ {A : Type 0} (g : List (Entry A)) (wants commons : List (List ℕ)) (ne
   leads_new tip lead =
       let end : IsCommit g lead.commit = (lead.peels).2 in
       let h = held_by g lead.commit end.node end.held in
-      let same : h.place ≡ lead.place = Some-same (sym h.place_is ∙ lead.is_at) in
+      let same : h.place ≡ lead.place = same_Some _ _ (sym h.place_is ∙ lead.is_at) in
       subst (λ (x : List ℕ). IsNew g wants commons x) h.id_is ((are.each h.place h.entry h.at).0 (ap (λ k. get_or new k false) same ∙ lead.marked))
 
   new_leads : (tip commit : List ℕ) → PeelsTo g tip commit → IsNew g wants commons commit → LeadsToMarked g new tip

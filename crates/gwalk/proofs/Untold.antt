@@ -1,22 +1,12 @@
 -- The offer by a test of each id.
-use Rattle.std.proofs.Common.{◌≡◌, ℕ, Bool, true, false, true≢false, ◌&&◌, not, cond, List, [], ◌∷◌, take, filter, is_some, refl, sym, subst, ◌∙◌}
+use Rattle.std.proofs.Common.{◌≡◌, ℕ, Bool, true, false, true≢false, ◌&&◌, not, List, take, filter, is_some, refl, sym}
 use Rattle.gobject.specs.declared.node.Entry.{Entry}
 use Rattle.gobject.specs.Objects.{node_at}
-use Rattle.ghistory.specs.Selecting.{Selects, none, keep, skip}
 use Rattle.ghistory.specs.Levels.{is_in, AreLevels}
 use Rattle.ghistory.specs.Offer.{IsOffer, MayBeOffered}
-use Rattle.gwalk.proofs.IdLists.{either_way, contains_from_in, absent_from_in}
+use Rattle.ghistory.proofs.IdLists.{contains_from_in, absent_from_in}
 use Rattle.gwalk.proofs.LevelReach.{met_reached, reached_met}
-
--- ---- a filter selects
-
-filter_selects : {X : Type 0} → (P : X → Type 0) (p : X → Bool) → ((x : X) → p x ≡ true → P x) → ((x : X) → P x → p x ≡ true) → (xs : List X) → Selects P xs (filter p xs)
-filter_selects P p to back [] = none
-filter_selects {X} P p to back (x ∷ xs) =
-    let later = filter_selects P p to back xs in
-    either_way (p x)
-    (λ e. subst (λ (b : Bool). Selects P (x ∷ xs) (cond b (x ∷ filter p xs) (filter p xs))) (sym e) (keep (to x e) later))
-    (λ e. subst (λ (b : Bool). Selects P (x ∷ xs) (cond b (x ∷ filter p xs) (filter p xs))) (sym e) (skip (λ h. true≢false (sym (back x h) ∙ e)) later))
+use Rattle.ghistory.proofs.Choosing.{filter_selects}
 
 -- ---- the test, where `reached` is all ids that a common id reaches
 

@@ -4,19 +4,21 @@ use Rattle.std.specs.List.{slice_get, cons_option}
 use Rattle.std.specs.Option.{option_map}
 use Rattle.std.proofs.Math.Seq.{get_or-append_seam}
 use Rattle.std.proofs.lemmas.List.{nil_from_length, get_or-set_same, get_or-set_other, length-set, length-replicate, take_more}
-use Rattle.std.proofs.lemmas.Option.{none-some, slice_get_cases}
+use Rattle.std.proofs.lemmas.Option.{none-some, same_Some}
 use Rattle.std.proofs.lemmas.Bool.{false≢true, cases_eq}
 use Rattle.std.proofs.lemmas.List.Elements.{Contains-append_left, Contains-push, Contains-push_cases, filter_map-append}
 use Rattle.gobject.specs.declared.node.Node.{Node}
 use Rattle.gobject.specs.declared.node.Entry.{Entry}
-use Rattle.gobject.specs.Objects.{node_at, place_of}
-use Rattle.ghistory.specs.Graphs.{IsNode, Holds}
+use Rattle.gobject.specs.Objects.{place_of}
+use Rattle.ghistory.specs.Graphs.{Holds}
 use Rattle.ghistory.specs.Levels.{is_in, new_ids, parents_of, AreLevels}
 use Rattle.gwalk.specs.Walks.{HasMet, IsLost, IsWalk, places}
+use Rattle.ghistory.proofs.IdLists.{either_way, nothing_in_nil, in_or_not, in_from_contains, new_ids-old, new_ids-new, contains_from_in, with_new}
+use Rattle.ghistory.proofs.Reaching.{place_inside, place_same, node_at_none, held_at_place}
 use Rattle.gwalk.proofs.Counting.{count_none, count_more, count_less, parents_none, parents_more}
-use Rattle.gwalk.proofs.IdLists.{either_way, nothing_in_nil, in_or_not, in_from_contains, new_ids-old, new_ids-new, contains_from_in, with_new, with_new-nil, with_new-append}
+use Rattle.gwalk.proofs.IdLists.{with_new-nil, with_new-append}
 use Rattle.gwalk.proofs.LevelWalk.{IsWalked, walk_begins, walk_goes, walk_ends}
-use Rattle.gwalk.proofs.Reaching.{place_inside, place_same, node_at_place, node_at_none, held_at_place}
+use Rattle.gpass.proofs.Places.{parents_are}
 
 -- ---- the start
 
@@ -45,9 +47,6 @@ new_id ids a out =
     either_way (is_in ids a)
     (λ e. absurd (out (contains_from_in ids a e)))
     (λ e. ap (λ l. ids ++ l) (new_ids-new ids a [] e))
-
-Some-same : {p q : ℕ} → Some p ≡ Some q → p ≡ q
-Some-same e = cc
 
 places_push : {A : Type 0} (g : List (Entry A)) (ids : List (List ℕ)) (a : List ℕ) (o : Option ℕ) → place_of g a ≡ o → places g (ids ++ a ∷ []) ≡ places g ids ++ cons_option o []
 places_push g ids a o e = filter_map-append (place_of g) ids (a ∷ []) ∙ ap (λ p. places g ids ++ cons_option p []) e
@@ -120,7 +119,7 @@ module _ {A : Type 0} (g : List (Entry A)) (ids : List (List ℕ)) (marks : List
                     λ t. Contains-append_left ids (a ∷ []) b ((old.marked b q at).0 (sym kept ∙ t)),
                     λ c. kept ∙ elim (Contains-push_cases ids a b c) [
                       | inl first ↦ (old.marked b q at).1 first
-                      | inr is ↦ absurd (other (Some-same (sym e ∙ ap (place_of g) is ∙ at)))
+                      | inr is ↦ absurd (other (same_Some p q (sym e ∙ ap (place_of g) is ∙ at)))
                     ],
                   )
             ];
@@ -295,29 +294,10 @@ module _ {A : Type 0} (g : List (Entry A)) (starts front back : List (List ℕ))
 
 -- ---- the parents that are lent
 
-Some-same_of : {X : Type 0} (x y : X) → Some x ≡ Some y → x ≡ y
-Some-same_of x y e = cc
-
--- the parents at the place of an id are those of its node
-pub parents_are : {A : Type 0} (g : List (Entry A)) (a : List ℕ) (p : ℕ) (parents : List (List ℕ)) → place_of g a ≡ Some p → option_map (λ entry. entry.node.parents) (slice_get g p) ≡ Some parents → (node : Node A) × IsNode g a node × (node.parents ≡ parents)
-parents_are {A} g a p parents e are =
-    elim (slice_get_cases g p).1 [
-      | inl w ↦
-          let node : Node A = (w.0).node in
-          let is : node_at g a ≡ Some node = node_at_place g a p e ∙ ap (option_map (λ (entry : Entry A). entry.node)) w.2 in
-          let same : Some node.parents ≡ Some parents = ap (option_map (λ (entry : Entry A). entry.node.parents)) (sym w.2) ∙ are in
-          (node, is, Some-same_of node.parents parents same)
-      | inr w ↦ absurd (none-some p (let h = place_inside g a p e in absurd (omega (arith, w.0))))
-    ]
-
 pub lent_parents : {A : Type 0} (g : List (Entry A)) (a : List ℕ) (p : ℕ) (parents : List (List ℕ)) → place_of g a ≡ Some p → option_map (λ entry. entry.node.parents) (slice_get g p) ≡ Some parents → parents ≡ parents_of g a
 lent_parents {A} g a p parents e are =
     let n = parents_are g a p parents e are in
     sym (ap (λ (o : Option (Node A)). unwrap_or (option_map (λ (node : Node A). node.parents) o) []) n.1 ∙ n.2)
-
-pub is_none : {X : Type 0} (o : Option X) → ((p : X) → o ≡ Some p → ⊥) → o ≡ None
-is_none None never = refl
-is_none (Some p) never = absurd (never p refl)
 
 -- the place of an id is inside the marks, and the mark there was read
 pub mark_inside : {A : Type 0} (g : List (Entry A)) (ids : List (List ℕ)) (marks : List Bool) (met : List ℕ) (lost : Option (List ℕ)) (parents : ℕ) (a : List ℕ) (p : ℕ) → HasMet g ids marks met lost parents → place_of g a ≡ Some p → p < length marks

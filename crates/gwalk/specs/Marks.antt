@@ -1,9 +1,12 @@
 -- Marks of ids by their numbers, which are their places in store order. A number past the end has no mark.
 use Rattle.std.specs.Prelude.{◌≡◌, ◌≤◌, ◌⊎◌, ◌↔◌, ℕ, Bool, true, false, cond, List, [], ◌∷◌, length, slice_get, All}
-use Rattle.std.specs.Prelude.{slice_index_or, Some}
+use Rattle.std.specs.Prelude.{slice_index_or, sum_by, Contains, Some}
 use Rattle.gobject.specs.declared.node.Entry.{Entry}
-use Rattle.gobject.specs.Objects.{entry_of, node_of, IdsDiffer}
-use Rattle.ghistory.specs.Reach.{IsFull, SomeReaches, Grows}
+use Rattle.gobject.specs.Objects.{entry_of, node_of, place_of, IdsDiffer}
+use Rattle.ghistory.specs.Graphs.{HasParent}
+use Rattle.ghistory.specs.Reach.{Reaches, IsFull, SomeReaches, Grows}
+use Rattle.ghistory.specs.Selecting.{Selects}
+use Rattle.ghistory.specs.Walks.{CountsReached}
 
 -- each mark is that of an id whose whole ancestry is held
 abbrev pub AreFull : {A : Type 0} → List (Entry A) → List Bool → Type 0
@@ -11,13 +14,45 @@ AreFull {A} g marks =
     (place : ℕ) → slice_index_or marks place false ≡ true →
     (entry : Entry A) × (slice_get g place ≡ Some entry) × IsFull g entry.id
 
--- the same objects where the marked ones have no parents: what is reached here is what is reached by steps that
--- leave unmarked objects
+-- the same objects where the marked ones have no parents
 abbrev pub stop_at : {A : Type 0} → List Bool → List (Entry A) → List (Entry A)
 stop_at [] g = g
 stop_at (mark ∷ marks) [] = []
 stop_at (mark ∷ marks) (entry ∷ g) =
     cond mark (entry_of entry.id (node_of entry.node.kind [])) entry ∷ stop_at marks g
+
+-- the id is held, and its place has no mark
+abbrev pub IsUnmarked : {A : Type 0} → List (Entry A) → List Bool → List ℕ → Type 0
+IsUnmarked g marks a = (place : ℕ) × (place_of g a ≡ Some place) × (slice_index_or marks place false ≡ false)
+
+-- reaching by steps that leave unmarked ids: an id reaches itself, and where it is held and has no mark all that a
+-- parent of it reaches so
+pub data ReachesPast {A : Type 0} (g : List (Entry A)) (marks : List Bool) : List ℕ → List ℕ → Type 0 where
+  there : {a : List ℕ} → ReachesPast g marks a a
+  further : {a b c : List ℕ} → IsUnmarked g marks a → HasParent g a b → ReachesPast g marks b c → ReachesPast g marks a c
+
+-- one of the ids reaches `b` so
+abbrev pub SomeReachesPast : {A : Type 0} → List (Entry A) → List Bool → List (List ℕ) → List ℕ → Type 0
+SomeReachesPast g marks ids b = (a : List ℕ) × Contains ids a × ReachesPast g marks a b
+
+-- so many held ids do some ids reach so, and so many parents do the unmarked ones of these have
+pub record CountsPast {A : Type 0} (g : List (Entry A)) (marks : List Bool) (ids : List (List ℕ))
+    (held parents : ℕ) : Type 0 where
+  pub list : List (Entry A)
+  pub reached : Selects (λ entry. SomeReachesPast g marks ids entry.id) g list
+  pub held_are : held ≡ length list
+  pub left : List (Entry A)
+  pub unmarked : Selects (λ entry. IsUnmarked g marks entry.id) list left
+  pub parents_are : parents ≡ sum_by (λ entry. length entry.node.parents) left
+
+-- where marked objects have lost their parents, ids are reached by steps that leave unmarked ids; and what is counted
+-- there is counted so
+abbrev pub StopsAtMarks : Type 0 → Type 0
+StopsAtMarks A =
+    (g : List (Entry A)) (marks : List Bool)
+    → ((a b : List ℕ) → Reaches (stop_at marks g) a b ↔ ReachesPast g marks a b)
+    × ((ids : List (List ℕ)) (held parents : ℕ) → IdsDiffer g
+    → CountsReached (stop_at marks g) ids held parents → CountsPast g marks ids held parents)
 
 -- the ids that some ids reach were marked, and all other marks are as before
 pub record MarksReached {A : Type 0} (g : List (Entry A)) (ids : List (List ℕ)) (old new : List Bool) : Type 0 where

@@ -1,7 +1,7 @@
 // Laws of marks. A call does nothing, and gives its caller's proof the law.
 #![tactic(auto)]
 
-ghost use Rattle.gwalk.specs.Marks.{CoveringStays, MarksStayFull};
+ghost use Rattle.gwalk.specs.Marks.{CoveringStays, MarksStayFull, StopsAtMarks};
 
 use ghistory::laws::{full_stays_full, growing_keeps};
 use std::alloc::Allocator;
@@ -22,3 +22,10 @@ pub fn covering_stays<A: Allocator + Copy>()
     full_stays_full::<A>();
     growing_keeps::<A>();
 }
+
+/// What `missing_known` counts: where marked objects have lost their parents, an id reaches another exactly where it does
+/// so by steps that leave unmarked ids; and the counts there are those of the ids that are reached so, and of the parents
+/// of the unmarked ones of these.
+pub fn stops_at_marks<A: Allocator + Copy>()
+    ensures { StopsAtMarks A }
+{}

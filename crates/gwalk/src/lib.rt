@@ -11,7 +11,8 @@
 //!   memory, [`FullMarks`] stay as they were. Marks of ids whose whole ancestry is held are such marks after it,
 //!   and where objects come to the graph ([`laws`]).
 //! - [`missing_known`] answers what `missing` does by a walk that doesn't go on from marked ids, and counts
-//!   exactly the ids that are reached by steps that leave unmarked ids.
+//!   exactly the ids that are reached by steps that leave unmarked ids, and the parents of the unmarked ones of
+//!   these ([`laws::stops_at_marks`]).
 //! - [`common_ids`], [`reaches`] and [`ready`] answer exactly what is common, reached and ready.
 //! - [`send_list`] and [`send_list_tags`] answer the list to send, without tags and with those of the refs. Its
 //!   entries are a graph's: their ids differ and are of the graph's format.
@@ -19,21 +20,19 @@
 //!   reaches and that were not sent.
 //! - `Memory` is the only fault. No call panics, overflows or reads out of bounds, and each returns.
 //!
-//! # Only tested
-//!
-//! That memory which is there is used, and that a walk takes
-//! time linear in the objects and parents that it meets. That `ready` walks no further from a want than to a
-//! common id, and `haves` no further than to the level where it has enough.
-//!
 //! # What a body can still get away with
 //!
 //! Where several ids are missing it may answer any. It may report out of memory as often as it likes, but
-//! where it is proved that a call does not. It may take as long as it likes, and more memory than it needs.
+//! where it is proved that a call does not. It may take as long as it likes, and more memory than it needs: no
+//! clause says that a walk takes time linear in the objects and parents that it meets, that `ready` walks no
+//! further from a want than to a common id, or `haves` no further than to the level where it has enough.
+//!
+//! There are no tests here. The program `conformance` asks each call of worked histories, among them one with more
+//! paths than can be walked one by one.
 //!
 //! # Stands on
 //!
-//! `ghistory` for graphs, `gobject` for their objects, `gname` for ids, `grefs` for the refs whose tags are sent;
-//! in tests `bumpalo`, for memory that ends.
+//! `ghistory` for graphs, `gobject` for their objects, `gname` for ids, `grefs` for the refs whose tags are sent.
 #![tactic(auto)]
 
 mod ancestry;
@@ -42,8 +41,6 @@ pub mod laws;
 mod marks;
 mod offer;
 mod sending;
-#[cfg(test)]
-mod tests;
 mod walk;
 
 pub use crate::ancestry::{Count, missing, missing_counted, missing_known};

@@ -1,7 +1,8 @@
 use Rattle.std.proofs.Common.{◌∙◌, ◌≤◌, ◌+◌, inl, inr, length, sym, arith}
 use Rattle.std.proofs.lemmas.Option.{none-some}
 use Rattle.std.proofs.lemmas.List.{take_all}
-use Rattle.gpass.proofs.Ids.{one_place, place_inside}
+use Rattle.ghistory.proofs.Reaching.{place_inside}
+use Rattle.gpass.proofs.Ids.{one_place}
 use Rattle.gpass.proofs.Places.{is_none, max_is, place_next}
 use Rattle.gpass.proofs.marks.end_of.Goals as goal
 use Rattle.gpass.proofs.marks.end_of.Goals.{in-Some, in_default}

@@ -1,9 +1,8 @@
 use Rattle.std.proofs.Common.{false, get_or, sym, ap, ◌∙◌}
 use Rattle.std.proofs.lemmas.Bool.{false≢true}
-use Rattle.std.proofs.lemmas.Option.{none-some}
-use Rattle.gwalk.proofs.Tagging.{Some-same, Some-is}
+use Rattle.std.proofs.lemmas.Option.{none-some, same_Some}
+use Rattle.gpass.proofs.Places.{is_none}
 use Rattle.gobject.specs.Objects.{place_of}
-use Rattle.gwalk.proofs.Walking.{is_none}
 use Rattle.gwalk.proofs.sending.leads_to_marked.Goals as goal
 
 pub returns-in_default : goal.returns-in_default
@@ -16,7 +15,7 @@ returns-in_default-number g c =
     let none = sym c.number.ensures ∙ is_none c.number.result c.in_default-number.not-Some in (
       λ t. absurd (false≢true t),
       λ lead.
-          let same = Some-is c.in-Some.commit lead.commit (c.in-Some.ensures.only lead.commit lead.peels) in
+          let same = same_Some c.in-Some.commit lead.commit (c.in-Some.ensures.only lead.commit lead.peels) in
           absurd (none-some lead.place (sym none ∙ ap (place_of c.args.graph.now.entries) same ∙ lead.is_at)),
     )
 
@@ -30,7 +29,7 @@ returns g c = (
     marked = sym c.is_marked.ensures ∙ t;
   },
   λ lead.
-      let same = Some-is c.in-Some.commit lead.commit (c.in-Some.ensures.only lead.commit lead.peels) in
-      let place = Some-same (c.in-Some-number.ensures ∙ ap (place_of c.args.graph.now.entries) same ∙ lead.is_at) in
+      let same = same_Some c.in-Some.commit lead.commit (c.in-Some.ensures.only lead.commit lead.peels) in
+      let place = same_Some _ _ (c.in-Some-number.ensures ∙ ap (place_of c.args.graph.now.entries) same ∙ lead.is_at) in
       c.is_marked.ensures ∙ ap (λ p. get_or c.args.marks.now p false) place ∙ lead.marked,
 )

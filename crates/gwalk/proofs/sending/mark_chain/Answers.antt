@@ -1,8 +1,8 @@
 use Rattle.std.proofs.Common.{arith}
+use Rattle.ghistory.proofs.PeelLemmas.{peel_long}
+use Rattle.gpass.proofs.Places.{is_none}
 use Rattle.gwalk.proofs.Tagging.{none_held}
-use Rattle.gwalk.proofs.TagChains.{peel_long}
 use Rattle.gwalk.proofs.Tagging.{passed_none, passes_tag, passes_all}
-use Rattle.gwalk.proofs.Walking.{is_none}
 use Rattle.gwalk.proofs.sending.mark_chain.Goals as goal
 
 pub loop-step-init : goal.loop-step-init

@@ -1,9 +1,10 @@
 use Rattle.std.proofs.Common.{false, sym, ◌∙◌, arith}
 use Rattle.gwalk.specs.Marks.{stop_at}
+use Rattle.gpass.proofs.Places.{is_none}
 use Rattle.gwalk.proofs.Counting.{counts_fit}
 use Rattle.gwalk.proofs.Stopping.{stop_place, stop_length, stop_narrow}
 use Rattle.std.proofs.lemmas.List.{get_or_read}
-use Rattle.gwalk.proofs.Walking.{is_none, mark_inside, meets_lost, meets_again, meets_new}
+use Rattle.gwalk.proofs.Walking.{mark_inside, meets_lost, meets_again, meets_new}
 use Rattle.gwalk.proofs.walk.Walk.meet.Goals as goal
 
 pub returns-in_default : goal.returns-in_default

@@ -1,0 +1,130 @@
+-- What is counted where marked objects have lost their parents.
+use Rattle.std.proofs.Common.{◌≡◌, ℕ, zero, suc, Bool, true, false, List, [], ◌∷◌, length, get_or, sum_by, Some, refl, sym, ◌∙◌, subst, arith}
+use Rattle.std.specs.List.{slice_get}
+use Rattle.std.proofs.lemmas.Bool.{false≢true}
+use Rattle.std.proofs.lemmas.List.Sums.{sum_by-cons}
+use Rattle.std.proofs.lemmas.Option.{same_Some}
+use Rattle.gobject.specs.declared.node.Entry.{Entry}
+use Rattle.gobject.specs.Objects.{IdsDiffer}
+use Rattle.ghistory.specs.Reach.{SomeReaches}
+use Rattle.ghistory.specs.Selecting.{Selects, none, keep, skip}
+use Rattle.ghistory.specs.Walks.{CountsReached}
+use Rattle.ghistory.proofs.Choosing.{selects_same}
+use Rattle.ghistory.proofs.Holding.{own_place}
+use Rattle.gwalk.specs.Marks.{CountsPast, IsUnmarked, SomeReachesPast, StopsAtMarks, stop_at}
+use Rattle.gwalk.proofs.Reached.{past_from, past_to}
+use Rattle.gwalk.proofs.Stopping.{bare_if}
+
+abbrev parents_in : {A : Type 0} → List (Entry A) → ℕ
+parents_in list = sum_by (λ entry. length entry.node.parents) list
+
+-- a mark says of each entry whether it is left
+abbrev Marks : {A : Type 0} → (Entry A → Type 0) → List Bool → List (Entry A) → Type 0
+Marks {A} R marks g = (place : ℕ) (entry : Entry A) → slice_get g place ≡ Some entry →
+    (get_or marks place false ≡ false → R entry) × (get_or marks place false ≡ true → ¬ (R entry))
+
+-- the same choice where no object has lost its parents, and those of it that are left
+record Whole {A : Type 0} (Q : List ℕ → Type 0) (R : Entry A → Type 0) (g chosen : List (Entry A)) : Type 0 where
+  list : List (Entry A)
+  reached : Selects (λ entry. Q entry.id) g list
+  long : length chosen ≡ length list
+  left : List (Entry A)
+  unmarked : Selects R list left
+  sum : parents_in chosen ≡ parents_in left
+
+module _ {A : Type 0} (Q : List ℕ → Type 0) (R : Entry A → Type 0) where
+  later : (marks : List Bool) (mark : Bool) (entry : Entry A) (g : List (Entry A)) → Marks R (mark ∷ marks) (entry ∷ g) → Marks R marks g
+  later marks mark entry g are place = are (suc place)
+
+  keeps_one : (mark : Bool) (entry : Entry A) (g chosen : List (Entry A)) → (mark ≡ false → R entry) × (mark ≡ true → ¬ (R entry)) → Q entry.id → Whole Q R g chosen → Whole Q R (entry ∷ g) (bare_if mark entry ∷ chosen)
+  keeps_one true entry g chosen is q rest = record {
+    list = entry ∷ rest.list;
+    reached = keep q rest.reached;
+    long = let l = rest.long in omega arith;
+    left = rest.left;
+    unmarked = skip (is.1 refl) rest.unmarked;
+    sum = let s = rest.sum in let c = sum_by-cons (λ (e : Entry A). length e.node.parents) (bare_if true entry) chosen in omega (arith, s, c);
+  }
+  keeps_one false entry g chosen is q rest = record {
+    list = entry ∷ rest.list;
+    reached = keep q rest.reached;
+    long = let l = rest.long in omega arith;
+    left = entry ∷ rest.left;
+    unmarked = keep (is.0 refl) rest.unmarked;
+    sum = let s = rest.sum in
+        let c = sum_by-cons (λ (e : Entry A). length e.node.parents) entry chosen in
+        let d = sum_by-cons (λ (e : Entry A). length e.node.parents) entry rest.left in omega (arith, s, c, d);
+  }
+
+  skips_one : (entry : Entry A) (g chosen : List (Entry A)) → ¬ (Q entry.id) → Whole Q R g chosen → Whole Q R (entry ∷ g) chosen
+  skips_one entry g chosen out rest = record {
+    list = rest.list;
+    reached = skip out rest.reached;
+    long = rest.long;
+    left = rest.left;
+    unmarked = rest.unmarked;
+    sum = rest.sum;
+  }
+
+  nothing : Whole Q R [] []
+  nothing = record { list = []; reached = none; long = refl; left = []; unmarked = none; sum = refl }
+
+  unmarked_whole : (g chosen : List (Entry A)) → Marks R [] g → Selects (λ entry. Q entry.id) g chosen → Whole Q R g chosen
+  unmarked_whole g chosen are none = nothing
+  unmarked_whole g chosen are (keep {x = entry} {xs = others} {ys = more} q rest) =
+      keeps_one false entry others more (are 0 entry refl) q (unmarked_whole others more (unshift entry others are) rest)
+    where
+      unshift : (entry : Entry A) (others : List (Entry A)) → Marks R [] (entry ∷ others) → Marks R [] others
+      unshift entry others are zero = are 1
+      unshift entry others are (suc place) = are (suc (suc place))
+  unmarked_whole g chosen are (skip {x = entry} {xs = others} out rest) =
+      skips_one entry others chosen out (unmarked_whole others chosen (unshift entry others are) rest)
+    where
+      unshift : (entry : Entry A) (others : List (Entry A)) → Marks R [] (entry ∷ others) → Marks R [] others
+      unshift entry others are zero = are 1
+      unshift entry others are (suc place) = are (suc (suc place))
+
+  whole : (marks : List Bool) (g chosen : List (Entry A)) → Marks R marks g → Selects (λ entry. Q entry.id) (stop_at marks g) chosen → Whole Q R g chosen
+  whole [] g chosen are chooses = unmarked_whole g chosen are chooses
+  whole (mark ∷ marks) [] chosen are none = nothing
+  whole (true ∷ marks) (entry ∷ g) chosen are (keep {ys = more} q rest) =
+      keeps_one true entry g more (are 0 entry refl) q (whole marks g more (later marks true entry g are) rest)
+  whole (true ∷ marks) (entry ∷ g) chosen are (skip out rest) =
+      skips_one entry g chosen out (whole marks g chosen (later marks true entry g are) rest)
+  whole (false ∷ marks) (entry ∷ g) chosen are (keep {ys = more} q rest) =
+      keeps_one false entry g more (are 0 entry refl) q (whole marks g more (later marks false entry g are) rest)
+  whole (false ∷ marks) (entry ∷ g) chosen are (skip out rest) =
+      skips_one entry g chosen out (whole marks g chosen (later marks false entry g are) rest)
+
+module _ {A : Type 0} (g : List (Entry A)) (marks : List Bool) (differ : IdsDiffer g) where
+  marks_say : Marks (λ (entry : Entry A). IsUnmarked g marks entry.id) marks g
+  marks_say place entry at =
+      let own = own_place g place entry differ at in (
+        λ free. (place, own, free),
+        λ marked left. (
+            let same : left.0 ≡ place = same_Some left.0 place (sym left.1 ∙ own) in
+            false≢true (sym (subst (λ (p : ℕ). get_or marks p false ≡ false) same left.2) ∙ marked)
+            ),
+      )
+
+  pub counts_past : (ids : List (List ℕ)) (held parents : ℕ) → CountsReached (stop_at marks g) ids held parents → CountsPast g marks ids held parents
+  counts_past ids held parents counts =
+      let Q : List ℕ → Type 0 = λ a. SomeReachesPast g marks ids a in
+      let chosen = selects_same (λ (entry : Entry A). SomeReaches (stop_at marks g) ids entry.id) (λ (entry : Entry A). Q entry.id) (stop_at marks g) counts.list
+      (λ entry some. (some.0, some.1, past_from marks g some.0 entry.id some.2))
+      (λ entry some. (some.0, some.1, past_to marks g some.0 entry.id some.2)) counts.reached in
+      let w = whole Q (λ (entry : Entry A). IsUnmarked g marks entry.id) marks g counts.list marks_say chosen in
+      record {
+        list = w.list;
+        reached = w.reached;
+        held_are = counts.held_are ∙ w.long;
+        left = w.left;
+        unmarked = w.unmarked;
+        parents_are = counts.parents_are ∙ w.sum;
+      }
+
+pub stops_at_marks : (A : Type 0) → StopsAtMarks A
+stops_at_marks A g marks = (
+  λ a b. (past_from marks g a b, past_to marks g a b),
+  λ ids held parents differ. counts_past g marks differ ids held parents,
+)
