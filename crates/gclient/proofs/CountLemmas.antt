@@ -6,6 +6,7 @@ use Rattle.gpkt.specs.Packets.{Packet}
 use Rattle.ggrammar.specs.Capabilities.{Capability}
 use Rattle.gfetchreply.specs.FetchReplies.{FetchReply}
 use Rattle.ghistory.specs.Reach.{Grows}
+use Rattle.ghistory.proofs.Growing.{grows_on}
 use Rattle.ghistory.specs.Walks.{CountsReached}
 use Rattle.gobject.specs.Packs.{Indexes, IndexFails}
 use Rattle.grepo.specs.Repos.{IsWhole, RepoState}
@@ -22,7 +23,7 @@ use Rattle.gsession.specs.declared.taken.Taken.TheVariants.{Round, PackTaken}
 use Rattle.gclient.specs.Conversations.{Start, begun, heard}
 use Rattle.gclient.specs.Laws.{NextIsFew, RoundsAreAsked, TalksAreFew, asked_in, count_of, objects_asked}
 use Rattle.gclient.specs.Turns.{AreTurns, AsksNext, ClientState, IsTurn, Takes, Turn}
-use Rattle.gclient.proofs.TurnLemmas.{grows_on, turn_kept, waits}
+use Rattle.gclient.proofs.TurnLemmas.{turn_kept, waits}
 
 -- ---- a turn's calls
 

@@ -4,16 +4,12 @@ use Rattle.std.specs.Prelude.{IfOk, OnErr}
 use Rattle.gpkt.specs.Sending.{Input, Output}
 use Rattle.ghistory.specs.Graphs.{History}
 use Rattle.ghistory.specs.Reach.{Grows}
-use Rattle.ghistory.specs.declared.fault.GraphFault.TheVariants as graph
 use Rattle.gobject.specs.Packs.{Indexes, IndexFails}
 use Rattle.grefs.specs.RefLists.{RefList}
-use Rattle.grefs.specs.declared.fault.RefsFault.TheVariants as refs
-use Rattle.grepo.specs.Changes.{SettlesAsks}
 use Rattle.grepo.specs.Repos.{RepoState}
 use Rattle.grepo.specs.Settling.{Settles}
 use Rattle.grepo.specs.declared.ask.Ask.{Ask}
-use Rattle.grepo.specs.declared.fault.RepoFault.{RepoFault}
-use Rattle.grepo.specs.declared.fault.RepoFault.TheVariants as repo
+use Rattle.grepo.proofs.Refusals.{refusals_change_nothing}
 use Rattle.gclient.specs.Conversations.{Start, Converses, Fails, cannot_ask, cannot_begin, cannot_hear, cannot_send}
 use Rattle.gclient.specs.Conversations.{cannot_settle, cannot_take, no_buffer, HasFetched, FetchesOver, heard}
 use Rattle.gclient.specs.Turns.{ClientState, Turn}
@@ -33,21 +29,6 @@ module _ {A : Type 0} where
   same_is_kept : (old new : RepoState A) → new ≡ old → IsKeptRepo old new
   same_is_kept old new is =
       kept_is old old new (record { refs = refl; grows = ([], sym (append-nil old.graph.entries)) }) is
-
-  refused_is_same : (old : RepoState A) (asks : List (Ask A)) (new : RepoState A) (cause : RepoFault A)
-      → SettlesAsks old asks new (Err cause) → new ≡ old
-  refused_is_same old asks new (repo.MissingParent id) h = absurd h
-  refused_is_same old asks new (repo.UnsafeRef name) h = absurd h
-  refused_is_same old asks new (repo.NotHeld missing) h = absurd h
-  refused_is_same old asks new (repo.NotConnected missing) h = h.0
-  refused_is_same old asks new (repo.Graph graph.TooManyParents) h = absurd h
-  refused_is_same old asks new (repo.Graph graph.TagShape) h = absurd h
-  refused_is_same old asks new (repo.Graph (graph.Conflict id)) h = absurd h
-  refused_is_same old asks new (repo.Graph graph.TooMany) h = absurd h
-  refused_is_same old asks new (repo.Graph graph.Memory) h = h
-  refused_is_same old asks new (repo.Graph (graph.OtherFormat id)) h = absurd h
-  refused_is_same old asks new (repo.Refs refs.Refs) h = h.0
-  refused_is_same old asks new (repo.Refs refs.Memory) h = h
 
 module _ {A : Type 0} (indexes : Indexes A) (index_fails : IndexFails) (start : Start A) where
   kept_so_far : (input : Input) (talk : List Turn) (now : ClientState A) (Rest : Input → Type 0)
@@ -69,7 +50,7 @@ module _ {A : Type 0} (indexes : Indexes A) (index_fails : IndexFails) (start : 
       kept_is start.repo last.repo new (kept_so_far input talk last _ converses) still
   fails_keep input output new cause (cannot_settle talk last why converses next passed settles) =
       kept_is start.repo last.repo new (kept_so_far input talk last _ converses)
-      (refused_is_same last.repo last.session.asks new why settles)
+      (refusals_change_nothing.settling last.repo new last.session.asks why settles)
 
   fetches_grow : (input : Input) (output : Output) (new : RepoState A) (fetched : Fetched A)
       → HasFetched indexes index_fails start input output new fetched → Grows start.repo.graph.entries new.graph.entries

@@ -21,6 +21,8 @@ use Rattle.ghistory.specs.Graphs.{Holds}
 use Rattle.ghistory.specs.Laws.{DistinctAreOnce}
 use Rattle.ghistory.specs.Levels.{distinct_of}
 use Rattle.ghistory.specs.Reach.{IsFull, SomeReaches}
+use Rattle.ghistory.proofs.Holding.{node_there}
+use Rattle.ghistory.proofs.IdLists.{either_way}
 use Rattle.grepo.specs.Repos.{RepoState, IsWhole}
 use Rattle.grequest.specs.Asked.{Asked, Empty, Ls, Fetches}
 use Rattle.gsession.specs.Bounds.{BeganOn}
@@ -39,21 +41,13 @@ use Rattle.gclient.specs.Turns.{ClientState, IsTurn, Takes, Turn}
 abbrev ids_of : {A : Type 0} → List (Entry A) → List (List ℕ)
 ids_of g = map (λ entry. entry.id) g
 
-either_way : {P : Type 0} → (b : Bool) → (b ≡ true → P) → (b ≡ false → P) → P
-either_way true yes_case no_case = yes_case refl
-either_way false yes_case no_case = no_case refl
-
-held_later : {A : Type 0} (entry : Entry A) (g : List (Entry A)) (a : List ℕ) → has_id a entry ≡ false
-    → node_at (entry ∷ g) a ≡ node_at g a
-held_later entry g a e = rw e refl
-
 held_among : {A : Type 0} (g : List (Entry A)) (a : List ℕ) → Holds g a → Contains (ids_of g) a
 held_among [] a held = absurd (false≢true held)
 held_among (entry ∷ g) a held =
     either_way (has_id a entry)
     (λ same. (0, omega arith, (bytes_eq-Decides entry.id a).0 same))
     (λ other. Contains-append_right (entry.id ∷ []) (ids_of g) a
-    (held_among g a (subst IsSome (held_later entry g a other) held)))
+    (held_among g a (subst IsSome (node_there entry g a other) held)))
 
 pub sent_are_few : {A : Type 0} (g : List (Entry A)) (s : SessionState A) → IsDistinct bytes_eq s.sent → BeganOn g s
     → length s.sent ≤ length g

@@ -1,16 +1,17 @@
 -- Requests that are written and passed on, one after the other.
-use Rattle.std.proofs.Common.{◌≡◌, ℕ, Bool, false, List, [], ◌∷◌, ◌++◌, Option, Some, None, Result, Ok, Err, refl, sym}
-use Rattle.std.proofs.Common.{ap, subst, ◌∙◌, append_assoc, append-nil}
-use Rattle.std.specs.Prelude.{IsSome, OnOk}
+use Rattle.std.proofs.Common.{◌≡◌, ℕ, Bool, false, List, [], ◌∷◌, ◌++◌, Option, Result, Ok, Err, refl, sym, ap, subst}
+use Rattle.std.proofs.Common.{◌∙◌, append-nil}
+use Rattle.std.specs.Prelude.{OnOk}
 use Rattle.std.proofs.lemmas.Bool.{false≢true}
-use Rattle.std.specs.Io.KnownBytes.{Appends, Keeps}
+use Rattle.std.specs.Io.KnownBytes.{Appends}
 use Rattle.gpkt.specs.Devices.{KeepsPassed}
 use Rattle.gpkt.specs.Laws.{PushesWritten}
 use Rattle.gpkt.specs.LineWriting.{Writer, HasPushed}
 use Rattle.gpkt.specs.Packets.{Packet, canonical_all}
-use Rattle.gpkt.specs.Sending.{output_of, IsUnwritten, Passes, SendsAndFails, SendsSome}
+use Rattle.gpkt.specs.Sending.{output_of, IsUnwritten, Passes, SendsSome}
 use Rattle.gpkt.specs.declared.fault.WriteFault.{WriteFault}
 use Rattle.gpkt.specs.declared.fault.WriteFault.TheVariants.{Failed, Payload, Io}
+use Rattle.gpkt.proofs.SendingLemmas.{fails_after, is_some, keeps_on, keeps_still, passes_join, passes_still}
 use Rattle.ggrammar.specs.Writing.{WritesLines}
 use Rattle.std.specs.List.{flat_map}
 use Rattle.std.proofs.lemmas.Grind.{flat_map-append}
@@ -18,50 +19,6 @@ use Rattle.gname.specs.declared.formats.Format.{Format}
 use Rattle.gclient.specs.Conversations.{FailsToAsk, HasAsked, request_bytes, requests_bytes}
 use Rattle.gclient.specs.Steps.{HasPassed}
 use Rattle.gclient.specs.Turns.{Turn}
-
--- ---- bytes before and after
-
-keeps_on : (a b c : Option (List ℕ)) → Keeps a b → KeepsPassed (record { old = b; new = c })
-    → KeepsPassed (record { old = a; new = c })
-keeps_on None b c kept h = tt
-keeps_on (Some xs) None c kept h = absurd kept
-keeps_on (Some xs) (Some ys) None kept h = absurd h
-keeps_on (Some xs) (Some ys) (Some zs) kept h = (h.0, h.1 ∙ ap (λ (bytes : List ℕ). bytes ++ h.0) kept)
-
-keeps_still : (a b : Option (List ℕ)) → Keeps a b → KeepsPassed (record { old = a; new = b })
-keeps_still None b kept = tt
-keeps_still (Some xs) None kept = absurd kept
-keeps_still (Some xs) (Some ys) kept = ([], kept ∙ sym (append-nil xs))
-
-appends_join : (a b c : Option (List ℕ)) (xs ys : List ℕ) → Appends a b xs → Appends b c ys → Appends a c (xs ++ ys)
-appends_join None b c xs ys h next = tt
-appends_join (Some ps) None c xs ys h next = absurd h
-appends_join (Some ps) (Some qs) None xs ys h next = absurd next
-appends_join (Some ps) (Some qs) (Some rs) xs ys h next =
-    next ∙ (ap (λ (bytes : List ℕ). bytes ++ ys) h ∙ append_assoc ps xs ys)
-
-appends_known : (a b : Option (List ℕ)) (xs : List ℕ) → Appends a b xs → IsSome a → IsSome b
-appends_known None b xs h known = cc
-appends_known (Some ps) None xs h known = absurd h
-appends_known (Some ps) (Some qs) xs h known = refl
-
-appends_to : (old xs : List ℕ) (a b : Option (List ℕ)) → a ≡ Some old → Appends a b xs → b ≡ Some (old ++ xs)
-appends_to old xs None b is h = cc
-appends_to old xs (Some ps) None is h = absurd h
-appends_to old xs (Some ps) (Some qs) is h = let same : ps ≡ old = cc in cc
-
-none_is_some : (old : List ℕ) → None ≡ Some old → ⊥
-none_is_some old is = cc
-
--- where it is known what was passed on, it goes on from there
-passes_on_from : (old : List ℕ) (b c : Option (List ℕ)) → b ≡ Some old → KeepsPassed (record { old = b; new = c })
-    → (more : List ℕ) × (c ≡ Some (old ++ more))
-passes_on_from old None c is h = absurd (none_is_some old is)
-passes_on_from old (Some qs) None is h = absurd h
-passes_on_from old (Some qs) (Some rs) is h = let same : qs ≡ old = cc in (h.0, cc)
-
-is_some : (a b : Option (List ℕ)) → a ≡ b → IsSome b → IsSome a
-is_some a b same known = subst IsSome (sym same) known
 
 module _ {W : Type 0} (contents passed_on : W → Option (List ℕ)) (is_down : W → Bool) (loans : W → List ℕ) where
   -- ---- a write, and a push after it
@@ -115,46 +72,6 @@ module _ {W : Type 0} (contents passed_on : W → Option (List ℕ)) (is_down : 
 -- ---- one after the other
 
 module _ {W : Type 0} (contents passed_on : W → Option (List ℕ)) (is_down : W → Bool) where
-  -- what is written next, and passed on
-  passes_join : (a b c : W) (xs ys : List ℕ) → Passes (output_of contents passed_on is_down a b) xs
-      → Passes (output_of contents passed_on is_down b c) ys
-      → Passes (output_of contents passed_on is_down a c) (xs ++ ys)
-  passes_join a b c xs ys first next = record {
-    written = appends_join (contents a) (contents b) (contents c) xs ys first.written next.written;
-    passed_on = λ known passed.
-        let mid : IsSome (contents b) = appends_known (contents a) (contents b) xs first.written known in
-        next.passed_on mid (is_some (passed_on b) (contents b) (first.passed_on known passed) mid);
-    up = next.up;
-  }
-
-  -- what is due next, of which a beginning is written
-  fails_after : (a b c : W) (xs due : List ℕ) → Passes (output_of contents passed_on is_down a b) xs
-      → SendsSome (output_of contents passed_on is_down b c) due
-      → KeepsPassed (output_of contents passed_on is_down b c).passed_on
-      → SendsAndFails (output_of contents passed_on is_down a c) xs due
-  fails_after a b c xs due first next kept = record {
-    front = next.front;
-    rest = next.rest;
-    parts = next.parts;
-    written = appends_join (contents a) (contents b) (contents c) xs next.front first.written next.written;
-    passed_on = λ old is passed.
-        let known : IsSome (contents a) = is_some (contents a) (Some old) is refl in
-        let mid : passed_on b ≡ Some (old ++ xs) =
-        first.passed_on known passed ∙ appends_to old xs (contents a) (contents b) is first.written in
-        let last = passes_on_from (old ++ xs) (passed_on b) (passed_on c) mid kept in
-        (last.0, last.1);
-    down = next.down;
-  }
-
-  -- nothing more is written
-  passes_still : (a b c : W) (xs : List ℕ) → Passes (output_of contents passed_on is_down a b) xs
-      → IsUnwritten (output_of contents passed_on is_down b c) → Passes (output_of contents passed_on is_down a c) xs
-  passes_still a b c xs first still = record {
-    written = subst (λ (now : Option (List ℕ)). Appends (contents a) now xs) (sym still.written) first.written;
-    passed_on = λ known passed. still.passed_on ∙ (first.passed_on known passed ∙ sym still.written);
-    up = still.down ∙ first.up;
-  }
-
   -- nothing was written before
   unwritten_passes : (a b c : W) (xs : List ℕ) → IsUnwritten (output_of contents passed_on is_down a b)
       → Passes (output_of contents passed_on is_down b c) xs → Passes (output_of contents passed_on is_down a c) xs
@@ -199,7 +116,7 @@ module _ {W : Type 0} (contents passed_on : W → Option (List ℕ)) (is_down : 
       → Passes (output_of contents passed_on is_down a c) (requests_bytes format talk ++ bytes)
   asked_passes format a b c [] bytes before next = unwritten_passes a b c bytes before next
   asked_passes format a b c (turn ∷ talk) bytes before next =
-      passes_join a b c (requests_bytes format (turn ∷ talk)) bytes before next
+      passes_join contents passed_on is_down a b c (requests_bytes format (turn ∷ talk)) bytes before next
 
   asked_by_passing : (format : Format) (a c : W) (talk : List Turn) (turn : Turn)
       → Passes (output_of contents passed_on is_down a c) (requests_bytes format (talk ++ turn ∷ []))
@@ -227,7 +144,7 @@ module _ {W : Type 0} (contents passed_on : W → Option (List ℕ)) (is_down : 
   asked_fails format a b c [] due before next kept =
       (unwritten_some a b c due before next, unwritten_keeps a b c before kept)
   asked_fails format a b c (turn ∷ talk) due before next kept =
-      fails_after a b c (requests_bytes format (turn ∷ talk)) due before next kept
+      fails_after contents passed_on is_down a b c (requests_bytes format (turn ∷ talk)) due before next kept
 
   -- nothing more is written
   pub asked_still : (format : Format) (a b c : W) (talk : List Turn)
@@ -240,4 +157,4 @@ module _ {W : Type 0} (contents passed_on : W → Option (List ℕ)) (is_down : 
     down = still.down ∙ before.down;
   }
   asked_still format a b c (turn ∷ talk) before still =
-      passes_still a b c (requests_bytes format (turn ∷ talk)) before still
+      passes_still contents passed_on is_down a b c (requests_bytes format (turn ∷ talk)) before still

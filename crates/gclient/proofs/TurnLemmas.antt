@@ -12,9 +12,8 @@ use Rattle.gfetchreply.specs.FetchReplies.{FetchReply}
 use Rattle.gobject.specs.Packs.{Indexes, IndexFails}
 use Rattle.gobject.specs.declared.node.Entry.{Entry}
 use Rattle.gobject.specs.Objects.{node_at}
-use Rattle.ghistory.specs.Graphs.{IsNode}
-use Rattle.ghistory.specs.Insert.{Inserts}
 use Rattle.ghistory.specs.Reach.{Grows}
+use Rattle.ghistory.proofs.Growing.{grows_on, inserts_grows}
 use Rattle.grepo.specs.Repos.{RepoState}
 use Rattle.grequest.specs.Asked.{Asked, Empty, Ls, Fetches, LsRefsAsked, FetchAsked}
 use Rattle.gsession.specs.Bounds.{BeganOn, BeganStays}
@@ -231,22 +230,6 @@ module _ {A : Type 0} (indexes : Indexes A) (index_fails : IndexFails) where
 grows_none : {A : Type 0} (g h : List (Entry A)) → h ≡ g → Grows g h
 grows_none g h is = ([], is ∙ sym (append-nil g))
 
-pub grows_on : {A : Type 0} (g h k : List (Entry A)) → Grows g h → Grows h k → Grows g k
-grows_on {A} g h k first next =
-    (first.0 ++ next.0, next.1 ∙ (ap (λ (xs : List (Entry A)). xs ++ next.0) first.1 ∙ append_assoc g first.0 next.0))
-
-came : {A : Type 0} (old : List (Entry A)) (entry : Entry A) (new : List (Entry A))
-    → (IsNode old entry.id entry.node × (new ≡ old)) ⊎ ((node_at old entry.id ≡ None) × (new ≡ old ++ entry ∷ []))
-    → Grows old new
-came old entry new (inl there) = grows_none old new there.1
-came old entry new (inr more) = (entry ∷ [], more.1)
-
-inserts_grow : {A : Type 0} (format : Format) (old entries new : List (Entry A)) → Inserts format old entries new
-    → Grows old new
-inserts_grow format old [] new is = grows_none old new is
-inserts_grow format old (entry ∷ entries) new (next, comes, rest) =
-    grows_on old next new (came old entry next comes.comes) (inserts_grow format next entries new rest)
-
 -- what a client's turns keep: its refs, its formats and its tips, and that objects only come
 pub record IsKept {A : Type 0} (old new : ClientState A) : Type 0 where
   pub refs : new.repo.refs ≡ old.repo.refs
@@ -306,7 +289,7 @@ module _ {A : Type 0} (indexes : Indexes A) (index_fails : IndexFails) where
   head_kept old waiting reply new (PackTaken added) same (pack, after, (entries, indexed, inserts)) = record {
     refs = inserts.refs;
     format = inserts.adds.0;
-    grows = inserts_grow old.repo.graph.format old.repo.graph.entries entries new.repo.graph.entries inserts.adds.1;
+    grows = inserts_grows old.repo.graph.format old.repo.graph.entries entries new.repo.graph.entries inserts.adds.1;
     own = ap (λ (s : SessionState A). s.format) after ∙ same.format;
     tips = ap (λ (s : SessionState A). s.tips) after ∙ same.tips;
   }

@@ -20,23 +20,23 @@
 //!   its devices returns, whatever the server says.
 //! - Each fault has the number and the name of its row.
 //!
-//! # Only tested
+//! # Only tried
 //!
-//! That memory which is there is used.
+//! That memory which is there is used: the program `conformance` refuses each allocation of many fetches in turn.
 //!
 //! # What a body can still get away with
 //!
 //! Where the bytes of a source or of a sink are not known, nothing is said of those that were read or written; what
 //! came of the conversation, and whether a device has failed, is said all the same. Where the sink fails, a shorter
 //! beginning may stand written. It may report out of memory before it begins, where something is to be kept and where
-//! it settles, take as long as it likes, and flush more often. The texts of faults are neither proved nor tested.
+//! it settles, take as long as it likes, and flush more often; before it begins want of memory for the session and for
+//! the reader's buffer may stand for one another. The texts of faults are neither proved nor tried.
 //!
 //! # Stands on
 //!
 //! `gsession` for the session, `gspec` and `grepo` for refspecs and the repository, which it offers again; `ghello`
 //! for the advertisement, `grequest` for requests, `ggrammar` and `gpkt` for what messages share, `gfetchreply` for
-//! the limit of a pack, `ggraph` for indexers; `thiserror` for the texts of faults; in tests `bumpalo`, for memory
-//! that ends.
+//! the limit of a pack, `ggraph` for indexers; `thiserror` for the texts of faults.
 #![tactic(auto)]
 
 mod conversation;
@@ -44,8 +44,6 @@ mod fault;
 mod fetched;
 pub mod laws;
 mod send;
-#[cfg(test)]
-mod tests;
 mod turn;
 
 pub use crate::conversation::fetch_over;

@@ -32,7 +32,7 @@ pub(crate) fn hear<S: Source, A: Allocator + Copy>(
     ensures whole { OnOk result (IsWhole repo.now) }
     ensures loans { S.loans reader.new.source ≡ S.loans reader.old.source }
 {
-    let advert = read_advert(repo.graph().allocator(), reader)?;
+    let advert = read_advert(reader, repo.graph().allocator())?;
     advert.check_in(repo.format())?;
     session.hear(&advert)?;
     Ok(())

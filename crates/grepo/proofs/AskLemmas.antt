@@ -16,6 +16,7 @@ use Rattle.std.proofs.lemmas.Option.{none-some, slice_get-map}
 use Rattle.std.proofs.lemmas.Slice.Eq.{bytes_eq-Decides}
 use Rattle.indexmap.specs.IndexMap.{IndexMap, insert_entry}
 use Rattle.indexmap.proofs.CallerLemmas.{insert_entry-new}
+use Rattle.ghistory.proofs.Pairs.{past}
 use Rattle.grepo.specs.declared.ask.Ask.{Ask}
 use Rattle.grepo.specs.declared.asks.Aim.{Aim}
 use Rattle.grepo.specs.Asks.{IsAskAt, NamesDiffer, aimed, asked_ids, asks_of, is_asked, with_ask}
@@ -24,11 +25,6 @@ use Rattle.grepo.specs.Asks.{IsAskAt, NamesDiffer, aimed, asked_ids, asks_of, is
 none_there : {X : Type 0} (found : Option X) → is_some found ≡ false → found ≡ None
 none_there None absent = refl
 none_there (Some x) absent = absurd (false≢true (sym absent))
-
-past : {X : Type 0} (xs : List X) (k : ℕ) → None ≡ slice_get xs k → length xs ≤ k
-past [] k none = omega arith
-past (x ∷ xs) zero none = absurd (none-some x none)
-past (x ∷ xs) (suc k) none = let h = past xs k none in omega arith
 
 asked_step : (same : Bool) (aim : Aim) (found : Option Aim) (rest : Bool) → is_some found ≡ rest → is_some (cond same (Some aim) found) ≡ (same || rest)
 asked_step true aim found rest is = refl

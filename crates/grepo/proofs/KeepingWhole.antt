@@ -12,8 +12,10 @@ use Rattle.gobject.specs.declared.node.Entry.{Entry}
 use Rattle.ghistory.specs.Graphs.{History}
 use Rattle.ghistory.specs.Laws.{ReachingGoesOn}
 use Rattle.ghistory.specs.Reach.{IsFull}
+use Rattle.ghistory.proofs.Pairs.{past}
 use Rattle.grefs.specs.Laws.{RefsComeInOrder}
 use Rattle.grefs.specs.RefLists.{AreBelow, IsRefs, RefList, ref_at}
+use Rattle.grefs.proofs.RefLemmas.{ref_at-hit, ref_at-skip}
 use Rattle.gwalk.specs.Marks.{AreFull, MarksReached}
 use Rattle.grepo.specs.declared.ask.Ask.{Ask}
 use Rattle.grepo.specs.declared.ask.RefUpdate.{RefUpdate}
@@ -23,21 +25,16 @@ use Rattle.grepo.specs.Laws.{SettingStaysWhole, SettlingStaysWhole}
 use Rattle.grepo.specs.Repos.{ComeFrom, IsWhole, RepoState}
 use Rattle.grepo.specs.Settling.{Settles}
 use Rattle.grepo.proofs.OneSettling.{some_mover, stands}
+use Rattle.grepo.proofs.RefMapLemmas.{one_more_there}
 use Rattle.grepo.proofs.RepoLemmas.{set_from, whole_installed}
 
 -- ---- what a look-up finds
 
-hit : (ref : List ℕ × List ℕ) (refs : RefList) (name : List ℕ) → bytes_eq ref.0 name ≡ true → ref_at (ref ∷ refs) name ≡ Some ref.1
-hit ref refs name is = rw is refl
-
-skipped : (ref : List ℕ × List ℕ) (refs : RefList) (name : List ℕ) → bytes_eq ref.0 name ≡ false → ref_at (ref ∷ refs) name ≡ ref_at refs name
-skipped ref refs name is = rw is refl
-
 -- a ref after lower ones stands where it stands
 at_after : (front : RefList) (ref : List ℕ × List ℕ) (back : RefList) → AreBelow front ref.0 → ref_at (front ++ ref ∷ back) ref.0 ≡ Some ref.1
-at_after [] ref back below = hit ref back ref.0 ((bytes_eq-Decides ref.0 ref.0).1 refl)
+at_after [] ref back below = ref_at-hit ref back ref.0 ((bytes_eq-Decides ref.0 ref.0).1 refl)
 at_after (other ∷ front) ref back below =
-    skipped other (front ++ ref ∷ back) ref.0 (sym (is_eq-slice_cmp other.0 ref.0) ∙ ap is_eq below.0)
+    ref_at-skip other (front ++ ref ∷ back) ref.0 (sym (is_eq-slice_cmp other.0 ref.0) ∙ ap is_eq below.0)
     ∙ at_after front ref back below.1
 
 -- and so does each ref
@@ -49,26 +46,18 @@ own_look_up law refs are place d low =
     let below = (law (take place refs) ref (drop (place + 1) refs) (subst IsRefs parts are)).above in
     subst (λ (l : RefList). ref_at l ref.0 ≡ Some ref.1) (sym parts) (at_after (take place refs) ref (drop (place + 1) refs) below)
 
-later : (ref : List ℕ × List ℕ) (refs : RefList) (other : List ℕ × List ℕ) → Contains refs other → Contains (ref ∷ refs) other
-later ref refs other there = let low = there.1 in (suc there.0, omega (arith, low), there.2)
-
 found_step : (other : List ℕ × List ℕ) (refs : RefList) (ref : List ℕ × List ℕ) (same : Bool) → bytes_eq other.0 ref.0 ≡ same → ref_at (other ∷ refs) ref.0 ≡ Some ref.1
     → (ref_at refs ref.0 ≡ Some ref.1 → Contains refs ref) → Contains (other ∷ refs) ref
 found_step other refs ref true e is rest =
     let name : other.0 ≡ ref.0 = (bytes_eq-Decides other.0 ref.0).0 e in
-    let id : other.1 ≡ ref.1 = same_Some other.1 ref.1 (sym (hit other refs ref.0 e) ∙ is) in
+    let id : other.1 ≡ ref.1 = same_Some other.1 ref.1 (sym (ref_at-hit other refs ref.0 e) ∙ is) in
     (0, omega arith, ap (λ (n : List ℕ). (n, other.1)) name ∙ ap (λ (i : List ℕ). (ref.0, i)) id)
-found_step other refs ref false e is rest = later other refs ref (rest (sym (skipped other refs ref.0 e) ∙ is))
+found_step other refs ref false e is rest = one_more_there other refs ref (rest (sym (ref_at-skip other refs ref.0 e) ∙ is))
 
 -- what is found is there
 found_there : (refs : RefList) (ref : List ℕ × List ℕ) → ref_at refs ref.0 ≡ Some ref.1 → Contains refs ref
 found_there [] ref is = absurd (none-some ref.1 is)
 found_there (other ∷ refs) ref is = found_step other refs ref (bytes_eq other.0 ref.0) refl is (λ rest. found_there refs ref rest)
-
-past : {X : Type 0} (xs : List X) (k : ℕ) → slice_get xs k ≡ None → length xs ≤ k
-past [] k none = omega arith
-past (x ∷ xs) zero none = absurd (none-some x (sym none))
-past (x ∷ xs) (suc k) none = let h = past xs k none in omega arith
 
 module _ {A : Type 0} where
   asked_there : (asks : List (Ask A)) (ask : Ask A) → Contains asks ask → Contains (asked_ids asks) ask.id
@@ -100,7 +89,7 @@ module _ {A : Type 0} where
       Result = (entry : Entry A) × (slice_get g place ≡ Some entry) × IsFull g entry.id
 
       by : (found : Option (Entry A)) → slice_get g place ≡ found → Result
-      by None is = were place (sym (reached.others place (past g place is)) ∙ marked)
+      by None is = were place (sym (reached.others place (past g place (sym is))) ∙ marked)
       by (Some entry) is = (
         entry,
         is,

@@ -50,7 +50,7 @@ at_other name other differs = is_eq-slice_cmp name other ∙ other_name name oth
 abbrev Either : List ℕ → List ℕ → RefList → List ℕ × List ℕ → Type 0
 Either name id old ref = (ref ≡ (name, id)) ⊎ Contains old ref
 
-one_more_there : (ref : List ℕ × List ℕ) (refs : RefList) (other : List ℕ × List ℕ) → Contains refs other → Contains (ref ∷ refs) other
+pub one_more_there : (ref : List ℕ × List ℕ) (refs : RefList) (other : List ℕ × List ℕ) → Contains refs other → Contains (ref ∷ refs) other
 one_more_there ref refs other there = let low = there.1 in (suc there.0, omega (arith, low), there.2)
 
 either_more : (name id : List ℕ) (ref : List ℕ × List ℕ) (refs new : RefList) → All (Either name id refs) new → All (Either name id (ref ∷ refs)) new

@@ -6,6 +6,7 @@ use Rattle.std.proofs.lemmas.List.{get_or_append_left, get_or_at, get_or_default
 use Rattle.std.proofs.lemmas.List.Elements.{All-nil, All-push}
 use Rattle.std.proofs.lemmas.List.Sums.{count_by_more_yes, sum_by_push, sum_by-take-le}
 use Rattle.gname.specs.Names.{head_name}
+use Rattle.gname.proofs.ListLemmas.{All-parts}
 use Rattle.gobject.specs.declared.node.Entry.{Entry}
 use Rattle.ghistory.specs.declared.fault.GraphFault.TheVariants as graph
 use Rattle.ghistory.specs.Reach.{IsFull}
@@ -22,15 +23,8 @@ use Rattle.grepo.specs.Repos.{RepoState}
 use Rattle.grepo.specs.Settling.{CannotSettle, IsUpdate, MayMove, NamesDiffer, asked_ids, is_new}
 use Rattle.grepo.specs.SettlingSteps.{HasSettled, IsRefusal, Sets, TakesAsk}
 
--- what holds of each element of a list and of one more
-all_parts : {X : Type 0} (P : X → Type 0) (xs : List X) (x : X) → All P (xs ++ x ∷ []) → All P xs × P x
-all_parts {X} P xs x all = (
-  λ k d low. subst P (get_or_append_left xs (x ∷ []) d k low) (all k d (omega (arith, length-append xs (x ∷ [])))),
-  subst P (get_or_at xs x [] x (length xs) refl) (all (length xs) x (omega (arith, length-append xs (x ∷ [])))),
-)
-
 -- one more pair of two lists
-zip_push : {X Y : Type 0} (R : X → Y → Type 0) (xs : List X) (ys : List Y) (x : X) (y : Y) → AllZip R xs ys → R x y → AllZip R (xs ++ x ∷ []) (ys ++ y ∷ [])
+pub zip_push : {X Y : Type 0} (R : X → Y → Type 0) (xs : List X) (ys : List Y) (x : X) (y : Y) → AllZip R xs ys → R x y → AllZip R (xs ++ x ∷ []) (ys ++ y ∷ [])
 zip_push R [] [] x y all is = (is, tt)
 zip_push R [] (b ∷ ys) x y all is = absurd all
 zip_push R (a ∷ xs) [] x y all is = absurd all
@@ -86,7 +80,7 @@ module _ {A : Type 0} where
           each = zip_push (IsUpdate g old) front updates ask Moved settled.settles.each update;
           asked = All-push Stands front ask (λ k d low may. sets.others _ (differ k d low) ∙ settled.settles.asked k d low may) (λ may. sets.this_name);
           others = λ name stay.
-              let parts = all_parts (λ (a : Ask A). MayMove g old a → a.name ≢ name) front ask stay in
+              let parts = All-parts (λ (a : Ask A). MayMove g old a → a.name ≢ name) front ask stay in
               sets.others name (λ same. parts.1 update.1 (sym same)) ∙ settled.settles.others name parts.0;
         };
         count = count_set old before after front ask (ref_at old ask.name) refl (unmoved g old front updates before ask settled differ) sets settled.count;
@@ -100,7 +94,7 @@ module _ {A : Type 0} where
     settles = record {
       each = zip_push (IsUpdate g old) front updates ask update settled.settles.each is;
       asked = All-push (λ (a : Ask A). MayMove g old a → ref_at before a.name ≡ Some a.id) front ask settled.settles.asked stands;
-      others = λ name stay. settled.settles.others name (all_parts (λ (a : Ask A). MayMove g old a → a.name ≢ name) front ask stay).0;
+      others = λ name stay. settled.settles.others name (All-parts (λ (a : Ask A). MayMove g old a → a.name ≢ name) front ask stay).0;
     };
     count = (let next = count_next old front ask false known in let count = settled.count in omega (arith, next, count));
   }
@@ -149,13 +143,13 @@ module _ {A : Type 0} where
   pub refuses_asks : (old : RepoState A) (asks : List (Ask A)) (fault : RepoFault A) → All (IsFull old.graph.entries) (asked_ids asks)
       → IsRefusal old.refs asks fault → SettlesAsks old asks old (Err fault)
   refuses_asks old asks (Refs refs.Refs) full why = (refl, full, why)
-  refuses_asks old asks (Refs refs.Memory) full why = refl
+  refuses_asks old asks (Refs refs.Memory) full why = (refl, full)
   refuses_asks old asks (Graph graph.Memory) full why = refl
   refuses_asks old asks (Graph cause) full why = absurd why
   refuses_asks old asks fault full why = absurd why
 
   -- where it is because of the refs
   pub cannot_set_local : (old : RepoState A) (name id : List ℕ) (cause : RefsFault) → IsFull old.graph.entries id → (cause ≡ refs.Refs → CannotSet old.refs name)
-      → SetsLocal old name id old (Err (Refs cause))
-  cannot_set_local old name id refs.Refs full why = (refl, full, why refl)
-  cannot_set_local old name id refs.Memory full why = refl
+      → (CannotSet old.refs name → cause ≡ refs.Refs) → SetsLocal old name id old (Err (Refs cause))
+  cannot_set_local old name id refs.Refs full why only = (refl, full, why refl)
+  cannot_set_local old name id refs.Memory full why only = (refl, full, λ cannot. (let same = only cannot in cc))

@@ -26,6 +26,10 @@ abbrev pub IsAskAt : {A : Type 0} → List (Ask A) → ℕ → (name id : List �
 IsAskAt {A} asks place name id =
     (ask : Ask A) × (slice_get asks place ≡ Some ask) × (ask.name ≡ name) × (ask.id ≡ id)
 
+-- whether the ask at a place is forced
+abbrev pub IsForcedAt : {A : Type 0} → List (Ask A) → ℕ → Bool → Type 0
+IsForcedAt {A} asks place forced = (ask : Ask A) × (slice_get asks place ≡ Some ask) × (ask.forced ≡ forced)
+
 -- a name, and where its ref is to stand, as an ask
 abbrev pub aimed : {A : Type 0} → List ℕ × Aim → Ask A
 aimed pair = record { name = pair.0; id = pair.1.id; forced = pair.1.forced }

@@ -53,7 +53,8 @@ SetsLocal old name id new (Ok _) = Marks old (id ∷ []) new × SetsRef old.refs
 SetsLocal old name id new (Err (NotHeld missing)) = (new ≡ old) × Misses old.graph.entries (id ∷ []) (Some missing)
 SetsLocal old name id new (Err (Refs refs.Refs)) =
     (new ≡ old) × IsFull old.graph.entries id × CannotSet old.refs name
-SetsLocal old name id new (Err (Refs refs.Memory)) = new ≡ old
+SetsLocal old name id new (Err (Refs refs.Memory)) =
+    (new ≡ old) × IsFull old.graph.entries id × ¬ (CannotSet old.refs name)
 SetsLocal old name id new (Err (Graph graph.Memory)) = new ≡ old
 SetsLocal old name id new (Err _) = ⊥
 
@@ -67,6 +68,7 @@ SettlesAsks old asks new (Err (NotConnected missing)) =
     (new ≡ old) × Misses old.graph.entries (asked_ids asks) (Some missing)
 SettlesAsks old asks new (Err (Refs refs.Refs)) =
     (new ≡ old) × All (IsFull old.graph.entries) (asked_ids asks) × CannotSettle old.refs asks
-SettlesAsks old asks new (Err (Refs refs.Memory)) = new ≡ old
+SettlesAsks old asks new (Err (Refs refs.Memory)) =
+    (new ≡ old) × All (IsFull old.graph.entries) (asked_ids asks)
 SettlesAsks old asks new (Err (Graph graph.Memory)) = new ≡ old
 SettlesAsks old asks new (Err _) = ⊥

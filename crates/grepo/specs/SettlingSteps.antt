@@ -16,7 +16,7 @@ use Rattle.grepo.specs.Settling.{CannotSettle, IsUpdate, Settles, is_new}
 abbrev pub SetsOne : RefList → List ℕ → List ℕ → RefList → Result (Unit {0}) RefsFault → Type 0
 SetsOne old name id new (Ok _) = SetsRef old new name id
 SetsOne old name id new (Err refs.Refs) = CannotSet old name
-SetsOne old name id new (Err refs.Memory) = ⊤
+SetsOne old name id new (Err refs.Memory) = ¬ (CannotSet old name)
 
 -- some asks are settled, and as many refs came as were new
 pub record HasSettled {A : Type 0} (g : List (Entry A)) (old : RefList) (asks : List (Ask A))
@@ -43,6 +43,6 @@ abbrev pub TakesAsk : {A : Type 0} → List (Entry A) → RefList → Ask A → 
     → Result RefUpdate (RepoFault A) → Type 0
 TakesAsk g old ask before after (Ok update) = IsUpdate g old ask update × Sets update before ask after
 TakesAsk g old ask before after (Err (Refs refs.Refs)) = CannotSet before ask.name
-TakesAsk g old ask before after (Err (Refs refs.Memory)) = ⊤
+TakesAsk g old ask before after (Err (Refs refs.Memory)) = ¬ (CannotSet before ask.name)
 TakesAsk g old ask before after (Err (Graph graph.Memory)) = ⊤
 TakesAsk g old ask before after (Err _) = ⊥

@@ -3,7 +3,7 @@
 
 ghost use Rattle.std.specs.Prelude.{◌≡◌, ◌≤◌, ◌<◌, ◌↔◌, [], IfOk, IsTrue, MatchOption, OnErr, OnOk, Some, length, map, slice_get};
 ghost use Rattle.indexmap.specs.IndexMap.{values};
-ghost use Rattle.grepo.specs.Asks.{IsAskAt, NamesDiffer, aimed, asked_ids, is_asked, with_ask};
+ghost use Rattle.grepo.specs.Asks.{IsAskAt, IsForcedAt, NamesDiffer, aimed, asked_ids, is_asked, with_ask};
 
 use crate::ask::Ask;
 use gname::{Oid, RefName};
@@ -100,6 +100,18 @@ impl<A: Allocator + Copy> Asks<A> {
         }
         let (name, aim) = self.aim(place);
         Some((name, aim.id))
+    }
+
+    /// Whether the ask at a place of their order is forced: its ref is to move even where the id does not reach the one
+    /// at which it stands.
+    pub fn is_forced(&self, place: usize) -> Option<bool>
+        ensures { MatchOption result (length self.now ≤ place) (IsForcedAt self.now place) }
+    {
+        if place >= self.len() {
+            return None;
+        }
+        let (_name, aim) = self.aim(place);
+        Some(aim.forced)
     }
 
     /// The ids that are asked for, in the order of the asks.

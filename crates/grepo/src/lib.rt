@@ -12,7 +12,8 @@
 //! - [`Repo::insert_all`] adds the objects of a pack, all or none, whether or not their parents are held; it marks
 //!   nothing, and the refs stay.
 //! - [`Repo::set_local_ref`] sets a ref exactly where the whole ancestry of the id is held and such a ref can be set.
-//! - [`Asks`] has one ask a ref, the first that was added.
+//! - [`Asks`] has one ask a ref, the first that was added; by its place each can be asked for its ref, its id and
+//!   whether it is forced.
 //! - [`Repo::settle`] moves all refs that may move to the ids that are asked for, at once, and leaves all others: it
 //!   moves none where the ancestry of one id is not held, or where the refs can't all be set. It says what became of
 //!   each ask. What the ids reach is marked, and all other marks stay.
@@ -25,17 +26,18 @@
 //! are settled; that a fault changes nothing; that nothing is missing of ancestries that are held; and that there is
 //! one settling of some asks.
 //!
-//! # Only tested
+//! # Only tried
 //!
-//! That [`Repo::missing`] does not go on from marked objects; that memory which is there is used; the texts of the
-//! faults.
+//! That memory which is there is used: the program `conformance` refuses each allocation of many fetches in turn.
 //!
 //! # What a body can still get away with
 //!
 //! Where several ids are missing it may answer any. It may report out of memory as often as it likes, but not of an
-//! object that is held. Setting a ref and settling may walk past marks. A call may take as long as it likes, and more
-//! memory than it needs. No clause says where memory comes from: [`Asks::allocator`] may answer any allocator of its
-//! kind, and [`Asks::ids`] may take its memory from that of the asks.
+//! object that is held: only memory tells what is missing of an ancestry, so that want of it may stand for an unsafe
+//! ref, for ids whose ancestries are not held, and, where asks are settled, for refs that can't be set. A walk may go
+//! on from marked objects. A call may take as long as it likes, and more memory than it needs. No clause says where
+//! memory comes from: [`Asks::allocator`] may answer any allocator of its kind, and [`Asks::ids`] may take its memory
+//! from that of the asks. The texts of the faults are neither proved nor tried.
 //!
 //! # Time
 //!
@@ -46,7 +48,7 @@
 //! # Stands on
 //!
 //! `ggraph` for graphs, refs and walks, and below it `gobject`, `ghistory`, `grefs` and `gwalk`; `gname` for ids and
-//! names; `indexmap` for asks by name; `thiserror` for the texts of faults; in tests `bumpalo`, for memory that ends.
+//! names; `indexmap` for asks by name; `thiserror` for the texts of faults.
 #![tactic(auto)]
 
 mod ask;
@@ -62,6 +64,3 @@ pub use crate::ask::{Ask, RefUpdate};
 pub use crate::asks::Asks;
 pub use crate::fault::RepoFault;
 pub use crate::repo::Repo;
-
-#[cfg(test)]
-mod tests;

@@ -1,12 +1,13 @@
 -- What refspecs ask for, refspec by refspec and line by line.
 use Rattle.std.proofs.Common.{◌≡◌, ◌≢◌, ℕ, ◌+◌, ◌<◌, if◌then◌else◌, true, false, inl, inr, List, [], ◌∷◌, ◌++◌, length}
-use Rattle.std.proofs.Common.{map, filter, take, drop, get_or, All, Err, refl, sym, ap, subst, ◌∙◌}
+use Rattle.std.proofs.Common.{map, filter, take, drop, get_or, All, Some, Err, refl, sym, ap, subst, append_assoc, ◌∙◌}
 use Rattle.std.proofs.lemmas.Option.{none-some}
 use Rattle.std.proofs.lemmas.List.{append-nil, map-append, take_more}
 use Rattle.std.proofs.lemmas.List.Elements.{All-append, All-cons, All-filter, All-head, All-map, All-nil, All-push}
 use Rattle.std.proofs.lemmas.List.Elements.{All-tail, All-weaker, filter-append}
 use Rattle.std.proofs.lemmas.Grind.{flat_map-append}
 use Rattle.gname.specs.Ids.{IsIdOf}
+use Rattle.gname.specs.Laws.{RulesNeverReportMemory}
 use Rattle.gname.specs.Names.{IsRefName, Owns, name_fault}
 use Rattle.gname.specs.declared.formats.Format.{Format}
 use Rattle.gname.specs.declared.faults.NameFault.{NameFault}
@@ -17,7 +18,7 @@ use Rattle.glsreply.specs.WellFormed.{IsRefLine}
 use Rattle.gspec.specs.Refspecs.{Refspec, destination_of, matches}
 use Rattle.grepo.specs.declared.ask.Ask.{Ask}
 use Rattle.grepo.specs.Asks.{is_asked, with_ask}
-use Rattle.gsession.specs.Asking.{AreNamed, ask_of, asked_of, asks_by, asks_by_all, line_matches, with_asks}
+use Rattle.gsession.specs.Asking.{AreNamed, AreNamedTo, ask_of, asked_of, asks_by, asks_by_all, line_matches, with_asks}
 use Rattle.gsession.specs.Steps.{AddsAsks, FindsAsks}
 use Rattle.gsession.proofs.ListLemmas.{all_left, all_right, split_at, with_asks-append}
 
@@ -54,18 +55,46 @@ module _ {A : Type 0} where
     All-append (λ (ask : Ask A). IsRefName ask.name) before more first.1 next.1,
   )
 
-  -- a fault but out of memory says that an ask is for no ref name
+  -- ---- why none are added
+
+  -- an ask that is named, behind others that are
+  named_to : (before more rest whole : List (Ask A)) → whole ≡ (before ++ more) ++ rest → AreNamed before
+      → AreNamedTo more → AreNamedTo whole
+  named_to before more rest whole is first to = record {
+    front = before ++ to.front;
+    ask = to.ask;
+    rest = to.rest ++ rest;
+    parts = is ∙ ap (λ (l : List (Ask A)). (before ++ l) ++ rest) to.parts
+        ∙ append_assoc before (to.front ++ to.ask ∷ to.rest) rest
+        ∙ ap (λ (l : List (Ask A)). before ++ l) (append_assoc to.front (to.ask ∷ to.rest) rest)
+        ∙ sym (append_assoc before to.front (to.ask ∷ (to.rest ++ rest)));
+    named = subst AreNamed (sym (append_assoc before to.front (to.ask ∷ [])))
+        (All-append (λ (ask : Ask A). IsRefName ask.name) before (to.front ++ to.ask ∷ []) first to.named);
+  }
+
+  named_one : (spec : Refspec) (line : RefLine) → IsRefName (destination_of spec line.name)
+      → AreNamedTo {A = A} (ask_of spec line ∷ [])
+  named_one spec line named = record {
+    front = [];
+    ask = ask_of spec line;
+    rest = [];
+    parts = refl;
+    named = All-cons (λ (ask : Ask A). IsRefName ask.name) (ask_of spec line) [] named
+        (All-nil (λ (ask : Ask A). IsRefName ask.name));
+  }
+
+  -- a fault but out of memory says that an ask is for no ref name, and that one is met at an ask that is for one
   fails_unless : (more a b : List (Ask A)) (fault : NameFault) → (fault ≢ Memory → ¬ (AreNamed more))
-      → AddsAsks a more b (Err fault)
-  fails_unless more a b Memory unnamed = tt
-  fails_unless more a b Empty unnamed = unnamed (λ e. cc)
-  fails_unless more a b TooLong unnamed = unnamed (λ e. cc)
-  fails_unless more a b NotRef unnamed = unnamed (λ e. cc)
-  fails_unless more a b (BadByte at) unnamed = unnamed (λ e. cc)
-  fails_unless more a b (Component at) unnamed = unnamed (λ e. cc)
-  fails_unless more a b (DoubleDot at) unnamed = unnamed (λ e. cc)
-  fails_unless more a b (AtBrace at) unnamed = unnamed (λ e. cc)
-  fails_unless more a b End unnamed = unnamed (λ e. cc)
+      → (fault ≡ Memory → AreNamedTo more) → AddsAsks a more b (Err fault)
+  fails_unless more a b Memory unnamed named = named refl
+  fails_unless more a b Empty unnamed named = unnamed (λ e. cc)
+  fails_unless more a b TooLong unnamed named = unnamed (λ e. cc)
+  fails_unless more a b NotRef unnamed named = unnamed (λ e. cc)
+  fails_unless more a b (BadByte at) unnamed named = unnamed (λ e. cc)
+  fails_unless more a b (Component at) unnamed named = unnamed (λ e. cc)
+  fails_unless more a b (DoubleDot at) unnamed named = unnamed (λ e. cc)
+  fails_unless more a b (AtBrace at) unnamed named = unnamed (λ e. cc)
+  fails_unless more a b End unnamed named = unnamed (λ e. cc)
 
   unless_fails : (more a b : List (Ask A)) (fault : NameFault) → AddsAsks a more b (Err fault) → fault ≢ Memory
       → ¬ (AreNamed more)
@@ -79,22 +108,27 @@ module _ {A : Type 0} where
   unless_fails more a b (AtBrace at) fails other = fails
   unless_fails more a b End fails other = fails
 
-  -- a fault of some asks is one of all
+  memory_at : (more a b : List (Ask A)) (fault : NameFault) → AddsAsks a more b (Err fault) → fault ≡ Memory
+      → AreNamedTo more
+  memory_at more a b fault fails is = subst (λ (f : NameFault). AddsAsks a more b (Err f)) is fails
+
+  -- a fault of some asks is one of all, where those before them are named
   pub fails_among : (before more rest whole a b c d : List (Ask A)) (fault : NameFault)
-      → whole ≡ (before ++ more) ++ rest
+      → whole ≡ (before ++ more) ++ rest → AreNamed before
       → AddsAsks a more b (Err fault) → AddsAsks c whole d (Err fault)
-  fails_among before more rest whole a b c d fault is fails =
+  fails_among before more rest whole a b c d fault is first fails =
       fails_unless whole c d fault
       (λ other named. unless_fails more a b fault fails other
       (all_right (λ (ask : Ask A). IsRefName ask.name) before more
       (all_left (λ (ask : Ask A). IsRefName ask.name) (before ++ more) rest (subst AreNamed is named))))
+      (λ memory. named_to before more rest whole is first (memory_at more a b fault fails memory))
 
   -- ---- one line
 
-  asks_none : (spec : Refspec) (line : RefLine) → matches spec line.name ≡ false → asks_by {A = A} spec (line ∷ []) ≡ []
+  pub asks_none : (spec : Refspec) (line : RefLine) → matches spec line.name ≡ false → asks_by {A = A} spec (line ∷ []) ≡ []
   asks_none spec line e = rw e refl
 
-  asks_one : (spec : Refspec) (line : RefLine) → matches spec line.name ≡ true
+  pub asks_one : (spec : Refspec) (line : RefLine) → matches spec line.name ≡ true
       → asks_by {A = A} spec (line ∷ []) ≡ ask_of spec line ∷ []
   asks_one spec line e = rw e refl
 
@@ -116,19 +150,28 @@ module _ {A : Type 0} where
             (All-nil (λ (ask : Ask A). IsRefName ask.name)),
       )
 
-  -- or its destination is no ref name
-  pub fails_one : (spec : Refspec) (line : RefLine) (a b : List (Ask A)) (fault : NameFault)
+  -- or its destination is no ref name; or it is one, and there is no memory for it
+  pub fails_one : RulesNeverReportMemory → (spec : Refspec) (line : RefLine) (a b : List (Ask A)) (fault : NameFault)
       → matches spec line.name ≡ true
       → Owns name_fault (destination_of spec line.name) (Err fault)
       → AddsAsks a (asks_by spec (line ∷ [])) b (Err fault)
-  fails_one spec line a b fault e owns =
+  fails_one law spec line a b fault e owns =
       subst (λ (l : List (Ask A)). AddsAsks a l b (Err fault)) (sym (asks_one spec line e))
       (fails_unless (ask_of spec line ∷ []) a b fault
       (λ other named. elim owns [
         | inl found ↦ none-some fault
             (sym (All-head (λ (ask : Ask A). IsRefName ask.name) (ask_of spec line) [] named) ∙ found)
         | inr memory ↦ other memory.0
+      ])
+      (λ memory. elim owns [
+        | inl found ↦ absurd ((law (destination_of spec line.name)).0 (found ∙ ap Some memory))
+        | inr out ↦ named_one spec line out.1
       ]))
+
+  pub lacks_memory : (spec : Refspec) (line : RefLine) (a b : List (Ask A)) → matches spec line.name ≡ true
+      → IsRefName (destination_of spec line.name) → AddsAsks a (asks_by spec (line ∷ [])) b (Err Memory)
+  lacks_memory spec line a b e named =
+      subst (λ (l : List (Ask A)). AddsAsks a l b (Err Memory)) (sym (asks_one spec line e)) (named_one spec line named)
 
   -- ---- many
 
@@ -174,7 +217,7 @@ module _ {A : Type 0} where
   -- asking fails as adding all asks does
   pub finds_as_adds : (specs : List Refspec) (lines : List RefLine) (a b : List (Ask A)) (fault : NameFault)
       → AddsAsks a (asks_by_all specs lines) b (Err fault) → FindsAsks {A = A} specs lines (Err fault)
-  finds_as_adds specs lines a b Memory fails = tt
+  finds_as_adds specs lines a b Memory fails = fails
   finds_as_adds specs lines a b Empty fails = fails
   finds_as_adds specs lines a b TooLong fails = fails
   finds_as_adds specs lines a b NotRef fails = fails

@@ -33,7 +33,8 @@ use Rattle.gsession.specs.Steps.{FitsBatch}
 use Rattle.gsession.specs.declared.fault.ClientFault.{ClientFault}
 use Rattle.gsession.specs.declared.stage.Stage.{Stage}
 use Rattle.gsession.specs.declared.stage.Stage.TheVariants.{Listing, Fetching, Settling, Over}
-use Rattle.gsession.proofs.CommonLemmas.{all_at, all_distinct, batch_ids, contains_from_any}
+use Rattle.ghistory.proofs.IdLists.{contains_from_any}
+use Rattle.gsession.proofs.CommonLemmas.{all_at, all_distinct, batch_ids}
 
 -- ---- lists without repeats
 

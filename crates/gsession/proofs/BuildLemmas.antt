@@ -1,35 +1,12 @@
 -- What is not added to a request.
 use Rattle.std.proofs.Common.{◌≡◌, ℕ, ◌+◌, ◌<◌, ◌≤◌, Bool, true, List, ◌++◌, length, length-append, take, get_or}
 use Rattle.std.proofs.Common.{nat_lt, All, refl, sym, ap, subst, ◌∙◌, arith}
-use Rattle.std.proofs.lemmas.Bool.{eq-eqb, false≢true, lt-ltb}
+use Rattle.std.proofs.lemmas.Bool.{eq-eqb, lt-ltb}
 use Rattle.std.proofs.lemmas.List.{length-take-le}
 use Rattle.gname.specs.Formats.{id_length}
 use Rattle.gname.specs.Ids.{IsIdOf}
 use Rattle.gname.specs.declared.formats.Format.{Format}
-use Rattle.ggrammar.specs.Building.{IsBuildReason}
-use Rattle.ggrammar.specs.declared.fault.Why.{Why}
-use Rattle.ggrammar.specs.declared.fault.Why.TheVariants as why
 use Rattle.grequest.specs.Building.{has_format}
-
--- what is well-formed and fits is refused only when out of memory
-pub only_memory : (well_formed has_room : Bool) (reason : Why) → well_formed ≡ true → has_room ≡ true
-    → IsBuildReason well_formed has_room reason → reason ≡ why.Memory
-only_memory w r why.BadText fits room is = absurd (false≢true (sym is ∙ fits))
-only_memory w r why.Limit fits room is = absurd (false≢true (sym is.1 ∙ room))
-only_memory w r why.Memory fits room is = refl
-only_memory w r (why.Line fault) fits room is = absurd is
-only_memory w r (why.Band fault) fits room is = absurd is
-only_memory w r why.UnexpectedFrame fits room is = absurd is
-only_memory w r why.UnknownCommand fits room is = absurd is
-only_memory w r why.UnknownCapability fits room is = absurd is
-only_memory w r why.UnknownArgument fits room is = absurd is
-only_memory w r why.BadId fits room is = absurd is
-only_memory w r why.BadName fits room is = absurd is
-only_memory w r (why.RemoteErr said) fits room is = absurd is
-only_memory w r (why.RemoteFatal said) fits room is = absurd is
-only_memory w r why.WrongSection fits room is = absurd is
-only_memory w r why.Format fits room is = absurd is
-only_memory w r why.Ended fits room is = absurd is
 
 -- each of the ids has the format
 pub fits : (format other : Format) (ids : List (List ℕ)) (i : ℕ) (id : List ℕ) → All (IsIdOf format) ids

@@ -18,6 +18,7 @@ use Rattle.grepo.specs.declared.fault.RepoFault.TheVariants as repo
 use Rattle.grepo.specs.Repos.{RepoState}
 use Rattle.grequest.specs.Asked.{Asked, Empty, Ls, Fetches, FetchAsked, LsRefsAsked, is_direct}
 use Rattle.gsession.specs.Calls.{HasCalled, heard, requested, took_refs, took_reply, settled, GoesOn}
+use Rattle.gsession.specs.Calls.{Does, does_nothing, does_end, does_hear, does_ask, does_list, does_take, does_settle}
 use Rattle.gsession.specs.Requesting.{MakesNext, Requests, is_due, waiting_for}
 use Rattle.gsession.specs.Sessions.{SessionState, Hears, IsBegun, after_fault, ends_session, over, tells_unborn}
 use Rattle.gsession.specs.SettlingRefs.{SettlesSession}
@@ -61,7 +62,7 @@ due_idle Over (Some asked) due = absurd (false≢true due)
 
 -- ---- a reply to a request with `done` has a pack
 
-done_direct : (asked : FetchAsked) → asked.done ≡ true → is_direct asked ≡ true
+pub done_direct : (asked : FetchAsked) → asked.done ≡ true → is_direct asked ≡ true
 done_direct asked done = ap (λ (b : Bool). b || length asked.haves == 0) done
 
 direct_pack : (direct : Bool) (pack : List ℕ) (other reply : FetchReply) → direct ≡ true
@@ -149,19 +150,26 @@ module _ {A : Type 0} where
       record { format = format; tips = tips; sent = ([], sent ∙ sym (append-nil old.sent)) }
 
   asked_on : (old : SessionState A) (asked : Asked) (batch : List (List ℕ)) → GoesOn old (waiting_for old asked batch)
-  asked_on old Empty batch = no_more old (waiting_for old Empty batch) refl refl refl
-  asked_on old (Ls asked) batch = no_more old (waiting_for old (Ls asked) batch) refl refl refl
-  asked_on old (Fetches asked) batch = record { format = refl; tips = refl; sent = (batch, refl) }
+  asked_on old Empty batch = no_more old (waiting_for old Empty batch) refl refl refl refl refl refl
+  asked_on old (Ls asked) batch = no_more old (waiting_for old (Ls asked) batch) refl refl refl refl refl refl
+  asked_on old (Fetches asked) batch = record {
+    format = refl;
+    refspecs = refl;
+    limit = refl;
+    ends = refl;
+    tips = refl;
+    sent = (batch, refl);
+  }
 
   pub goes_on : (g : List (Entry A)) (old new : SessionState A) → Does g old new → GoesOn old new
-  goes_on g old new (does_nothing is) = subst (GoesOn old) (sym is) (no_more old old refl refl refl)
-  goes_on g old new (does_end is) = subst (GoesOn old) (sym is) (no_more old (over old) refl refl refl)
+  goes_on g old new (does_nothing is) = subst (GoesOn old) (sym is) (no_more old old refl refl refl refl refl refl)
+  goes_on g old new (does_end is) = subst (GoesOn old) (sym is) (no_more old (over old) refl refl refl refl refl refl)
   goes_on g old new (does_hear offers begun is) =
-      subst (GoesOn old) (sym is) (no_more old (record old { offers_unborn = offers }) refl refl refl)
+      subst (GoesOn old) (sym is) (no_more old (record old { offers_unborn = offers }) refl refl refl refl refl refl)
   goes_on g old new (does_ask asked none made) = subst (GoesOn old) (sym made.2) (asked_on old asked made.0)
   goes_on g old new (does_list asked reply wants waits is) =
-      subst (GoesOn old) (sym is) (no_more old (with_refs old reply wants) refl refl refl)
+      subst (GoesOn old) (sym is) (no_more old (with_refs old reply wants) refl refl refl refl refl refl)
   goes_on g old new (does_take asked stage acks waits named settles is) =
-      subst (GoesOn old) (sym is) (no_more old (after_acks old stage acks) refl refl refl)
+      subst (GoesOn old) (sym is) (no_more old (after_acks old stage acks) refl refl refl refl refl refl)
   goes_on g old new (does_settle stage is) =
-      subst (GoesOn old) (sym is) (no_more old (record (over old) { asks = [] }) refl refl refl)
+      subst (GoesOn old) (sym is) (no_more old (record (over old) { asks = [] }) refl refl refl refl refl refl)

@@ -21,14 +21,9 @@ use Rattle.ghistory.specs.Levels.{distinct_of}
 use Rattle.ghistory.specs.Offer.{IsOffer}
 use Rattle.ghistory.specs.Reach.{Reaches, here, onward}
 use Rattle.ghistory.specs.Selecting.{Selects, none, keep, skip}
+use Rattle.ghistory.proofs.IdLists.{any_from_contains, contains_from_any}
 
 -- ---- lists
-
-pub contains_from_any : (ids : List (List ℕ)) (a : List ℕ) → list_any (bytes_eq a) ids ≡ true → Contains ids a
-contains_from_any ids a any = Contains-from_any (λ x y. (bytes_eq-Decides x y).0) a ids any
-
-pub any_from_contains : (ids : List (List ℕ)) (a : List ℕ) → Contains ids a → list_any (bytes_eq a) ids ≡ true
-any_from_contains ids a there = list_any-from_Contains nat_list_eq_equiv a ids there
 
 -- what holds of each id of a list holds of each of others that are all in it
 pub all_of_members : (P : List ℕ → Type 0) (list ids : List (List ℕ)) → All P list → All (Contains list) ids → All P ids

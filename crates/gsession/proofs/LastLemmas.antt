@@ -21,12 +21,12 @@ use Rattle.gsession.specs.declared.stage.Stage.{Stage}
 use Rattle.gsession.specs.declared.stage.Stage.TheVariants.{Listing, Fetching, Settling, Over}
 use Rattle.gsession.proofs.BatchLemmas.{joined_once}
 use Rattle.gsession.proofs.BoundLemmas.{in_batch}
-use Rattle.gsession.proofs.CallLemmas.{Does, does_nothing, does_end, does_hear, does_ask, does_list, does_take}
-use Rattle.gsession.proofs.CallLemmas.{does_settle, does, due_idle}
+use Rattle.gsession.specs.Calls.{Does, does_nothing, does_end, does_hear, does_ask, does_list, does_take, does_settle}
+use Rattle.gsession.proofs.CallLemmas.{does, due_idle}
 
 -- ---- what can't be
 
-ls_or_fetch : (one : LsRefsAsked) (other : FetchAsked) → Some (Ls one) ≡ Some (Fetches other) → ⊥
+pub ls_or_fetch : (one : LsRefsAsked) (other : FetchAsked) → Some (Ls one) ≡ Some (Fetches other) → ⊥
 ls_or_fetch one other same = cc
 
 pub same_fetch : (one other : FetchAsked) → Some (Fetches one) ≡ Some (Fetches other) → one ≡ other

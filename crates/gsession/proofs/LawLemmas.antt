@@ -19,6 +19,7 @@ use Rattle.gobject.specs.declared.node.Node.{Node}
 use Rattle.gobject.specs.Objects.{node_at}
 use Rattle.gobject.specs.Packs.{Indexes, IndexFails}
 use Rattle.ghistory.specs.Laws.{DistinctAreOnce, OffersAreExact, ReachingGoesOn}
+use Rattle.ghistory.proofs.Choosing.{one_choice}
 use Rattle.ghistory.specs.Levels.{distinct_of}
 use Rattle.ghistory.specs.Reach.{IsFull, SomeReaches}
 use Rattle.ghistory.specs.Selecting.{Selects, none, keep, skip}
@@ -46,7 +47,8 @@ use Rattle.gsession.specs.declared.taken.Taken.TheVariants.{Round, PackTaken}
 use Rattle.gsession.proofs.BoundLemmas.{in_batch}
 use Rattle.gsession.proofs.CommonLemmas.{all_distinct, all_selected}
 use Rattle.gsession.proofs.LastLemmas.{IsUnsent, batch_unsent, none_follows}
-use Rattle.gsession.proofs.ReplyLemmas.{grows_to, inserts_grow}
+use Rattle.ghistory.proofs.Growing.{inserts_grows}
+use Rattle.gsession.proofs.ReplyLemmas.{grows_to}
 
 -- ---- choosing
 
@@ -73,14 +75,6 @@ selected_or_not P xs ys (keep {x = x} {xs = others} {ys = more} p rest) =
     (selected_or_not P others more rest))
 selected_or_not P xs ys (skip {x = x} {xs = others} left_out rest) =
     All-cons (λ a. Contains ys a ⊎ ¬ (P a)) x others (inr left_out) (selected_or_not P others ys rest)
-
-one_selection : {X : Type 0} (P : X → Type 0) (xs ys zs : List X) → Selects P xs ys → Selects P xs zs → ys ≡ zs
-one_selection P xs ys zs none none = refl
-one_selection P xs ys zs (keep {x = x} {xs = others} {ys = more} p rest) (keep {ys = less} q last) =
-    ap (λ l. x ∷ l) (one_selection P others more less rest last)
-one_selection P xs ys zs (keep p rest) (skip left_out last) = absurd (left_out p)
-one_selection P xs ys zs (skip left_out rest) (keep p last) = absurd (left_out p)
-one_selection P xs ys zs (skip {xs = others} left_out rest) (skip other last) = one_selection P others ys zs rest last
 
 -- ---- stages
 
@@ -195,7 +189,7 @@ module _ {A : Type 0} where
   same_lines old one other g reply taken takes also =
       takes.after
       ∙ ap (with_refs old reply)
-      (one_selection (IsLacking g) (distinct_of (asked_ids (asked_of {A = A} old.refspecs reply.lines))) takes.wants
+      (one_choice (IsLacking g) (distinct_of (asked_ids (asked_of {A = A} old.refspecs reply.lines))) takes.wants
       also.wants takes.wanted also.wanted)
       ∙ sym also.after
 
@@ -250,7 +244,7 @@ module _ {A : Type 0} where
   head_grows indexes index_fails old new r after reply (Round common) took = still_grows r after took.3
   head_grows indexes index_fails old new r after reply (PackTaken added) (has, same, (entries, indexed, inserts)) =
       record {
-        grows = inserts_grow r.graph.format r.graph.entries entries after.graph.entries inserts.adds.1;
+        grows = inserts_grows r.graph.format r.graph.entries entries after.graph.entries inserts.adds.1;
         format = inserts.adds.0;
         refs = inserts.refs;
         marks = inserts.marks;

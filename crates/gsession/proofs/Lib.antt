@@ -2,6 +2,7 @@ pub mod ListLemmas
 pub mod BoundLemmas
 pub mod CommonLemmas
 pub mod AskLemmas
+pub mod FirstLemmas
 pub mod WantLemmas
 pub mod BuildLemmas
 pub mod SessionLemmas

@@ -21,10 +21,10 @@ use Rattle.gsession.specs.TakingRefs.{with_refs}
 use Rattle.gsession.specs.TakingReplies.{Awaits, TakesHead, acknowledged_by, after_acks}
 use Rattle.gsession.specs.declared.taken.Taken.{Taken}
 use Rattle.gsession.specs.declared.taken.Taken.TheVariants.{Round, PackTaken}
-use Rattle.gsession.proofs.CallLemmas.{Does, does_nothing, does_end, does_hear, does_ask, does_list, does_take}
-use Rattle.gsession.proofs.CallLemmas.{does_settle, does}
+use Rattle.gsession.specs.Calls.{Does, does_nothing, does_end, does_hear, does_ask, does_list, does_take, does_settle}
+use Rattle.gsession.proofs.CallLemmas.{does}
 use Rattle.gsession.proofs.CommonLemmas.{all_distinct, all_of_members}
-use Rattle.gsession.proofs.LastLemmas.{same_fetch}
+use Rattle.gsession.proofs.LastLemmas.{ls_or_fetch, same_fetch}
 
 -- each of a list is one of a longer list
 in_left : (xs ys : List (List ℕ)) → All (Contains (xs ++ ys)) xs
@@ -38,9 +38,6 @@ in_right xs ys = All-weaker (Contains ys) (Contains (xs ++ ys)) (λ a there. Con
 wider : (xs ys ids : List (List ℕ)) → All (Contains xs) ids → All (Contains (xs ++ ys)) ids
 wider xs ys ids all = All-weaker (Contains xs) (Contains (xs ++ ys)) (λ a there. Contains-append_left xs ys a there) ids
     all
-
-ls_waits : (one : LsRefsAsked) (other : FetchAsked) → Some (Ls one) ≡ Some (Fetches other) → ⊥
-ls_waits one other same = cc
 
 -- the common ids after a reply
 pub commons_after : DistinctAreOnce → (haves acks old new : List (List ℕ)) → new ≡ distinct_of (old ++ acks)
@@ -104,7 +101,7 @@ module _ {A : Type 0} where
       → AreOffered (waiting_for old asked batch)
   asked_offered g old Empty batch was next = absurd next
   asked_offered g old (Ls asked) batch was next =
-      record { commons = was.commons; haves = λ also waits. absurd (ls_waits asked also waits) }
+      record { commons = was.commons; haves = λ also waits. absurd (ls_or_fetch asked also waits) }
   asked_offered g old (Fetches asked) batch was next = record {
     commons = wider old.sent batch old.commons was.commons;
     haves = λ also waits.

@@ -26,6 +26,7 @@ use Rattle.gsession.specs.declared.stage.Stage.TheVariants.{Listing, Fetching, S
 use Rattle.gsession.specs.declared.taken.Taken.{Taken}
 use Rattle.gsession.specs.declared.taken.Taken.TheVariants.{Round, PackTaken}
 use Rattle.gsession.proofs.BoundLemmas.{in_batch}
+use Rattle.gsession.proofs.CallLemmas.{done_direct}
 use Rattle.gsession.proofs.ReplyLemmas.{no_acks}
 use Rattle.gsession.proofs.TakingLaws.{one_asked}
 
@@ -36,9 +37,6 @@ direct_pack reading (Acks ids) lines direct says =
     absurd (false≢true (sym (no_acks reading.direct _ _ ids (ap head_of says)) ∙ direct))
 direct_pack reading (Ready ids pack) lines direct says = tt
 direct_pack reading (Pack pack) lines direct says = tt
-
-done_direct : (asked : FetchAsked) → asked.done ≡ true → is_direct asked ≡ true
-done_direct asked done = rw done refl
 
 stages_differ : Listing ≡ Fetching → ⊥
 stages_differ same = cc

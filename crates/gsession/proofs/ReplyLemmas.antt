@@ -17,10 +17,11 @@ use Rattle.gname.specs.declared.formats.Format.{Format}
 use Rattle.gobject.specs.declared.node.Entry.{Entry}
 use Rattle.gobject.specs.Packs.{Indexes, IndexFails}
 use Rattle.ghistory.specs.Graphs.{History}
-use Rattle.ghistory.specs.Insert.{Adds, ComesIn, Inserts, IsRefused}
+use Rattle.ghistory.specs.Insert.{Adds, IsRefused}
 use Rattle.ghistory.specs.Laws.{DistinctAreOnce}
 use Rattle.ghistory.specs.Levels.{distinct_of}
 use Rattle.ghistory.specs.Reach.{Grows}
+use Rattle.ghistory.proofs.Growing.{inserts_grows}
 use Rattle.ghistory.specs.declared.fault.GraphFault.{GraphFault}
 use Rattle.ghistory.specs.declared.fault.GraphFault.TheVariants as graph
 use Rattle.grefs.specs.RefLists.{RefList}
@@ -112,24 +113,8 @@ module _ {A : Type 0} where
       ∙ ap (λ (r : RefList). record old { refs = r; known = new.known }) refs
       ∙ ap (λ (k : List Bool). record old { known = k }) known
 
-  grows_on : (f g h : List (Entry A)) → Grows f g → Grows g h → Grows f h
-  grows_on f g h first next =
-      (first.0 ++ next.0, next.1 ∙ ap (λ (l : List (Entry A)). l ++ next.0) first.1 ∙ append_assoc f first.0 next.0)
-
   pub grows_to : (g h : List (Entry A)) → h ≡ g → Grows g h
   grows_to g h same = ([], same ∙ sym (append-nil g))
-
-  comes_grows : (format : Format) (old : List (Entry A)) (entry : Entry A) (new : List (Entry A))
-      → ComesIn format old entry new → Grows old new
-  comes_grows format old entry new comes =
-      elim comes.comes [ inl held ↦ grows_to old new held.1 | inr added ↦ (entry ∷ [], added.1) ]
-
-  pub inserts_grow : (format : Format) (old entries new : List (Entry A)) → Inserts format old entries new
-      → Grows old new
-  inserts_grow format old [] new inserts = grows_to old new inserts
-  inserts_grow format old (entry ∷ entries) new inserts =
-      grows_on old inserts.0 new (comes_grows format old entry inserts.0 inserts.1)
-      (inserts_grow format inserts.0 entries new inserts.2)
 
   module _ (indexes : Indexes A) (index_fails : IndexFails) where
     takes_grow : (old : SessionState A) (repo_old : RepoState A) (reply : FetchReply) (new : SessionState A)
@@ -139,7 +124,7 @@ module _ {A : Type 0} where
     takes_grow old repo_old reply new repo_new (Round common) takes =
         grows_to repo_old.graph.entries repo_new.graph.entries (ap (λ (r : RepoState A). r.graph.entries) takes.3)
     takes_grow old repo_old reply new repo_new (PackTaken added) takes =
-        inserts_grow repo_old.graph.format repo_old.graph.entries takes.2.0 repo_new.graph.entries takes.2.2.adds.1
+        inserts_grows repo_old.graph.format repo_old.graph.entries takes.2.0 repo_new.graph.entries takes.2.2.adds.1
 
     -- the objects only grow, whatever is answered
     pub reply_grows : (old : SessionState A) (repo_old : RepoState A) (change : Change) (new : SessionState A)
@@ -158,14 +143,15 @@ module _ {A : Type 0} where
         → IsAcksFault haves acks fault → IsReplyFault indexes index_fails haves s reply fault
     acks_fault haves acks s reply (StrangeAck id) same is =
         subst (λ (l : List (List ℕ)). IsFirstStrange haves l id) (sym same) is
-    acks_fault haves acks s reply (Repo (repo.Graph graph.Memory)) same is = tt
+    acks_fault haves acks s reply (Repo (repo.Graph graph.Memory)) same is =
+        subst (λ (l : List (List ℕ)). All (Contains haves) l) (sym same) is
     acks_fault haves acks s reply _ same is = absurd is
 
     pub graph_fault : (haves : List (List ℕ)) (s : RepoState A) (reply : FetchReply) (fault : GraphFault)
         → All (Contains haves) (acknowledged_by reply) → HasPack reply
         → RefusesPack indexes index_fails s (pack_of reply) fault
         → IsReplyFault indexes index_fails haves s reply (Repo (repo.Graph fault))
-    graph_fault haves s reply graph.Memory named has refuses = tt
+    graph_fault haves s reply graph.Memory named has refuses = named
     graph_fault haves s reply _ named has refuses = (named, has, refuses)
 
     -- ---- acknowledgments alone

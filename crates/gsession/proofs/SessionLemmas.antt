@@ -1,6 +1,6 @@
 -- Sessions from call to call: what stays true of a session when some of its parts change.
 use Rattle.std.proofs.Common.{◌≡◌, ◌≢◌, ◌⊎◌, ℕ, ◌+◌, ◌≤◌, ◌==◌, ◌||◌, Bool, true, false, List, [], ◌∷◌, ◌++◌, length}
-use Rattle.std.proofs.Common.{All, Contains, Option, Some, None, bytes_eq, refl, sym, ap, subst, arith, length-append}
+use Rattle.std.proofs.Common.{All, Contains, Option, Some, None, bytes_eq, refl, sym, ap, subst, arith, length-append, ◌∙◌}
 use Rattle.std.specs.List.{AllPairs, IsDistinct}
 use Rattle.std.specs.Map.{values_of}
 use Rattle.std.proofs.lemmas.List.{append-nil}
@@ -26,6 +26,15 @@ fits_as : {A : Type 0} (s : SessionState A) (st other : Stage) (p also : Option 
     → FitsStage s st p → FitsStage s other also
 fits_as s st other p also same same_p fits = subst (λ x. FitsStage s x also) same (subst (FitsStage s st) same_p fits)
 
+listing_fetches : Listing ≡ Fetching → ⊥
+listing_fetches same = cc
+
+settling_fetches : Settling ≡ Fetching → ⊥
+settling_fetches same = cc
+
+over_fetches : Over ≡ Fetching → ⊥
+over_fetches same = cc
+
 -- a request for refs waits before any for objects was made
 ls_waits : {A : Type 0} (s : SessionState A) (st : Stage) (asked : LsRefsAsked) → FitsStage s st (Some (Ls asked))
     → s.rounds ≡ 0
@@ -42,6 +51,14 @@ fetch_waits s Fetching asked fits = fits
 fetch_waits s Settling asked fits = absurd fits
 fetch_waits s Over asked fits = absurd fits
 
+-- it waits while objects are fetched
+fetch_stage : {A : Type 0} (s : SessionState A) (st : Stage) (asked : FetchAsked)
+    → FitsStage s st (Some (Fetches asked)) → st ≡ Fetching
+fetch_stage s Listing asked fits = absurd fits
+fetch_stage s Fetching asked fits = refl
+fetch_stage s Settling asked fits = absurd fits
+fetch_stage s Over asked fits = absurd fits
+
 pub open_fetch : {A : Type 0} (s : SessionState A) (asked : FetchAsked) → IsSession s → s.pending ≡ Some (Fetches asked)
     → IsOpenFetch s asked
 open_fetch s asked is waits =
@@ -56,6 +73,7 @@ pub begun : {A : Type 0} (s : SessionState A) → length s.refspecs ≤ max_spec
 unfolding IsDistinct
 begun s few ids wants commons sent stage pending rounds = record {
   few_specs = few;
+  some = λ fetching. absurd (listing_fetches (sym stage ∙ fetching));
   tips = ids;
   wants = subst (All (IsIdOf s.format)) (sym wants) (All-nil (IsIdOf s.format));
   few_wants = omega (arith, ap length wants);
@@ -76,6 +94,7 @@ heard s offers is stage pending = record {
   commons = is.commons;
   sent = is.sent;
   rounds = is.rounds;
+  some = is.some;
   stage = fits_as (record s { offers_unborn = offers }) Listing s.stage None s.pending (sym stage) (sym pending)
       (fits_as s s.stage Listing s.pending None stage pending is.stage);
 }
@@ -89,6 +108,7 @@ ended s is = record {
   commons = is.commons;
   sent = is.sent;
   rounds = is.rounds;
+  some = λ fetching. absurd (over_fetches fetching);
   stage = tt;
 }
 
@@ -102,6 +122,7 @@ emptied s is stage pending = record {
   commons = is.commons;
   sent = is.sent;
   rounds = is.rounds;
+  some = is.some;
   stage = fits_as (record s { asks = [] }) Over s.stage None s.pending (sym stage) (sym pending) tt;
 }
 
@@ -118,6 +139,7 @@ refs_asked s asked p is stage pending waits = record {
   commons = is.commons;
   sent = is.sent;
   rounds = is.rounds;
+  some = is.some;
   stage = fits_as (record s { pending = p }) Listing s.stage (Some (Ls asked)) p (sym stage) (sym waits)
       (fits_as s s.stage Listing s.pending None stage pending is.stage);
 }
@@ -150,6 +172,7 @@ asked_for s batch p is stage pending fits waits =
       commons = is.commons;
       sent = fits.fresh;
       rounds = omega (arith, few, long);
+      some = is.some;
       stage = fits_as (record s { pending = p; sent = s.sent ++ batch; rounds = s.rounds + 1 }) Fetching s.stage
           (Some (Fetches (fetch_request s.wants s.commons batch))) p (sym stage) (sym waits)
           (record {
@@ -178,6 +201,14 @@ fits_wants : {A : Type 0} (s : SessionState A) (wants : List (List ℕ)) → s.r
 fits_wants s [] none = tt
 fits_wants s (want ∷ wants) none = omega (arith, none)
 
+-- objects are fetched only where some are wanted
+no_head : (id : List ℕ) (ids : List (List ℕ)) → id ∷ ids ≡ [] → ⊥
+no_head id ids none = cc
+
+some_wants : (wants : List (List ℕ)) → stage_for wants ≡ Fetching → wants ≢ []
+some_wants [] fetching = absurd (settling_fetches fetching)
+some_wants (want ∷ wants) fetching = no_head want wants
+
 pub refs_taken : {A : Type 0} (s : SessionState A) (asks : List (Ask A)) (wants : List (List ℕ)) (st : Stage)
     → IsSession s → AwaitsRefs s
     → All (IsIdOf s.format) wants → length wants ≤ max_wants → st ≡ stage_for wants
@@ -193,6 +224,7 @@ refs_taken s asks wants st is waits ids few same =
       commons = is.commons;
       sent = is.sent;
       rounds = is.rounds;
+      some = λ fetching. some_wants wants (sym same ∙ fetching);
       stage = fits_as (record s { stage = st; pending = None; asks = asks; wants = wants })
           (stage_for wants) st None None (sym same) refl
           (fits_wants (record s { stage = st; pending = None; asks = asks; wants = wants }) wants none);
@@ -210,6 +242,8 @@ acks_taken s asked commons is waits direct are = record {
   commons = are;
   sent = is.sent;
   rounds = is.rounds;
+  some = λ _. is.some (fetch_stage s s.stage asked
+      (fits_as s s.stage s.stage s.pending (Some (Fetches asked)) refl waits is.stage));
   stage = (open_fetch s asked is waits).goes_on direct;
 }
 
@@ -223,5 +257,6 @@ pack_taken s commons is are = record {
   commons = are;
   sent = is.sent;
   rounds = is.rounds;
+  some = λ fetching. absurd (settling_fetches fetching);
   stage = tt;
 }

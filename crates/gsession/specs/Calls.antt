@@ -1,18 +1,21 @@
 -- What the calls of a session have in common.
-use Rattle.std.specs.Prelude.{◌≡◌, ℕ, List, ◌++◌, Contains, None, Result, Err}
+use Rattle.std.specs.Prelude.{◌≡◌, ℕ, Bool, true, List, [], ◌++◌, All, Contains, None, Some, Result, Err}
 use Rattle.ggrammar.specs.Capabilities.{Capability}
 use Rattle.gpkt.specs.Change.{Change}
 use Rattle.gobject.specs.Packs.{Indexes, IndexFails}
 use Rattle.grepo.specs.declared.ask.Ask.{Ask}
 use Rattle.grepo.specs.declared.ask.RefUpdate.{RefUpdate}
 use Rattle.grepo.specs.Repos.{RepoState}
-use Rattle.grequest.specs.Asked.{Asked, FetchAsked}
-use Rattle.gsession.specs.Requesting.{Requests}
-use Rattle.gsession.specs.Sessions.{SessionState, Hears}
+use Rattle.glsreply.specs.LsReplies.{LsReply}
+use Rattle.gobject.specs.declared.node.Entry.{Entry}
+use Rattle.grequest.specs.Asked.{Asked, Ls, LsRefsAsked, FetchAsked}
+use Rattle.gsession.specs.Requesting.{MakesNext, Requests}
+use Rattle.gsession.specs.Sessions.{SessionState, Hears, IsBegun, over}
 use Rattle.gsession.specs.SettlingRefs.{SettlesSession}
-use Rattle.gsession.specs.TakingRefs.{TakesLs}
-use Rattle.gsession.specs.TakingReplies.{Awaits, TakesReply}
-use Rattle.gsession.specs.declared.stage.Stage.TheVariants.{Over}
+use Rattle.gsession.specs.TakingRefs.{TakesLs, with_refs}
+use Rattle.gsession.specs.TakingReplies.{Awaits, TakesReply, after_acks}
+use Rattle.gsession.specs.declared.stage.Stage.{Stage}
+use Rattle.gsession.specs.declared.stage.Stage.TheVariants.{Over, Settling}
 use Rattle.gsession.specs.declared.fault.ClientFault.{ClientFault}
 use Rattle.gsession.specs.declared.fault.ClientFault.TheVariants.{NoOpenRequest}
 use Rattle.gsession.specs.declared.taken.LsTaken.{LsTaken}
@@ -32,9 +35,27 @@ pub data HasCalled {A : Type 0} (indexes : Indexes A) (index_fails : IndexFails)
   settled : (after : RepoState A) (result : Result (List (Ask A) × List RefUpdate) (ClientFault A)) →
       SettlesSession old repo new after result → HasCalled indexes index_fails repo old new
 
+-- what a call did to a session, in a few forms, whatever it answered: it changed nothing; it ended the session; it kept
+-- what the server offers; it made a request where none waited; it took the reply to a request for refs, or to one for
+-- objects; or it settled
+pub data Does {A : Type 0} (g : List (Entry A)) (old new : SessionState A) : Type 0 where
+  does_nothing : new ≡ old → Does g old new
+  does_end : new ≡ over old → Does g old new
+  does_hear : (offers : Bool) → IsBegun old → new ≡ record old { offers_unborn = offers } → Does g old new
+  does_ask : (asked : Asked) → old.pending ≡ None → MakesNext old g new asked → Does g old new
+  does_list : (asked : LsRefsAsked) (reply : LsReply) (wants : List (List ℕ)) → old.pending ≡ Some (Ls asked)
+      → new ≡ with_refs old reply wants → Does g old new
+  does_take : (asked : FetchAsked) (stage : Stage) (acks : List (List ℕ)) → Awaits old asked
+      → All (Contains asked.haves) acks
+      → (asked.done ≡ true → stage ≡ Settling) → new ≡ after_acks old stage acks → Does g old new
+  does_settle : old.stage ≡ Settling → new ≡ record (over old) { asks = [] } → Does g old new
+
 -- what a call leaves as it is: what is fetched and how, and the tips; of the ids that were offered none is forgotten
 pub record GoesOn {A : Type 0} (old new : SessionState A) : Type 0 where
   pub format : new.format ≡ old.format
+  pub refspecs : new.refspecs ≡ old.refspecs
+  pub limit : new.limit ≡ old.limit
+  pub ends : new.ends ≡ old.ends
   pub tips : new.tips ≡ old.tips
   pub sent : (more : List (List ℕ)) × (new.sent ≡ old.sent ++ more)
 

@@ -1,5 +1,5 @@
 -- What follows from the definitions of a session's calls.
-use Rattle.std.specs.Prelude.{◌≡◌, ◌⊎◌, ℕ, true, List, All, Contains, Result}
+use Rattle.std.specs.Prelude.{◌≡◌, ◌≢◌, ◌⊎◌, ℕ, true, List, ◌∷◌, ◌++◌, All, Contains, Result}
 use Rattle.gpkt.specs.Change.{Change}
 use Rattle.ggrammar.specs.Capabilities.{Capability}
 use Rattle.ggrammar.specs.MessageBytes.{known}
@@ -8,19 +8,19 @@ use Rattle.gfetchreply.specs.FetchReplies.{FetchReply}
 use Rattle.gobject.specs.declared.node.Entry.{Entry}
 use Rattle.gobject.specs.Packs.{Indexes, IndexFails}
 use Rattle.ghistory.specs.Reach.{Grows, IsFull}
-use Rattle.gspec.specs.Refspecs.{Refspec, matches}
+use Rattle.gspec.specs.Refspecs.{Refspec, destination_of, matches}
 use Rattle.grepo.specs.declared.ask.Ask.{Ask}
 use Rattle.grepo.specs.declared.ask.RefUpdate.{RefUpdate}
-use Rattle.grepo.specs.Asks.{asked_ids}
+use Rattle.grepo.specs.Asks.{NamesDiffer, asked_ids}
 use Rattle.grepo.specs.Repos.{RepoState}
 use Rattle.grequest.specs.Asked.{Asked, Fetches, FetchAsked}
 use Rattle.gsession.specs.Asking.{AreWants, ask_of, asked_of}
-use Rattle.gsession.specs.Calls.{GoesOn, HasCalled, IsOpenHave, IsOutOfTurn, IsOver}
+use Rattle.gsession.specs.Calls.{Does, GoesOn, HasCalled, IsOpenHave, IsOutOfTurn, IsOver}
 use Rattle.gsession.specs.Requesting.{MakesNext, Requests}
-use Rattle.gsession.specs.Sessions.{SessionState, Hears}
+use Rattle.gsession.specs.Sessions.{SessionState, Hears, IsOpenFetch, IsSession}
 use Rattle.gsession.specs.SettlingRefs.{SettlesSession}
 use Rattle.gsession.specs.TakingRefs.{TakesLs}
-use Rattle.gsession.specs.TakingReplies.{TakesRead, TakesReply, acknowledged_by}
+use Rattle.gsession.specs.TakingReplies.{Awaits, TakesRead, TakesReply, acknowledged_by}
 use Rattle.gsession.specs.declared.fault.ClientFault.{ClientFault}
 use Rattle.gsession.specs.declared.taken.LsTaken.{LsTaken}
 use Rattle.gsession.specs.declared.taken.Taken.{Taken}
@@ -29,6 +29,17 @@ use Rattle.gsession.specs.declared.taken.Taken.{Taken}
 abbrev pub EachGoesOn : {A : Type 0} → Indexes A → IndexFails → Type 0
 EachGoesOn {A} indexes index_fails =
     (repo : RepoState A) (old new : SessionState A) → HasCalled indexes index_fails repo old new → GoesOn old new
+
+-- what every call did
+abbrev pub EachDoes : {A : Type 0} → Indexes A → IndexFails → Type 0
+EachDoes {A} indexes index_fails =
+    (repo : RepoState A) (old new : SessionState A) → HasCalled indexes index_fails repo old new
+    → Does repo.graph.entries old new
+
+-- a request for objects that waits is the session's
+abbrev pub OpenIsTheSessions : Type 0 → Type 0
+OpenIsTheSessions A =
+    (s : SessionState A) (asked : FetchAsked) → IsSession s → Awaits s asked → IsOpenFetch s asked
 
 -- ---- what is asked for
 
@@ -45,6 +56,33 @@ pub record IsAskOf {A : Type 0} (specs : List Refspec) (lines : List RefLine) (a
 abbrev pub AsksAreOfLines : Type 0 → Type 0
 AsksAreOfLines A =
     (specs : List Refspec) (lines : List RefLine) → All (IsAskOf {A = A} specs lines) (asked_of specs lines)
+
+-- the refspec does not take the line to this ref
+abbrev pub LeadsElsewhere : List ℕ → Refspec → RefLine → Type 0
+LeadsElsewhere name spec line = matches spec line.name ≡ true → destination_of spec line.name ≢ name
+
+-- the refspec takes the line to a ref, and is the first to do so: no refspec before it takes any line there, nor does it
+-- take one before this line
+pub record IsFirstFor (specs : List Refspec) (lines : List RefLine) (spec : Refspec) (line : RefLine) : Type 0 where
+  pub before : List Refspec
+  pub after : List Refspec
+  pub specs_are : specs ≡ before ++ spec ∷ after
+  pub above : List RefLine
+  pub below : List RefLine
+  pub lines_are : lines ≡ above ++ line ∷ below
+  pub matched : matches spec line.name ≡ true
+  pub no_spec : All (λ other. All (LeadsElsewhere (destination_of spec line.name) other) lines) before
+  pub no_line : All (LeadsElsewhere (destination_of spec line.name) spec) above
+
+-- what is asked for: something of each ref to which a refspec takes a line, and only one thing; it is what the first
+-- refspec and line ask for that lead there, refspec by refspec and line by line
+pub record FirstIsAsked (A : Type 0) : Type 0 where
+  pub each : (specs : List Refspec) (lines : List RefLine) (spec : Refspec) (line : RefLine) →
+      Contains specs spec → Contains lines line → matches spec line.name ≡ true →
+      (ask : Ask A) × Contains (asked_of specs lines) ask × (ask.name ≡ destination_of spec line.name)
+  pub once : (specs : List Refspec) (lines : List RefLine) → NamesDiffer {A = A} (asked_of specs lines)
+  pub first : (specs : List Refspec) (lines : List RefLine) (spec : Refspec) (line : RefLine) →
+      IsFirstFor specs lines spec line → Contains {X = Ask A} (asked_of specs lines) (ask_of spec line)
 
 -- each want is an asked id whose whole ancestry is not held, and each other asked id's is held
 pub record AreExactWants {A : Type 0} (g : List (Entry A)) (asks : List (Ask A)) (wants : List (List ℕ)) : Type 0 where

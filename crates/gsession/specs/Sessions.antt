@@ -1,6 +1,6 @@
 -- A session: a client's conversation with one server, from the request for refs to the refs here that move. The order
 -- of requests is that of gitprotocol-v2(5), "Command Request"; what a session keeps is our own.
-use Rattle.std.specs.Prelude.{◌≡◌, ℕ, ◌+◌, ◌≤◌, ◌<◌, Bool, true, false, List, [], length, All, Contains, codes}
+use Rattle.std.specs.Prelude.{◌≡◌, ◌≢◌, ℕ, ◌+◌, ◌≤◌, ◌<◌, Bool, true, false, List, [], length, All, Contains, codes}
 use Rattle.std.specs.Prelude.{if◌then◌else◌, Option, Some, None, Result, Ok, Err}
 use Rattle.std.specs.List.{IsDistinct}
 use Rattle.std.specs.Map.{values_of}
@@ -73,7 +73,8 @@ pub record AreCommons (format : Format) (commons : List (List ℕ)) : Type 0 whe
   pub once : IsDistinct bytes_eq commons
 
 -- what each session keeps: its lists have ids of its format and are not too long, it offers no id twice, it asked for
--- objects at most once more than it offered ids, and the request that waits goes with its stage
+-- objects at most once more than it offered ids, it fetches only where objects are wanted, and the request that waits
+-- goes with its stage
 pub record IsSession {A : Type 0} (s : SessionState A) : Type 0 where
   pub few_specs : length s.refspecs ≤ max_specs
   pub tips : All (IsIdOf s.format) s.tips
@@ -82,6 +83,7 @@ pub record IsSession {A : Type 0} (s : SessionState A) : Type 0 where
   pub commons : AreCommons s.format s.commons
   pub sent : IsDistinct bytes_eq s.sent
   pub rounds : s.rounds ≤ length s.sent + 1
+  pub some : s.stage ≡ Fetching → s.wants ≢ []
   pub stage : FitsStage s s.stage s.pending
 
 -- a session that is over; every further call is refused

@@ -1,5 +1,5 @@
 -- The steps of a session's calls, for its own proofs: no promise to a caller is stated with them.
-use Rattle.std.specs.Prelude.{◌≡◌, ⊤, ℕ, ◌+◌, ◌≤◌, false, cond, List, [], ◌∷◌, ◌++◌, length, All, Result, Ok, Err}
+use Rattle.std.specs.Prelude.{◌≡◌, ⊤, ℕ, ◌+◌, ◌≤◌, false, cond, List, [], ◌∷◌, ◌++◌, length, All, Contains, Result, Ok, Err}
 use Rattle.std.specs.List.{IsDistinct}
 use Rattle.std.specs.Str.{bytes_eq}
 use Rattle.gname.specs.Ids.{IsIdOf}
@@ -21,7 +21,7 @@ use Rattle.grepo.specs.declared.ask.Ask.{Ask}
 use Rattle.grepo.specs.declared.fault.RepoFault.TheVariants as repo
 use Rattle.grepo.specs.Repos.{RepoState}
 use Rattle.grequest.specs.Asked.{FetchAsked, is_direct, max_haves}
-use Rattle.gsession.specs.Asking.{AreNamed, asked_of, asks_by_all, with_asks}
+use Rattle.gsession.specs.Asking.{AreNamed, AreNamedTo, asked_of, asks_by_all, with_asks}
 use Rattle.gsession.specs.Sessions.{SessionState}
 use Rattle.gsession.specs.TakingRefs.{IsLsFault, IsRefsFault, TakesLines, TakesLs}
 use Rattle.gsession.specs.TakingReplies.{IsFirstStrange, IsReplyFault, IsTakeFault, TakesRead, TakesReply}
@@ -32,16 +32,18 @@ use Rattle.gsession.specs.declared.taken.Taken.{Taken}
 
 -- ---- asking
 
--- what adding asks answers: they are added, and each is for a ref name; or one is not; or there is no memory
+-- what adding asks answers: they are added, and each is for a ref name; or one is not; or there is no memory for one,
+-- and it and those before it are
 abbrev pub AddsAsks : {A : Type 0} → List (Ask A) → List (Ask A) → List (Ask A) → Result Unit NameFault → Type 0
 AddsAsks old more new (Ok _) = (new ≡ with_asks old more) × AreNamed more
-AddsAsks old more new (Err name.Memory) = ⊤
+AddsAsks old more new (Err name.Memory) = AreNamedTo more
 AddsAsks old more new (Err _) = ¬ (AreNamed more)
 
--- what asking answers: the asks; or that one is for no ref name; or that there is no memory
+-- what asking answers: the asks; or that one is for no ref name; or that there is no memory for one, where it and
+-- those before it are
 abbrev pub FindsAsks : {A : Type 0} → List Refspec → List RefLine → Result (List (Ask A)) NameFault → Type 0
 FindsAsks {A} specs lines (Ok asks) = (asks ≡ asked_of specs lines) × AreNamed {A = A} (asks_by_all specs lines)
-FindsAsks specs lines (Err name.Memory) = ⊤
+FindsAsks {A} specs lines (Err name.Memory) = AreNamedTo {A = A} (asks_by_all specs lines)
 FindsAsks {A} specs lines (Err _) = ¬ (AreNamed {A = A} (asks_by_all specs lines))
 
 -- ---- the next request
@@ -77,10 +79,11 @@ abbrev pub MayHaveFed : {F : Type 0} → (F → List ℕ → Type 0) → IndexFa
 MayHaveFed fed index_fails (Ok feed) bytes = fed feed bytes
 MayHaveFed fed index_fails (Err fault) bytes = (more : List ℕ) → index_fails (bytes ++ more) fault
 
--- why acknowledgments are not taken: one is of an id that the request did not name; or there is no memory
+-- why acknowledgments are not taken: one is of an id that the request did not name; or each is of a have, and there is
+-- no memory
 abbrev pub IsAcksFault : {A : Type 0} → List (List ℕ) → List (List ℕ) → ClientFault A → Type 0
 IsAcksFault haves acks (StrangeAck id) = IsFirstStrange haves acks id
-IsAcksFault haves acks (Repo (repo.Graph graph.Memory)) = Unit {0}
+IsAcksFault haves acks (Repo (repo.Graph graph.Memory)) = All (Contains haves) acks
 IsAcksFault haves acks _ = ⊥
 
 -- acknowledgments alone answer a request that is not direct

@@ -1,7 +1,7 @@
 // Ids that a server acknowledges.
 #![tactic(auto)]
 
-ghost use Rattle.std.specs.Prelude.{◌≡◌, ◌↔◌, ◌++◌, ℕ, List, true, All, Contains, IfOk, MatchOption};
+ghost use Rattle.std.specs.Prelude.{◌≡◌, ◌↔◌, ◌++◌, ℕ, List, true, All, Contains, IfOk, IfSome, MatchOption};
 ghost use Rattle.std.specs.Str.{bytes_eq};
 ghost use Rattle.ghistory.specs.Levels.{distinct_of};
 ghost use Rattle.indexmap.specs.IndexSet.{contains};
@@ -12,22 +12,37 @@ use gname::Oid;
 use indexmap::IndexSet;
 use std::alloc::{AllocError, Allocator};
 
-/// The first acknowledged id that is none of the haves. It fails where there is no memory.
+/// The first acknowledged id that is none of the haves. Each is looked up in a set of these; where there is no memory
+/// for the set, it is searched for, so that want of memory hides no strange id.
 pub(crate) fn first_strange<A: Allocator + Copy>(
     alloc: A,
     haves: &[Oid],
     acks: &[Oid],
-) -> Result<Option<Oid>, AllocError>
-    ensures { IfOk result (λ found. MatchOption found (All (Contains haves.now) acks.now)
-        (IsFirstStrange haves.now acks.now)) }
+) -> Option<Oid>
+    ensures { MatchOption result (All (Contains haves.now) acks.now) (IsFirstStrange haves.now acks.now) }
 {
-    let offered = set_of(alloc, haves)?;
+    let offered = set_of(alloc, haves).ok();
     for id in acks {
-        if !offered.contains(id) {
-            return Ok(Some(*id));
+        if !is_offered(&offered, haves, id) {
+            return Some(*id);
         }
     }
-    Ok(None)
+    None
+}
+
+// Whether the id is one of the haves, which the set has where there is one.
+fn is_offered<A: Allocator + Copy>(
+    offered: &Option<IndexSet<Oid, IdHasher, A>>,
+    haves: &[Oid],
+    id: &Oid,
+) -> bool
+    requires { IfSome offered.now (λ set. (a : List ℕ) → (contains bytes_eq set a ≡ true) ↔ Contains haves.now a) }
+    ensures { (result ≡ true) ↔ Contains haves.now id.now }
+{
+    match offered {
+        Some(set) => set.contains(id),
+        None => haves.contains(id),
+    }
 }
 
 // The ids as a set.

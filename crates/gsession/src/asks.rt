@@ -14,6 +14,7 @@ ghost use Rattle.gsession.specs.Steps.{AddsAsks, FindsAsks};
 use ggraph::graph_laws::{distinct_are_once, places_are_nodes};
 use ggraph::{GraphFault, distinct_ids, missing};
 use glsreply::{LsReply, RefLine};
+use gname::laws::rules_never_report_memory;
 use gname::{NameFault, Oid, RefName};
 use grepo::{Ask, Asks, Repo};
 use gspec::Spec;
@@ -60,6 +61,7 @@ fn add_line<A: Allocator + Copy>(
 ) -> Result<(), NameFault>
     ensures { AddsAsks asks.old (asks_by spec.now (line.now ∷ [])) asks.new result }
 {
+    rules_never_report_memory();
     let Some(name) = spec.destination(asks.allocator(), &line.name)? else {
         return Ok(());
     };

@@ -5,6 +5,7 @@ ghost use Rattle.std.specs.Prelude.{◌≡◌};
 ghost use Rattle.ghistory.specs.declared.fault.GraphFault.TheVariants.{Memory};
 ghost use Rattle.grepo.specs.declared.fault.RepoFault.TheVariants.{Graph};
 ghost use Rattle.gsession.specs.Faults.{client_fault_row};
+ghost use Rattle.gsession.specs.Sessions.{ends_session};
 ghost use Rattle.gsession.specs.declared.fault.ClientFault.TheVariants as client;
 
 use ggrammar::MessageFault;
@@ -53,6 +54,21 @@ impl<A: Allocator + Copy> ClientFault<A> {
         ensures { result.now ≡ (client_fault_row self.now).1 }
     {
         self.row().1
+    }
+
+    /// Whether it ends the session: each does but `NoOpenRequest`, after which the session is as it was.
+    pub fn ends_session(&self) -> bool
+        ensures { result ≡ ends_session self.now }
+    {
+        match self {
+            ClientFault::NoOpenRequest => false,
+            ClientFault::Message(_) => true,
+            ClientFault::Index(_) => true,
+            ClientFault::TooManySpecs => true,
+            ClientFault::StrangeAck { .. } => true,
+            ClientFault::TooManyWants => true,
+            ClientFault::Repo(_) => true,
+        }
     }
 
     // The table: the number and the name of each fault.

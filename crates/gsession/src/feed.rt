@@ -1,7 +1,7 @@
 // The pack of a reply on its way to the indexer.
 #![tactic(auto)]
 
-ghost use Rattle.std.specs.Prelude.{◌≡◌, ◌++◌, [], List, ℕ, MatchResult};
+ghost use Rattle.std.specs.Prelude.{◌≡◌, ◌++◌, [], List, ℕ, true, MatchResult};
 ghost use Rattle.gsession.specs.Steps.{MayHaveFed};
 
 use gfetchreply::PackSink;
@@ -79,7 +79,15 @@ impl<K: Indexer<A>, A: Allocator + Copy> PackSink for PackFeed<'_, K, A> {
 
     ghost same = { λ one other. one.indexer.now ≡ other.indexer.now };
 
-    fn piece(&mut self, bytes: &[u8]) -> bool {
+    // Never is a reply refused for what the indexer says of its pack: its fault is told once the reply is read.
+    fn piece(&mut self, bytes: &[u8]) -> bool
+        ensures all { result ≡ true }
+        ensures fed { (before : List ℕ) → MayHaveFed (K.fed self.old.indexer.now) (K.index_fails self.old.indexer.now)
+            self.old.feed before
+            → MayHaveFed (K.fed self.new.indexer.now) (K.index_fails self.new.indexer.now)
+            self.new.feed (before ++ bytes.now) }
+        ensures same { self.old.indexer.now ≡ self.new.indexer.now }
+    {
         if let Err(fault) = self.add(bytes) {
             self.feed = Err(fault);
         }

@@ -5,6 +5,7 @@ ghost use Rattle.std.specs.Prelude.{◌≡◌};
 ghost use Rattle.gsession.specs.Bounds.{BeganBegins, BeganStays, BeganStaysOn, BeginsCounted, BeginsOffered};
 ghost use Rattle.gsession.specs.Bounds.{CountedAreFew, CountedStays, DoneAsksLast, LastStays, NoneFollows};
 ghost use Rattle.gsession.specs.Bounds.{OfferedStays, OffersAreNew, RoundsAreFew};
+ghost use Rattle.gsession.specs.Laws.{EachDoes, FirstIsAsked, OpenIsTheSessions};
 ghost use Rattle.gsession.specs.Laws.{AsksAreOfLines, CommonsAreHaves, EachGoesOn, HavesAreFull, HavesAreNew};
 ghost use Rattle.gsession.specs.Laws.{ListingIsDecided, OneNext, OverHearsNone, OverRequestsNone, OverSettlesNone};
 ghost use Rattle.gsession.specs.Laws.{OverTakesNoRefs, OverTakesNoReply, RepliesAddCommons};
@@ -105,9 +106,26 @@ pub fn counted_are_few<A: Allocator + Copy>()
 
 // ---- what calls keep, and what they take
 
-/// No call changes the format or the tips of a session, and of the ids that were offered none is forgotten.
+/// No call changes what a session fetches and how, or its tips, and of the ids that were offered none is forgotten.
 pub fn calls_go_on<A: Allocator + Copy, K: Indexer<A>>()
     ensures { (k : K) → EachGoesOn (K.indexes k) (K.index_fails k) }
+{}
+
+/// What every call did to a session, in a few forms.
+pub fn calls_do<A: Allocator + Copy, K: Indexer<A>>()
+    ensures { (k : K) → EachDoes (K.indexes k) (K.index_fails k) }
+{}
+
+/// A request for objects that waits has the session's wants, and each common id among its haves, which a request has
+/// room for. Where it is not direct, another one may follow.
+pub fn open_is_the_sessions<A: Allocator + Copy>()
+    ensures { OpenIsTheSessions A }
+{}
+
+/// Something is asked of each ref to which a refspec takes a line, and only one thing: what the first refspec and line
+/// ask for that lead there, refspec by refspec and line by line.
+pub fn first_is_asked<A: Allocator + Copy>()
+    ensures { FirstIsAsked A }
 {}
 
 /// Each ask is what one of the refspecs asks for of one of the lines that were told.

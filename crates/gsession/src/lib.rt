@@ -10,14 +10,19 @@
 //!   and asks for an unborn `HEAD` exactly where the server offers to tell of it. For objects it has the wants, the
 //!   common ids, and a batch of ids that were not offered before; without a batch the client is done. The
 //!   session and the graph decide the request, and the session that then waits for its reply ([`laws`]).
-//! - [`Session::take_ls`] reads one reply to its end, and nothing after it. It answers what is asked for, the first ask
-//!   for a ref alone; wanted is each asked id whose whole ancestry is not held. A ref that can't have its name is
-//!   reported at the reply's last packet, and before too many wants are.
+//! - [`Session::take_ls`] reads one reply to its end, and nothing after it. Something is asked of each ref to which a
+//!   refspec takes a line, and one thing alone: what the first refspec and line ask for that lead there, refspec by
+//!   refspec and line by line ([`laws`]). Wanted is each asked id whose whole ancestry is not held. A ref that can't have
+//!   its name is reported at the reply's last packet, and before too many wants are; out of memory stands in for none but
+//!   one that comes later.
 //! - [`Session::take_reply`] reads one reply to its end, whatever its bytes are, and nothing after it. Each id that is
 //!   common from then on was a have of the request. What comes to the repository is a list that the indexer may answer
 //!   for the pack, all of it or none. A reply that is refused is reported first, then an id that the request did not
-//!   name, then the indexer's fault, then the graph's; out of memory may come at any time.
+//!   name, then the indexer's fault, then the graph's. Out of memory is reported only where no id is strange, and a reply
+//!   is not refused for what the indexer says of its pack.
 //! - [`Session::settle`] moves the refs as `Repo::settle` does, once a pack was taken or nothing is wanted.
+//! - [`Session::pending`] lends the request that waits, whose ids are of the session's format, so that it can be written;
+//!   [`Session::asks`] and [`Session::wants`] lend what is asked for.
 //! - A call that does not fit what the session waits for changes nothing, and reads nothing. Every other fault ends the
 //!   session, and leaves objects and refs as they were; every later call is then refused.
 //! - A reader of replies goes on after a reply that was read to its end, and is as reading left it where one was
@@ -28,16 +33,16 @@
 //! - Each fault has the number and the name of its row. No call panics, overflows or reads out of bounds, and each
 //!   returns where the reader's calls return.
 //!
-//! # Only tested
+//! # Only tried
 //!
-//! The order of calls with the bytes of a peer, and that a pack goes to the indexer before its reply has ended; in the
-//! tests of `gclient` whole conversations, and that a pack may come in any pieces; that memory which is there is used.
+//! That memory which is there is used: the program `conformance` refuses each allocation of many fetches in turn.
 //!
 //! # What a body can still get away with
 //!
-//! It may report out of memory as often as it likes. It may keep all of a pack and feed it once, start the indexer more
-//! often than it has to, or feed it after its fault; take as long as it likes, and more memory than it needs. The texts
-//! of faults are neither proved nor tested.
+//! It may report out of memory as often as it likes where no fault stands before; in place of the fault of the indexer or
+//! of the graph, too. It may keep all of a pack and feed it once, start the indexer more often than it has to, or feed it
+//! after its fault; take as long as it likes, and more memory than it needs. The texts of faults are neither proved nor
+//! tried.
 //!
 //! # What it costs
 //!
@@ -61,8 +66,6 @@ mod requests;
 mod session;
 mod stage;
 mod taken;
-#[cfg(test)]
-mod tests;
 
 pub use crate::fault::ClientFault;
 pub use crate::session::{MAX_SPECS, Session};

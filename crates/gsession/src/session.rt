@@ -1,12 +1,11 @@
 // A client's session.
 #![tactic(auto)]
 
-ghost use Rattle.std.specs.Prelude.{◌≡◌, ◌↔◌, [], IsTrue, All, MatchBool, MatchResult, Ok, Err, IfOk, option_map};
+ghost use Rattle.std.specs.Prelude.{◌≡◌, ◌↔◌, [], IsTrue, All, MatchBool, MatchResult, Ok, Err, IfOk, IfSome, option_map};
 ghost use Rattle.std.specs.Map.{values_of};
 ghost use Rattle.std.specs.Option.{option_copied};
 ghost use Rattle.ghistory.specs.Levels.{distinct_of};
 ghost use Rattle.gname.specs.Ids.{IsIdOf};
-ghost use Rattle.gsession.specs.Sessions.{ends_session};
 
 mod next;
 mod objects;
@@ -54,8 +53,8 @@ pub struct Session<A: Allocator + Copy = Global> {
 }
 
 impl<A: Allocator + Copy> Model for Session<A> {
-    ghost use Rattle.std.specs.Prelude.{option_map};
-    ghost use Rattle.grequest.specs.RequestValues.{asked_by_request};
+    ghost use Rattle.std.specs.Prelude.{IfSome, option_map};
+    ghost use Rattle.grequest.specs.RequestValues.{IsOfFormat, asked_by_request};
     ghost use Rattle.gsession.specs.Sessions.{SessionState, IsSession};
 
     ghost Value = { SessionState A };
@@ -76,7 +75,7 @@ impl<A: Allocator + Copy> Model for Session<A> {
       rounds = it.rounds;
     } };
 
-    ghost invariant = { λ it. IsSession (record {
+    ghost invariant = { λ it. (IsSession (record {
       format = it.format;
       refspecs = it.refspecs.items;
       limit = it.limit;
@@ -90,11 +89,11 @@ impl<A: Allocator + Copy> Model for Session<A> {
       commons = it.commons.items;
       sent = it.sent.items;
       rounds = it.rounds;
-    }) };
+    })) × IfSome it.pending (IsOfFormat it.format) };
 }
 
 impl<A: Allocator + Copy> Session<A> {
-    ghost use Rattle.grequest.specs.RequestValues.{asked_by_request};
+    ghost use Rattle.grequest.specs.RequestValues.{IsOfFormat, asked_by_request};
     ghost use Rattle.gsession.specs.Sessions.{Begins, Hears, IsBegun, IsSession, after_fault, over};
     ghost use Rattle.gsession.specs.SettlingRefs.{SettlesSession};
 
@@ -158,12 +157,28 @@ impl<A: Allocator + Copy> Session<A> {
         }
     }
 
-    /// The request that waits for its reply.
+    /// The request that waits for its reply. Its ids are of the session's format.
     pub fn pending(&self) -> Option<&Request<A>>
         ensures pending { option_map asked_by_request (option_copied result) ≡ self.now.pending }
+        ensures format { IfSome (option_copied result) (IsOfFormat self.now.format) }
         ensures session { IsSession self.now }
     {
         self.pending.as_ref()
+    }
+
+    /// What is asked for: which refs here are to stand at which ids, and which of them by force. They are given out where
+    /// the refs are settled.
+    pub fn asks(&self) -> &Asks<A>
+        ensures { result.now ≡ self.now.asks }
+    {
+        &self.asks
+    }
+
+    /// The ids of the objects that are wanted, each once, in the order of the asks.
+    pub fn wants(&self) -> &[Oid]
+        ensures { result.now ≡ self.now.wants }
+    {
+        self.wants.as_slice()
     }
 
     /// The ids that the server has acknowledged, each once, in the order in which they were first acknowledged.
@@ -191,7 +206,7 @@ impl<A: Allocator + Copy> Session<A> {
         ensures fault { result ≡ fault }
         ensures session { self.new ≡ after_fault self.old fault }
     {
-        if ends_session(&fault) {
+        if fault.ends_session() {
             self.end();
         }
         fault
@@ -274,19 +289,4 @@ fn tips_of<A: Allocator + Copy>(alloc: A, repo: &Repo<A>) -> Result<Vec<Oid, A>,
     let _format = repo.format();
     let ids = repo.refs().ids(alloc)?;
     distinct_ids(alloc, ids.as_slice())
-}
-
-// Whether a session is over after a fault.
-fn ends_session<A: Allocator + Copy>(fault: &ClientFault<A>) -> bool
-    ensures { result ≡ ends_session fault.now }
-{
-    match fault {
-        ClientFault::NoOpenRequest => false,
-        ClientFault::Message(_) => true,
-        ClientFault::Index(_) => true,
-        ClientFault::TooManySpecs => true,
-        ClientFault::StrangeAck { .. } => true,
-        ClientFault::TooManyWants => true,
-        ClientFault::Repo(_) => true,
-    }
 }

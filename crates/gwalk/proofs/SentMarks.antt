@@ -13,7 +13,7 @@ use Rattle.ghistory.specs.Sending.{IsNew}
 use Rattle.gwalk.specs.Common.{ids_at}
 use Rattle.gwalk.specs.Walks.{AreMarked, marked}
 use Rattle.gwalk.proofs.Marking.{take_same, take_other, take_past, none_in}
-use Rattle.gname.proofs.PlaceLemmas.{false_from}
+use Rattle.std.proofs.lemmas.Bool.{false_from_ne_true}
 
 -- ---- what was wanted, without what is known
 
@@ -84,7 +84,7 @@ less_ends g wants commons wanted known marks i w k now end =
           let is : get_or marks p false ≡ (get_or wanted p false && not (get_or known p false)) = now.each p ∙ ap (λ l. get_or wanted p false && not (get_or l p false)) all in (
             λ t. (let b = both (get_or wanted p false) (get_or known p false) (sym is ∙ t) in
                 record { wanted = (w.each p entry at).0 b.0; unknown = λ s. false≢true (sym b.1 ∙ (k.each p entry at).1 s) }),
-            λ new. is ∙ both_back (get_or wanted p false) (get_or known p false) ((w.each p entry at).1 new.wanted) (false_from (get_or known p false) (λ t. new.unknown ((k.each p entry at).0 t))),
+            λ new. is ∙ both_back (get_or wanted p false) (get_or known p false) ((w.each p entry at).1 new.wanted) (false_from_ne_true (get_or known p false) (λ t. new.unknown ((k.each p entry at).0 t))),
           );
     }
 

@@ -129,6 +129,7 @@ impl<A: Allocator + Copy> Session<A> {
         requires pending { self.old.pending ≡ None }
         requires asked { asked_by_request request ≡ Fetches (fetch_request self.old.wants self.old.commons batch.now) }
         requires fits { FitsBatch self.old batch.now }
+        requires format { IsOfFormat self.old.format request }
         ensures { MatchResult result
             (λ _. self.new ≡ waiting_for self.old (asked_by_request request) batch.now)
             (λ _. self.new ≡ self.old) }

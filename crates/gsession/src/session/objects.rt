@@ -74,7 +74,7 @@ impl<A: Allocator + Copy> Session<A> {
         };
         let alloc = self.allocator();
         let mut feed = PackFeed::start(alloc, indexer);
-        match read_fetch_reply_into_in(reading, reader, &mut feed, alloc) {
+        match read_fetch_reply_into_in(reader, reading, &mut feed, alloc) {
             Ok(head) => self.take_head(repo, head, feed),
             Err(fault) => Err(ClientFault::Message(fault)),
         }
@@ -170,7 +170,7 @@ impl<A: Allocator + Copy> Session<A> {
     {
         distinct_are_once();
         let alloc = self.allocator();
-        if let Some(id) = first_strange(alloc, self.open_haves(), acks)? {
+        if let Some(id) = first_strange(alloc, self.open_haves(), acks) {
             return Err(ClientFault::StrangeAck { id });
         }
         Ok(with_acks(alloc, self.commons.as_slice(), acks)?)

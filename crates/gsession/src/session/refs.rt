@@ -64,7 +64,7 @@ impl<A: Allocator + Copy> Session<A> {
         if !self.awaits_refs() {
             return Err(ClientFault::NoOpenRequest);
         }
-        match read_ls_reply_in(self.format, self.ends, reader, self.allocator()) {
+        match read_ls_reply_in(reader, self.format, self.ends, self.allocator()) {
             Ok(reply) => self.take_refs(repo, &reply),
             Err(fault) => Err(ClientFault::Message(fault)),
         }

@@ -5,23 +5,21 @@ use Rattle.std.proofs.lemmas.List.Elements.{All-more}
 use Rattle.gsession.proofs.ListLemmas.{at_front}
 use Rattle.gsession.proofs.acks.first_strange.Goals as goal
 
-pub returns-then-not-contains : goal.returns-then-not-contains
-returns-then-not-contains g c = let acks = c.args.acks.now in let k = c.loop-id.id-index in let id =
+pub returns-then-not-is_offered : goal.returns-then-not-is_offered
+returns-then-not-is_offered g c = let acks = c.args.acks.now in let k = c.loop-id.id-index in let id =
     c.id-item.result in record {
       front = take k acks;
       rest = drop (k + 1) acks;
       parts = at_front acks k id c.loop-id-test.true (sym c.id-item.is);
       named = c.loop-id.invariant;
-      strange = λ there. false≢true
-          (sym c.if-not-contains.true ∙ c.contains.ensures ∙ (c.in_ok-offered.ensures id).1 there);
+      strange = λ there. false≢true (sym c.if-not-is_offered.true ∙ c.is_offered.ensures.1 there);
     }
 
 pub loop-id-preserved : goal.loop-id-preserved
 loop-id-preserved g c =
     let P : List ℕ → Type 0 = Contains c.args.haves.now in
     All-more P c.args.acks.now c.loop-id.id-index c.id-item.result c.loop-id-test.true c.loop-id.invariant
-    (subst P c.id-item.is ((c.in_ok-offered.ensures c.id-item.result).0
-    (sym c.contains.ensures ∙ c.if-not-contains.false)))
+    (subst P c.id-item.is (c.is_offered.ensures.0 c.if-not-is_offered.false))
 
 pub returns : goal.returns
 returns g c =

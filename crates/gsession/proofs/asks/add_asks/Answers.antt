@@ -23,7 +23,7 @@ returns-in_err-add_line g c =
     rw same (fails_among (asks_by spec (take place lines)) (asks_by spec (line ∷ []))
     (asks_by spec (drop (place + 1) lines)) (asks_by spec lines)
     c.loop-place.asks c.add_line.new.asks c.args.asks.now c.add_line.new.asks fault
-    (asks_by-split spec lines place line low at) c.in_err-add_line.ensures)
+    (asks_by-split spec lines place line low at) c.loop-place.invariant.1 c.in_err-add_line.ensures)
 
 pub loop-place-preserved : goal.loop-place-preserved
 loop-place-preserved g c =

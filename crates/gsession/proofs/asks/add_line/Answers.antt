@@ -14,4 +14,4 @@ returns-in_err-name g c =
     let spec = c.args.spec.now in
     let old = c.args.asks.now in
     rw same (subst (λ (line : RefLine). AddsAsks old (asks_by spec (line ∷ [])) old (Err fault)) c.line.view_is
-    (fails_one spec _ old old fault c.in_err-name.ensures.finds.0 c.in_err-name.ensures.finds.1))
+    (fails_one c.rules_never_report_memory.ensures spec _ old old fault c.in_err-name.ensures.finds.0 c.in_err-name.ensures.finds.1))

@@ -20,7 +20,8 @@ returns-in_err-add_asks-clause-asks g c =
     rw same (finds_as_adds specs lines [] new fault
     (fails_among (asks_by_all (take i specs) lines) (asks_by spec lines) (asks_by_all (drop (i + 1) specs) lines)
     (asks_by_all specs lines) c.loop-spec.asks new [] new fault
-    (asks_by_all-split specs lines i spec c.loop-spec-test.true (sym c.spec-item.is)) c.in_err-add_asks.ensures))
+    (asks_by_all-split specs lines i spec c.loop-spec-test.true (sym c.spec-item.is)) c.loop-spec.invariant.1
+    c.in_err-add_asks.ensures))
 
 pub loop-spec-preserved : goal.loop-spec-preserved
 loop-spec-preserved g c =

@@ -3,7 +3,7 @@ use Rattle.std.specs.Option.{is_none}
 use Rattle.std.proofs.lemmas.Bool.{lt-ltb}
 use Rattle.gname.specs.Names.{prefix_fault}
 use Rattle.grequest.specs.Asked.{max_prefixes}
-use Rattle.gsession.proofs.BuildLemmas.{only_memory}
+use Rattle.ggrammar.proofs.BuildingLemmas.{only_memory}
 use Rattle.gsession.proofs.requests.add_prefix.Goals as goal
 
 pub no_memory-requires : goal.no_memory-requires

@@ -1,7 +1,8 @@
 use Rattle.std.proofs.Common.{ap}
 use Rattle.grequest.specs.Asked.{max_wants}
 use Rattle.grequest.specs.Building.{FormattedFetch}
-use Rattle.gsession.proofs.BuildLemmas.{fits, has_room, only_memory}
+use Rattle.ggrammar.proofs.BuildingLemmas.{only_memory}
+use Rattle.gsession.proofs.BuildLemmas.{fits, has_room}
 use Rattle.gsession.proofs.requests.add_wants.Goals as goal
 
 pub no_memory-requires : goal.no_memory-requires

@@ -6,8 +6,10 @@ use Rattle.gsession.proofs.session.Session.begin.Goals as goal
 
 pub invariant_of-result : goal.invariant_of-result
 invariant_of-result g c =
-    let long = ap length c.in_ok-refspecs.ensures in
-    begun _ (omega (arith, long))
-    (subst (λ (f : Format). All (IsIdOf f) c.in_ok-tips.tips.items) (sym c.format.ensures.format)
-    c.in_ok-tips.ensures.ids)
-    (cc) (cc) (cc) refl refl refl
+    let long = ap length c.in_ok-refspecs.ensures in (
+      begun _ (omega (arith, long))
+          (subst (λ (f : Format). All (IsIdOf f) c.in_ok-tips.tips.items) (sym c.format.ensures.format)
+          c.in_ok-tips.ensures.ids)
+          (cc) (cc) (cc) refl refl refl,
+      tt,
+    )

@@ -8,7 +8,7 @@ use Rattle.gsession.proofs.session.Session.commons_with.Goals as goal
 pub returns-clause-counts : goal.returns-clause-counts
 returns-clause-counts g c = λ asked waits.
     let named : All (Contains asked.haves) c.args.acks.now =
-    rw (c.in_default.is, c.open_haves.ensures asked waits) at c.in_ok-id.ensures in
+    rw (c.in_default.is, c.open_haves.ensures asked waits) at c.first_strange.ensures in
     let commons : c.as_slice.result.now ≡ c.args.self.now.commons =
     c.as_slice.ensures.value ∙ ap (λ (s : SessionState g.row.A.Denot). s.commons) c.self.view_is in
     (named, c.in_ok-with_acks.ensures ∙ ap (λ (l : List (List ℕ)). distinct_of (l ++ c.args.acks.now)) commons)
@@ -17,5 +17,5 @@ pub returns-clause-commons : goal.returns-clause-commons
 returns-clause-commons g c =
     let counts = returns-clause-counts g c c.requires.0 c.requires.1 in
     are_commons c.args.self.now c.requires.0 c.args.acks.now c.in_ok-with_acks.field-0.items c.distinct_are_once.ensures
-    (open_fetch c.args.self.now c.requires.0 (subst IsSession c.self.view_is c.self.invariant) c.requires.1) counts.0
+    (open_fetch c.args.self.now c.requires.0 (subst IsSession c.self.view_is c.self.invariant.0) c.requires.1) counts.0
     counts.1
