@@ -1,6 +1,7 @@
 -- Each request for refs has one answer.
 use Rattle.std.proofs.Common.{◌≡◌, inl, inr, ℕ, Bool, true, false, List, [], ◌∷◌, ◌++◌, Option, Some, None, refl, sym, ap, ◌∙◌}
 use Rattle.gobject.specs.declared.node.Entry.{Entry}
+use Rattle.ghistory.proofs.IdLists.{either_way}
 use Rattle.ghistory.specs.Laws.{PeelsToOne}
 use Rattle.ghistory.specs.Peeling.{IsTagOf}
 use Rattle.grefs.specs.RefLists.{RefList}
@@ -9,7 +10,7 @@ use Rattle.glsreply.specs.LsReplies.{LsReply}
 use Rattle.glsreply.specs.RefTexts.{RefLine}
 use Rattle.ganswer.specs.LsAnswers.{IsPeeled, IsPeeledIf, LsAnswer, ShowsLines, all_refs, is_shown, symref_of, unborn_of}
 use Rattle.ganswer.specs.Servers.{Server}
-use Rattle.ganswer.proofs.LsLemmas.{either_way, one_list, shows_hidden, shows_join, shows_line, shows_none}
+use Rattle.ganswer.proofs.LsLemmas.{one_list, shows_hidden, shows_join, shows_line, shows_none}
 use Rattle.ganswer.proofs.PeelLemmas.{PeelsOrNot, TagOrNot, peels_or_not, tag_or_not}
 
 module _ {A : Type 0} (g : List (Entry A)) where

@@ -12,20 +12,16 @@ use Rattle.grefs.specs.declared.fault.RefsFault.{RefsFault}
 use Rattle.ghistory.specs.Laws.{ClosedStays}
 use Rattle.ghistory.specs.Reach.{Keeps}
 use Rattle.grefs.specs.RefLists.{IsRefs, RefList, SetsRef}
+use Rattle.ghistory.proofs.Growing.{keeps_held}
 use Rattle.grefs.specs.declared.head.Head.{Head}
 use Rattle.grefs.specs.declared.head.Head.TheVariants as heads
 use Rattle.ganswer.specs.Servers.{HoldsHead, HoldsRefs, IsServer, served}
-use Rattle.ganswer.proofs.FormatLemmas.{some_is, unmap}
+use Rattle.ganswer.proofs.FormatLemmas.{unmap}
 
 module _ {A : Type 0} where
-  still_held : (g h : List (Entry A)) → Keeps g h → (a : List ℕ) → Holds g a → Holds h a
-  still_held g h keeps a held =
-      let node = some_is (node_at g a) held in
-      subst IsSome (sym (keeps a node.0 node.1)) refl
-
   head_stays : (g h : List (Entry A)) → Keeps g h → (head : Head A) → HoldsHead g head → HoldsHead h head
   head_stays g h keeps heads.None held = held
-  head_stays g h keeps (heads.Id id) held = still_held g h keeps id held
+  head_stays g h keeps (heads.Id id) held = keeps_held g h keeps id held
   head_stays g h keeps (heads.Symref target) held = held
 
   pub grown : ClosedStays A → (old new : History A) (refs : RefList) (head : Head A) (entry : Entry A) → IsServer (served old refs head) → HoldsParents old.entries entry
@@ -34,7 +30,7 @@ module _ {A : Type 0} where
     graph = graph;
     refs = is.refs;
     closed = law old.format old.entries entry new.entries is.closed parents comes;
-    held = All-weaker (Holds old.entries) (Holds new.entries) (still_held old.entries new.entries keeps) (values_of refs) is.held;
+    held = All-weaker (Holds old.entries) (Holds new.entries) (keeps_held old.entries new.entries keeps) (values_of refs) is.held;
     head = head_stays old.entries new.entries keeps head is.head;
     target = is.target;
   }

@@ -15,7 +15,7 @@ use Rattle.ghistory.specs.Graphs.{IsGraph, History}
 use Rattle.ghistory.specs.Laws.{PlacesAreNodes}
 use Rattle.ghistory.specs.Levels.{is_in, new_ids}
 use Rattle.ghistory.specs.Walks.{common_of}
-use Rattle.ganswer.proofs.LsLemmas.{either_way}
+use Rattle.ghistory.proofs.IdLists.{either_way}
 use Rattle.ganswer.proofs.FormatLemmas.{filter_short, held_format}
 
 new_short : (earlier ids : List (List ℕ)) → length (new_ids earlier ids) ≤ length ids

@@ -29,11 +29,8 @@ use Rattle.glsreply.specs.WellFormed.{first_has_format_of, has_format_of, has_on
 use Rattle.ganswer.specs.LsAnswers.{HasAttributes, IsPeeledIf, ShowsLines, all_refs, head_id, head_ref, is_asked, is_shown, missing_target, name_and_id}
 use Rattle.ganswer.specs.LsBuilding.{IsNextRef}
 use Rattle.ganswer.specs.Servers.{Server, HoldsHead, HoldsRefs, IsServer}
-use Rattle.ganswer.proofs.LsLemmas.{either_way}
-
-pub some_is : {X : Type 0} (o : Option X) → IsSome o → (x : X) × (o ≡ Some x)
-some_is None h = absurd (false≢true h)
-some_is (Some x) h = (x, refl)
+use Rattle.ghistory.proofs.Holding.{held_node}
+use Rattle.ghistory.proofs.IdLists.{either_way}
 
 all_at : {X : Type 0} (P : X → Type 0) (xs : List X) (k : ℕ) (x : X) → slice_get xs k ≡ Some x → All P xs → P x
 all_at P xs k x at all = subst P (get_or_from_slice_get xs k x x at) (all k x (slice_get_within xs k x at))
@@ -94,7 +91,7 @@ module _ {A : Type 0} where
   -- an id that is held is of the graph's format
   pub held_format : PlacesAreNodes A → (g : History A) → IsGraph g → (a : List ℕ) → Holds g.entries a → IsIdOf g.format a
   held_format law g graph a held =
-      let node = some_is (node_at g.entries a) held in
+      let node = held_node g.entries a held in
       let place = ((law g.entries graph.differ).0 a node.0).0 node.1 in
       let entry : HasIdsOf g.format (entry_of a node.0) = all_at (HasIdsOf g.format) g.entries place.0 (entry_of a node.0) place.1 graph.ids in
       entry.id

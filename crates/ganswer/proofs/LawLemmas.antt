@@ -23,7 +23,9 @@ use Rattle.ganswer.specs.Servers.{Server}
 use Rattle.ganswer.specs.declared.fault.BuildFault.{BuildFault}
 use Rattle.ganswer.specs.declared.fault.BuildFault.TheVariants as build
 use Rattle.ganswer.specs.declared.fault.ServeFault.TheVariants as serve
-use Rattle.ganswer.proofs.FormatLemmas.{all_held, lines_held, some_is}
+use Rattle.ghistory.proofs.Growing.{comes_grows}
+use Rattle.ghistory.proofs.Holding.{held_node}
+use Rattle.ganswer.proofs.FormatLemmas.{all_held, lines_held}
 
 pub ls_answers_are_held : {A : Type 0} → LsAnswersAreHeld A
 ls_answers_are_held server asked reply is answers =
@@ -78,12 +80,12 @@ module _ {A : Type 0} (law : CommonsAreHeld A) where
       }
 
 -- a want that is not held is none of some that are
-none_absent : {A : Type 0} (g : List (Entry A)) (wants : List (List ℕ)) (id : List ℕ) → All (Holds g) wants → IsFirstAbsent g wants id → ⊥
+pub none_absent : {A : Type 0} (g : List (Entry A)) (wants : List (List ℕ)) (id : List ℕ) → All (Holds g) wants → IsFirstAbsent g wants id → ⊥
 none_absent g wants id held first =
     let all = subst (All (Holds g)) first.parts held in
     let among = Contains-append_right first.front (id ∷ first.rest) id (Contains-get_or (id ∷ first.rest) 0 id (omega arith)) in
     let here : Holds g id = All-contains (Holds g) (first.front ++ id ∷ first.rest) id all among in
-    let node = some_is (node_at g id) here in
+    let node = held_node g id here in
     none-some node.0 (sym first.absent ∙ node.1)
 
 pub held_wants_are_served : {A : Type 0} → SentAreEntries A → (fails : PackFails A) → ServesWhatIsHeld A fails
@@ -100,19 +102,12 @@ held_wants_are_served sent fails server asked (serve.Request cause) is can refus
 -- ---- changes
 
 module _ {A : Type 0} where
-  comes_at_end : (g h : List (Entry A)) (entry : Entry A) (format : Format) → ComesIn format g entry h → Grows g h
-  comes_at_end g h entry format came =
-      elim came.comes [
-        | inl there ↦ ([], there.1 ∙ sym (append-nil g))
-        | inr new ↦ (entry ∷ [], new.1)
-      ]
-
   stays : (old new : Server A) → new ≡ old → Grows old.graph.entries new.graph.entries
   stays old new same = ([], ap (λ (s : Server A). s.graph.entries) same ∙ sym (append-nil old.graph.entries))
 
   adding : (old new : Server A) (entry : Entry A) (result : Result (Unit {0}) (BuildFault A)) → Adds old entry new result
       → (new.graph.format ≡ old.graph.format) × Grows old.graph.entries new.graph.entries
-  adding old new entry (Ok done) adds = (adds.format, comes_at_end old.graph.entries new.graph.entries entry old.graph.format adds.comes)
+  adding old new entry (Ok done) adds = (adds.format, comes_grows old.graph.format old.graph.entries entry new.graph.entries adds.comes)
   adding old new entry (Err cause) adds = (ap (λ (s : Server A). s.graph.format) adds.0, stays old new adds.0)
 
   setting : (old new : Server A) (name id : List ℕ) (result : Result (Unit {0}) (BuildFault A)) → Sets old name id new result → new.graph ≡ old.graph

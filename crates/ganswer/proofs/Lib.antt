@@ -8,5 +8,6 @@ pub mod LawLemmas
 pub mod LsBuilding
 pub mod LsLemmas
 pub mod LsWriting
+pub mod OneAnswer
 pub mod PeelLemmas
 pub mod ServerLemmas

@@ -16,26 +16,7 @@ use Rattle.ganswer.specs.LsBuilding.{IsAnswering, IsNextRef}
 use Rattle.ganswer.specs.Servers.{Server}
 use Rattle.ganswer.specs.declared.fault.ServeFault.{ServeFault}
 use Rattle.ganswer.proofs.LsLemmas.{shows_join, shows_none}
-use Rattle.ganswer.proofs.ServerLemmas.{at_place}
-
--- what fits is refused only when out of memory
-pub only_memory : (well_formed has_room : Bool) (reason : Why) → well_formed ≡ true → has_room ≡ true → IsBuildReason well_formed has_room reason → reason ≡ why.Memory
-only_memory w r why.BadText fits room is = absurd (false≢true (sym is ∙ fits))
-only_memory w r why.Limit fits room is = absurd (false≢true (sym is.1 ∙ room))
-only_memory w r why.Memory fits room is = refl
-only_memory w r (why.Line fault) fits room is = absurd is
-only_memory w r (why.Band fault) fits room is = absurd is
-only_memory w r why.UnexpectedFrame fits room is = absurd is
-only_memory w r why.UnknownCommand fits room is = absurd is
-only_memory w r why.UnknownCapability fits room is = absurd is
-only_memory w r why.UnknownArgument fits room is = absurd is
-only_memory w r why.BadId fits room is = absurd is
-only_memory w r why.BadName fits room is = absurd is
-only_memory w r (why.RemoteErr said) fits room is = absurd is
-only_memory w r (why.RemoteFatal said) fits room is = absurd is
-only_memory w r why.WrongSection fits room is = absurd is
-only_memory w r why.Format fits room is = absurd is
-only_memory w r why.Ended fits room is = absurd is
+use Rattle.ghistory.proofs.Growing.{at_front}
 
 module _ {A : Type 0} (server : Server A) (asked : LsRefsAsked) where
   -- one line more, or none where the ref is hidden
@@ -78,7 +59,7 @@ module _ {A : Type 0} (server : Server A) (asked : LsRefsAsked) where
       record {
         front = head ++ take k server.refs;
         back = drop (k + 1) server.refs;
-        parts = ap (λ (refs : RefList). head ++ refs) (at_place server.refs k ref inside is) ∙ sym (append_assoc head (take k server.refs) (ref ∷ drop (k + 1) server.refs));
+        parts = ap (λ (refs : RefList). head ++ refs) (at_front server.refs k ref inside is) ∙ sym (append_assoc head (take k server.refs) (ref ∷ drop (k + 1) server.refs));
         so_far = so_far;
       }
 

@@ -3,17 +3,13 @@ use Rattle.std.proofs.Common.{◌≡◌, ℕ, Bool, true, false, cond, List, [],
 use Rattle.std.specs.Prelude.{filter}
 use Rattle.std.proofs.lemmas.List.{map-append}
 use Rattle.std.proofs.lemmas.List.Elements.{All-append, All-cons, All-head, All-nil, All-tail, filter-append}
+use Rattle.ghistory.proofs.IdLists.{either_way}
 use Rattle.ghistory.specs.Laws.{PeelsToOne}
 use Rattle.grefs.specs.RefLists.{RefList}
 use Rattle.grequest.specs.Asked.{LsRefsAsked}
 use Rattle.glsreply.specs.RefTexts.{RefLine}
 use Rattle.ganswer.specs.LsAnswers.{HasAttributes, IsPeeled, IsPeeledIf, ShowsLines, is_shown, name_and_id, symref_of}
 use Rattle.ganswer.specs.Servers.{Server}
-
--- a test goes one way or the other
-pub either_way : {P : Type 0} → (b : Bool) → (b ≡ true → P) → (b ≡ false → P) → P
-either_way true t f = t refl
-either_way false t f = f refl
 
 abbrev rest_of : {X : Type 0} → List X → List X
 rest_of [] = []

@@ -8,6 +8,8 @@ use Rattle.std.proofs.lemmas.List.Elements.{All-append, All-contains, All-map, C
 use Rattle.std.proofs.lemmas.Option.{none-some, same_Some, slice_get_within, get_or_from_slice_get}
 use Rattle.gobject.specs.declared.node.Entry.{Entry}
 use Rattle.gobject.specs.Objects.{node_at, entry_of, IdsDiffer}
+use Rattle.ghistory.proofs.Growing.{at_front}
+use Rattle.ghistory.proofs.Holding.{not_held}
 use Rattle.ghistory.specs.Graphs.{Holds, IsFirstAbsent}
 use Rattle.ghistory.specs.Laws.{PlacesAreNodes}
 use Rattle.ghistory.specs.Reach.{IsClosed}
@@ -16,16 +18,6 @@ use Rattle.ganswer.specs.Servers.{HoldsRefs, IsFirstDangling, parents_in}
 use Rattle.ganswer.specs.Steps.{ChecksRefs, ReportsRef}
 use Rattle.ganswer.specs.declared.fault.BuildFault.{BuildFault}
 use Rattle.ganswer.specs.declared.fault.BuildFault.TheVariants as build
-
-pub none_is : {X : Type 0} (o : Option X) → ¬ (IsSome o) → o ≡ None
-none_is None h = refl
-none_is (Some x) h = absurd (h refl)
-
--- a list at one of its places
-pub at_place : {X : Type 0} (xs : List X) (k : ℕ) (x : X) → k < length xs → x ≡ get_or xs k x → xs ≡ take k xs ++ x ∷ drop (k + 1) xs
-at_place xs k x inside is =
-    let rest : drop k xs ≡ x ∷ drop (k + 1) xs = rw add-one (drop-cons xs k x inside ∙ ap (λ y. y ∷ drop (suc k) xs) (sym is)) in
-    sym (take-append-drop k xs) ∙ ap (λ ys. take k xs ++ ys) rest
 
 -- ---- parents
 
@@ -56,7 +48,7 @@ module _ {A : Type 0} where
   first_of_all g p parents id at before first =
       let e = parents_entry g p parents at in
       let inside = slice_get_within g p e.0 e.1 in
-      let split = at_place g p e.0 inside (sym (get_or_from_slice_get g p e.0 e.0 e.1)) in
+      let split = at_front g p e.0 inside (sym (get_or_from_slice_get g p e.0 e.0 e.1)) in
       let front = parents_in (take p g) in
       let rest = parents_in (drop (p + 1) g) in
       record {
@@ -95,9 +87,9 @@ module _ {A : Type 0} where
     front = take k refs;
     id = ref.1;
     back = drop (k + 1) refs;
-    parts = at_place refs k ref inside is;
+    parts = at_front refs k ref inside is;
     held = holds_refs g (take k refs) before;
-    absent = none_is (node_at g ref.1) missing;
+    absent = not_held g ref.1 missing;
   }
 
   pub dangling : (g : List (Entry A)) (refs : RefList) (name : List ℕ) (cause : BuildFault A) → IsFirstDangling g refs name → ReportsRef name cause → ChecksRefs g refs (Err cause)

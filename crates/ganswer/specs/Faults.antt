@@ -1,11 +1,15 @@
 -- The tables of faults: the number and the name of each, and the words for a client.
-use Rattle.std.specs.Prelude.{codes}
+use Rattle.std.specs.Prelude.{Bool, true, false, codes}
 use Rattle.gname.specs.Faults.{FaultRow}
 use Rattle.gpkt.specs.Faults.{line_fault_row}
+use Rattle.gpkt.specs.declared.fault.LineFault.TheVariants as line
 use Rattle.grefs.specs.Faults.{refs_fault_row}
 use Rattle.gobject.specs.Faults.{pack_fault_row}
+use Rattle.gobject.specs.declared.fault.PackFault.TheVariants as pack
 use Rattle.ghistory.specs.Faults.{graph_fault_row}
 use Rattle.ggrammar.specs.Faults.{WhyRow, line_phrase, row_of, why_row}
+use Rattle.ggrammar.specs.declared.fault.Why.{Why}
+use Rattle.ggrammar.specs.declared.fault.Why.TheVariants as why
 use Rattle.ganswer.specs.declared.fault.BuildFault.{BuildFault}
 use Rattle.ganswer.specs.declared.fault.BuildFault.TheVariants as build
 use Rattle.ganswer.specs.declared.fault.ServeFault.{ServeFault}
@@ -29,3 +33,22 @@ serve_fault_row serve.NoWants = row_of (73, codes "NoWants") (codes "no wants")
 serve_fault_row (serve.NotOurs id) = row_of (74, codes "NotOurs") (codes "not our ref")
 serve_fault_row (serve.Pack fault) = row_of (pack_fault_row fault) (codes "pack failed")
 serve_fault_row serve.Memory = row_of (64, codes "Memory") (codes "out of memory")
+
+-- ---- want of memory
+
+-- a request was not read for want of memory, for its line or for what it brings
+abbrev pub why_lacks_memory : Why → Bool
+why_lacks_memory (why.Line line.Memory) = true
+why_lacks_memory why.Memory = true
+why_lacks_memory _ = false
+
+-- there is no memory: for a reader, for a request, for a pack, or for an answer
+abbrev pub lacks_memory : ServeFault → Bool
+lacks_memory (serve.Reader line.Memory) = true
+lacks_memory (serve.Reader _) = false
+lacks_memory (serve.Request fault) = why_lacks_memory fault.why
+lacks_memory serve.NoWants = false
+lacks_memory (serve.NotOurs id) = false
+lacks_memory (serve.Pack pack.Memory) = true
+lacks_memory (serve.Pack _) = false
+lacks_memory serve.Memory = true

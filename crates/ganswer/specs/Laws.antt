@@ -11,7 +11,7 @@ use Rattle.ghistory.specs.Insert.{Inserts}
 use Rattle.ghistory.specs.Laws.{HasAll}
 use Rattle.ghistory.specs.Reach.{Agree, Grows, IsFull}
 use Rattle.grefs.specs.declared.head.Head.{Head}
-use Rattle.grequest.specs.Asked.{FetchAsked, LsRefsAsked, is_direct, max_haves}
+use Rattle.grequest.specs.Asked.{Asked, FetchAsked, LsRefsAsked, is_direct, max_haves}
 use Rattle.glsreply.specs.LsReplies.{LsReply}
 use Rattle.glsreply.specs.WellFormed.{IsLsReplyIn}
 use Rattle.gfetchreply.specs.FetchHeads.{pack_of}
@@ -21,7 +21,7 @@ use Rattle.ggrammar.specs.Capabilities.{Capability}
 use Rattle.ghello.specs.Adverts.{AreCapabilities}
 use Rattle.ghello.specs.Offers.{check_fault, has_feature}
 use Rattle.ganswer.specs.Adverts.{advertised}
-use Rattle.ganswer.specs.Answers.{FetchRefuses}
+use Rattle.ganswer.specs.Answers.{Answers, FetchRefuses, Reply}
 use Rattle.ganswer.specs.Changes.{Adds, Sets, SetsHead}
 use Rattle.ganswer.specs.FetchAnswers.{CanServe, FetchAnswer, SendsPack, acks_of}
 use Rattle.ganswer.specs.LsAnswers.{LsAnswer}
@@ -116,6 +116,14 @@ ServesWhatIsHeld A fails =
     → IsServer server → CanServe server asked → FetchRefuses server fails asked cause
     → (cause ≡ serve.Memory)
     ⊎ ((list : List (Entry A)) × (why : PackFault) × (cause ≡ serve.Pack why) × AreEntries list × fails list why)
+
+-- ---- all requests
+
+-- a server has one answer at most to each request
+abbrev pub AnswersAreOne : (A : Type 0) → Packs A → Type 0
+AnswersAreOne A packs =
+    (server : Server A) (asked : Asked) (one other : Reply)
+    → IsServer server → Answers server packs asked one → Answers server packs asked other → one ≡ other
 
 -- ---- changes
 

@@ -1,7 +1,8 @@
--- A packer that is asked for one pack at most. What it answered shows in the answer to fetch.
-use Rattle.std.specs.Prelude.{Result, Ok, Err}
+-- A packer that is asked for one pack at most. What it answered shows in the answer to a request.
+use Rattle.std.specs.Prelude.{Bool, true, false, Result, Ok, Err}
 use Rattle.gobject.specs.declared.fault.PackFault.{PackFault}
 use Rattle.gfetchreply.specs.FetchReplies.{FetchReply, Acks, Ready, Pack}
+use Rattle.ganswer.specs.Answers.{Reply, Nothing, Ls, Fetch}
 use Rattle.ganswer.specs.declared.fault.ServeFault.{ServeFault}
 use Rattle.ganswer.specs.declared.fault.ServeFault.TheVariants as serve
 use Rattle.ganswer.specs.declared.one_pack.Packing.{Packing}
@@ -16,11 +17,23 @@ abbrev pub packing_of : {X : Type 0} → Result X PackFault → Packing
 packing_of (Ok pack) = packing.Packed
 packing_of (Err fault) = packing.Failed fault
 
+-- it failed; then it is asked no more
+abbrev pub has_failed : Packing → Bool
+has_failed packing.Unasked = false
+has_failed packing.Packed = false
+has_failed (packing.Failed fault) = true
+
 -- it packed where a reply has a pack, and was not asked where it has none
 abbrev pub packing_of_reply : FetchReply → Packing
 packing_of_reply (Acks commons) = packing.Unasked
 packing_of_reply (Ready commons pack) = packing.Packed
 packing_of_reply (Pack pack) = packing.Packed
+
+-- only fetch asks for a pack
+abbrev pub packing_of_answer : Reply → Packing
+packing_of_answer Nothing = packing.Unasked
+packing_of_answer (Ls reply) = packing.Unasked
+packing_of_answer (Fetch reply) = packing_of_reply reply
 
 -- a fault of its own is reported as it is, and any other where it was not asked
 abbrev pub packing_of_fault : ServeFault → Packing

@@ -1,8 +1,10 @@
 //! What a server answers (gitprotocol-v2(5), "Command Request").
 
-ghost use Rattle.std.specs.Prelude.{IfOk, MatchResult};
+ghost use Rattle.std.specs.Prelude.{◌≡◌, IfOk, MatchResult};
 ghost use Rattle.grequest.specs.RequestValues.{asked_by_request};
 ghost use Rattle.ganswer.specs.Answers.{Answers, HasFormat, Refuses, reply_of};
+ghost use Rattle.ganswer.specs.OnePack.{packing_of_answer, packing_of_fault};
+ghost use Rattle.ganswer.specs.declared.one_pack.Packing.TheVariants as packing;
 
 use crate::fault::ServeFault;
 use crate::one_pack::OnePack;
@@ -38,24 +40,27 @@ impl<A: Allocator + Copy> Server<A> {
     /// tags, too, that lead from the ids of refs to commits of it.
     ///
     /// It fails with `NoWants` where a fetch wants nothing; else with `NotOurs` for the first want that is not here;
-    /// else with `Pack` where the packer fails for the objects to send; and with `Memory`.
+    /// else with `Pack` where the packer fails for the objects to send; and with `Memory`. Where the packer fails its
+    /// fault is reported: `Memory` says that memory ended where it was not asked.
     pub fn answer<K: Packer<A>>(
         &self,
         request: &Request<A>,
-        packer: &K,
+        packer: &mut OnePack<'_, K>,
     ) -> Result<Reply<A>, ServeFault>
+        requires { packer.old.answered ≡ packing.Unasked }
         ensures answer { MatchResult result
-            (λ reply. Answers self.now (K.packs packer.now) (asked_by_request request.now) (reply_of reply))
-            (Refuses self.now (K.pack_fails packer.now) (asked_by_request request.now)) }
+            (λ reply. Answers self.now (K.packs packer.old.packer) (asked_by_request request.now) (reply_of reply))
+            (Refuses self.now (K.pack_fails packer.old.packer) (asked_by_request request.now)) }
         ensures format { IfOk result (HasFormat self.now.graph.format) }
+        ensures packing { MatchResult result
+            (λ reply. packer.new.answered ≡ packing_of_answer (reply_of reply))
+            (λ fault. packer.new.answered ≡ packing_of_fault fault) }
+        ensures packer { packer.new.packer ≡ packer.old.packer }
     {
         match request {
             Request::Empty => Ok(Reply::Nothing),
             Request::Ls(asked) => Ok(Reply::Ls(self.answer_ls(asked)?)),
-            Request::Fetch(asked) => {
-                let mut packer = OnePack::new(packer);
-                Ok(Reply::Fetch(self.answer_fetch(asked, &mut packer)?))
-            }
+            Request::Fetch(asked) => Ok(Reply::Fetch(self.answer_fetch(asked, packer)?)),
         }
     }
 }

@@ -3,7 +3,7 @@
 ghost use Rattle.std.specs.Prelude.{◌≡◌};
 ghost use Rattle.gpkt.specs.Faults.{line_fault_row};
 ghost use Rattle.ggrammar.specs.Faults.{line_phrase, row_of};
-ghost use Rattle.ganswer.specs.Faults.{build_fault_row, serve_fault_row};
+ghost use Rattle.ganswer.specs.Faults.{build_fault_row, lacks_memory, serve_fault_row, why_lacks_memory};
 ghost use Rattle.ganswer.specs.FaultViews.{row_view};
 ghost use Rattle.ganswer.specs.declared.fault.BuildFault.TheVariants as build;
 ghost use Rattle.ganswer.specs.declared.fault.ServeFault.TheVariants as serve;
@@ -148,6 +148,19 @@ impl ServeFault {
         self.row().phrase
     }
 
+    /// Whether it is want of memory: 28, 53 or 64, or 65 where the packer had none.
+    pub fn is_memory(&self) -> bool
+        ensures { result ≡ lacks_memory self.now }
+    {
+        match self {
+            ServeFault::Reader(LineFault::Memory) => true,
+            ServeFault::Request(fault) => why_is_memory(&fault.why),
+            ServeFault::Pack(PackFault::Memory) => true,
+            ServeFault::Memory => true,
+            _ => false,
+        }
+    }
+
     // The table of faults.
     fn row(&self) -> ServeRow
         ensures { row_view result ≡ serve_fault_row self.now }
@@ -160,6 +173,17 @@ impl ServeFault {
             ServeFault::Pack(fault) => row(fault.code(), fault.name(), "pack failed"),
             ServeFault::Memory => row(64, "Memory", "out of memory"),
         }
+    }
+}
+
+// Whether a request was not read for want of memory.
+fn why_is_memory(why: &Why) -> bool
+    ensures { result ≡ why_lacks_memory why.now }
+{
+    match why {
+        Why::Line(LineFault::Memory) => true,
+        Why::Memory => true,
+        _ => false,
     }
 }
 

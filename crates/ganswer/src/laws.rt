@@ -1,11 +1,12 @@
 //! Laws of answers and of changes. A call does nothing, and gives its caller's proof the law.
 
-ghost use Rattle.ganswer.specs.Laws.{AcksAreCommon, AdvertsWelcome, FetchAnswersFit, LsAnswersAreHeld, LsAnswersAreOne, LsAnswersFit, LsRequestsHaveAnswers, PacksAreEnough, ServersGrow, ServesWhatIsHeld};
+ghost use Rattle.ganswer.specs.Laws.{AcksAreCommon, AdvertsWelcome, AnswersAreOne, FetchAnswersFit, LsAnswersAreHeld, LsAnswersAreOne, LsAnswersFit, LsRequestsHaveAnswers, PacksAreEnough, ServersGrow, ServesWhatIsHeld};
 
-use ggraph::Packer;
 use ggraph::graph_laws::{
-    commons_are_held, peels_to_one, places_are_nodes, sending_is_enough, sent_are_entries,
+    commons_are_held, one_list_to_send, peels_to_one, places_are_nodes, sending_is_enough,
+    sent_are_entries,
 };
+use ggraph::{Faithful, Packer};
 use gname::laws::head_is_a_name;
 use std::alloc::Allocator;
 
@@ -69,6 +70,17 @@ pub fn held_wants_are_served<A: Allocator + Copy, K: Packer<A>>()
     ensures { (packer : K) → ServesWhatIsHeld A (K.pack_fails packer) }
 {
     sent_are_entries::<A>();
+}
+
+/// A server that packs by a faithful packer has one answer at most to each request: one list of objects is due for it,
+/// and of this list there is one pack.
+pub fn answers_are_one<A: Allocator + Copy, K: Faithful<A>>(packer: &K)
+    ensures { AnswersAreOne A (K.packs packer.now) }
+{
+    peels_to_one::<A>();
+    one_list_to_send::<A>();
+    sent_are_entries::<A>();
+    packer.loses_nothing();
 }
 
 /// Objects only come to a server, and only by [`Server::add`](crate::Server::add).

@@ -13,38 +13,43 @@
 //!   fetch the common ids, the pack of the objects to send, or both. It refuses a fetch exactly where nothing is
 //!   wanted, or with the first want that is not here; where the packer may refuse the objects to send; or out of
 //!   memory. The ids of an answer have the format of the graph, and an answer is never refused for its length.
-//! - [`Server::answer_fetch`] takes one answer of the packer where a pack is sent, and where a fault of the packer is
-//!   reported, which is the one that it answered; else it takes none. So there out of memory never hides such a fault.
+//! - [`Server::answer`] and [`Server::answer_fetch`] take one answer of the packer where a pack is sent, and where a
+//!   fault of the packer is reported, which is the one that it answered; else they take none. So out of memory never
+//!   hides such a fault. A packer that has failed is asked no more ([`OnePack`]).
 //! - [`Server::write_ls_answer`] writes the answer to ls-refs, or a beginning of it where the sink fails.
 //! - [`Server::advert`] fails only when out of memory, and else advertises `agent=gitv2/1`, `ls-refs=unborn`,
 //!   `fetch`, and the format of the graph's ids.
 //! - [`laws`]: what is advertised can be read by each client, and one of the same object format goes on with it. A
-//!   server has one answer to each request for refs, whose lines stand at objects that it has. What an answer
+//!   server has one answer to each request for refs, whose lines stand at objects that it has; and one to each request
+//!   of any kind where its packer is faithful, since there is one list to send and one pack of it. What an answer
 //!   acknowledges are haves of the request that the server has, too. A pack that is sent completes the ancestries of
 //!   the wants at a client that has those of its haves. Wants that are here are refused only for the packer, or out of
 //!   memory. Answers have the forms of their messages, so that what is written of them can be read by a client of the
 //!   same object format. Objects only come to a server, and their ids stay of one format.
-//! - Each fault has the number and the name of its row, and the words for a client.
+//! - Each fault has the number and the name of its row, and the words for a client; [`ServeFault::is_memory`] tells
+//!   which are want of memory.
 //! - No call panics, overflows or reads out of bounds, and each returns.
 //!
 //! # Only tested
 //!
-//! The texts of the faults; that memory which is there is used; that `write_ls_answer` takes none; that `OnePack` calls
-//! its packer once for the one answer.
+//! By the cases of `conformance`: that memory which is there is used, and that `write_ls_answer` takes none.
+//!
+//! # Neither proved nor tested
+//!
+//! The texts that faults display; that `OnePack` calls its packer once for the one answer that it takes.
 //!
 //! # What a body can still get away with
 //!
-//! It may report out of memory: `answer` for any request but the empty one and a fetch that it refuses for its wants,
-//! even where the packer failed for another cause; `answer_fetch` for a fetch whose wants are all here, but not once it
-//! has asked the packer; `advert` at any time; `new` for the name of a ref that it reports, or where nothing is
-//! missing; `add` for an object that is new, and `set_ref` for a name that is. `answer` may ask the packer again, and
-//! send another of its packs. A call may take as long as it likes, and more memory than it needs.
+//! It may report out of memory: `answer` for a request for refs, and for a fetch whose wants are all here, but not once
+//! it has asked the packer; `advert` at any time; `new` for the name of a ref that it reports, or where nothing is
+//! missing; `add` for an object that is new, and `set_ref` for a name that is. A call may take as long as it likes, and
+//! more memory than it needs.
 //!
 //! # Stands on
 //!
 //! `ggraph` for graphs, refs, walks and packers, which come from `gobject`, `ghistory`, `grefs` and `gwalk`;
 //! `grequest`, `glsreply`, `gfetchreply` and `ghello` for the messages, `ggrammar` and `gpkt` for what these share,
-//! `gname` for ids and names, `thiserror` for the texts of faults; in tests `bumpalo`, for memory that ends.
+//! `gname` for ids and names, `thiserror` for the texts of faults.
 #![tactic(auto)]
 
 mod advert;
@@ -55,8 +60,6 @@ pub mod laws;
 mod ls;
 mod one_pack;
 mod server;
-#[cfg(test)]
-mod tests;
 mod write;
 
 pub use crate::answer::Reply;

@@ -1,8 +1,8 @@
-//! A packer that is asked for one pack at most.
+//! A packer that is asked for one pack at most for each answer.
 
-ghost use Rattle.std.specs.Prelude.{◌≡◌, MatchResult};
+ghost use Rattle.std.specs.Prelude.{◌≡◌, false, MatchResult};
 ghost use Rattle.gobject.specs.Packs.{MayPack};
-ghost use Rattle.ganswer.specs.OnePack.{packing_of};
+ghost use Rattle.ganswer.specs.OnePack.{has_failed, packing_of};
 ghost use Rattle.ganswer.specs.declared.one_pack.Packing.TheVariants as packing;
 
 use ggraph::{Entry, PackFault, Packer};
@@ -20,7 +20,8 @@ pub enum Packing {
     Failed(PackFault),
 }
 
-/// A packer that is asked for one pack at most, and what it has answered.
+/// A packer that is asked for one pack at most for each answer, and what it has answered. Once it has failed it is
+/// asked no more, so that its fault stays known.
 #[derive(Drop)]
 pub struct OnePack<'a, K> {
     packer: &'a K,
@@ -52,6 +53,15 @@ impl<'a, K> OnePack<'a, K> {
         ensures { result ≡ self.now.answered }
     {
         self.answered
+    }
+
+    /// Makes it ready for another answer. It must not have failed.
+    pub fn renew(&mut self)
+        requires { has_failed self.old.answered ≡ false }
+        ensures unasked { self.new.answered ≡ packing.Unasked }
+        ensures packer { self.new.packer ≡ self.old.packer }
+    {
+        self.answered = Packing::Unasked;
     }
 
     // Asks for the pack of the entries.

@@ -27,7 +27,7 @@ use Rattle.gserve.specs.declared.connection.End.{End}
 use Rattle.gserve.specs.declared.connection.End.TheVariants as end
 use Rattle.gserve.specs.declared.exchange.ExchangeEnd.{ExchangeEnd}
 use Rattle.gserve.specs.declared.exchange.ExchangeEnd.TheVariants as exchange
-use Rattle.gserve.proofs.SendingLemmas.{fails_after, passes_join, passes_still}
+use Rattle.gpkt.proofs.SendingLemmas.{fails_after, passes_join, passes_still}
 
 -- ---- what is written
 
@@ -87,15 +87,15 @@ module _ {A : Type 0} (server : Server A) (packs : Packs A) (fails : PackFails A
       → IsRefused server fails (record { read = read; was_down = before; is_down = down }) cause
   moved_refused (serve.Request cause) h = record { front = h.front; refused = h.refused; source = h.source; begun = h.begun }
   moved_refused (serve.Reader cause) h =
-      record { packets = h.packets; asked = h.asked; lines = h.lines; says = h.says; refuses = h.refuses; up = h.up }
+      record { packets = h.packets; asked = h.asked; lines = h.lines; says = h.says; declines = h.declines; up = h.up }
   moved_refused serve.NoWants h =
-      record { packets = h.packets; asked = h.asked; lines = h.lines; says = h.says; refuses = h.refuses; up = h.up }
+      record { packets = h.packets; asked = h.asked; lines = h.lines; says = h.says; declines = h.declines; up = h.up }
   moved_refused (serve.NotOurs id) h =
-      record { packets = h.packets; asked = h.asked; lines = h.lines; says = h.says; refuses = h.refuses; up = h.up }
+      record { packets = h.packets; asked = h.asked; lines = h.lines; says = h.says; declines = h.declines; up = h.up }
   moved_refused (serve.Pack cause) h =
-      record { packets = h.packets; asked = h.asked; lines = h.lines; says = h.says; refuses = h.refuses; up = h.up }
+      record { packets = h.packets; asked = h.asked; lines = h.lines; says = h.says; declines = h.declines; up = h.up }
   moved_refused serve.Memory h =
-      record { packets = h.packets; asked = h.asked; lines = h.lines; says = h.says; refuses = h.refuses; up = h.up }
+      record { packets = h.packets; asked = h.asked; lines = h.lines; says = h.says; declines = h.declines; up = h.up }
 
   moved_due : (due : List Packet) → IsDue server packs fails ends (record { read = read; was_down = was; is_down = down }) due
       → IsDue server packs fails ends (record { read = read; was_down = before; is_down = down }) due
@@ -111,10 +111,10 @@ none_is_answered exchange.Ended is = cc
 none_is_answered (exchange.Refused cause) is = cc
 none_is_answered exchange.WriteFailed is = cc
 
-none_is_some : {x : End} → None ≡ Some x → ⊥
+pub none_is_some : {x : End} → None ≡ Some x → ⊥
 none_is_some is = cc
 
-some_is : {x y : End} → Some x ≡ Some y → x ≡ y
+pub some_is : {x y : End} → Some x ≡ Some y → x ≡ y
 some_is is = cc
 
 module _ {A S W : Type 0} (server : Server A) (packs : Packs A) (fails : PackFails A) (ends : Ends)

@@ -19,12 +19,12 @@ use Rattle.grequest.specs.declared.request.Request.TheVariants as request
 use Rattle.glsreply.specs.LsReplies.{LsReply}
 use Rattle.grequest.specs.Requests.{Says, brings, judge}
 use Rattle.gobject.specs.Packs.{PackFails, Packs}
-use Rattle.ganswer.specs.Answers.{Answers, Refuses, Reply, Nothing, Ls, Fetch}
+use Rattle.ganswer.specs.Answers.{Answers, Reply, Nothing, Ls, Fetch}
 use Rattle.ganswer.specs.Servers.{Server}
 use Rattle.ganswer.specs.declared.fault.ServeFault.{ServeFault}
 use Rattle.ganswer.specs.declared.fault.ServeFault.TheVariants as serve
 use Rattle.gserve.specs.Refusals.{err_packets}
-use Rattle.gserve.specs.Exchanges.{Turn, Exchanges, LacksBuffer, RefusesAtOnce, IsDue, reply as due_reply, refusal as due_refusal, IsRefused, ReadsTurn, RefusesToAnswer, RefusesToRead, reply_packets}
+use Rattle.gserve.specs.Exchanges.{Turn, Declines, Exchanges, LacksBuffer, RefusesAtOnce, IsDue, reply as due_reply, refusal as due_refusal, IsRefused, ReadsTurn, RefusesToAnswer, RefusesToRead, reply_packets}
 use Rattle.gserve.specs.Steps.{PassesPackets, IsDueFor, reply, refusal, Replies, ReportsRefusal, end_of_reply}
 use Rattle.gserve.specs.declared.exchange.ExchangeEnd.{ExchangeEnd}
 use Rattle.gserve.specs.declared.exchange.ExchangeEnd.TheVariants as end
@@ -32,19 +32,6 @@ use Rattle.gserve.specs.declared.exchange.ExchangeEnd.TheVariants as end
 -- ---- a reply
 
 module _ {A : Type 0} (server : Server A) (packs : Packs A) where
-  -- only the empty request is answered by nothing
-  pub nothing_to_empty : (asked : Asked) → Answers server packs asked Nothing → asked ≡ Empty
-  nothing_to_empty Empty h = refl
-  nothing_to_empty (LsAsked asked) h = absurd h
-  nothing_to_empty (Fetches asked) h = absurd h
-
-  -- refs answer a request for refs alone
-  pub only_ls_is_listed : (asked : Request A) (listed : LsReply) → ((refs : LsRefsAsked) → asked ≡ request.Ls refs → ⊥)
-      → Answers server packs (asked_by_request asked) (Ls listed) → ⊥
-  only_ls_is_listed request.Empty listed other h = h
-  only_ls_is_listed (request.Ls refs) listed other h = other refs refl
-  only_ls_is_listed (request.Fetch fetch) listed other h = h
-
   asks_for_refs : (asked : Asked) (answer : Reply) → answer ≢ Nothing → Answers server packs asked answer → asked ≢ Empty
   asks_for_refs Empty Nothing other h = λ is. other refl
   asks_for_refs Empty (Ls answer) other h = absurd h
@@ -69,13 +56,13 @@ module _ {A : Type 0} (server : Server A) (packs : Packs A) (fails : PackFails A
       (replied_by asked answer result (asks_for_refs server packs asked answer other answers) answers sent)
 
   -- a refusal is reported
-  pub refused_reply : (asked : Asked) (fault : ServeFault) (ended : ExchangeEnd) → Refuses server fails asked fault
+  pub refused_reply : (asked : Asked) (fault : ServeFault) (ended : ExchangeEnd) → Declines server fails asked fault
       → ReportsRefusal fault output ended → Replies server packs fails ends asked output ended
   refused_reply asked fault end.Answered refuses h = absurd h
   refused_reply asked fault end.Closed refuses h = absurd h
   refused_reply asked fault end.Ended refuses h = absurd h
   refused_reply asked fault (end.Refused reported) refuses h =
-      let P : ServeFault → Type 0 = λ f. Refuses server fails asked f × Passes output (canonical_all (err_packets f)) in
+      let P : ServeFault → Type 0 = λ f. Declines server fails asked f × Passes output (canonical_all (err_packets f)) in
       subst P (sym h.0) (refuses, h.1)
   refused_reply asked fault end.WriteFailed refuses h = (err_packets fault, refusal fault refuses, h.0, h.1)
 
@@ -92,16 +79,16 @@ reported_not_answered fault output end.WriteFailed h = λ is. cc
 
 -- no request that was read is refused as if it had not been
 never_reading : {A : Type 0} (server : Server A) (fails : PackFails A) (asked : Asked) (cause : MessageFault)
-    → Refuses server fails asked (serve.Request cause) → ⊥
+    → Declines server fails asked (serve.Request cause) → ⊥
 never_reading server fails Empty cause h = h
-never_reading server fails (LsAsked asked) cause h = cc
+never_reading server fails (LsAsked asked) cause h = h
 never_reading server fails (Fetches asked) cause h = h
 
 module _ {A : Type 0} (server : Server A) (packs : Packs A) (fails : PackFails A) (ends : Ends) (input : Input) (output : Output) where
   -- a request that is read and not answered is refused
   refused_to_answer : (cause : ServeFault) → RefusesToAnswer server fails input cause → IsRefused server fails input cause
   refused_to_answer (serve.Reader cause) h = h
-  refused_to_answer (serve.Request cause) h = absurd (never_reading server fails h.asked cause h.refuses)
+  refused_to_answer (serve.Request cause) h = absurd (never_reading server fails h.asked cause h.declines)
   refused_to_answer serve.NoWants h = h
   refused_to_answer (serve.NotOurs id) h = h
   refused_to_answer (serve.Pack cause) h = h
@@ -125,14 +112,14 @@ module _ {A : Type 0} (server : Server A) (packs : Packs A) (fails : PackFails A
     up = took.up;
   }
 
-  refuses_it : (asked : Asked) (took : Took asked) (cause : ServeFault) → Refuses server fails asked cause
+  refuses_it : (asked : Asked) (took : Took asked) (cause : ServeFault) → Declines server fails asked cause
       → IsRefused server fails input cause
   refuses_it asked took cause refuses = refused_to_answer cause (record {
     packets = took.packets;
     asked = asked;
     lines = took.lines;
     says = took.says;
-    refuses = refuses;
+    declines = refuses;
     up = took.up;
   })
 

@@ -23,16 +23,21 @@ use Rattle.ggrammar.specs.declared.fault.Why.TheVariants as why
 use Rattle.grequest.specs.Asked.{Asked, FetchAsked, Empty, Ls as LsAsked, Fetches}
 use Rattle.grequest.specs.RequestReading.{IsMissingWhereEmpty}
 use Rattle.grequest.specs.Requests.{Says, brings, judge}
-use Rattle.ganswer.specs.Answers.{Answers, FetchRefuses, Refuses, Reply, Nothing, Ls, Fetch}
+use Rattle.ganswer.specs.Answers.{Answers, FetchRefuses, Reply, Nothing, Ls, Fetch}
 use Rattle.ganswer.specs.Servers.{Server}
+use Rattle.ganswer.proofs.LawLemmas.{none_absent}
 use Rattle.ganswer.specs.declared.fault.ServeFault.{ServeFault}
 use Rattle.ganswer.specs.declared.fault.ServeFault.TheVariants as serve
 use Rattle.gserve.specs.Conversations.{max_requests, talk_bytes}
-use Rattle.gserve.specs.Exchanges.{Turn, IsRefused, IsTurn, ReadsTurns, RefusesToAnswer, RefusesToRead}
-use Rattle.gserve.specs.Laws.{HasOneAnswer}
+use Rattle.gserve.specs.Exchanges.{Turn, Declines, IsRefused, IsTurn, ReadsTurns, RefusesToAnswer, RefusesToRead}
 use Rattle.gserve.specs.Talks.{EndsByOwnFault, HoldsNone, HoldsTurns, IsOwnFault, Stops, Talks, giving, last_packets}
 use Rattle.gserve.specs.declared.connection.End.{End}
 use Rattle.gserve.specs.declared.connection.End.TheVariants as end
+
+-- each request has one answer at most
+abbrev HasOneAnswer : {A : Type 0} → Server A → Packs A → Type 0
+HasOneAnswer server packs =
+    (asked : Asked) (one other : Reply) → Answers server packs asked one → Answers server packs asked other → one ≡ other
 
 -- ---- ids that are held, and the first that is not
 
@@ -42,12 +47,6 @@ is_none (Some x) same some = cc
 
 none_held : {A : Type 0} (g : List (Entry A)) (a : List ℕ) → node_at g a ≡ None → Holds g a → ⊥
 none_held g a absent held = is_none (node_at g a) absent held
-
-not_among : {A : Type 0} (g : List (Entry A)) (ids : List (List ℕ)) (a : List ℕ) → All (Holds g) ids → IsFirstAbsent g ids a → ⊥
-not_among g ids a held first =
-    let all = subst (All (Holds g)) first.parts held in
-    let among = Contains-append_right first.front (a ∷ first.rest) a (Contains-get_or (a ∷ first.rest) 0 a (omega arith)) in
-    none_held g a first.absent (All-contains (Holds g) (first.front ++ a ∷ first.rest) a all among)
 
 heads : (a b : List ℕ) (xs ys : List (List ℕ)) → a ∷ xs ≡ b ∷ ys → a ≡ b
 heads a b xs ys same = cc
@@ -77,9 +76,6 @@ no_wants a (x ∷ front) rest same = nil_is_cons x (front ++ a ∷ rest) same
 -- ---- why a request is not answered, but for the server's own faults
 
 module _ {A : Type 0} (server : Server A) (packs : Packs A) (fails : PackFails A) where
-  own_memory : (cause : ServeFault) → cause ≡ serve.Memory → ¬ IsOwnFault cause → ⊥
-  own_memory cause is other = other (subst IsOwnFault (sym is) tt)
-
   one_fetch_fault : (asked : FetchAsked) (cause reason : ServeFault) → FetchRefuses server fails asked cause
       → FetchRefuses server fails asked reason → ¬ IsOwnFault cause → ¬ IsOwnFault reason → cause ≡ reason
   one_fetch_fault asked serve.NoWants serve.NoWants h k own other = refl
@@ -96,10 +92,10 @@ module _ {A : Type 0} (server : Server A) (packs : Packs A) (fails : PackFails A
   one_fetch_fault asked cause (serve.Pack reason) h k own other = absurd (other tt)
   one_fetch_fault asked cause serve.Memory h k own other = absurd (other tt)
 
-  one_fault : (asked : Asked) (cause reason : ServeFault) → Refuses server fails asked cause → Refuses server fails asked reason
+  one_fault : (asked : Asked) (cause reason : ServeFault) → Declines server fails asked cause → Declines server fails asked reason
       → ¬ IsOwnFault cause → ¬ IsOwnFault reason → cause ≡ reason
   one_fault Empty cause reason h k own other = absurd h
-  one_fault (LsAsked asked) cause reason h k own other = absurd (own_memory cause h own)
+  one_fault (LsAsked asked) cause reason h k own other = absurd h
   one_fault (Fetches asked) cause reason h k own other = one_fetch_fault asked cause reason h k own other
 
   -- what is answered is not refused
@@ -108,16 +104,16 @@ module _ {A : Type 0} (server : Server A) (packs : Packs A) (fails : PackFails A
   answered_fetch asked Nothing cause h k own = absurd h
   answered_fetch asked (Ls reply) cause h k own = absurd h
   answered_fetch asked (Fetch reply) serve.NoWants h k own = h.can.some k
-  answered_fetch asked (Fetch reply) (serve.NotOurs id) h k own = not_among server.graph.entries asked.wants id h.can.held k
+  answered_fetch asked (Fetch reply) (serve.NotOurs id) h k own = none_absent server.graph.entries asked.wants id h.can.held k
   answered_fetch asked (Fetch reply) (serve.Reader cause) h k own = k
   answered_fetch asked (Fetch reply) (serve.Request cause) h k own = k
   answered_fetch asked (Fetch reply) (serve.Pack cause) h k own = own tt
   answered_fetch asked (Fetch reply) serve.Memory h k own = own tt
 
   answered_not_refused : (asked : Asked) (answer : Reply) (cause : ServeFault) → Answers server packs asked answer
-      → Refuses server fails asked cause → ¬ IsOwnFault cause → ⊥
+      → Declines server fails asked cause → ¬ IsOwnFault cause → ⊥
   answered_not_refused Empty answer cause h k own = k
-  answered_not_refused (LsAsked asked) answer cause h k own = own_memory cause k own
+  answered_not_refused (LsAsked asked) answer cause h k own = k
   answered_not_refused (Fetches asked) answer cause h k own = answered_fetch asked answer cause h k own
 
 -- ---- refusals for a reason in the bytes
@@ -210,12 +206,12 @@ module _ {A : Type 0} (packs : Packs A) (fails : PackFails A) (server : Server A
   -- a request that is there is not refused but as it is answered, and then it asks the same
   refusal_asks : (bytes rest after : List ℕ) (lines : List Packet) (asked : Asked) (cause : ServeFault)
       → ReadsLines (known bytes rest) lines → Says server.graph.format lines asked → Refusal server fails bytes after cause
-      → Refuses server fails asked cause × ¬ IsOwnFault cause
+      → Declines server fails asked cause × ¬ IsOwnFault cause
   refusal_asks bytes rest after lines asked fault read says (reading cause certain h) =
       absurd (not_unread server.graph.format laws meaning missing bytes rest after lines asked cause read says certain h)
   refusal_asks bytes rest after lines asked fault read says (answering cause own h) =
       let same = one_request server.graph.format laws meaning missing bytes rest after lines h.packets asked h.asked read says h.lines h.says in
-      (subst (λ (a : Asked). Refuses server fails a cause) same.2 h.refuses, own)
+      (subst (λ (a : Asked). Declines server fails a cause) same.2 h.declines, own)
 
   one_refusal : (bytes rest after : List ℕ) (cause reason : ServeFault) → Refusal server fails bytes rest cause
       → Refusal server fails bytes after reason → cause ≡ reason
@@ -225,7 +221,7 @@ module _ {A : Type 0} (packs : Packs A) (fails : PackFails A) (server : Server A
       absurd (not_unread server.graph.format laws meaning missing bytes after rest k.packets k.asked cause k.lines k.says certain h)
   one_refusal bytes rest after one other (answering cause own h) k =
       let next = refusal_asks bytes rest after h.packets h.asked other h.lines h.says k in
-      one_fault server packs fails h.asked cause other h.refuses next.0 own next.1
+      one_fault server packs fails h.asked cause other h.declines next.0 own next.1
 
   -- the bytes are not empty where a request is refused
   none_refused : (bytes after : List ℕ) (cause : ServeFault) → Refusal server fails bytes after cause → bytes ≡ [] → ⊥

@@ -173,7 +173,4 @@ serving_is_talking packs fails server ends input output requests (end.Refused ca
     )
 serving_is_talking packs fails server ends input output requests (end.Refused cause) bytes (inr (none, begins, passes)) is up well =
     (canonical_all (err_packets cause), passes, inr (cannot input bytes cause begins, refl))
-serving_is_talking packs fails server ends input output requests end.WriteFailed bytes (inl (turns, due, room, h, sends)) is up well =
-    absurd (false≢true (sym well ∙ sends.down))
-serving_is_talking packs fails server ends input output requests end.WriteFailed bytes (inr (due, none, first, sends, kept)) is up well =
-    absurd (false≢true (sym well ∙ sends.down))
+serving_is_talking packs fails server ends input output requests end.WriteFailed bytes serves is up well = absurd (well refl)

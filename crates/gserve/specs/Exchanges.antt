@@ -12,12 +12,12 @@ use Rattle.ggrammar.specs.MessageReading.{ReadsRefused, IsReadFailure}
 use Rattle.ggrammar.specs.declared.ends.Ends.{Ends}
 use Rattle.ggrammar.specs.declared.fault.MessageFault.{MessageFault}
 use Rattle.ggrammar.specs.declared.fault.Why.TheVariants.{Ended as EndedEarly}
-use Rattle.grequest.specs.Asked.{Asked, Empty}
+use Rattle.grequest.specs.Asked.{Asked, Empty, Fetches}
 use Rattle.grequest.specs.Requests.{Says, brings, judge}
 use Rattle.glsreply.specs.LsReplies.{canonical_reply as ls_packets}
 use Rattle.gfetchreply.specs.FetchReplies.{canonical_reply as fetch_packets}
 use Rattle.gobject.specs.Packs.{PackFails, Packs}
-use Rattle.ganswer.specs.Answers.{Answers, Refuses, Reply, Nothing, Ls, Fetch}
+use Rattle.ganswer.specs.Answers.{Answers, FetchRefuses, Reply, Nothing, Ls, Fetch}
 use Rattle.ganswer.specs.Servers.{Server}
 use Rattle.ganswer.specs.declared.fault.ServeFault.{ServeFault}
 use Rattle.ganswer.specs.declared.fault.ServeFault.TheVariants as serve
@@ -81,6 +81,12 @@ pub record RefusesToRead (format : Format) (input : Input) (cause : MessageFault
   pub source : IsReadFailure false input.is_down cause.why
   pub begun : cause.why ≡ EndedEarly → cause.frame ≢ 0
 
+-- Why a request that was read is refused: as fetch refuses it. The lines of refs are written as they stand in the
+-- server, which takes no memory: a request for refs is always answered.
+abbrev pub Declines : {A : Type 0} → Server A → PackFails A → Asked → ServeFault → Type 0
+Declines server fails (Fetches asked) fault = FetchRefuses server fails asked fault
+Declines server fails _ fault = ⊥
+
 module _ {A : Type 0} (server : Server A) (fails : PackFails A) where
   -- it is read, and is not answered
   pub record RefusesToAnswer (input : Input) (fault : ServeFault) : Type 0 where
@@ -88,7 +94,7 @@ module _ {A : Type 0} (server : Server A) (fails : PackFails A) where
     pub asked : Asked
     pub lines : ReadsLines input.read packets
     pub says : Says server.graph.format packets asked
-    pub refuses : Refuses server fails asked fault
+    pub declines : Declines server fails asked fault
     pub up : IsUp input
 
   -- why there is no answer

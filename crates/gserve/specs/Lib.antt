@@ -1,10 +1,12 @@
 pub mod Conversations
 pub mod Exchanges
 pub mod Laws
+pub mod Packings
 pub mod Refusals
 pub mod Replies
 pub mod Steps
 pub mod Talks
 pub use Rattle.gpkt.specs.Sending
 pub use Rattle.ganswer.specs.Answers
+pub use Rattle.ganswer.specs.OnePack
 pub use Rattle.ganswer.specs.Servers

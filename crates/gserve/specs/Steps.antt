@@ -7,12 +7,12 @@ use Rattle.gpkt.specs.Devices.{KeepsPassed}
 use Rattle.ggrammar.specs.declared.ends.Ends.{Ends}
 use Rattle.grequest.specs.Asked.{Asked, Empty}
 use Rattle.gobject.specs.Packs.{PackFails, Packs}
-use Rattle.ganswer.specs.Answers.{Answers, Refuses, Reply}
+use Rattle.ganswer.specs.Answers.{Answers, Reply}
 use Rattle.ganswer.specs.Servers.{Server}
 use Rattle.ganswer.specs.declared.fault.ServeFault.{ServeFault}
 use Rattle.ganswer.specs.declared.fault.ServeFault.TheVariants as serve
 use Rattle.gserve.specs.Refusals.{err_packets}
-use Rattle.gserve.specs.Exchanges.{Turn, ReadsTurns, reply_packets}
+use Rattle.gserve.specs.Exchanges.{Turn, Declines, ReadsTurns, reply_packets}
 use Rattle.gserve.specs.Conversations.{advert_packets, talk_bytes}
 use Rattle.gserve.specs.declared.exchange.ExchangeEnd.{ExchangeEnd}
 use Rattle.gserve.specs.declared.exchange.ExchangeEnd.TheVariants as exchange
@@ -67,7 +67,7 @@ module _ {A : Type 0} (server : Server A) (packs : Packs A) (fails : PackFails A
   pub data IsDueFor (asked : Asked) : List Packet → Type 0 where
     reply : (answer : Reply) → asked ≢ Empty → Answers server packs asked answer
         → IsDueFor asked (reply_packets ends answer)
-    refusal : (fault : ServeFault) → Refuses server fails asked fault → IsDueFor asked (err_packets fault)
+    refusal : (fault : ServeFault) → Declines server fails asked fault → IsDueFor asked (err_packets fault)
 
   -- a request that asks this is answered, or the refusal is reported
   abbrev pub Replies : Asked → Output → ExchangeEnd → Type 0
@@ -76,7 +76,7 @@ module _ {A : Type 0} (server : Server A) (packs : Packs A) (fails : PackFails A
   Replies asked output exchange.Closed = (asked ≡ Empty) × IsUnwritten output
   Replies asked output exchange.Ended = ⊥
   Replies asked output (exchange.Refused fault) =
-      Refuses server fails asked fault × Passes output (canonical_all (err_packets fault))
+      Declines server fails asked fault × Passes output (canonical_all (err_packets fault))
   Replies asked output exchange.WriteFailed = (due : List Packet) × IsDueFor asked due
       × SendsSome output (canonical_all due) × KeepsPassed output.passed_on
 

@@ -3,12 +3,14 @@
 ghost use Rattle.std.specs.Prelude.{◌≡◌, false, OnOk};
 ghost use Rattle.gpkt.specs.Packets.{canonical_all};
 ghost use Rattle.gpkt.specs.Sending.{input_of, output_of, Passes};
+ghost use Rattle.ganswer.specs.declared.one_pack.Packing.TheVariants.{Unasked};
 ghost use Rattle.gserve.specs.Conversations.{Serves, advert_packets};
+ghost use Rattle.gserve.specs.Packings.{ReportsLastPacking};
 ghost use Rattle.gserve.specs.Steps.{Advertises, RefusesFirst, end_after};
 
 use crate::exchange::{ExchangeEnd, exchange};
 use crate::send::{send_advert, send_refusal};
-use ganswer::{ServeFault, Server};
+use ganswer::{OnePack, ServeFault, Server};
 use ggrammar::Ends;
 use ggraph::Packer;
 use gpkt::laws::{canonical_spells, reads_join};
@@ -45,17 +47,21 @@ pub struct Served {
 ///
 /// It ends where the client ends it, where the input ends before a request, at the first refusal, whose line is
 /// written last, or where the sink fails. Where there is no memory to begin with, the line that says so is all that is
-/// written, and nothing is read.
+/// written, and nothing is read. Where the packer fails its fault is reported: it shows in the packer afterwards, which
+/// else has not failed.
 pub fn serve<S: Source, W: Sink, A: Allocator + Copy, K: Packer<A>>(
     server: &Server<A>,
-    packer: &K,
+    packer: &mut OnePack<'_, K>,
     ends: Ends,
     source: &mut S,
     sink: &mut W,
 ) -> Served
-    ensures serves { Serves server.now (K.packs packer.now) (K.pack_fails packer.now) ends
+    requires { packer.old.answered ≡ Unasked }
+    ensures serves { Serves server.now (K.packs packer.old.packer) (K.pack_fails packer.old.packer) ends
         (input_of S.remaining S.is_down source.old source.new)
         (output_of W.contents W.passed_on W.is_down sink.old sink.new) result.requests result.end }
+    ensures packing { ReportsLastPacking result.end packer.new.answered }
+    ensures packer { packer.new.packer ≡ packer.old.packer }
     ensures source_loans { S.loans source.new ≡ S.loans source.old }
     ensures sink_loans { W.loans sink.new ≡ W.loans sink.old }
 {
@@ -67,15 +73,18 @@ pub fn serve<S: Source, W: Sink, A: Allocator + Copy, K: Packer<A>>(
 
 fn serve_to<S: Source, W: Sink, A: Allocator + Copy, K: Packer<A>>(
     server: &Server<A>,
-    packer: &K,
+    packer: &mut OnePack<'_, K>,
     ends: Ends,
     source: &mut S,
     writer: &mut LineWriter<W>,
 ) -> Served
-    requires { writer.old.failed ≡ false }
-    ensures serves { Serves server.now (K.packs packer.now) (K.pack_fails packer.now) ends
+    requires writer { writer.old.failed ≡ false }
+    requires unasked { packer.old.answered ≡ Unasked }
+    ensures serves { Serves server.now (K.packs packer.old.packer) (K.pack_fails packer.old.packer) ends
         (input_of S.remaining S.is_down source.old source.new)
         (output_of W.contents W.passed_on W.is_down writer.old.sink writer.new.sink) result.requests result.end }
+    ensures packing { ReportsLastPacking result.end packer.new.answered }
+    ensures packer { packer.new.packer ≡ packer.old.packer }
     ensures source_loans { S.loans source.new ≡ S.loans source.old }
     ensures sink_loans { W.loans writer.new.sink ≡ W.loans writer.old.sink }
 {
@@ -95,16 +104,19 @@ fn serve_to<S: Source, W: Sink, A: Allocator + Copy, K: Packer<A>>(
 // Advertises, and answers all requests.
 fn converse<S: Source, W: Sink, A: Allocator + Copy, K: Packer<A>>(
     server: &Server<A>,
-    packer: &K,
+    packer: &mut OnePack<'_, K>,
     ends: Ends,
     reader: &mut LineReader<S, A>,
     writer: &mut LineWriter<W>,
 ) -> Served
     requires reader { reader.old.failed ≡ false }
     requires writer { writer.old.failed ≡ false }
-    ensures serves { Serves server.now (K.packs packer.now) (K.pack_fails packer.now) ends
+    requires unasked { packer.old.answered ≡ Unasked }
+    ensures serves { Serves server.now (K.packs packer.old.packer) (K.pack_fails packer.old.packer) ends
         (input_of S.remaining S.is_down reader.old.source reader.new.source)
         (output_of W.contents W.passed_on W.is_down writer.old.sink writer.new.sink) result.requests result.end }
+    ensures packing { ReportsLastPacking result.end packer.new.answered }
+    ensures packer { packer.new.packer ≡ packer.old.packer }
     ensures source_loans { S.loans reader.new.source ≡ S.loans reader.old.source }
     ensures sink_loans { W.loans writer.new.sink ≡ W.loans writer.old.sink }
 {
@@ -118,18 +130,21 @@ fn converse<S: Source, W: Sink, A: Allocator + Copy, K: Packer<A>>(
 // advertisement was passed on.
 fn answer_each<S: Source, W: Sink, A: Allocator + Copy, K: Packer<A>>(
     server: &Server<A>,
-    packer: &K,
+    packer: &mut OnePack<'_, K>,
     ends: Ends,
     reader: &mut LineReader<S, A>,
     writer: &mut LineWriter<W>,
 ) -> Served
     requires reader { reader.old.failed ≡ false }
     requires writer { writer.old.failed ≡ false }
+    requires unasked { packer.old.answered ≡ Unasked }
     ensures serves { (start : W)
         → Passes (output_of W.contents W.passed_on W.is_down start writer.old.sink) (canonical_all (advert_packets server.now.graph.format))
-        → Serves server.now (K.packs packer.now) (K.pack_fails packer.now) ends
+        → Serves server.now (K.packs packer.old.packer) (K.pack_fails packer.old.packer) ends
         (input_of S.remaining S.is_down reader.old.source reader.new.source)
         (output_of W.contents W.passed_on W.is_down start writer.new.sink) result.requests result.end }
+    ensures packing { ReportsLastPacking result.end packer.new.answered }
+    ensures packer { packer.new.packer ≡ packer.old.packer }
     ensures source_loans { S.loans reader.new.source ≡ S.loans reader.old.source }
     ensures sink_loans { W.loans writer.new.sink ≡ W.loans writer.old.sink }
 {
@@ -138,7 +153,7 @@ fn answer_each<S: Source, W: Sink, A: Allocator + Copy, K: Packer<A>>(
     for requests in 0..MAX_REQUESTS {
         match end_after(exchange(server, packer, ends, reader, writer)) {
             Some(end) => return Served { requests, end },
-            None => {}
+            None => packer.renew(),
         }
     }
     Served {

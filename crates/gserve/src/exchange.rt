@@ -3,11 +3,13 @@
 ghost use Rattle.std.specs.Prelude.{◌≡◌, ◌≢◌, false};
 ghost use Rattle.gpkt.specs.Sending.{input_of, output_of};
 ghost use Rattle.grequest.specs.RequestValues.{asked_by_request};
+ghost use Rattle.ganswer.specs.declared.one_pack.Packing.TheVariants.{Unasked};
 ghost use Rattle.gserve.specs.Exchanges.{Exchanges, ServesOne};
+ghost use Rattle.gserve.specs.Packings.{ReportsPacking};
 ghost use Rattle.gserve.specs.Steps.{Replies, ReportsRefusal, end_of_reply};
 
 use crate::send::{send_fetch_reply, send_ls_answer, send_refusal};
-use ganswer::{Reply, ServeFault, Server};
+use ganswer::{OnePack, ServeFault, Server};
 use ggrammar::Ends;
 use ggraph::Packer;
 use gpkt::{LineBuffer, LineReader, LineWriter, Sink, Source, WriteFault};
@@ -31,18 +33,22 @@ pub enum ExchangeEnd {
 
 /// Reads one request and writes what answers it, with no advertisement before it (gitprotocol-v2(5), "Command Request").
 /// Nothing after the request's last packet is read. Where there is no memory for the reader's buffer nothing is read.
+/// A request for refs takes no memory once it is read, and is answered. Where the packer fails its fault is reported.
 ///
 /// The source is well where the request was answered, and where there was none.
 pub fn serve_one<S: Source, W: Sink, A: Allocator + Copy, K: Packer<A>>(
     server: &Server<A>,
-    packer: &K,
+    packer: &mut OnePack<'_, K>,
     ends: Ends,
     source: &mut S,
     sink: &mut W,
 ) -> ExchangeEnd
-    ensures exchange { ServesOne server.now (K.packs packer.now) (K.pack_fails packer.now) ends
+    requires { packer.old.answered ≡ Unasked }
+    ensures exchange { ServesOne server.now (K.packs packer.old.packer) (K.pack_fails packer.old.packer) ends
         (input_of S.remaining S.is_down source.old source.new)
         (output_of W.contents W.passed_on W.is_down sink.old sink.new) result }
+    ensures packing { ReportsPacking result packer.new.answered }
+    ensures packer { packer.new.packer ≡ packer.old.packer }
     ensures source_loans { S.loans source.new ≡ S.loans source.old }
     ensures sink_loans { W.loans sink.new ≡ W.loans sink.old }
 {
@@ -54,15 +60,18 @@ pub fn serve_one<S: Source, W: Sink, A: Allocator + Copy, K: Packer<A>>(
 
 fn serve_one_to<S: Source, W: Sink, A: Allocator + Copy, K: Packer<A>>(
     server: &Server<A>,
-    packer: &K,
+    packer: &mut OnePack<'_, K>,
     ends: Ends,
     source: &mut S,
     writer: &mut LineWriter<W>,
 ) -> ExchangeEnd
-    requires { writer.old.failed ≡ false }
-    ensures exchange { ServesOne server.now (K.packs packer.now) (K.pack_fails packer.now) ends
+    requires writer { writer.old.failed ≡ false }
+    requires unasked { packer.old.answered ≡ Unasked }
+    ensures exchange { ServesOne server.now (K.packs packer.old.packer) (K.pack_fails packer.old.packer) ends
         (input_of S.remaining S.is_down source.old source.new)
         (output_of W.contents W.passed_on W.is_down writer.old.sink writer.new.sink) result }
+    ensures packing { ReportsPacking result packer.new.answered }
+    ensures packer { packer.new.packer ≡ packer.old.packer }
     ensures source_loans { S.loans source.new ≡ S.loans source.old }
     ensures sink_loans { W.loans writer.new.sink ≡ W.loans writer.old.sink }
 {
@@ -79,22 +88,25 @@ fn serve_one_to<S: Source, W: Sink, A: Allocator + Copy, K: Packer<A>>(
 /// Reads one request and writes what answers it. After an answer both the reader and the writer go on.
 pub(crate) fn exchange<S: Source, W: Sink, A: Allocator + Copy, K: Packer<A>>(
     server: &Server<A>,
-    packer: &K,
+    packer: &mut OnePack<'_, K>,
     ends: Ends,
     reader: &mut LineReader<S, A>,
     writer: &mut LineWriter<W>,
 ) -> ExchangeEnd
     requires reader { reader.old.failed ≡ false }
     requires writer { writer.old.failed ≡ false }
-    ensures exchange { Exchanges server.now (K.packs packer.now) (K.pack_fails packer.now) ends
+    requires unasked { packer.old.answered ≡ Unasked }
+    ensures exchange { Exchanges server.now (K.packs packer.old.packer) (K.pack_fails packer.old.packer) ends
         (input_of S.remaining S.is_down reader.old.source reader.new.source)
         (output_of W.contents W.passed_on W.is_down writer.old.sink writer.new.sink) result }
     ensures goes_on { result ≡ ExchangeEnd.Answered → (reader.new.failed ≡ false) × (writer.new.failed ≡ false) }
+    ensures packing { ReportsPacking result packer.new.answered }
+    ensures packer { packer.new.packer ≡ packer.old.packer }
     ensures source_loans { S.loans reader.new.source ≡ S.loans reader.old.source }
     ensures sink_loans { W.loans writer.new.sink ≡ W.loans writer.old.sink }
 {
     let graph = server.graph();
-    match read_request_in(graph.format(), reader, graph.allocator()) {
+    match read_request_in(reader, graph.format(), graph.allocator()) {
         Ok(None) => ExchangeEnd::Ended,
         Ok(Some(request)) => reply(server, packer, ends, &request, writer),
         Err(fault) => refuse(ServeFault::Request(fault), writer),
@@ -104,26 +116,28 @@ pub(crate) fn exchange<S: Source, W: Sink, A: Allocator + Copy, K: Packer<A>>(
 // Answers a request that was read.
 fn reply<W: Sink, A: Allocator + Copy, K: Packer<A>>(
     server: &Server<A>,
-    packer: &K,
+    packer: &mut OnePack<'_, K>,
     ends: Ends,
     request: &Request<A>,
     writer: &mut LineWriter<W>,
 ) -> ExchangeEnd
-    requires { writer.old.failed ≡ false }
-    ensures replies { Replies server.now (K.packs packer.now) (K.pack_fails packer.now) ends (asked_by_request request.now)
+    requires writer { writer.old.failed ≡ false }
+    requires unasked { packer.old.answered ≡ Unasked }
+    ensures replies { Replies server.now (K.packs packer.old.packer) (K.pack_fails packer.old.packer) ends (asked_by_request request.now)
         (output_of W.contents W.passed_on W.is_down writer.old.sink writer.new.sink) result }
     ensures goes_on { result ≡ ExchangeEnd.Answered → writer.new.failed ≡ false }
+    ensures packing { ReportsPacking result packer.new.answered }
+    ensures packer { packer.new.packer ≡ packer.old.packer }
     ensures loans { W.loans writer.new.sink ≡ W.loans writer.old.sink }
 {
-    // The server lends the names of its refs, so that this reply takes no memory.
-    if let Request::Ls(asked) = request {
-        return end_of(send_ls_answer(server, asked, ends, writer));
-    }
-    match server.answer(request, packer) {
-        Ok(Reply::Nothing) => ExchangeEnd::Closed,
-        Ok(Reply::Fetch(reply)) => end_of(send_fetch_reply(&reply, ends, writer)),
-        Ok(Reply::Ls(_)) => unreachable!(),
-        Err(fault) => refuse(fault, writer),
+    match request {
+        Request::Empty => ExchangeEnd::Closed,
+        // The server lends the names of its refs, so that this reply takes no memory.
+        Request::Ls(asked) => end_of(send_ls_answer(server, asked, ends, writer)),
+        Request::Fetch(asked) => match server.answer_fetch(asked, packer) {
+            Ok(reply) => end_of(send_fetch_reply(&reply, ends, writer)),
+            Err(fault) => refuse(fault, writer),
+        },
     }
 }
 

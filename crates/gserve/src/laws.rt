@@ -6,8 +6,9 @@ ghost use Rattle.gserve.specs.Refusals.{max_err_text};
 ghost use Rattle.gserve.specs.Conversations.{max_requests};
 
 use crate::{MAX_ERR_TEXT, MAX_REQUESTS};
+use ganswer::laws::answers_are_one;
 use ggrammar::laws::messages_are_read;
-use ggraph::Packer;
+use ggraph::{Faithful, Packer};
 use gpkt::laws::spellings_join;
 use grequest::laws::{one_meaning, reads_exactly};
 use std::alloc::Allocator;
@@ -19,18 +20,18 @@ pub fn limits_are_the_constants()
 {}
 
 /// A connection is a conversation over the bytes of its source, where these are known and neither the source nor the
-/// sink has failed. All that is written in it is passed on.
+/// sink failed. All that is written in it is passed on.
 pub fn serving_is_talking<A: Allocator + Copy, K: Packer<A>>()
     ensures { (packer : K) → ServingIsTalking A (K.packs packer) (K.pack_fails packer) }
 {}
 
-/// What a client sends says what is written to it, and how the conversation ends, unless memory or the packer fails.
-///
-/// It is assumed, and not proved, that each request has one answer (`HasOneAnswer`). A packer may have several packs
-/// for the same objects, and the bytes of a client do not say which of them is sent.
-pub fn talks_are_one<A: Allocator + Copy, K: Packer<A>>()
-    ensures { (packer : K) → TalksAreOne A (K.packs packer) (K.pack_fails packer) }
+/// What a client sends to a server that packs by a faithful packer says what is written to it, and how the conversation
+/// ends, unless memory or the packer fails. (Another packer may have several packs for the same objects, and the bytes
+/// of a client do not say which of them is sent.)
+pub fn talks_are_one<A: Allocator + Copy, K: Faithful<A>>(packer: &K)
+    ensures { TalksAreOne A (K.packs packer.now) (K.pack_fails packer.now) }
 {
+    answers_are_one(packer);
     messages_are_read();
     one_meaning();
     reads_exactly();

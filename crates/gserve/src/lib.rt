@@ -5,13 +5,15 @@
 //!
 //! - [`serve`] holds a conversation (`specs/Conversations.antt`). The requests that are read are those that the bytes
 //!   spell, in whatever pieces they come, and nothing after the last packet of a request is read. Each is answered as
-//!   `ganswer` says, for any packer. What is written is the advertisement and these replies in their one spelling, and
+//!   `ganswer` says, for any packer; a request for refs always is, since its reply takes no memory. What is written is the advertisement and these replies in their one spelling, and
 //!   all of it is passed on. [`Served::requests`](Served) counts the replies.
 //! - All that is due is passed on before anything more is read: where the sink fails, also as it passes a reply on,
 //!   nothing after the request of that reply was read, and before the first request nothing at all.
 //! - It ends with the client's lone flush; where the input ends before a request, or there were [`MAX_REQUESTS`]; at
 //!   the first request that is refused, whose line is then the last thing written, and is passed on; or where the sink
 //!   fails. The fault is the one of the request's grammar, of the server's answer, or the source's.
+//! - Where the packer fails its fault is the one that is reported, and out of memory never in its place: at the end of a
+//!   connection, and after one request, [`OnePack`] shows what the packer answered (`specs/Packings.antt`).
 //! - Where there is no memory for the buffer or for the advertisement, the line that says so stands in the
 //!   advertisement's place, and nothing is read.
 //! - Where the sink fails a beginning of what was due stands written: of the advertisement, of a reply, or of the line
@@ -20,29 +22,34 @@
 //! - [`serve_one`] does the same for one request, with no advertisement (`specs/Exchanges.antt`).
 //! - [`write_reply`] writes a reply in its one list of packets, or a beginning of it where the sink fails.
 //! - [`err_text`] writes the text of a fault, at most 128 bytes, and nothing after it.
-//! - [`laws`]: where bytes are known and no device has failed, a connection is a conversation over the bytes alone
-//!   (`specs/Talks.antt`). If each request has one answer, which is assumed there, the bytes of a client say what is
-//!   written to it and how the conversation ends, unless memory or the packer fails.
+//! - [`laws`]: where bytes are known, the source is well and the connection did not end by its sink, it is a
+//!   conversation over the bytes alone (`specs/Talks.antt`). Where the packer is faithful, the bytes of a client say what
+//!   is written to it and how the conversation ends, unless memory or the packer fails.
 //! - No call panics, overflows or reads out of bounds, and each returns where each call of its devices does.
 //!
 //! # Only tested
 //!
-//! That memory which is there is used; that the reply to a request for refs takes none, as the server lends the names;
-//! that each part of a packet is written in one call, also the digits of an id.
+//! By the cases of `conformance`: that memory which is there is used.
+//!
+//! # Neither proved nor tested
+//!
+//! That each part of a packet is written in one call, also the digits of an id.
 //!
 //! # What a body can still get away with
 //!
 //! Where the bytes of a source or of a sink are not known, nothing is said of those that were read or written; how
 //! many requests were answered, how it ended, and whether a device has failed is said all the same. Where the sink
 //! fails, a shorter beginning may stand written, and more than the replies that count may have been passed on. It may
-//! report out of memory in the place of any reply, and in that of the advertisement by the fault of a reader or of a
-//! server as it likes; it may take as long as it likes, and flush more often.
+//! report out of memory in the place of the reply to a fetch whose wants are all here, where the packer was not asked;
+//! while it reads a request, at a packet that brings something to keep; and in the place of the advertisement. Before
+//! the first request 64 may stand for 28, and 28 for 64: both say that there is no memory to begin and that nothing was
+//! read. It may take as long as it likes, and flush more often.
 //!
 //! # Stands on
 //!
 //! `ganswer` for the server and its answers; `grequest`, `glsreply`, `gfetchreply` and `ghello` for the messages,
 //! `ggrammar` and `gpkt` for what these share, `ggraph` for packers, `gname` for the digits of an id, `arrayvec` for a
-//! text of bounded length; in tests `bumpalo`, for memory that ends.
+//! text of bounded length.
 #![tactic(auto)]
 
 mod connection;
@@ -50,12 +57,10 @@ mod exchange;
 pub mod laws;
 mod refusal;
 mod send;
-#[cfg(test)]
-mod tests;
 mod write;
 
 pub use crate::connection::{End, MAX_REQUESTS, Served, serve};
 pub use crate::exchange::{ExchangeEnd, serve_one};
 pub use crate::refusal::{MAX_ERR_TEXT, err_text};
 pub use crate::write::write_reply;
-pub use ganswer::{BuildFault, Reply, ServeFault, Server};
+pub use ganswer::{BuildFault, OnePack, Packing, Reply, ServeFault, Server};

@@ -5,6 +5,8 @@ use Rattle.grequest.specs.RequestValues.{asked_by_request}
 use Rattle.grequest.specs.declared.request.Request.{Request}
 use Rattle.ghistory.specs.Graphs.{History}
 use Rattle.gserve.proofs.ExchangeLemmas.{exchanged, reading_refused, refused_to_read}
+use Rattle.ganswer.specs.declared.fault.ServeFault.TheVariants as serve
+use Rattle.gserve.proofs.PackingLemmas.{refused_packing}
 use Rattle.gserve.proofs.exchange.exchange.Goals as goal
 
 pub returns-in-Ok-Some-clause-exchange : goal.returns-in-Ok-Some-clause-exchange
@@ -13,7 +15,7 @@ returns-in-Ok-Some-clause-exchange g c =
     let format : c.format.result ≡ server.graph.format = c.format.ensures ∙ ap (λ (h : History g.row.A.Denot). h.format) c.graph-graph.ensures.graph in
     let input = input_of g.S.Source.remaining g.S.Source.is_down c.args.reader.now.source c.read_request_in.new.reader.source in
     let read = subst (λ (request : Option (Request g.row.A.Denot)). ReadsRequest c.format.result asked_by_request input.read (Ok request)) c.in-Ok-Some.field-0-is c.in-Ok-Some.ensures.read in
-    exchanged server (g.K.Packer.packs c.args.packer.now) (g.K.Packer.pack_fails c.args.packer.now) c.args.ends input _ c.format.result format
+    exchanged server (g.K.Packer.packs c.args.packer.now.packer) (g.K.Packer.pack_fails c.args.packer.now.packer) c.args.ends input _ c.format.result format
     (asked_by_request c.in-Ok-Some.request) c.reply.result read c.in-Ok-Some.ensures.reader.2 c.reply.ensures.replies
 
 pub returns-in-Err-clause-exchange : goal.returns-in-Err-clause-exchange
@@ -21,7 +23,11 @@ returns-in-Err-clause-exchange g c =
     let server = c.args.server.now in
     let format : c.format.result ≡ server.graph.format = c.format.ensures ∙ ap (λ (h : History g.row.A.Denot). h.format) c.graph-graph.ensures.graph in
     let input = input_of g.S.Source.remaining g.S.Source.is_down c.args.reader.now.source c.read_request_in.new.reader.source in
-    reading_refused server (g.K.Packer.packs c.args.packer.now) (g.K.Packer.pack_fails c.args.packer.now) c.args.ends input _ c.in-Err.fault c.refuse.result
+    reading_refused server (g.K.Packer.packs c.args.packer.now.packer) (g.K.Packer.pack_fails c.args.packer.now.packer) c.args.ends input _ c.in-Err.fault c.refuse.result
     (refused_to_read c.format.result server.graph.format format input c.in-Err.fault c.args.reader.now.failed c.requires.reader
     c.in-Err.ensures.read c.in-Err.ensures.reader.0 c.in-Err.ensures.not_ended)
     c.refuse.ensures.refused
+
+pub returns-in-Err-clause-packing : goal.returns-in-Err-clause-packing
+returns-in-Err-clause-packing g c =
+    refused_packing (serve.Request c.in-Err.fault) _ c.refuse.result c.args.packer.now.answered c.refuse.ensures.refused c.requires.unasked

@@ -3,8 +3,9 @@ use Rattle.gserve.proofs.OneTalk.{talks_are_one}
 use Rattle.gserve.proofs.laws.talks_are_one.Goals as goal
 
 pub returns : goal.returns
-returns g c = λ packer server ends.
+returns g c = λ server ends bytes one other ended last is.
     let format = server.graph.format in
-    talks_are_one (g.K.Packer.packs packer) (g.K.Packer.pack_fails packer) server
+    talks_are_one (g.K.Packer.packs c.args.packer.now) (g.K.Packer.pack_fails c.args.packer.now) server
     (c.messages_are_read.ensures (judge format)) (c.one_meaning.ensures.one format) (c.reads_exactly.ensures.missing format) ends
-    c.spellings_join.ensures.split
+    c.spellings_join.ensures.split bytes one other ended last
+    (λ asked answer again h k. c.answers_are_one.ensures server asked answer again is h k)
