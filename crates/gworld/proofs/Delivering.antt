@@ -21,7 +21,7 @@ use Rattle.gobject.specs.declared.node.Node.{Node}
 use Rattle.gobject.specs.Packs.{Indexes, IndexFails, LosesNothing, Packs, PackFails}
 use Rattle.ghistory.specs.Graphs.{Holds, IsNode}
 use Rattle.ghistory.specs.Insert.{Inserts}
-use Rattle.ghistory.specs.Laws.{AgreeingStays, AgreesWith, ClosedIsFull, HasAll}
+use Rattle.ghistory.specs.Laws.{AgreeingStays, AgreesWith, HasAll, KeepingHasAll}
 use Rattle.ghistory.specs.Reach.{Agree, Grows, IsFull, Keeps, Reaches}
 use Rattle.grequest.specs.Asked.{Asked, Empty, Ls, Fetches, FetchAsked, is_direct, max_haves}
 use Rattle.grepo.specs.Repos.{RepoState}
@@ -47,7 +47,7 @@ pub record AnswerLaws {A : Type 0} (tools : PackTools A) : Type 0 where
   pub acks : AcksAreCommon A tools.packs
   pub enough : PacksAreEnough A tools.packs
   pub serves : ServesWhatIsHeld A tools.pack_fails
-  pub closed : ClosedIsFull A
+  pub has_all : KeepingHasAll A
   pub agreeing : AgreeingStays A
 
 -- the acknowledged ids, as the client and as the server say it
@@ -59,6 +59,10 @@ acks_same (Pack pack) = refl
 -- how a reply to fetch is read by one who takes any pack
 abbrev pub any_reading : Format → FetchAsked → Reading
 any_reading format asked = record { format = format; direct = is_direct asked; limit = max_pack; ends = Plain }
+
+-- which is a limit that there can be
+pub largest : max_pack ≤ max_pack
+largest = omega arith
 
 module _ {A : Type 0} (tools : PackTools A) where
   pack_small : (server : Server A) (asked : FetchAsked) (reply : FetchReply) → RepliesWith server tools.packs asked reply
@@ -91,7 +95,7 @@ module _ {A : Type 0} (tools : PackTools A) where
       All-weaker (λ (line : RefLine). Holds g line.id) (λ (line : RefLine). Holds w.server.graph.entries line.id)
       (λ (line : RefLine) there. held_in laws.growth g w.server.graph.entries grown line.id there) told.lines all
   lines_told laws w server (Fetches asked) (Objects reply) told count left is grown answers sound reads =
-      absurd (refs_unlike laws.reading server.graph.format (any_reading server.graph.format asked) reply told count left refl
+      absurd (refs_unlike laws.reading server.graph.format (any_reading server.graph.format asked) reply told count left refl largest
       (reply_fits laws server asked reply is sound.few answers) reads)
   lines_told laws w server Empty reply told count left is grown answers sound reads = absurd sound
   lines_told laws w server asked reply told count left is grown answers sound reads = absurd answers
@@ -113,7 +117,7 @@ module _ {A : Type 0} (tools : PackTools A) where
   kept_fetch laws w server (Ls asked) (Refs reply) read count left reading is format plain answers sound reads =
       absurd (objects_unlike laws.reading server.graph.format reading reply read count left (laws.refs_fit server asked reply is answers) reads)
   kept_fetch laws w server (Fetches asked) (Objects reply) read count left reading is format plain answers sound reads =
-      let same : read ≡ reply = objects_read laws.reading reading (any_reading server.graph.format asked) reply read count left format plain refl
+      let same : read ≡ reply = objects_read laws.reading reading (any_reading server.graph.format asked) reply read count left format plain refl largest
       (reply_fits laws server asked reply is sound.few answers) reads in record {
         fetch = asked;
         is_asked = refl;
@@ -148,22 +152,6 @@ module _ {A : Type 0} (tools : PackTools A) where
       }
 
   -- ---- packs
-
-  both_all : (P Q R : List ℕ → Type 0) → ((a : List ℕ) → P a → Q a → R a) → (ids : List (List ℕ)) → All P ids → All Q ids → All R ids
-  both_all P Q R f ids ps qs = λ k d low. f (slice_index_or ids k d) (ps k d low) (qs k d low)
-
-  -- what completes the wants of an earlier state of a server completes them now
-  has_all_now : AnswerLaws tools → (old new : Server A) (wants : List (List ℕ)) (h : List (Entry A)) → IsServer old
-      → Grows old.graph.entries new.graph.entries → All (Holds old.graph.entries) wants → HasAll old.graph.entries wants h
-      → HasAll new.graph.entries wants h
-  has_all_now laws old new wants h is grown held all =
-      let g = old.graph.entries in
-      let keeps = laws.growth.keeps g new.graph.entries grown in
-      both_all (Holds g) (λ (want : List ℕ). IsFull h want × ((a : List ℕ) → Reaches g want a → Holds h a))
-      (λ (want : List ℕ). IsFull h want × ((a : List ℕ) → Reaches new.graph.entries want a → Holds h a))
-      (λ (want : List ℕ) here there.
-      (there.0, λ (a : List ℕ) path. there.1 a ((laws.growth.full g new.graph.entries want keeps ((laws.closed g).0 is.closed want here)).1 a path)))
-      wants held all
 
   pub agree_before : (old new : List (Entry A)) (h : List (Entry A)) → Keeps old new → Agree new h → Agree old h
   agree_before old new h keeps agree a m n here there = agree a m n (keeps a m here) there
@@ -203,7 +191,7 @@ module _ {A : Type 0} (tools : PackTools A) where
       let comes = subst (λ (list : List (Entry A)). Inserts format g list repo.graph.entries) same inserts.adds.1 in
       let before = agree_before old.graph.entries w.server.graph.entries g keeps agree in
       let all = enough.enough g repo.graph.entries format before full comes in record {
-        all = has_all_now laws old w.server asked.wants repo.graph.entries is grown held all;
+        all = laws.has_all old.graph.entries w.server.graph.entries repo.graph.entries asked.wants is.closed keeps held all;
         agree = laws.agreeing w.server.graph.entries g enough.list repo.graph.entries format agree
             (sent_agrees old.graph.entries w.server.graph.entries enough.list keeps enough.nodes) comes;
       }

@@ -53,7 +53,7 @@ use Rattle.gworld.specs.Taking.{IsAtHand, TakesObjects, code_of}
 use Rattle.gworld.specs.Worlds.{Kept, PackTools, WorldState, reply_bytes}
 use Rattle.gworld.specs.declared.outcome.Outcome.{Outcome}
 use Rattle.gworld.specs.declared.outcome.Outcome.TheVariants.{Round, PackTaken, Fault}
-use Rattle.gworld.proofs.Delivering.{AnswerLaws, IsKeptFetch, acks_same, agree_before, any_reading, kept_fetch, read_is_sent, reply_fits}
+use Rattle.gworld.proofs.Delivering.{AnswerLaws, IsKeptFetch, acks_same, agree_before, any_reading, kept_fetch, largest, read_is_sent, reply_fits}
 use Rattle.gworld.proofs.Packs.{sends}
 use Rattle.gworld.proofs.Reading.{objects_bytes, objects_written}
 
@@ -238,7 +238,7 @@ module _ {A : Type 0} (tools : PackTools A)
       let refused = subst (λ (b : List ℕ). ReadsRefused (judge (reading_for s fault.0)) (brings (reading_for s fault.0)) fault.2.0 (known b left) cause) bytes fault.2.1 in
       let refused_too = subst (λ (r : Reading). ReadsRefused (judge r) (brings r) fault.2.0 (known (objects_bytes reply) left) cause) reading refused in
       let fits = reply_fits tools answers server asked reply is.is is.request.few is.is_answer in
-      let written = objects_written answers.reading (any_reading server.graph.format asked) reply refl fits in
+      let written = objects_written answers.reading (any_reading server.graph.format asked) reply refl largest fits in
       refused_told w.repo server.graph.format asked reply fault.2.0 left cause number written.0
       (record { front = objects_bytes reply; parts = sym (append-nil (objects_bytes reply)); spelt = written.1 }) refused_too same (why_cases cause.why at)
   take_fault w s server asked reply count left (client.StrangeAck id) number is all fault at same =

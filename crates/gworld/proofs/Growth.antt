@@ -9,7 +9,7 @@ use Rattle.gobject.specs.declared.node.Node.{Node}
 use Rattle.gobject.specs.Objects.{node_at}
 use Rattle.gobject.specs.Packs.{Indexes, IndexFails, Packs, PackFails}
 use Rattle.ghistory.specs.Graphs.{Holds, IsNode}
-use Rattle.ghistory.specs.Laws.{FullStaysFull, GrowingKeeps, KeepingReaches}
+use Rattle.ghistory.specs.Laws.{FullStaysFull, GrowingGoesOn, GrowingKeeps, KeepingHolds, KeepingReaches}
 use Rattle.ghistory.specs.Reach.{Grows, IsFull, Keeps, SomeReaches}
 use Rattle.grequest.specs.Asked.{Asked, Empty, Ls, Fetches, FetchAsked}
 use Rattle.grepo.specs.Asks.{asked_ids}
@@ -18,10 +18,6 @@ use Rattle.gsession.specs.Sessions.{SessionState}
 use Rattle.gsession.specs.TakingReplies.{Awaits}
 use Rattle.gworld.specs.Sound.{IsAnswered, IsUnforgedAndFaithful, IsSoundFetch, IsSoundKept, IsSoundRequest, IsSoundSession, IsWantedOrFull}
 use Rattle.gworld.specs.Worlds.{Kept, PackTools, WorldState}
-
-pub some_is : {X : Type 0} (o : Option X) → IsSome o → (x : X) × (o ≡ Some x)
-some_is None h = absurd (false≢true h)
-some_is (Some x) h = (x, refl)
 
 -- what an event does to both graphs
 pub record Extends {A : Type 0} (old new : WorldState A) : Type 0 where
@@ -33,6 +29,8 @@ pub record Extends {A : Type 0} (old new : WorldState A) : Type 0 where
 
 pub record GrowthLaws (A : Type 0) : Type 0 where
   pub keeps : GrowingKeeps A
+  pub goes_on : GrowingGoesOn A
+  pub holds : KeepingHolds A
   pub full : FullStaysFull A
   pub reaches : KeepingReaches A
 
@@ -42,18 +40,6 @@ module _ {A : Type 0} where
 
   pub grows_to : (g h : List (Entry A)) → h ≡ g → Grows g h
   grows_to g h same = ([], same ∙ sym (append-nil g))
-
-  pub grows_on : (f g h : List (Entry A)) → Grows f g → Grows g h → Grows f h
-  grows_on f g h first next =
-      (first.0 ++ next.0, next.1 ∙ ap (λ (l : List (Entry A)). l ++ next.0) first.1 ∙ append_assoc f first.0 next.0)
-
-  pub node_held : (g : List (Entry A)) (a : List ℕ) (node : Node A) → IsNode g a node → Holds g a
-  node_held g a node is = subst (λ (o : Option (Node A)). IsSome o) (sym is) refl
-
-  pub held_keeps : (g h : List (Entry A)) → Keeps g h → (a : List ℕ) → Holds g a → Holds h a
-  held_keeps g h keeps a held =
-      let node = some_is (node_at g a) held in
-      node_held h a node.0 (keeps a node.0 node.1)
 
   -- the session, if there is one, is sound
   abbrev pub IsSoundIn : WorldState A → Option (SessionState A) → Type 0
@@ -65,7 +51,7 @@ module _ {A : Type 0} where
 
 module _ {A : Type 0} (laws : GrowthLaws A) where
   pub held_in : (g h : List (Entry A)) → Grows g h → (a : List ℕ) → Holds g a → Holds h a
-  held_in g h grows a held = held_keeps g h (laws.keeps g h grows) a held
+  held_in g h grows a held = laws.holds g h a (laws.keeps g h grows) held
 
   pub all_held : (g h : List (Entry A)) → Grows g h → (ids : List (List ℕ)) → All (Holds g) ids → All (Holds h) ids
   all_held g h grows ids all = All-weaker (Holds g) (Holds h) (λ (a : List ℕ) held. held_in g h grows a held) ids all
@@ -103,7 +89,7 @@ module _ {A : Type 0} (laws : GrowthLaws A) where
     server = is.server;
     is = is.is;
     format = is.format ∙ sym e.server_format;
-    grown = grows_on is.server.graph.entries w.server.graph.entries v.server.graph.entries is.grown e.server;
+    grown = laws.goes_on is.server.graph.entries w.server.graph.entries v.server.graph.entries is.grown e.server;
     answers = is.answers;
     request = request_grown w v kept.asked e is.request;
   }

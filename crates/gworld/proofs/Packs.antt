@@ -14,6 +14,7 @@ use Rattle.grepo.specs.Asks.{asked_ids}
 use Rattle.grepo.specs.Repos.{RepoState}
 use Rattle.ganswer.specs.FetchAnswers.{RepliesWith, SendsPack}
 use Rattle.ganswer.specs.Servers.{Server}
+use Rattle.gsession.specs.Laws.{OpenIsTheSessions}
 use Rattle.gsession.specs.Sessions.{IsSession, SessionState}
 use Rattle.gsession.specs.TakingReplies.{Awaits, HasPack, acknowledged_by, after_acks, reading_for}
 use Rattle.gsession.specs.declared.stage.Stage.TheVariants.{Settling}
@@ -24,7 +25,6 @@ use Rattle.gworld.specs.declared.outcome.Outcome.{Outcome}
 use Rattle.gworld.specs.declared.outcome.Outcome.TheVariants.{Done, Asked as Asks, Served, StrangerServed, LsTaken as RefsTold, Round, PackTaken, Settled, Fault}
 use Rattle.gworld.proofs.Delivering.{AnswerLaws, IsCompleted, IsKeptFetch, kept_fetch, pack_completes}
 use Rattle.gworld.proofs.Growth.{Extends, session_grown}
-use Rattle.gworld.proofs.Sessions.{open_fetch}
 
 module _ {A : Type 0} (tools : PackTools A) where
   pub sends : (server : Server A) (asked : FetchAsked) (reply : FetchReply) → HasPack reply → RepliesWith server tools.packs asked reply
@@ -80,13 +80,13 @@ module _ {A : Type 0} (tools : PackTools A) where
   same_fetch asked one other is also = let both : Fetches one ≡ Fetches other = sym is ∙ also in cc
 
   -- `v` is the world after the pack came, in which the session was sound
-  pub can_settle : (w v : WorldState A) (s after : SessionState A) (kept : Kept) (fetch : FetchAsked) (acks : List (List ℕ))
+  pub can_settle : OpenIsTheSessions A → (w v : WorldState A) (s after : SessionState A) (kept : Kept) (fetch : FetchAsked) (acks : List (List ℕ))
       → IsSession s → Awaits s fetch → kept.asked ≡ Fetches fetch → PackCame w kept v.repo → IsSoundSession v s
       → after ≡ after_acks s Settling acks → All (IsFull v.repo.graph.entries) (asked_ids after.asks)
-  can_settle w v s after kept fetch acks session waits same came sound is =
+  can_settle law w v s after kept fetch acks session waits same came sound is =
       let g = v.repo.graph.entries in
       let wants : came.fetch.wants ≡ s.wants =
-      ap (λ (x : FetchAsked). x.wants) (same_fetch kept.asked came.fetch fetch came.is_asked same) ∙ (open_fetch s fetch session waits).wants in
+      ap (λ (x : FetchAsked). x.wants) (same_fetch kept.asked came.fetch fetch came.is_asked same) ∙ (law s fetch session waits).wants in
       let all : All (IsFull g) s.wants = subst (λ (ids : List (List ℕ)). All (IsFull g) ids) wants
       (all_are_full w.server.graph.entries g came.fetch.wants came.completed.all) in
       subst (λ (x : SessionState A). All (IsFull g) (asked_ids x.asks)) (sym is) (asked_full g s all sound.asked)

@@ -21,7 +21,7 @@ use Rattle.ganswer.specs.Adverts.{advertised}
 use Rattle.grequest.specs.Asked.{Asked, Empty, Ls, Fetches, FetchAsked, LsRefsAsked, max_haves}
 use Rattle.gsession.specs.Asking.{AreWants, asked_of}
 use Rattle.gsession.specs.Bounds.{BeganBegins, BeganOn, BeganStays}
-use Rattle.gsession.specs.Laws.{AsksAreOfLines, AreCommonsAfter, HavesAreFull, IsAskOf, WantsAreExact}
+use Rattle.gsession.specs.Laws.{AsksAreOfLines, AreCommonsAfter, HavesAreFull, IsAskOf, OpenIsTheSessions, WantsAreExact}
 use Rattle.gsession.specs.Requesting.{MakesNext, fetch_request, waiting_for}
 use Rattle.gsession.specs.Sessions.{Begins, FitsStage, IsOpenFetch, IsSession, SessionState, new_session, over, tells_unborn, tips_of}
 use Rattle.gsession.specs.TakingRefs.{TakesLines, stage_for, with_refs}
@@ -43,6 +43,7 @@ pub record SessionLaws (A : Type 0) : Type 0 where
   pub haves : HavesAreFull A
   pub wants : WantsAreExact A
   pub asks : AsksAreOfLines A
+  pub waits : OpenIsTheSessions A
 
 same_fetch : (one other : FetchAsked) → Some (Fetches one) ≡ Some (Fetches other) → one ≡ other
 same_fetch one other same = cc
@@ -71,17 +72,6 @@ module _ {A : Type 0} where
 
   refs_wait : (s : SessionState A) (ls : LsRefsAsked) → s.pending ≡ Some (Ls ls) → (asked : FetchAsked) → Awaits s asked → ⊥
   refs_wait s ls is asked waits = let both : Some (Ls ls) ≡ Some (Fetches asked) = sym is ∙ waits in cc
-
-  open_at : (s : SessionState A) (stage : Stage) (asked : FetchAsked) → FitsStage s stage (Some (Fetches asked)) → IsOpenFetch s asked
-  open_at s Listing asked fits = absurd fits
-  open_at s Fetching asked fits = fits
-  open_at s Settling asked fits = absurd fits
-  open_at s Over asked fits = absurd fits
-
-  -- a request for objects that waits is the session's
-  pub open_fetch : (s : SessionState A) (asked : FetchAsked) → IsSession s → Awaits s asked → IsOpenFetch s asked
-  open_fetch s asked is waits =
-      open_at s s.stage asked (subst (λ (p : Option Asked). FitsStage s s.stage p) waits is.stage)
 
   -- ---- a session that is over
 
@@ -144,10 +134,10 @@ module _ {A : Type 0} where
   -- ---- the next request
 
   -- the request that waits is the one that was made
-  made_open : (s after : SessionState A) (g : List (Entry A)) (asked : FetchAsked) (batch : List (List ℕ))
+  made_open : SessionLaws A → (s after : SessionState A) (g : List (Entry A)) (asked : FetchAsked) (batch : List (List ℕ))
       → s.stage ≡ Fetching → after ≡ waiting_for s (Fetches asked) batch → IsSession after → IsOpenFetch after asked
-  made_open s after g asked batch stage is session =
-      open_fetch after asked session (ap (λ (x : SessionState A). x.pending) is)
+  made_open laws s after g asked batch stage is session =
+      laws.waits after asked session (ap (λ (x : SessionState A). x.pending) is)
 
   made_fetch : SessionLaws A → (w : WorldState A) (s after : SessionState A) (asked : FetchAsked) → IsSoundSession w s
       → IsSession after → MakesNext s w.repo.graph.entries after (Fetches asked) → IsSoundFetch w asked
@@ -156,7 +146,7 @@ module _ {A : Type 0} where
       let next = made.1 in
       let wants : asked.wants ≡ s.wants = ap (λ (x : FetchAsked). x.wants) next.1 in record {
         full = laws.haves w.repo.graph.entries s after asked sound.began.full sound.commons made;
-        few = (made_open s after w.repo.graph.entries asked batch next.0 made.2 session).few;
+        few = (made_open laws s after w.repo.graph.entries asked batch next.0 made.2 session).few;
         some = λ none. sound.some next.0 (sym wants ∙ none);
         held = λ unforged.
             subst (λ (ids : List (List ℕ)). All (Holds w.server.graph.entries) ids) (sym wants) (sound.wanted unforged);
@@ -265,16 +255,16 @@ module _ {A : Type 0} where
       All-weaker (Contains haves) (IsFull g) (λ (a : List ℕ) there. All-contains (IsFull g) haves a full there) acks are.named
 
   -- only acknowledgments and the stage change; objects may have come to the client before
-  pub acks_sound : (w : WorldState A) (s : SessionState A) (asked : FetchAsked) (stage : Stage) (acks : List (List ℕ))
+  pub acks_sound : OpenIsTheSessions A → (w : WorldState A) (s : SessionState A) (asked : FetchAsked) (stage : Stage) (acks : List (List ℕ))
       → IsSoundSession w s → IsSession s → Awaits s asked
       → AreCommonsAfter asked.haves acks s.commons (after_acks s stage acks).commons
       → (w.forged ≡ false → All (Holds w.server.graph.entries) acks)
       → IsSoundSession w (after_acks s stage acks)
-  acks_sound w s asked stage acks is session waits are told =
+  acks_sound law w s asked stage acks is session waits are told =
       let g = w.repo.graph.entries in
       let new = after_acks s stage acks in
       let fetch = is.waits asked waits in
-      let wants : asked.wants ≡ s.wants = (open_fetch s asked session waits).wants in record {
+      let wants : asked.wants ≡ s.wants = (law s asked session waits).wants in record {
         format = is.format;
         limit = is.limit;
         ends = is.ends;

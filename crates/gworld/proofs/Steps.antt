@@ -11,7 +11,7 @@ use Rattle.gobject.specs.declared.node.Node.{Node}
 use Rattle.gobject.specs.Packs.{Indexes, IndexFails, Packs, PackFails}
 use Rattle.ghistory.specs.Graphs.{History, Holds, IsNode}
 use Rattle.ghistory.specs.Insert.{ComesIn, Inserts}
-use Rattle.ghistory.specs.Laws.{AgreeingStays, AgreesWith}
+use Rattle.ghistory.specs.Laws.{AgreeingStays, AgreesWith, ComingGrows}
 use Rattle.ghistory.specs.Reach.{Agree, Grows}
 use Rattle.gspec.specs.Refspecs.{Refspec}
 use Rattle.grepo.specs.Repos.{IsWhole, RepoState}
@@ -75,6 +75,7 @@ pub record WorldLaws {A : Type 0} (tools : PackTools A) : Type 0 where
   pub answers : AnswerLaws tools
   pub taking : TakingLaws tools.indexes tools.index_fails
   pub servers : ServersGrow A
+  pub coming : ComingGrows A
   pub refusals : RefusalsChangeNothing A
 
 module _ {A : Type 0} (tools : PackTools A)
@@ -254,7 +255,7 @@ module _ {A : Type 0} (tools : PackTools A)
   bytes_settle w v (Fetches asked) s kept count (PackTaken added) after sound before is session types waits later takes full = record {
     stage = ap (λ (x : SessionState A). x.stage) takes.1.2.2.1.1;
     full = λ honest.
-        can_settle tools w v s after kept asked (acknowledged_by takes.1.2.0) types waits full.same
+        can_settle tools laws.taking.sessions.waits w v s after kept asked (acknowledged_by takes.1.2.0) types waits full.same
         (pack_came tools laws.answers w s kept count added after v.repo (before honest) (sound.agree (before honest)) sound.format is session takes)
         later takes.1.2.2.1.1;
   }
@@ -476,14 +477,6 @@ module _ {A : Type 0} (tools : PackTools A)
   sets_at_server w v name id (Fault number) sound sets = same_sound w v sets.3 sound
   sets_at_server w v name id _ sound sets = absurd sets
 
-  -- one entry came
-  came_grows : (format : Format) (old new : List (Entry A)) (entry : Entry A) → ComesIn format old entry new → Grows old new
-  came_grows format old new entry comes =
-      elim comes.comes [
-        | inl there ↦ grows_to old new there.1
-        | inr at_end ↦ (entry ∷ [], at_end.1)
-      ]
-
   client_sound : (w : WorldState A) (repo : RepoState A) → OnlyGraph w.repo repo → Sound w → (Honest w → Agree w.server.graph.entries repo.graph.entries)
       → Sound (changed w w.server repo w.session w.forged w.answered)
   client_sound w repo only sound agree =
@@ -503,7 +496,7 @@ module _ {A : Type 0} (tools : PackTools A)
       let one = adds.1.2.1 in
       subst Sound (sym adds.1.3)
       (client_sound w repo
-      (record { grows = came_grows w.repo.graph.format w.repo.graph.entries repo.graph.entries entry one.1; format = one.0 }) sound
+      (record { grows = laws.coming w.repo.graph.format w.repo.graph.entries entry repo.graph.entries one.1; format = one.0 }) sound
       (λ honest.
       agrees_after w.repo.graph.format w.server.graph.entries w.repo.graph.entries repo.graph.entries entry (sound.agree honest) adds.0 one.1))
   adds_at_client w v entry (Fault number) sound adds = same_sound w v adds.0 sound

@@ -5,9 +5,6 @@ use Rattle.gfetchreply.specs.Values.{default_limit}
 use Rattle.ggrammar.specs.declared.ends.Ends.TheVariants.{Plain}
 use Rattle.gobject.specs.declared.node.Entry.{Entry}
 use Rattle.gobject.specs.declared.node.Node.{Node}
-use Rattle.ggrammar.specs.declared.fault.Why.{Why}
-use Rattle.ggrammar.specs.declared.fault.Why.TheVariants as why
-use Rattle.gobject.specs.declared.fault.PackFault.TheVariants as pack
 use Rattle.gobject.specs.Packs.{Indexes, IndexFails, Packs, PackFails}
 use Rattle.ghistory.specs.Graphs.{IsNode}
 use Rattle.ghistory.specs.Laws.{AgreesWith}
@@ -23,11 +20,10 @@ use Rattle.grequest.specs.Asked.{Asked}
 use Rattle.ganswer.specs.Adverts.{advertised}
 use Rattle.ganswer.specs.Answers.{Answers, Refuses, Reply}
 use Rattle.ganswer.specs.Changes.{Adds, Sets}
-use Rattle.ganswer.specs.Faults.{build_fault_row, serve_fault_row}
+use Rattle.ganswer.specs.Faults.{build_fault_row, lacks_memory, serve_fault_row}
 use Rattle.ganswer.specs.Servers.{Server}
 use Rattle.ganswer.specs.declared.fault.BuildFault.{BuildFault}
 use Rattle.ganswer.specs.declared.fault.ServeFault.{ServeFault}
-use Rattle.ganswer.specs.declared.fault.ServeFault.TheVariants as serve
 use Rattle.gserve.specs.Talks.{Talks}
 use Rattle.gserve.specs.declared.connection.End.{End}
 use Rattle.gserve.specs.declared.connection.End.TheVariants as end
@@ -165,20 +161,6 @@ module _ {A : Type 0} where
   SetsAtClient w name id _ new = ⊥
 
 -- ---- the server
-
-abbrev pub is_memory : Why → Bool
-is_memory why.Memory = true
-is_memory _ = false
-
--- whether the server refuses a request for want of memory
-abbrev pub lacks_memory : ServeFault → Bool
-lacks_memory (serve.Reader cause) = true
-lacks_memory (serve.Request cause) = is_memory cause.why
-lacks_memory serve.NoWants = false
-lacks_memory (serve.NotOurs id) = false
-lacks_memory (serve.Pack pack.Memory) = true
-lacks_memory (serve.Pack cause) = false
-lacks_memory serve.Memory = true
 
 -- how many bytes the server wrote; where it ended the conversation for want of memory, the number of that fault
 abbrev pub stranger_outcome : ℕ → End → Outcome

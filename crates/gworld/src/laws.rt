@@ -11,15 +11,15 @@ use ganswer::laws::{
     packs_are_enough, servers_grow,
 };
 use ggraph::graph_laws::{
-    agreeing_entries_fit, agreeing_stays, closed_is_full, full_stays_full, growing_keeps,
-    keeping_reaches,
+    agreeing_entries_fit, agreeing_stays, coming_grows, full_stays_full, growing_goes_on,
+    growing_keeps, keeping_has_all, keeping_holds, keeping_reaches,
 };
 use ggraph::{Faithful, Indexer, Packer};
 use gmsg::laws::replies_differ;
 use gpkt::laws::{canonical_spells, one_begins};
 use grepo::laws::{held_is_not_missing, refusals_change_nothing};
 use gsession::laws::{
-    asks_are_of_lines, began_begins, began_stays, commons_are_haves, haves_are_held, rounds_are_few, taking_only_grows,
+    asks_are_of_lines, began_begins, began_stays, commons_are_haves, haves_are_held, open_is_the_sessions, rounds_are_few, taking_only_grows,
     wants_are_exact,
 };
 use std::alloc::Allocator;
@@ -29,9 +29,12 @@ pub fn steps_keep<A: Allocator + Copy, K: Packer<A> + Indexer<A>>()
     ensures { (k : K) → StepsKeep (tools_of (K.packs k) (K.pack_fails k) (K.indexes k) (K.index_fails k)) }
 {
     growing_keeps::<A>();
+    growing_goes_on::<A>();
+    coming_grows::<A>();
+    keeping_holds::<A>();
     keeping_reaches::<A>();
     full_stays_full::<A>();
-    closed_is_full::<A>();
+    keeping_has_all::<A>();
     agreeing_stays::<A>();
     agreeing_entries_fit::<A>();
     canonical_spells();
@@ -56,6 +59,7 @@ pub fn steps_keep<A: Allocator + Copy, K: Packer<A> + Indexer<A>>()
     began_stays::<A>();
     rounds_are_few::<A>();
     haves_are_held::<A>();
+    open_is_the_sessions::<A>();
     wants_are_exact::<A>();
     asks_are_of_lines::<A>();
     commons_are_haves::<A, K>();

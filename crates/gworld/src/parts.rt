@@ -86,15 +86,7 @@ impl<A: Allocator + Copy> Model for Parts<A> {
 fn mark_after<A: Allocator + Copy>(fault: &ClientFault<A>, mark: bool) -> bool
     ensures { result ≡ mark_after fault.now mark }
 {
-    match fault {
-        ClientFault::NoOpenRequest => mark,
-        ClientFault::Message(_) => false,
-        ClientFault::Index(_) => false,
-        ClientFault::TooManySpecs => false,
-        ClientFault::StrangeAck { .. } => false,
-        ClientFault::TooManyWants => false,
-        ClientFault::Repo(_) => false,
-    }
+    if fault.ends_session() { false } else { mark }
 }
 
 // The outcome of a fault; one that ends the session takes its mark away.

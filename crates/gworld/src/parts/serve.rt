@@ -2,17 +2,20 @@
 #![tactic(auto)]
 
 ghost use Rattle.std.specs.Prelude.{◌≡◌, ◌≢◌, ◌∷◌, ◌++◌, [], IfOk, MatchResult, length, slice_get};
+ghost use Rattle.ganswer.specs.Answers.{Answers, Refuses, reply_of};
 ghost use Rattle.ganswer.specs.Faults.{serve_fault_row};
-ghost use Rattle.gworld.specs.Steps.{HearsStranger, ServesRequest, TalksTo, lacks_memory, stranger_outcome};
+ghost use Rattle.grequest.specs.RequestValues.{asked_by_request};
+ghost use Rattle.gworld.specs.Steps.{HearsStranger, ServesRequest, TalksTo, stranger_outcome};
 ghost use Rattle.gworld.specs.declared.outcome.Outcome.TheVariants as outcome;
 
 use super::{KeptReply, Parts, sent_at};
 use crate::fault::NO_SUCH;
 use crate::outcome::Outcome;
-use ganswer::{ServeFault, Server};
-use ggrammar::{Ends, Why};
-use ggraph::{PackFault, Packer};
+use ganswer::{OnePack, Reply, ServeFault, Server};
+use ggrammar::Ends;
+use ggraph::Packer;
 use gpkt::memory::{SliceSource, VecSink};
+use grequest::Request;
 use gserve::laws::serving_is_talking;
 use gserve::{End, serve};
 use std::alloc::{AllocError, Allocator};
@@ -44,7 +47,7 @@ impl<A: Allocator + Copy> Parts<A> {
         let alloc = self.repo.graph().allocator();
         match sent_at(&self.sent, number) {
             None => Ok(Outcome::Fault { code: NO_SUCH }),
-            Some(sent) => match self.server.answer(&sent.request, packer) {
+            Some(sent) => match answer(&self.server, &sent.request, packer) {
                 Ok(reply) => {
                     let request = sent.request.copy_in(alloc)?;
                     keep(&mut self.kept, KeptReply { request, reply })
@@ -53,6 +56,20 @@ impl<A: Allocator + Copy> Parts<A> {
             },
         }
     }
+}
+
+// The server's reply to a request.
+fn answer<A: Allocator + Copy, K: Packer<A>>(
+    server: &Server<A>,
+    request: &Request<A>,
+    packer: &K,
+) -> Result<Reply<A>, ServeFault>
+    ensures { MatchResult result
+        (λ reply. Answers server.now (K.packs packer.now) (asked_by_request request.now) (reply_of reply))
+        (λ fault. Refuses server.now (K.pack_fails packer.now) (asked_by_request request.now) fault) }
+{
+    let mut once = OnePack::new(packer);
+    server.answer(request, &mut once)
 }
 
 // Keeps a reply.
@@ -88,7 +105,8 @@ fn talk<A: Allocator + Copy, K: Packer<A>>(
     serving_is_talking::<A, K>();
     let mut source = SliceSource::new(bytes);
     let mut sink = VecSink::new(alloc);
-    let served = serve(server, packer, Ends::Plain, &mut source, &mut sink);
+    let mut once = OnePack::new(packer);
+    let served = serve(server, &mut once, Ends::Plain, &mut source, &mut sink);
     let written = sink.written().len();
     stranger_outcome(written, served.end)
 }
@@ -101,26 +119,11 @@ fn stranger_outcome(written: usize, ended: End) -> Result<Outcome, AllocError>
         End::WriteFailed => Err(AllocError),
         End::Closed | End::Ended => Ok(Outcome::StrangerServed { written: written as u128 }),
         End::Refused(fault) => {
-            if lacks_memory(&fault) {
+            if fault.is_memory() {
                 Ok(Outcome::Fault { code: fault.code() })
             } else {
                 Ok(Outcome::StrangerServed { written: written as u128 })
             }
         }
-    }
-}
-
-// Whether the fault is that there is no memory.
-fn lacks_memory(fault: &ServeFault) -> bool
-    ensures { result ≡ lacks_memory fault.now }
-{
-    match fault {
-        ServeFault::Reader(_) => true,
-        ServeFault::Request(cause) => matches!(cause.why, Why::Memory),
-        ServeFault::NoWants => false,
-        ServeFault::NotOurs { .. } => false,
-        ServeFault::Pack(PackFault::Memory) => true,
-        ServeFault::Pack(PackFault::TooLarge | PackFault::Other) => false,
-        ServeFault::Memory => true,
     }
 }

@@ -5,7 +5,7 @@ use Rattle.gworld.proofs.laws.steps_keep.Goals as goal
 
 pub returns : goal.returns
 returns g c = λ k.
-    let growth : GrowthLaws g.row.A.Denot = record { keeps = c.growing_keeps.ensures; full = c.full_stays_full.ensures; reaches = c.keeping_reaches.ensures } in
+    let growth : GrowthLaws g.row.A.Denot = record { keeps = c.growing_keeps.ensures; goes_on = c.growing_goes_on.ensures; holds = c.keeping_holds.ensures; full = c.full_stays_full.ensures; reaches = c.keeping_reaches.ensures } in
     promised (tools_of (g.K.Packer.packs k) (g.K.Packer.pack_fails k) (g.K.Indexer.indexes k) (g.K.Indexer.index_fails k))
     (record {
       answers = record {
@@ -26,7 +26,7 @@ returns g c = λ k.
         acks = c.acks_are_common.ensures k;
         enough = c.packs_are_enough.ensures k;
         serves = c.held_wants_are_served.ensures k;
-        closed = c.closed_is_full.ensures;
+        has_all = c.keeping_has_all.ensures;
         agreeing = c.agreeing_stays.ensures;
       };
       taking = record {
@@ -37,11 +37,13 @@ returns g c = λ k.
           haves = c.haves_are_held.ensures.full;
           wants = c.wants_are_exact.ensures;
           asks = c.asks_are_of_lines.ensures;
+          waits = c.open_is_the_sessions.ensures;
         };
         commons = c.commons_are_haves.ensures.replies k;
         grows = c.taking_only_grows.ensures k;
       };
       servers = c.servers_grow.ensures;
+      coming = c.coming_grows.ensures;
       refusals = c.refusals_change_nothing.ensures;
     })
     (record {
