@@ -24,11 +24,8 @@ impl<A: Allocator + Copy> Parts<A> {
             (λ parts. (parts ≡ new_world server repo) × CanStart server repo)
             (λ fault. CannotStart server repo fault) }
     {
-        if !have_one_format(&server, &repo) {
-            return Err(WorldFault::TwoFormats);
-        }
-        if let Some(id) = first_disagreement(server.graph(), repo.graph()) {
-            return Err(WorldFault::Disagree { id });
+        if let Some(fault) = why_not(&server, &repo) {
+            return Err(fault);
         }
         let alloc = repo.graph().allocator();
         Ok(Parts {
@@ -54,6 +51,19 @@ impl<A: Allocator + Copy> Parts<A> {
         ensures { result.now ≡ self.now.server }
     {
         &self.server
+    }
+}
+
+// Why no world can begin between them, if none can.
+fn why_not<A: Allocator + Copy>(server: &Server<A>, repo: &Repo<A>) -> Option<WorldFault>
+    ensures { MatchOption result (CanStart server.now repo.now) (CannotStart server.now repo.now) }
+{
+    if !have_one_format(server, repo) {
+        return Some(WorldFault::TwoFormats);
+    }
+    match first_disagreement(server.graph(), repo.graph()) {
+        Some(id) => Some(WorldFault::Disagree { id }),
+        None => None,
     }
 }
 
