@@ -1,11 +1,11 @@
 -- The client of a file, and what is saved of it.
-use Rattle.std.proofs.Common.{◌≡◌, ◌≢◌, ℕ, List, [], ◌∷◌, ◌++◌, slice_get, All, Option, Some, None, Result, Ok, Err, true, inl, inr, refl, sym, ap, subst, ◌∙◌}
+use Rattle.std.proofs.Common.{◌≡◌, ◌≢◌, ℕ, List, All, Option, Some, None, Result, Ok, Err, true, inl, inr, refl, sym, ap, subst, ◌∙◌}
 use Rattle.std.specs.Option.{is_some}
 use Rattle.std.proofs.lemmas.Bool.{false≢true}
 use Rattle.std.proofs.lemmas.List.{append-nil}
-use Rattle.std.proofs.lemmas.List.Elements.{All-head, All-tail}
-use Rattle.std.proofs.lemmas.Option.{get_or_from_slice_get, slice_get_within}
 use Rattle.gname.specs.Ids.{IsIdOf}
+use Rattle.ghistory.proofs.OrderLemmas.{all_at}
+use Rattle.gsession.proofs.CommonLemmas.{all_at as all_standing}
 use Rattle.gobject.specs.declared.node.Node.{Node}
 use Rattle.gobject.specs.Objects.{entry_of, node_at}
 use Rattle.ghistory.specs.Graphs.{History, HasIdsOf, Holds, IsGraph}
@@ -27,15 +27,6 @@ use Rattle.gcmd.specs.Fetching.{NamesClient, RefusesClient, no_head}
 use Rattle.gcmd.specs.declared.fault.ProgramFault.{ProgramFault}
 use Rattle.gcmd.specs.declared.fault.ProgramFault.TheVariants as program
 
--- what holds of each element holds of one among them
-all_among : {X : Type 0} (P : X → Type 0) (front : List X) (x : X) (rest : List X) → All P (front ++ x ∷ rest) → P x
-all_among P [] x rest h = All-head P x rest h
-all_among P (y ∷ front) x rest h = all_among P front x rest (All-tail P y (front ++ x ∷ rest) h)
-
--- and of one at a place
-all_standing : {X : Type 0} (P : X → Type 0) (xs : List X) (i : ℕ) (x : X) → All P xs → slice_get xs i ≡ Some x → P x
-all_standing P xs i x all at = subst P (get_or_from_slice_get xs i x x at) (all i x (slice_get_within xs i x at))
-
 module _ {A : Type 0} where
   -- an id that is held is of the graph's format
   held_id : PlacesAreNodes A → (g : History A) (a : List ℕ) → IsGraph g → Holds g.entries a → IsIdOf g.format a
@@ -53,7 +44,7 @@ module _ {A : Type 0} where
   none_other places repo id graph whole other =
       let ids : named_ids repo.refs (no_head {A = A}) ≡ ref_ids repo.refs = append-nil (ref_ids repo.refs) in
       let full : IsFull repo.graph.entries id =
-      all_among (IsFull repo.graph.entries) other.front id other.rest
+      all_at (IsFull repo.graph.entries) other.front id other.rest
       (subst (All (IsFull repo.graph.entries)) (sym ids ∙ other.parts) whole.safe) in
       other.other (held_id places repo.graph id graph (full id here))
 

@@ -16,7 +16,8 @@ use Rattle.gpkt.specs.declared.fault.LineFault.{LineFault}
 use Rattle.gcmd.specs.Lines.{digits_part, max_lines, shown_line, shown_lines, ShowsEach, ShowsSome, HasPassed}
 use Rattle.gpkt.specs.Sending.{Input, Output, input_of, output_of}
 use Rattle.gcmd.specs.Outputs.{IsPut}
-use Rattle.gcmd.proofs.OutputLemmas.{IsSome-kept, KeepsPassed-after}
+use Rattle.gpkt.proofs.Joins.{IsSome-kept}
+use Rattle.gpkt.proofs.SendingLemmas.{keeps_on}
 use Rattle.gcmd.proofs.ReadingLemmas.{read_failure}
 
 -- ---- bytes
@@ -131,7 +132,7 @@ module _ {W : Type 0} (contents passed_on : W → Option (List ℕ)) (is_down : 
     inr (ended, read),
     inr (record {
       written = Appends-kept _ _ _ (shown_lines lines) put.0 kept;
-      passed_on = KeepsPassed-after (passed_on a) (passed_on b) (passed_on c) put.1 passed;
+      passed_on = keeps_on (passed_on a) (passed_on b) (passed_on c) put.1 passed;
       down = down;
     }),
   )

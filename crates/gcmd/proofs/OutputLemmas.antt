@@ -1,27 +1,15 @@
 -- Bytes that were put, and are passed on.
-use Rattle.std.proofs.Common.{◌≡◌, ℕ, Bool, List, ◌++◌, Option, Some, None, Ok, Err, Result, refl, ap, ◌∙◌, inr}
-use Rattle.std.specs.Prelude.{IsSome, OnErr, OnOk, is_err}
-use Rattle.std.proofs.lemmas.Bool.{false≢true}
+use Rattle.std.proofs.Common.{◌≡◌, ℕ, Bool, List, Option, Ok, Err, Result, inr}
+use Rattle.std.specs.Prelude.{OnErr, OnOk, is_err}
 use Rattle.std.proofs.KnownBytes.{Appends-kept}
 use Rattle.std.specs.Io.KnownBytes.{Keeps}
 use Rattle.gpkt.specs.Change.{change_of}
 use Rattle.gpkt.specs.Devices.{KeepsPassed, PassesAll}
 use Rattle.gpkt.specs.Sending.{output_of}
+use Rattle.gpkt.proofs.Joins.{IsSome-kept}
+use Rattle.gpkt.proofs.SendingLemmas.{keeps_on}
 use Rattle.gpkt.specs.declared.device.Down.{Down}
 use Rattle.gcmd.specs.Outputs.{IsPut, IsSent}
-
--- bytes that were known and are kept are known
-pub IsSome-kept : (a b : Option (List ℕ)) → Keeps a b → IsSome a → IsSome b
-IsSome-kept None b kept known = absurd (false≢true known)
-IsSome-kept (Some x) None kept known = absurd kept
-IsSome-kept (Some x) (Some y) kept known = refl
-
--- what is kept, and then perhaps added to
-pub KeepsPassed-after : (a b c : Option (List ℕ)) → Keeps a b → KeepsPassed (record { old = b; new = c }) → KeepsPassed (record { old = a; new = c })
-KeepsPassed-after None b c kept h = tt
-KeepsPassed-after (Some x) None c kept h = absurd kept
-KeepsPassed-after (Some x) (Some y) None kept h = absurd h
-KeepsPassed-after (Some x) (Some y) (Some z) kept h = (h.0, h.1 ∙ ap (λ (bytes : List ℕ). bytes ++ h.0) kept)
 
 module _ {W : Type 0} (contents passed_on : W → Option (List ℕ)) (is_down : W → Bool) where
   -- after a flush they are passed on, or the flush failed
@@ -33,6 +21,6 @@ module _ {W : Type 0} (contents passed_on : W → Option (List ℕ)) (is_down : 
   IsSent-flushed a b c bytes (Err fault) put kept passes keeps down =
       inr (record {
         written = Appends-kept _ _ _ bytes put.0 kept;
-        passed_on = KeepsPassed-after (passed_on a) (passed_on b) (passed_on c) put.1 keeps;
+        passed_on = keeps_on (passed_on a) (passed_on b) (passed_on c) put.1 keeps;
         down = down;
       })

@@ -1,19 +1,10 @@
 -- Lines that are read.
-use Rattle.std.proofs.Common.{◌≡◌, ℕ, List, Option, Some, None, Ok, Err, Result, Bool, false, refl, sym, ap, ◌∙◌}
-use Rattle.gpkt.specs.Packets.{packet_of}
-use Rattle.gpkt.specs.LineReading.{Reader, HasRead, read_of}
-use Rattle.gpkt.specs.declared.line.Line.{Line}
+use Rattle.std.proofs.Common.{◌≡◌, ℕ, List, Option, Err, Bool, false, refl, sym, ◌∙◌}
+use Rattle.gpkt.specs.LineReading.{Reader, HasRead}
 use Rattle.gpkt.specs.declared.fault.LineFault.{LineFault}
 use Rattle.gpkt.specs.declared.fault.LineFault.TheVariants.{BadDigits, Reserved, TooLong, Truncated, Io, Failed, Memory}
 use Rattle.ggrammar.specs.MessageReading.{IsReadFailure}
 use Rattle.ggrammar.specs.declared.fault.Why.TheVariants as why
-
--- what the next line is
-pub read_some : (result : Result (Option Line) LineFault) (field : Option Line) (line : Line) → result ≡ Ok field → field ≡ Some line → read_of result ≡ Ok (Some (packet_of line))
-read_some result field line e f = ap read_of (e ∙ ap (λ x. Ok x) f)
-
-pub read_none : (result : Result (Option Line) LineFault) (field : Option Line) → result ≡ Ok field → field ≡ None → read_of result ≡ Ok None
-read_none result field e f = ap read_of (e ∙ ap (λ x. Ok x) f)
 
 -- a read that failed, of a reader that had not
 pub read_failure : {S : Type 0} (remaining : S → Option (List ℕ)) (is_down : S → Bool) (loans : S → List ℕ) (old new : Reader S) (fault : LineFault)

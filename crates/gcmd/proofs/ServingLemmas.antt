@@ -4,8 +4,9 @@ use Rattle.std.specs.Prelude.{All, IsSome, option_map}
 use Rattle.std.specs.List.{flat_map}
 use Rattle.std.specs.Option.{option_or}
 use Rattle.std.proofs.lemmas.Bool.{false≢true}
-use Rattle.std.proofs.lemmas.List.Elements.{All-append, All-head, All-nil, All-tail, All-weaker}
+use Rattle.std.proofs.lemmas.List.Elements.{All-append, All-nil, All-weaker}
 use Rattle.std.proofs.lemmas.List.Folds.{find-append}
+use Rattle.ghistory.proofs.OrderLemmas.{all_at}
 use Rattle.gobject.specs.Objects.{has_id}
 use Rattle.gobject.specs.declared.node.Entry.{Entry}
 use Rattle.ghistory.specs.Graphs.{Holds, IsFirstAbsent}
@@ -28,10 +29,6 @@ all_parts : {X Y : Type 0} (f : X → List Y) (P : Y → Type 0) (xs : List X)
 all_parts f P [] each = All-nil P
 all_parts f P (x ∷ xs) each =
     All-append P (f x) (flat_map f xs) (each [] x xs refl) (all_parts f P xs (λ front y rest e. each (x ∷ front) y rest (ap (λ l. x ∷ l) e)))
-
-all_at : {X : Type 0} (P : X → Type 0) (front : List X) (x : X) (rest : List X) → All P (front ++ x ∷ rest) → P x
-all_at P [] x rest h = All-head P x rest h
-all_at P (y ∷ front) x rest h = all_at P front x rest (All-tail P y (front ++ x ∷ rest) h)
 
 some_or : {X Y : Type 0} (f : X → Y) (a b : Option X) → IsSome (option_map f a) → IsSome (option_map f (option_or a b))
 some_or f (Some x) b h = h

@@ -32,13 +32,10 @@
 //!   source has not failed.
 //! - The number and the name of each fault, and its printed line (`specs/Faults.antt`).
 //!
-//! # Only tested
+//! # Only tried
 //!
-//! The short texts of faults (`Display`). That memory, where there is some, is found. How the devices that
-//! `gpkt` makes of std's readers and writers behave under a program: one byte a call, a failure at each call
-//! in turn, a flush that fails, a reply of more bytes than any buffer has. That a sink is not called again after it
-//! failed, that a report, and the line of a fault, is written in one call, and shown digits in as few as may be. A client and a
-//! server that answer each other turn by turn.
+//! By the cases of `conformance`: the exact bytes of whole runs; that memory, where there is some, is found; that a device is
+//! not called again after it failed; a byte a call, and a failure at each call in turn.
 //!
 //! # What a body can still get away with
 //!
@@ -51,7 +48,7 @@
 //! `gserve` for connections and `ganswer` for the server, `gclient` for the client, `gfetchreply` for the limit of a
 //! pack, `ggraph` for repositories' texts and plain packs, `ggrammar` for how replies end, `gpkt` for packet lines and
 //! devices, `gname` for ids, `arrayvec` for texts of bounded length, `hex` for digits, `itoa` for numbers, `thiserror` for
-//! the texts of faults; in tests `bumpalo`, for memory that ends.
+//! the texts of faults.
 #![tactic(auto)]
 
 mod check;
@@ -80,6 +77,3 @@ pub use crate::upload::cmd_upload;
 pub use gclient::Spec;
 pub use gfetchreply::PackLimit;
 pub use ggrammar::Ends;
-
-#[cfg(test)]
-mod tests;

@@ -181,7 +181,8 @@ where
     keep(rt, asked.file.as_str(), &run, report.written(), errors)
 }
 
-// Writes the file anew where it has a new text, and shows the report then.
+// Writes the file anew where it has a new text, and shows the report then. Of two faults only the first is printed: where
+// there was no memory for the report, that the file can't be written is not.
 fn keep<R, E>(rt: &R, file: &str, run: &FetchRun, report: &[u8], errors: &mut E) -> u8
 where
     R: Files,
@@ -190,13 +191,17 @@ where
     let Some(text) = &run.file else {
         return run.status;
     };
-    if fs::write(rt, file, text.as_slice()).is_err() {
+    let is_written = fs::write(rt, file, text.as_slice()).is_ok();
+    if run.status != 0 {
+        return run.status;
+    }
+    if !is_written {
         return fail(ProgramFault::File, errors);
     }
-    if run.status == 0 && show(report, errors).is_err() {
-        return 1;
+    match show(report, errors) {
+        Ok(()) => 0,
+        Err(_) => 1,
     }
-    run.status
 }
 
 fn show<E: Sink>(report: &[u8], errors: &mut E) -> Result<(), Down> {

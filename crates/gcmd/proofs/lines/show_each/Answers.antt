@@ -2,7 +2,7 @@ use Rattle.std.proofs.Common.{subst, ◌∙◌}
 use Rattle.gpkt.specs.Packets.{packet_of}
 use Rattle.gpkt.specs.LineReading.{HasRead}
 use Rattle.gcmd.proofs.LinesLemmas.{IsShowing-next, ShowsEach-end, ShowsEach-failed}
-use Rattle.gcmd.proofs.ReadingLemmas.{read_some, read_none}
+use Rattle.ggrammar.proofs.ReadingLemmas.{read_some, read_none}
 use Rattle.gcmd.proofs.lines.show_each.Goals as goal
 
 pub returns-in-Ok-None-clause-shows : goal.returns-in-Ok-None-clause-shows

@@ -1,0 +1,191 @@
+//! What is found in the history of a repository: `missing`, `counted`, `sent`, `sent-tags`, `common`, `ready`, `reaches`,
+//! `offered` and `peeled`. Lists of ids are parted by ` / `; `none` stands for no id.
+
+use crate::fact::told;
+use crate::script::Fact;
+use crate::spell::number_of;
+use crate::trouble::Trouble;
+use ggraph::{
+    Count, Entry, Graph, GraphFault, Order, Refs, common_ids, haves, load, missing,
+    missing_counted, reaches, ready, send_list, send_list_tags,
+};
+use gname::{Format, MAX_ID_TEXT, Oid};
+use scarce::Scarce;
+use std::alloc::Global;
+
+/// What a line about a history begins with.
+pub const KINDS: [&str; 9] = [
+    "missing",
+    "counted",
+    "sent",
+    "sent-tags",
+    "common",
+    "ready",
+    "reaches",
+    "offered",
+    "peeled",
+];
+
+// What is asked of a history.
+#[derive(Drop)]
+struct Asked {
+    first: Vec<Oid>,
+    second: Vec<Oid>,
+    count: usize,
+}
+
+// What is found.
+#[derive(Drop)]
+enum Found<'m> {
+    Ids(Vec<Oid, &'m Scarce<Global>>),
+    Entries(Vec<Entry<&'m Scarce<Global>>, &'m Scarce<Global>>),
+    Id(Option<Oid>),
+    Counted(Option<Oid>, Count),
+    Whether(bool),
+}
+
+/// What is found in the history of a repository's text, the allocation of this number being refused.
+pub fn answer(
+    alloc: Global,
+    memory: &Scarce<Global>,
+    fact: &Fact<'_>,
+    file: &[u8],
+    refused: u64,
+) -> Result<String, Trouble> {
+    let Ok(repository) = load(memory, file, Order::Any) else {
+        return Err(Trouble::NoGraph);
+    };
+    let asked = asked_of(alloc, fact.text.as_slice())?;
+    memory.refuse(refused);
+    match look(&repository.graph, &repository.refs, fact.kind, &asked) {
+        Ok(found) => text_of(alloc, &found),
+        Err(fault) => told(alloc, fault.code(), fault.name()),
+    }
+}
+
+fn asked_of(alloc: Global, text: &[u8]) -> Result<Asked, Trouble> {
+    let mut parts = text.split(|byte| *byte == b'/');
+    let first = ids_of(alloc, parts.next().unwrap_or(b""))?;
+    let second = ids_of(alloc, parts.next().unwrap_or(b""))?;
+    let count = number_of(parts.next().unwrap_or(b""));
+    Ok(Asked {
+        first,
+        second,
+        count,
+    })
+}
+
+fn ids_of(alloc: Global, text: &[u8]) -> Result<Vec<Oid>, Trouble> {
+    let mut ids = Vec::new(alloc);
+    for word in text.split(|byte| *byte == b' ') {
+        if !word.is_empty() {
+            ids.push(id_of(word)?)?;
+        }
+    }
+    Ok(ids)
+}
+
+fn id_of(text: &[u8]) -> Result<Oid, Trouble> {
+    let format = if text.len() == Format::Sha256.id_text_length() {
+        Format::Sha256
+    } else {
+        Format::Sha1
+    };
+    match Oid::from_hex_in(format, text) {
+        Ok(id) => Ok(id),
+        Err(_) => Err(Trouble::NoId),
+    }
+}
+
+fn look<'m>(
+    graph: &Graph<&'m Scarce<Global>>,
+    refs: &Refs<&'m Scarce<Global>>,
+    kind: &str,
+    asked: &Asked,
+) -> Result<Found<'m>, GraphFault> {
+    let first = asked.first.as_slice();
+    let second = asked.second.as_slice();
+    match kind {
+        "missing" => Ok(Found::Id(missing(graph, first)?)),
+        "counted" => counted(graph, first),
+        "sent" => Ok(Found::Entries(send_list(graph, first, second)?)),
+        "sent-tags" => Ok(Found::Entries(send_list_tags(graph, first, second, refs)?)),
+        "common" => Ok(Found::Ids(common_ids(graph, first)?)),
+        "ready" => Ok(Found::Whether(ready(graph, first, second)?)),
+        "offered" => Ok(Found::Ids(haves(graph, first, second, &[], asked.count)?)),
+        "reaches" => all_reach(graph, first),
+        _ => Ok(peeled(graph, first)),
+    }
+}
+
+fn counted<'m>(graph: &Graph<&'m Scarce<Global>>, ids: &[Oid]) -> Result<Found<'m>, GraphFault> {
+    let (missing, count) = missing_counted(graph, ids)?;
+    Ok(Found::Counted(missing, count))
+}
+
+// Whether the first id reaches the second.
+fn all_reach<'m>(graph: &Graph<&'m Scarce<Global>>, ids: &[Oid]) -> Result<Found<'m>, GraphFault> {
+    match ids {
+        [from, to] => Ok(Found::Whether(reaches(graph, from, to)?)),
+        _ => Ok(Found::Id(None)),
+    }
+}
+
+fn peeled<'m>(graph: &Graph<&'m Scarce<Global>>, ids: &[Oid]) -> Found<'m> {
+    match ids {
+        [id] => Found::Id(graph.peel(id)),
+        _ => Found::Whether(false),
+    }
+}
+
+fn text_of(alloc: Global, found: &Found<'_>) -> Result<String, Trouble> {
+    match found {
+        Found::Ids(ids) => text_of_ids(alloc, ids.as_slice()),
+        Found::Entries(entries) => text_of_entries(alloc, entries.as_slice()),
+        Found::Id(id) => text_of_id(alloc, *id),
+        Found::Counted(missing, count) => text_of_count(alloc, *missing, *count),
+        Found::Whether(is_so) => Ok(String::from_str(alloc, if *is_so { "yes" } else { "no" })?),
+    }
+}
+
+fn text_of_entries(alloc: Global, entries: &[Entry<&Scarce<Global>>]) -> Result<String, Trouble> {
+    let mut ids = Vec::new(alloc);
+    for entry in entries {
+        ids.push(entry.id)?;
+    }
+    text_of_ids(alloc, ids.as_slice())
+}
+
+fn text_of_ids(alloc: Global, ids: &[Oid]) -> Result<String, Trouble> {
+    if ids.is_empty() {
+        return text_of_id(alloc, None);
+    }
+    let mut text = String::new(alloc);
+    for id in ids {
+        if !text.is_empty() {
+            text.push(' ')?;
+        }
+        text.push_str(text_of_id(alloc, Some(*id))?.as_str())?;
+    }
+    Ok(text)
+}
+
+fn text_of_id(alloc: Global, id: Option<Oid>) -> Result<String, Trouble> {
+    let Some(id) = id else {
+        return Ok(String::from_str(alloc, "none")?);
+    };
+    let mut digits = [0; MAX_ID_TEXT];
+    let count = id.to_hex(&mut digits);
+    match std::str::from_utf8(&digits[..count]) {
+        Ok(text) => Ok(String::from_str(alloc, text)?),
+        Err(_) => Err(Trouble::NoId),
+    }
+}
+
+fn text_of_count(alloc: Global, missing: Option<Oid>, count: Count) -> Result<String, Trouble> {
+    let missing = text_of_id(alloc, missing)?;
+    let missing = missing.as_str();
+    let ids = count.ids;
+    let parents = count.parents;
+    Ok(format!(in alloc; "{missing} ids {ids} parents {parents}")?)
+}

@@ -1,0 +1,267 @@
+//! Whether a run did what it is to do.
+
+use crate::command::{Command, Program};
+use crate::device::{Hindrance, Writer};
+use crate::play::Played;
+use crate::spell::number_of;
+use crate::talk::{Place, Talk};
+use crate::trouble::Trouble;
+use gcmd::cmd_check;
+use std::alloc::Global;
+
+const NOTHING: &[u8] = b"";
+
+const ENDED_EARLY: &[u8] = b"0024ERR upload-pack: unexpected end\n";
+
+const READ_FAILED: &[u8] = b"0021ERR upload-pack: read failed\n";
+
+const NO_MEMORY: &[u8] = b"0023ERR upload-pack: out of memory\n";
+
+const PACK_FAILED: &[u8] = b"0021ERR upload-pack: pack failed\n";
+
+const WRITE_FAILED: &[u8] = b"gitv2: fault 27 Io\n";
+
+/// The numbers of the faults that may be reported where an allocation was refused.
+const MEMORY_FAULTS: [usize; 6] = [18, 28, 53, 64, 65, 66];
+
+/// What a program is run on, and what is to come of it.
+#[derive(Drop)]
+pub struct Row<'b> {
+    pub command: Command<'b>,
+    /// The repository's text.
+    pub file: &'b [u8],
+    /// What the client's file is to hold afterwards, where it changes.
+    pub new_file: Option<&'b [u8]>,
+    pub talk: Talk,
+    /// What is printed where an allocation is refused, one after the other; nothing where the row does not say it.
+    pub memory: &'b [&'b str],
+    /// Whether each byte is changed to each other value.
+    pub is_deep: bool,
+}
+
+/// How the input stops.
+#[derive(Clone, Copy, PartialEq, Eq)]
+pub enum Stop {
+    /// It ends.
+    Ended,
+    /// A read fails.
+    Failed,
+}
+
+/// Whether the run answered as the row says, and passed all on.
+pub fn is_as_due(row: &Row<'_>, played: &Played) -> bool {
+    (played.status == 1) != row.talk.errors.is_empty()
+        && has_written(&played.output, row.talk.output.as_slice(), NOTHING)
+        && has_reported(row, played)
+        && has_written(&played.errors, row.talk.errors.as_slice(), NOTHING)
+        && has_file(played, row.new_file)
+}
+
+// Whether just the row's report was written, by a fetch.
+fn has_reported(row: &Row<'_>, played: &Played) -> bool {
+    let due = if row.command.program == Program::Fetch {
+        row.talk.report.as_slice()
+    } else {
+        NOTHING
+    };
+    has_written(&played.report, due, NOTHING)
+}
+
+/// Whether the run stopped as it is to where the input stops after so many bytes.
+pub fn is_stopped(
+    alloc: Global,
+    row: &Row<'_>,
+    played: &Played,
+    len: usize,
+    stop: Stop,
+) -> Result<bool, Trouble> {
+    let Some(place) = row.talk.place_at(len) else {
+        return Ok(false);
+    };
+    let Some(before) = row.talk.output.as_slice().get(..place.before) else {
+        return Ok(false);
+    };
+    let program = row.command.program;
+    let is_between = place.start == len;
+    let may_end = program.reads_client() && place.frame == 0;
+    if stop == Stop::Ended && is_between && may_end {
+        return Ok(is_done(played, before));
+    }
+    let (fault, refusal) = fault_at(stop, is_between);
+    let told = if program.serves() { refusal } else { NOTHING };
+    let line = fault_line(alloc, program, fault, place)?;
+    Ok(is_refused(played, before, told, line.as_bytes()))
+}
+
+// The fault where the input stops, between packets or within one, and the line to the client.
+fn fault_at(stop: Stop, is_between: bool) -> (&'static str, &'static [u8]) {
+    match stop {
+        Stop::Failed => ("24 Io", READ_FAILED),
+        Stop::Ended if is_between => ("54 Ended", ENDED_EARLY),
+        Stop::Ended => ("23 Truncated", ENDED_EARLY),
+    }
+}
+
+// Whether the run ended without a fault.
+fn is_done(played: &Played, written: &[u8]) -> bool {
+    played.status == 0
+        && has_written(&played.output, written, NOTHING)
+        && has_printed(played, NOTHING)
+        && played.file.is_none()
+}
+
+// Whether the run ended with a fault.
+fn is_refused(played: &Played, written: &[u8], told: &[u8], printed: &[u8]) -> bool {
+    played.status == 1
+        && has_written(&played.output, written, told)
+        && has_printed(played, printed)
+        && played.file.is_none()
+}
+
+// The line of a fault at a packet.
+fn fault_line(
+    alloc: Global,
+    program: Program,
+    fault: &str,
+    place: Place,
+) -> Result<String, Trouble> {
+    let frame = place.frame;
+    if program.reads_lines() {
+        Ok(format!(in alloc; "gitv2: fault {fault}\n")?)
+    } else {
+        Ok(format!(in alloc; "gitv2: fault {fault} frame {frame}\n")?)
+    }
+}
+
+/// Whether the run stopped at a failed write.
+pub fn is_write_failed(row: &Row<'_>, played: &Played) -> bool {
+    played.status == 1
+        && row.talk.output.starts_with(played.output.written())
+        && played.errors.written() == WRITE_FAILED
+        && played.file.is_none()
+}
+
+/// Whether all was done but the report, of which a beginning stands.
+pub fn is_report_failed(row: &Row<'_>, played: &Played) -> bool {
+    played.status == 1
+        && has_written(&played.output, row.talk.output.as_slice(), NOTHING)
+        && row.talk.report.starts_with(played.report.written())
+        && has_written(&played.errors, WRITE_FAILED, NOTHING)
+        && has_file(played, row.new_file)
+}
+
+/// Whether all was done, and of the line of the fault a beginning stands.
+pub fn is_errors_failed(row: &Row<'_>, played: &Played) -> bool {
+    played.status == 1
+        && has_written(&played.output, row.talk.output.as_slice(), NOTHING)
+        && has_reported(row, played)
+        && row.talk.errors.starts_with(played.errors.written())
+        && has_file(played, row.new_file)
+}
+
+/// Whether the run went well, or reported that memory ended, with a beginning of the output up to the end of a message.
+pub fn is_scarce(row: &Row<'_>, played: &Played) -> bool {
+    if is_as_due(row, played) {
+        return true;
+    }
+    let written = played.output.written();
+    let kept = match written.strip_suffix(NO_MEMORY) {
+        Some(kept) => kept,
+        None => match written.strip_suffix(PACK_FAILED) {
+            Some(kept) => kept,
+            None => written,
+        },
+    };
+    played.status == 1
+        && row.talk.output.starts_with(kept)
+        && row.talk.is_end(kept.len())
+        && MEMORY_FAULTS.contains(&fault_of(played.errors.written()))
+        && (played.file.is_none() || has_file(played, row.new_file))
+}
+
+/// What is told of the fault that is printed, if one is.
+pub fn told(errors: &[u8]) -> Option<&[u8]> {
+    errors.strip_prefix(b"gitv2: fault ")?.strip_suffix(b"\n")
+}
+
+// The number of the fault that is printed.
+fn fault_of(errors: &[u8]) -> usize {
+    let Some(text) = told(errors) else {
+        return 0;
+    };
+    match text.split(|byte| *byte == b' ').next() {
+        Some(digits) => number_of(digits),
+        None => 0,
+    }
+}
+
+/// Whether the run of a changed input ended within bounds: a server with its advertisement first, a client with its refs
+/// safe and its objects kept.
+pub fn is_sound(alloc: Global, row: &Row<'_>, played: &Played) -> bool {
+    let is_told = (played.status == 1) == played.errors.written().starts_with(b"gitv2: fault ");
+    is_told && advertises(row, played) && keeps_refs_safe(alloc, row, played)
+}
+
+// Whether the output of a connection begins with the advertisement, where the row has one.
+fn advertises(row: &Row<'_>, played: &Played) -> bool {
+    if row.command.program != Program::Upload {
+        return true;
+    }
+    let len = match row.talk.ends.first() {
+        Some(end) => *end,
+        None => 0,
+    };
+    match row.talk.output.as_slice().get(..len) {
+        Some(advert) => played.output.written().starts_with(advert),
+        None => false,
+    }
+}
+
+// Whether the new text, where there is one, has all objects of the old, and refs whose whole ancestry is there.
+fn keeps_refs_safe(alloc: Global, row: &Row<'_>, played: &Played) -> bool {
+    match &played.file {
+        Some(text) => is_safe(alloc, text.as_slice()) && text.starts_with(objects_of(row.file)),
+        None => true,
+    }
+}
+
+// Whether the whole ancestry of each ref is there.
+fn is_safe(alloc: Global, file: &[u8]) -> bool {
+    let mut output = Writer::new(alloc, Hindrance::NONE);
+    let mut errors = Writer::new(alloc, Hindrance::NONE);
+    let status = cmd_check(alloc, file, &mut output, &mut errors);
+    status == 0 && output.written().ends_with(b" safe yes\n")
+}
+
+// The beginning of a repository's text up to its refs.
+fn objects_of(file: &[u8]) -> &[u8] {
+    let mut len = 0usize;
+    for line in file.split_inclusive(|byte| *byte == b'\n') {
+        if line.starts_with(b"r ") || line.starts_with(b"h ") {
+            break;
+        }
+        len = len.saturating_add(line.len());
+    }
+    match file.get(..len) {
+        Some(objects) => objects,
+        None => file,
+    }
+}
+
+// Just these two were written, and passed on.
+fn has_written(output: &Writer, first: &[u8], last: &[u8]) -> bool {
+    output.is_passed_on() && output.written().strip_prefix(first) == Some(last)
+}
+
+// Just this was printed, and nothing reported.
+fn has_printed(played: &Played, errors: &[u8]) -> bool {
+    has_written(&played.report, NOTHING, NOTHING) && has_written(&played.errors, errors, NOTHING)
+}
+
+fn has_file(played: &Played, due: Option<&[u8]>) -> bool {
+    match (&played.file, due) {
+        (Some(text), Some(due)) => text.as_slice() == due,
+        (None, None) => true,
+        (Some(_), None) | (None, Some(_)) => false,
+    }
+}

@@ -1,0 +1,340 @@
+//! Cases of Git's fetch protocol, from files, tried on the programs of `gcmd` and on the calls below them.
+//!
+//! The words of the command line name files of cases, after `--quick` where no byte is to be changed, or `--once` where all
+//! is tried as it stands alone; `script.rt` says how one is written. Each case is run through its programs: as it stands; in pieces; with each call of each device failing in
+//! turn; cut after each byte; with each byte changed; and with each allocation refused in turn. What is made of a text is
+//! tried in pieces, too, and with each allocation refused. A try that goes wrong is a line on standard output, and the last
+//! lines count the tries.
+//!
+//! # Proved
+//!
+//! That it is safe and ends.
+//!
+//! # What a body can still get away with
+//!
+//! Anything else: that wrong answers are noticed was tried with wrong cases and wrong programs.
+//!
+//! # Stands on
+//!
+//! `gcmd` for the programs; `gserve` and `gclient` where a packer or an indexer lies; `ggraph`, `ghello`, `gpkt` and
+//! `gname` for what is made of texts; `scarce` for memory that ends.
+#![tactic(auto)]
+
+mod command;
+mod device;
+mod fact;
+mod history;
+mod judge;
+mod liars;
+mod lying;
+mod play;
+mod script;
+mod shown;
+mod spell;
+mod talk;
+mod tally;
+mod trouble;
+mod vary;
+
+use crate::command::{Program, command_of};
+use crate::judge::Row;
+use crate::script::{Case, Fact, Script};
+use crate::shown::Look;
+use crate::spell::text_named;
+use crate::talk::Talk;
+use crate::tally::{Depth, Tally};
+use crate::trouble::Trouble;
+use crate::vary::{Bench, Way};
+use gname::Format;
+use scarce::Scarce;
+use std::alloc::Global;
+use std::process::ExitCode;
+use std::rt::{Env, Files};
+use std::{env, fs, io};
+
+fn main(rt: HostRuntime) -> ExitCode {
+    match run(&rt) {
+        Ok(true) => ExitCode::from(0),
+        Ok(false) | Err(_) => ExitCode::from(1),
+    }
+}
+
+// Tries all cases of the files that the words name. It answers whether nothing went wrong.
+fn run<R>(rt: &R) -> io::Result<bool>
+where
+    R: Env + Files + Print + AllocGlobal,
+{
+    let alloc = rt.alloc();
+    let words: Vec<String> = env::args(rt)?.skip(1).collect(alloc)?;
+    let (depth, names) = depth_of(words.as_slice());
+    let mut files: Vec<String> = Vec::new(alloc);
+    for name in names {
+        files.push(fs::read_to_string(rt, name.as_str())?)?;
+    }
+    let mut tally = Tally::new(depth);
+    for format in [Format::Sha1, Format::Sha256] {
+        try_files(rt, format, names, files.as_slice(), &mut tally)?;
+    }
+    show(rt, &tally)?;
+    Ok(tally.wrong == 0)
+}
+
+// How much is tried, and the names of the files.
+fn depth_of(words: &[String]) -> (Depth, &[String]) {
+    let Some((first, names)) = words.split_first() else {
+        return (Depth::Full, words);
+    };
+    match Depth::of(first.as_str()) {
+        Some(depth) => (depth, names),
+        None => (Depth::Full, words),
+    }
+}
+
+// Tries the cases of the files with ids of one format.
+fn try_files<R: Print + AllocGlobal>(
+    rt: &R,
+    format: Format,
+    names: &[String],
+    files: &[String],
+    tally: &mut Tally,
+) -> io::Result<()> {
+    let alloc = rt.alloc();
+    let mut script = Script::new(alloc, format);
+    for (name, text) in names.iter().zip(files) {
+        if let Err(trouble) = script.read(alloc, name.as_str(), text.as_str()) {
+            return tell_trouble(rt, script.source, script.line, trouble, tally);
+        }
+    }
+    for fact in script.facts.as_slice() {
+        try_fact(rt, &script, fact, tally)?;
+    }
+    for case in script.cases.as_slice() {
+        try_case(rt, &script, case, tally)?;
+    }
+    Ok(())
+}
+
+fn tell_trouble<R: Print>(
+    rt: &R,
+    source: &str,
+    line: usize,
+    trouble: Trouble,
+    tally: &mut Tally,
+) -> io::Result<()> {
+    tally.count_wrong();
+    let why = trouble.text();
+    println!(rt; "{source}:{line}: {why}")
+}
+
+fn show<R: Print>(rt: &R, tally: &Tally) -> io::Result<()> {
+    let facts = tally.facts;
+    let tries = tally.tries;
+    let rows = tally.rows;
+    let wrong = tally.wrong;
+    println!(rt; "{facts} facts in {tries} runs, {rows} rows")?;
+    for (way, runs) in Way::ALL.iter().zip(tally.runs.iter()) {
+        let name = way.name();
+        println!(rt; "{runs} runs {name}")?;
+    }
+    println!(rt; "{wrong} wrong")
+}
+
+// ---- facts
+
+fn try_fact<R: Print + AllocGlobal>(
+    rt: &R,
+    script: &Script<'_>,
+    fact: &Fact<'_>,
+    tally: &mut Tally,
+) -> io::Result<()> {
+    tally.count_fact();
+    match wrong_answer(rt.alloc(), script, fact, tally) {
+        Ok(None) => Ok(()),
+        Ok(Some(answer)) => tell_wrong_fact(rt, fact, answer.as_str(), tally),
+        Err(trouble) => tell_trouble(rt, fact.source, fact.line, trouble, tally),
+    }
+}
+
+fn tell_wrong_fact<R: Print>(
+    rt: &R,
+    fact: &Fact<'_>,
+    answer: &str,
+    tally: &mut Tally,
+) -> io::Result<()> {
+    tally.count_wrong();
+    let source = fact.source;
+    let line = fact.line;
+    let kind = fact.kind;
+    println!(rt; "{source}:{line}: {kind} {answer}")
+}
+
+// Texts of more bytes are read without an allocation refused.
+const LONG_TEXT: usize = 10_000;
+
+// The first answer that is not due: whole, in pieces of one byte and of three, and with each allocation refused.
+fn wrong_answer(
+    alloc: Global,
+    script: &Script<'_>,
+    fact: &Fact<'_>,
+    tally: &mut Tally,
+) -> Result<Option<String>, Trouble> {
+    for most in [usize::MAX, 1, 3] {
+        let (answer, _) = answer(alloc, script, fact, most, 0)?;
+        tally.count_try();
+        if answer.as_bytes() != fact.due.as_slice() {
+            return Ok(Some(answer));
+        }
+        if tally.depth == Depth::Once {
+            return Ok(None);
+        }
+    }
+    if fact.text.len() > LONG_TEXT {
+        return Ok(None);
+    }
+    for refused in 1..u64::MAX {
+        let (answer, was_refused) = answer(alloc, script, fact, usize::MAX, refused)?;
+        tally.count_try();
+        let is_due = answer.as_bytes() == fact.due.as_slice();
+        if !is_due && !(was_refused && answer.as_str().ends_with(" Memory")) {
+            return Ok(Some(answer));
+        }
+        if !was_refused {
+            break;
+        }
+    }
+    Ok(None)
+}
+
+// What is made of the text, or found in the history, and whether an allocation was refused.
+fn answer(
+    alloc: Global,
+    script: &Script<'_>,
+    fact: &Fact<'_>,
+    most: usize,
+    refused: u64,
+) -> Result<(String, bool), Trouble> {
+    let memory = Scarce::new(alloc);
+    if history::KINDS.contains(&fact.kind) {
+        let file = text(script, fact.graph)?;
+        let answer = history::answer(alloc, &memory, fact, file, refused)?;
+        return Ok((answer, !memory.is_due()));
+    }
+    memory.refuse(refused);
+    let answer = if fact.kind == shown::KIND {
+        fault_shown(alloc, fact)?
+    } else {
+        fact::answer(alloc, &memory, fact, most)?
+    };
+    Ok((answer, !memory.is_due()))
+}
+
+// The line that is due, where a fault has it and this short text.
+fn fault_shown(alloc: Global, fact: &Fact<'_>) -> Result<String, Trouble> {
+    let look = Look {
+        line: fact.due.as_slice(),
+        text: fact.text.as_slice(),
+    };
+    let is_known = shown::is_known(alloc, look)?;
+    match std::str::from_utf8(look.line) {
+        Ok(line) if is_known => Ok(String::from_str(alloc, line)?),
+        _ => Ok(String::from_str(alloc, "of no fault")?),
+    }
+}
+
+// ---- cases
+
+// Tries a case by each of its programs.
+fn try_case<'b, R: Print + AllocGlobal>(
+    rt: &R,
+    script: &'b Script<'b>,
+    case: &'b Case<'b>,
+    tally: &mut Tally,
+) -> io::Result<()> {
+    for words in case.runs.as_slice() {
+        match row_of(rt.alloc(), script, case, words) {
+            Ok(row) => try_row(rt, case, words, &row, tally)?,
+            Err(trouble) => tell_trouble(rt, case.source, case.line, trouble, tally)?,
+        }
+    }
+    Ok(())
+}
+
+fn row_of<'b>(
+    alloc: Global,
+    script: &'b Script<'b>,
+    case: &'b Case<'b>,
+    words: &'b str,
+) -> Result<Row<'b>, Trouble> {
+    let command = command_of(words, case.liar)?;
+    let talk = Talk::of(alloc, command.program, case)?;
+    let file = text(script, command.repository)?;
+    let new_file = match case.file {
+        Some(name) if command.program == Program::Fetch => Some(text(script, name)?),
+        _ => None,
+    };
+    Ok(Row {
+        command,
+        file,
+        new_file,
+        talk,
+        memory: case.memory.as_slice(),
+        is_deep: case.is_deep,
+    })
+}
+
+// The text of this name; none has the empty name.
+fn text<'b>(script: &'b Script<'_>, name: &str) -> Result<&'b [u8], Trouble> {
+    if name.is_empty() {
+        return Ok(b"");
+    }
+    match text_named(script.texts.as_slice(), name.as_bytes()) {
+        Some(text) => Ok(text),
+        None => Err(Trouble::NoName),
+    }
+}
+
+// Tries a row in each way. Where it is wrong as it stands the other ways would say no more.
+fn try_row<R: Print + AllocGlobal>(
+    rt: &R,
+    case: &Case<'_>,
+    words: &str,
+    row: &Row<'_>,
+    tally: &mut Tally,
+) -> io::Result<()> {
+    tally.count_row();
+    for way in Way::ALL {
+        if (case.is_long && !way.is_short()) || !tally.depth.has(way) {
+            continue;
+        }
+        let mut bench = Bench::new(rt.alloc(), row);
+        let found = match bench.try_way(way) {
+            Ok(found) => found,
+            Err(trouble) => return tell_trouble(rt, case.source, case.line, trouble, tally),
+        };
+        tally.count_runs(way, bench.runs);
+        if let Some(at) = found {
+            return tell_wrong(rt, case, words, (way, at), bench.printed.as_slice(), tally);
+        }
+    }
+    Ok(())
+}
+
+fn tell_wrong<R: Print>(
+    rt: &R,
+    case: &Case<'_>,
+    words: &str,
+    (way, at): (Way, usize),
+    printed: &[u8],
+    tally: &mut Tally,
+) -> io::Result<()> {
+    tally.count_wrong();
+    let source = case.source;
+    let line = case.line;
+    let row = case.name;
+    let name = way.name();
+    let printed = match std::str::from_utf8(printed) {
+        Ok(text) => text.trim_end(),
+        Err(_) => "",
+    };
+    println!(rt; "{source}:{line}: {row}: {words}: {name}, {at}: {printed}")
+}

@@ -1,0 +1,55 @@
+//! Why no verdict can be given.
+
+use std::alloc::{AllocError, AllocFailed};
+
+/// Why the cases can't be tried.
+#[derive(Clone, Copy)]
+pub enum Trouble {
+    /// There is no memory for the harness itself.
+    Memory,
+    /// A brace is not closed.
+    OpenBrace,
+    /// No text or talk has this name.
+    NoName,
+    /// A line of a row stands before the first row.
+    NoRow,
+    /// No line begins so.
+    UnknownLine,
+    /// No program has this name.
+    UnknownProgram,
+    /// A limit is no number.
+    BadLimit,
+    /// The text that a fact names is no repository.
+    NoGraph,
+    /// A text is no id.
+    NoId,
+}
+
+impl Trouble {
+    /// What is told of it.
+    pub fn text(self) -> &'static str {
+        match self {
+            Trouble::Memory => "out of memory",
+            Trouble::OpenBrace => "a brace is not closed",
+            Trouble::NoName => "no text or talk has this name",
+            Trouble::NoRow => "there is no row yet",
+            Trouble::UnknownLine => "no line begins so",
+            Trouble::UnknownProgram => "no program has this name",
+            Trouble::BadLimit => "the limit is no number",
+            Trouble::NoGraph => "the graph is no repository",
+            Trouble::NoId => "a word is no id",
+        }
+    }
+}
+
+impl From<AllocError> for Trouble {
+    fn from(_error: AllocError) -> Trouble {
+        Trouble::Memory
+    }
+}
+
+impl<T: Drop> From<AllocFailed<T>> for Trouble {
+    fn from(_error: AllocFailed<T>) -> Trouble {
+        Trouble::Memory
+    }
+}

@@ -1,0 +1,343 @@
+//! The ways in which a row is tried. Each answers the first of its tries that went wrong.
+
+use crate::device::Hindrance;
+use crate::judge::{
+    Row, Stop, is_as_due, is_errors_failed, is_report_failed, is_scarce, is_sound, is_stopped,
+    is_write_failed, told,
+};
+use crate::play::{Played, Trial, play};
+use crate::trouble::Trouble;
+use std::alloc::Global;
+
+/// More calls of a device, and more allocations, than any row has.
+const MOST_TRIES: usize = 1_000_000;
+
+/// A way of trying a row.
+#[derive(Clone, Copy)]
+pub enum Way {
+    Whole,
+    Pieces,
+    FailingReads,
+    FailingWrites,
+    FailingReports,
+    FailingErrors,
+    Cut,
+    Changed,
+    Scarce,
+}
+
+impl Way {
+    pub const ALL: [Way; 9] = [
+        Way::Whole,
+        Way::Pieces,
+        Way::FailingReads,
+        Way::FailingWrites,
+        Way::FailingReports,
+        Way::FailingErrors,
+        Way::Cut,
+        Way::Changed,
+        Way::Scarce,
+    ];
+
+    /// What is told of the way.
+    pub fn name(self) -> &'static str {
+        match self {
+            Way::Whole => "as it stands",
+            Way::Pieces => "in pieces",
+            Way::FailingReads => "with a read that fails",
+            Way::FailingWrites => "with a write that fails",
+            Way::FailingReports => "with a report that fails",
+            Way::FailingErrors => "with standard error that fails",
+            Way::Cut => "cut",
+            Way::Changed => "with a byte changed",
+            Way::Scarce => "with an allocation refused",
+        }
+    }
+
+    /// Whether it takes many more tries than the others.
+    pub fn is_long(self) -> bool {
+        matches!(&self, Way::Changed)
+    }
+
+    /// Whether a long row is tried so, too.
+    pub fn is_short(self) -> bool {
+        matches!(&self, Way::Whole | Way::Pieces)
+    }
+}
+
+/// A row that is tried, and how often it was.
+#[derive(Drop)]
+pub struct Bench<'a, 'b> {
+    alloc: Global,
+    row: &'a Row<'b>,
+    pub runs: u64,
+    /// What was printed in the run that went wrong.
+    pub printed: Vec<u8>,
+}
+
+impl<'a, 'b> Bench<'a, 'b> {
+    pub fn new(alloc: Global, row: &'a Row<'b>) -> Bench<'a, 'b> {
+        Bench {
+            alloc,
+            row,
+            runs: 0,
+            printed: Vec::new(alloc),
+        }
+    }
+
+    // The number of a run that went wrong. What it printed is kept.
+    fn verdict(
+        &mut self,
+        is_right: bool,
+        number: usize,
+        played: &Played,
+    ) -> Result<Option<usize>, Trouble> {
+        if is_right && !played.was_called_again {
+            return Ok(None);
+        }
+        self.printed.clear();
+        self.printed.extend_from_slice(played.errors.written())?;
+        Ok(Some(number))
+    }
+
+    /// Tries the row in this way, and answers the first try that went wrong.
+    pub fn try_way(&mut self, way: Way) -> Result<Option<usize>, Trouble> {
+        match way {
+            Way::Whole => self.whole(),
+            Way::Pieces => self.in_pieces(),
+            Way::FailingReads => self.failing_reads(),
+            Way::FailingWrites => self.failing_writes(),
+            Way::FailingReports => self.failing_reports(),
+            Way::FailingErrors => self.failing_errors(),
+            Way::Cut => self.cut(),
+            Way::Changed => self.changed(),
+            Way::Scarce => self.scarce(),
+        }
+    }
+
+    fn play(&mut self, input: &[u8], trial: Trial) -> Result<Played, Trouble> {
+        self.runs = self.runs.saturating_add(1);
+        let row = self.row;
+        play(self.alloc, &row.command, row.file, input, trial)
+    }
+
+    fn play_whole(&mut self, trial: Trial) -> Result<Played, Trouble> {
+        let row = self.row;
+        self.play(row.talk.input.as_slice(), trial)
+    }
+
+    // As it stands.
+    fn whole(&mut self) -> Result<Option<usize>, Trouble> {
+        let played = self.play_whole(Trial::FREE)?;
+        let is_right = is_as_due(self.row, &played);
+        self.verdict(is_right, 0, &played)
+    }
+
+    // With the input in pieces of one byte and of three, and with an output that takes a byte a call.
+    fn in_pieces(&mut self) -> Result<Option<usize>, Trouble> {
+        for most in [1usize, 3] {
+            let mut trial = Trial::FREE;
+            trial.read = Hindrance::pieces(most);
+            trial.write = Hindrance::pieces(1);
+            let played = self.play_whole(trial)?;
+            let is_right = is_as_due(self.row, &played);
+            let wrong = self.verdict(is_right, most, &played)?;
+            if wrong.is_some() {
+                return Ok(wrong);
+            }
+        }
+        Ok(None)
+    }
+
+    // With each read failing in turn, a byte being read at a time.
+    fn failing_reads(&mut self) -> Result<Option<usize>, Trouble> {
+        for call in 1..MOST_TRIES {
+            let mut trial = Trial::FREE;
+            trial.read = Hindrance::failing(call);
+            let played = self.play_whole(trial)?;
+            let is_right = self.is_read_failed(&played)?;
+            let wrong = self.verdict(is_right, call, &played)?;
+            if wrong.is_some() || !played.read_failed {
+                return Ok(wrong);
+            }
+        }
+        Ok(Some(MOST_TRIES))
+    }
+
+    // Whether the run stopped at the failed read, if there was one.
+    fn is_read_failed(&mut self, played: &Played) -> Result<bool, Trouble> {
+        if !played.read_failed {
+            return Ok(is_as_due(self.row, played));
+        }
+        let len = self.row.talk.input.len().saturating_sub(played.left);
+        is_stopped(self.alloc, self.row, played, len, Stop::Failed)
+    }
+
+    // With each write and flush failing in turn, a byte being taken at a time.
+    fn failing_writes(&mut self) -> Result<Option<usize>, Trouble> {
+        for call in 1..MOST_TRIES {
+            let mut trial = Trial::FREE;
+            trial.write = Hindrance::failing(call);
+            let played = self.play_whole(trial)?;
+            let has_failed = played.output.has_failed();
+            let is_right = if has_failed {
+                is_write_failed(self.row, &played)
+            } else {
+                is_as_due(self.row, &played)
+            };
+            let wrong = self.verdict(is_right, call, &played)?;
+            if wrong.is_some() || !has_failed {
+                return Ok(wrong);
+            }
+        }
+        Ok(Some(MOST_TRIES))
+    }
+
+    // With each call of the report's sink failing in turn.
+    fn failing_reports(&mut self) -> Result<Option<usize>, Trouble> {
+        for call in 1..MOST_TRIES {
+            let mut trial = Trial::FREE;
+            trial.report = Hindrance::failing(call);
+            let played = self.play_whole(trial)?;
+            let has_failed = played.report.has_failed();
+            let is_right = if has_failed {
+                is_report_failed(self.row, &played)
+            } else {
+                is_as_due(self.row, &played)
+            };
+            let wrong = self.verdict(is_right, call, &played)?;
+            if wrong.is_some() || !has_failed {
+                return Ok(wrong);
+            }
+        }
+        Ok(Some(MOST_TRIES))
+    }
+
+    // With each call of standard error failing in turn.
+    fn failing_errors(&mut self) -> Result<Option<usize>, Trouble> {
+        for call in 1..MOST_TRIES {
+            let mut trial = Trial::FREE;
+            trial.errors = Hindrance::failing(call);
+            let played = self.play_whole(trial)?;
+            let has_failed = played.errors.has_failed();
+            let is_right = if has_failed {
+                is_errors_failed(self.row, &played)
+            } else {
+                is_as_due(self.row, &played)
+            };
+            let wrong = self.verdict(is_right, call, &played)?;
+            if wrong.is_some() || !has_failed {
+                return Ok(wrong);
+            }
+        }
+        Ok(Some(MOST_TRIES))
+    }
+
+    // With the input cut after each of its bytes.
+    fn cut(&mut self) -> Result<Option<usize>, Trouble> {
+        let whole = self.play_whole(Trial::FREE)?;
+        let input = self.row.talk.input.as_slice();
+        let read = input.len().saturating_sub(whole.left);
+        for (len, _) in input.iter().enumerate() {
+            let Some(part) = input.get(..len) else {
+                return Ok(Some(len));
+            };
+            let played = self.play(part, Trial::FREE)?;
+            let is_right = if len < read {
+                is_stopped(self.alloc, self.row, &played, len, Stop::Ended)?
+            } else {
+                is_as_due(self.row, &played)
+            };
+            let wrong = self.verdict(is_right, len, &played)?;
+            if wrong.is_some() {
+                return Ok(wrong);
+            }
+        }
+        Ok(None)
+    }
+
+    // With each byte of the input changed.
+    fn changed(&mut self) -> Result<Option<usize>, Trouble> {
+        let mut input = Vec::from_slice(self.alloc, self.row.talk.input.as_slice())?;
+        for (at, byte) in self.row.talk.input.as_slice().iter().enumerate() {
+            let wrong = self.changed_at(at, *byte, &mut input)?;
+            if wrong.is_some() {
+                return Ok(wrong);
+            }
+            set(&mut input, at, *byte);
+        }
+        Ok(None)
+    }
+
+    // With the byte at a place changed in each of its bits, or in a deep row to each other value.
+    fn changed_at(
+        &mut self,
+        at: usize,
+        byte: u8,
+        input: &mut Vec<u8>,
+    ) -> Result<Option<usize>, Trouble> {
+        for change in 1..=255u8 {
+            if !self.row.is_deep && !change.is_power_of_two() {
+                continue;
+            }
+            set(input, at, byte ^ change);
+            let played = self.play(input.as_slice(), Trial::FREE)?;
+            let is_right = is_sound(self.alloc, self.row, &played);
+            let wrong = self.verdict(is_right, at, &played)?;
+            if wrong.is_some() {
+                return Ok(wrong);
+            }
+        }
+        Ok(None)
+    }
+
+    // With each allocation refused in turn. The faults that the row names are met in their order.
+    fn scarce(&mut self) -> Result<Option<usize>, Trouble> {
+        let mut met = 0usize;
+        for number in 1..MOST_TRIES {
+            let mut trial = Trial::FREE;
+            trial.refused = number as u64;
+            let played = self.play_whole(trial)?;
+            let is_right = if played.was_refused {
+                is_scarce(self.row, &played) && self.is_named(&played, &mut met)
+            } else {
+                is_as_due(self.row, &played) && met == self.row.memory.len()
+            };
+            let wrong = self.verdict(is_right, number, &played)?;
+            if wrong.is_some() || !played.was_refused {
+                return Ok(wrong);
+            }
+        }
+        Ok(Some(MOST_TRIES))
+    }
+
+    // Whether the fault is the one that the row named last, or names next, if it names any.
+    fn is_named(&self, played: &Played, met: &mut usize) -> bool {
+        let named = self.row.memory;
+        if named.is_empty() || is_as_due(self.row, played) {
+            return true;
+        }
+        let Some(text) = told(played.errors.written()) else {
+            return false;
+        };
+        if is_at(named, *met, text) {
+            *met = met.saturating_add(1);
+            return true;
+        }
+        is_at(named, met.wrapping_sub(1), text)
+    }
+}
+
+// Whether this text is named at the place.
+fn is_at(named: &[&str], place: usize, text: &[u8]) -> bool {
+    match named.get(place) {
+        Some(name) => name.as_bytes() == text,
+        None => false,
+    }
+}
+
+fn set(bytes: &mut Vec<u8>, at: usize, value: u8) {
+    if let Some(byte) = bytes.get_mut(at) {
+        *byte = value;
+    }
+}
