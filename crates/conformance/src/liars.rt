@@ -64,7 +64,7 @@ impl<A: Allocator + Copy> Packer<A> for Liar {
 
     fn pack(&self, alloc: A, entries: &[Entry<A>]) -> Result<Vec<u8, A>, PackFault> {
         match self {
-            Liar::PacksNothing => pack_of(alloc, &[]),
+            Liar::PacksNothing => pack_of(alloc, &entries[..0]),
             Liar::PacksShort => match entries.split_last() {
                 Some((_, others)) => pack_of(alloc, others),
                 None => pack_of(alloc, entries),

@@ -4,7 +4,6 @@
 use crate::command::{Command, Program};
 use crate::liars::Liar;
 use crate::play::Devices;
-use ganswer::OnePack;
 use gclient::{Repo, fetch_over};
 use gcmd::{PackLimit, ProgramFault, Spec, cmd_failed};
 use ggraph::{Head, Order, load, save};
@@ -49,10 +48,9 @@ fn answer_all<'m>(
     command: &Command<'_>,
     devices: &mut Devices<'_>,
 ) -> Result<(), ProgramFault<&'m Scarce<Global>>> {
-    let mut packer = OnePack::new(&liar);
     let served = serve(
         server,
-        &mut packer,
+        &liar,
         command.ends,
         &mut devices.input,
         &mut devices.output,
@@ -70,10 +68,9 @@ fn answer_one<'m>(
     command: &Command<'_>,
     devices: &mut Devices<'_>,
 ) -> Result<(), ProgramFault<&'m Scarce<Global>>> {
-    let mut packer = OnePack::new(&liar);
     let ended = serve_one(
         server,
-        &mut packer,
+        &liar,
         command.ends,
         &mut devices.input,
         &mut devices.output,

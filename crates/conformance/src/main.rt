@@ -73,7 +73,14 @@ where
     }
     let mut tally = Tally::new(depth);
     for format in [Format::Sha1, Format::Sha256] {
-        try_files(rt, format, names, files.as_slice(), &mut tally)?;
+        let mut script = Script::new(alloc, format);
+        for (name, text) in names.iter().zip(files.as_slice()) {
+            if let Err(trouble) = script.read(alloc, name.as_str(), text.as_str()) {
+                tell_trouble(rt, script.source, script.line, trouble, &mut tally)?;
+                return Ok(false);
+            }
+        }
+        try_script(rt, &script, &mut tally)?;
     }
     show(rt, &tally)?;
     Ok(tally.wrong == 0)
@@ -90,26 +97,17 @@ fn depth_of(words: &[String]) -> (Depth, &[String]) {
     }
 }
 
-// Tries the cases of the files with ids of one format.
-fn try_files<R: Print + AllocGlobal>(
+// Tries the cases of one format of ids.
+fn try_script<R: Print + AllocGlobal>(
     rt: &R,
-    format: Format,
-    names: &[String],
-    files: &[String],
+    script: &Script<'_>,
     tally: &mut Tally,
 ) -> io::Result<()> {
-    let alloc = rt.alloc();
-    let mut script = Script::new(alloc, format);
-    for (name, text) in names.iter().zip(files) {
-        if let Err(trouble) = script.read(alloc, name.as_str(), text.as_str()) {
-            return tell_trouble(rt, script.source, script.line, trouble, tally);
-        }
-    }
     for fact in script.facts.as_slice() {
-        try_fact(rt, &script, fact, tally)?;
+        try_fact(rt, script, fact, tally)?;
     }
     for case in script.cases.as_slice() {
-        try_case(rt, &script, case, tally)?;
+        try_case(rt, &*script, case, tally)?;
     }
     Ok(())
 }

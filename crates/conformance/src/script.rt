@@ -294,7 +294,7 @@ impl<'a> Script<'a> {
         let Some((due, text)) = rest.split_once(": ") else {
             return Err(Trouble::UnknownLine);
         };
-        if self.is_for_others() {
+        if self.format == Format::Sha256 {
             return Ok(());
         }
         let form = self.form(1);

@@ -21,8 +21,8 @@ use Rattle.glsreply.specs.LsReplies.{unborn_packets}
 use Rattle.glsreply.specs.RefTexts.{RefLine}
 use Rattle.glsreply.specs.WellFormed.{IsRefLine}
 use Rattle.gfetchreply.specs.FetchReplies.{Acks, Ready, Pack, Reading}
-use Rattle.gfetchreply.specs.WellFormed.{AreAcks, IsPackWithin}
-use Rattle.ganswer.specs.FetchAnswers.{SendsPack, commons_of}
+use Rattle.gfetchreply.specs.WellFormed.{AreAcks}
+use Rattle.ganswer.specs.FetchAnswers.{commons_of}
 use Rattle.ganswer.specs.Laws.{FetchAnswersFit, LsAnswersFit}
 use Rattle.ganswer.specs.LsAnswers.{HasAttributes, ShowsLines, all_refs, head_id, head_ref, is_asked, is_shown, missing_target, name_and_id, target_of}
 use Rattle.ganswer.specs.Servers.{Server, IsServer, PointsBelowRefs}
@@ -118,19 +118,13 @@ module _ {A : Type 0} where
   acks_here places server is asked few reading format ids are =
       subst (λ (f : Format). AreAcks f ids) (sym format) (subst (AreAcks server.graph.format) (sym are) (acks_fit places server is asked few))
 
-  pack_fits : (server : Server A) (packs : Packs A) (asked : FetchAsked) (pack : List ℕ) (limit : ℕ) → SendsPack server packs asked pack → length pack ≤ limit → IsPackWithin limit pack
-  pack_fits server packs asked pack limit sends short = record {
-    short = short;
-    few = (let most = sends.packed.few in omega (arith, most));
-  }
-
   pub fetch_answers_fit : PlacesAreNodes A → (packs : Packs A) → FetchAnswersFit A packs
   fetch_answers_fit places packs server asked (Acks ids) reading is few answers format direct short =
       (direct ∙ answers.replies.0, acks_here places server is asked few reading format ids answers.replies.1)
   fetch_answers_fit places packs server asked (Ready ids pack) reading is few answers format direct short = (
     direct ∙ answers.replies.0,
     acks_here places server is asked few reading format ids answers.replies.1,
-    pack_fits server packs asked pack reading.limit answers.replies.3 short,
+    short,
   )
   fetch_answers_fit places packs server asked (Pack pack) reading is few answers format direct short =
-      (direct ∙ answers.replies.0, pack_fits server packs asked pack reading.limit answers.replies.1 short)
+      (direct ∙ answers.replies.0, short)

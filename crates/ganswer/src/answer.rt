@@ -40,9 +40,24 @@ impl<A: Allocator + Copy> Server<A> {
     /// tags, too, that lead from the ids of refs to commits of it.
     ///
     /// It fails with `NoWants` where a fetch wants nothing; else with `NotOurs` for the first want that is not here;
-    /// else with `Pack` where the packer fails for the objects to send; and with `Memory`. Where the packer fails its
-    /// fault is reported: `Memory` says that memory ended where it was not asked.
+    /// else with `Pack` where the packer fails for the objects to send; and with `Memory`.
     pub fn answer<K: Packer<A>>(
+        &self,
+        request: &Request<A>,
+        packer: &K,
+    ) -> Result<Reply<A>, ServeFault>
+        ensures answer { MatchResult result
+            (λ reply. Answers self.now (K.packs packer.now) (asked_by_request request.now) (reply_of reply))
+            (Refuses self.now (K.pack_fails packer.now) (asked_by_request request.now)) }
+        ensures format { IfOk result (HasFormat self.now.graph.format) }
+    {
+        let mut packer = OnePack::new(packer);
+        self.answer_with(request, &mut packer)
+    }
+
+    /// As `answer`, by a packer of which is known what it answered: where it fails its fault is the one that is reported,
+    /// and `Memory` says that memory ended where it was not asked.
+    pub fn answer_with<K: Packer<A>>(
         &self,
         request: &Request<A>,
         packer: &mut OnePack<'_, K>,

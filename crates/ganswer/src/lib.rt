@@ -13,7 +13,7 @@
 //!   fetch the common ids, the pack of the objects to send, or both. It refuses a fetch exactly where nothing is
 //!   wanted, or with the first want that is not here; where the packer may refuse the objects to send; or out of
 //!   memory. The ids of an answer have the format of the graph, and an answer is never refused for its length.
-//! - [`Server::answer`] and [`Server::answer_fetch`] take one answer of the packer where a pack is sent, and where a
+//! - [`Server::answer_with`] and [`Server::answer_fetch`] take one answer of the packer where a pack is sent, and where a
 //!   fault of the packer is reported, which is the one that it answered; else they take none. So out of memory never
 //!   hides such a fault. A packer that has failed is asked no more ([`OnePack`]).
 //! - [`Server::write_ls_answer`] writes the answer to ls-refs, or a beginning of it where the sink fails.

@@ -1,6 +1,6 @@
 -- How often objects are asked for.
-use Rattle.std.proofs.Common.{◌≡◌, ℕ, ◌+◌, ◌≤◌, Bool, true, false, List, [], ◌∷◌, length, map, All, Contains, bytes_eq}
-use Rattle.std.proofs.Common.{Option, None, Ok, refl, sym, ap, subst, ◌∙◌, arith}
+use Rattle.std.proofs.Common.{◌≡◌, ℕ, ◌+◌, ◌≤◌, List, [], ◌∷◌, length, map, All, Contains, bytes_eq}
+use Rattle.std.proofs.Common.{Option, None, Ok, sym, ap, subst, ◌∙◌, arith}
 use Rattle.std.specs.Prelude.{IsSome}
 use Rattle.std.specs.List.{IsDistinct}
 use Rattle.std.proofs.lemmas.Bool.{false≢true}
@@ -14,7 +14,7 @@ use Rattle.std.specs.Map.{values_of}
 use Rattle.gpkt.specs.Packets.{Packet}
 use Rattle.gpkt.specs.Sending.{Input, Output}
 use Rattle.gobject.specs.declared.node.Entry.{Entry}
-use Rattle.gobject.specs.Objects.{has_id, node_at}
+use Rattle.gobject.specs.Objects.{has_id}
 use Rattle.gobject.specs.Packs.{Indexes, IndexFails}
 use Rattle.gfetchreply.specs.FetchReplies.{FetchReply}
 use Rattle.ghistory.specs.Graphs.{Holds}

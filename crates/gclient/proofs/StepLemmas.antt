@@ -12,7 +12,6 @@ use Rattle.ghello.specs.Adverts.{Says, judge}
 use Rattle.ghello.specs.Offers.{check_fault}
 use Rattle.gobject.specs.declared.node.Entry.{Entry}
 use Rattle.grepo.specs.Repos.{RepoState}
-use Rattle.grepo.specs.declared.fault.RepoFault.TheVariants as repo
 use Rattle.gsession.specs.Requesting.{is_due}
 use Rattle.gsession.specs.Sessions.{SessionState, IsBegun, tells_unborn, tips_of}
 use Rattle.gsession.specs.TakingRefs.{TakesLs, stage_for}

@@ -1,8 +1,6 @@
 -- From a request that is made and sent, and a reply that is taken, to a turn; and what turns keep.
 use Rattle.std.proofs.Common.{◌≡◌, ℕ, Bool, false, List, [], ◌∷◌, ◌++◌, Some, None, Ok, Err, refl, sym, ap, subst, ◌∙◌}
-use Rattle.std.proofs.Common.{append_assoc, append-nil, inl, inr}
-use Rattle.std.specs.Prelude.{◌⊎◌}
-use Rattle.gname.specs.declared.formats.Format.{Format}
+use Rattle.std.proofs.Common.{append-nil}
 use Rattle.gpkt.specs.Change.{Change}
 use Rattle.gpkt.specs.LineReading.{Reader}
 use Rattle.gpkt.specs.Packets.{Packet}
@@ -11,7 +9,6 @@ use Rattle.ggrammar.specs.MessageReading.{IsReadFailure}
 use Rattle.gfetchreply.specs.FetchReplies.{FetchReply}
 use Rattle.gobject.specs.Packs.{Indexes, IndexFails}
 use Rattle.gobject.specs.declared.node.Entry.{Entry}
-use Rattle.gobject.specs.Objects.{node_at}
 use Rattle.ghistory.specs.Reach.{Grows}
 use Rattle.ghistory.proofs.Growing.{grows_on, inserts_grows}
 use Rattle.grepo.specs.Repos.{RepoState}

@@ -7,6 +7,7 @@ use Rattle.std.proofs.lemmas.List.Elements.{All-cons, All-nil}
 use Rattle.std.proofs.lemmas.Option.{get_or_from_slice_get}
 use Rattle.gspec.specs.Refspecs.{IsSpec, Reads, Refspec}
 use Rattle.gspec.specs.declared.fault.SpecFault.{SpecFault}
+use Rattle.grepo.proofs.SettlingLemmas.{zip_push}
 use Rattle.grepo.specs.Asks.{IsAskAt}
 use Rattle.grepo.specs.declared.ask.Ask.{Ask}
 use Rattle.grepo.specs.declared.ask.RefUpdate.{RefUpdate}
@@ -76,13 +77,6 @@ module _ {A : Type 0} where
       ∙ ap (λ (ys : List RefUpdate). first ++ update_lines asks ys) (take_all place updates past_too))
 
 -- ---- refspecs
-
-zip_push : {X Y : Type 0} (R : X → Y → Type 0) (xs : List X) (ys : List Y) (x : X) (y : Y) → AllZip R xs ys → R x y
-    → AllZip R (xs ++ x ∷ []) (ys ++ y ∷ [])
-zip_push R [] [] x y all is = (is, tt)
-zip_push R [] (b ∷ ys) x y all is = absurd all
-zip_push R (a ∷ xs) [] x y all is = absurd all
-zip_push R (a ∷ xs) (b ∷ ys) x y all is = (all.0, zip_push R xs ys x y all.1 is)
 
 each_spec : (texts : List (List ℕ)) (specs : List Refspec) → AllZip IsSpec texts specs
     → All IsSpecText texts

@@ -8,7 +8,6 @@ ghost use Rattle.gpkt.specs.Sending.{input_of, output_of};
 use crate::fault::ProgramFault;
 use crate::program::finish;
 use crate::repository::load_server;
-use ganswer::OnePack;
 use ggrammar::Ends;
 use ggraph::PlainPack;
 use gpkt::{Sink, Source};
@@ -51,8 +50,7 @@ fn answer_one<A: Allocator + Copy, S: Source, W: Sink>(
     ensures output_loans { W.loans output.new ≡ W.loans output.old }
 {
     let server = load_server(alloc, file)?;
-    let mut packer = OnePack::new(&PlainPack);
-    outcome_of(serve_one(&server, &mut packer, Ends::Plain, input, output))
+    outcome_of(serve_one(&server, &PlainPack, Ends::Plain, input, output))
 }
 
 // How the work comes out at the end of the exchange.

@@ -8,7 +8,6 @@ ghost use Rattle.gpkt.specs.Sending.{input_of, output_of};
 use crate::fault::ProgramFault;
 use crate::program::finish;
 use crate::repository::load_server;
-use ganswer::OnePack;
 use ggrammar::Ends;
 use ggraph::PlainPack;
 use gpkt::{Sink, Source};
@@ -53,8 +52,7 @@ fn answer_all<A: Allocator + Copy, S: Source, W: Sink>(
     ensures output_loans { W.loans output.new ≡ W.loans output.old }
 {
     let server = load_server(alloc, file)?;
-    let mut packer = OnePack::new(&PlainPack);
-    outcome_of(serve(&server, &mut packer, ends, input, output).end)
+    outcome_of(serve(&server, &PlainPack, ends, input, output).end)
 }
 
 // How the work comes out at the end of the connection.

@@ -9,7 +9,8 @@ use Rattle.gserve.specs.Talks.{Talks, EndsByOwnFault}
 use Rattle.gserve.specs.declared.connection.End.{End}
 use Rattle.gserve.specs.declared.connection.End.TheVariants as end
 
--- a connection with known bytes, whose source is well and which did not end by its sink, is a conversation over these bytes, and all that is
+-- a connection with known bytes, whose source is well and which did not end by its sink, is a conversation over
+-- these bytes, and all that is
 -- written in it is passed on
 abbrev pub ServingIsTalking : (A : Type 0) → Packs A → PackFails A → Type 0
 ServingIsTalking A packs fails =

@@ -47,9 +47,27 @@ pub struct Served {
 ///
 /// It ends where the client ends it, where the input ends before a request, at the first refusal, whose line is
 /// written last, or where the sink fails. Where there is no memory to begin with, the line that says so is all that is
-/// written, and nothing is read. Where the packer fails its fault is reported: it shows in the packer afterwards, which
-/// else has not failed.
+/// written, and nothing is read.
 pub fn serve<S: Source, W: Sink, A: Allocator + Copy, K: Packer<A>>(
+    server: &Server<A>,
+    packer: &K,
+    ends: Ends,
+    source: &mut S,
+    sink: &mut W,
+) -> Served
+    ensures serves { Serves server.now (K.packs packer.now) (K.pack_fails packer.now) ends
+        (input_of S.remaining S.is_down source.old source.new)
+        (output_of W.contents W.passed_on W.is_down sink.old sink.new) result.requests result.end }
+    ensures source_loans { S.loans source.new ≡ S.loans source.old }
+    ensures sink_loans { W.loans sink.new ≡ W.loans sink.old }
+{
+    let mut packer = OnePack::new(packer);
+    serve_with(server, &mut packer, ends, source, sink)
+}
+
+/// As [`serve`], by a packer of which is known what it answered: where it fails its fault is the one that is reported, and
+/// no other stands in for it. It shows in the packer afterwards, which else has not failed.
+pub fn serve_with<S: Source, W: Sink, A: Allocator + Copy, K: Packer<A>>(
     server: &Server<A>,
     packer: &mut OnePack<'_, K>,
     ends: Ends,

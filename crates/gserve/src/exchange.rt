@@ -33,10 +33,29 @@ pub enum ExchangeEnd {
 
 /// Reads one request and writes what answers it, with no advertisement before it (gitprotocol-v2(5), "Command Request").
 /// Nothing after the request's last packet is read. Where there is no memory for the reader's buffer nothing is read.
-/// A request for refs takes no memory once it is read, and is answered. Where the packer fails its fault is reported.
+/// A request for refs takes no memory once it is read, and is answered.
 ///
 /// The source is well where the request was answered, and where there was none.
 pub fn serve_one<S: Source, W: Sink, A: Allocator + Copy, K: Packer<A>>(
+    server: &Server<A>,
+    packer: &K,
+    ends: Ends,
+    source: &mut S,
+    sink: &mut W,
+) -> ExchangeEnd
+    ensures exchange { ServesOne server.now (K.packs packer.now) (K.pack_fails packer.now) ends
+        (input_of S.remaining S.is_down source.old source.new)
+        (output_of W.contents W.passed_on W.is_down sink.old sink.new) result }
+    ensures source_loans { S.loans source.new ≡ S.loans source.old }
+    ensures sink_loans { W.loans sink.new ≡ W.loans sink.old }
+{
+    let mut packer = OnePack::new(packer);
+    serve_one_with(server, &mut packer, ends, source, sink)
+}
+
+/// As [`serve_one`], by a packer of which is known what it answered: where it fails its fault is the one that is reported,
+/// and no other stands in for it.
+pub fn serve_one_with<S: Source, W: Sink, A: Allocator + Copy, K: Packer<A>>(
     server: &Server<A>,
     packer: &mut OnePack<'_, K>,
     ends: Ends,

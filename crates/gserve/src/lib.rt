@@ -5,15 +5,16 @@
 //!
 //! - [`serve`] holds a conversation (`specs/Conversations.antt`). The requests that are read are those that the bytes
 //!   spell, in whatever pieces they come, and nothing after the last packet of a request is read. Each is answered as
-//!   `ganswer` says, for any packer; a request for refs always is, since its reply takes no memory. What is written is the advertisement and these replies in their one spelling, and
-//!   all of it is passed on. [`Served::requests`](Served) counts the replies.
+//!   `ganswer` says, for any packer; a request for refs always is, since its reply takes no memory. What is written is
+//!   the advertisement and these replies in their one spelling, and all of it is passed on.
+//!   [`Served::requests`](Served) counts the replies.
 //! - All that is due is passed on before anything more is read: where the sink fails, also as it passes a reply on,
 //!   nothing after the request of that reply was read, and before the first request nothing at all.
 //! - It ends with the client's lone flush; where the input ends before a request, or there were [`MAX_REQUESTS`]; at
 //!   the first request that is refused, whose line is then the last thing written, and is passed on; or where the sink
 //!   fails. The fault is the one of the request's grammar, of the server's answer, or the source's.
-//! - Where the packer fails its fault is the one that is reported, and out of memory never in its place: at the end of a
-//!   connection, and after one request, [`OnePack`] shows what the packer answered (`specs/Packings.antt`).
+//! - [`serve_with`] and [`serve_one_with`] do the same by a packer of which is known what it answered: where it fails
+//!   its fault is the one that is reported, and out of memory never in its place (`specs/Packings.antt`).
 //! - Where there is no memory for the buffer or for the advertisement, the line that says so stands in the
 //!   advertisement's place, and nothing is read.
 //! - Where the sink fails a beginning of what was due stands written: of the advertisement, of a reply, or of the line
@@ -59,8 +60,8 @@ mod refusal;
 mod send;
 mod write;
 
-pub use crate::connection::{End, MAX_REQUESTS, Served, serve};
-pub use crate::exchange::{ExchangeEnd, serve_one};
+pub use crate::connection::{End, MAX_REQUESTS, Served, serve, serve_with};
+pub use crate::exchange::{ExchangeEnd, serve_one, serve_one_with};
 pub use crate::refusal::{MAX_ERR_TEXT, err_text};
 pub use crate::write::write_reply;
 pub use ganswer::{BuildFault, OnePack, Packing, Reply, ServeFault, Server};

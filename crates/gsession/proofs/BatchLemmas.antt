@@ -1,21 +1,19 @@
 -- The next request: what is offered in it, and when one is due.
-use Rattle.std.proofs.Common.{◌≡◌, ℕ, ◌+◌, ◌-◌, ◌≤◌, ◌<◌, ◌==◌, Bool, true, false, List, [], ◌∷◌, ◌++◌, length, take}
-use Rattle.std.proofs.Common.{nat_le, All, Contains, Option, Some, None, Result, Ok, Err, MatchResult, if◌then◌else◌}
-use Rattle.std.proofs.Common.{bytes_eq, inl, inr, refl, sym, ap, subst, append_assoc, arith, tests, rules, ◌∙◌}
+use Rattle.std.proofs.Common.{◌≡◌, ℕ, ◌+◌, ◌≤◌, ◌<◌, Bool, true, false, List, [], ◌∷◌, ◌++◌, length}
+use Rattle.std.proofs.Common.{All, Contains, Option, Some, None, Result, Ok, Err, MatchResult, if◌then◌else◌}
+use Rattle.std.proofs.Common.{bytes_eq, inl, inr, refl, sym, ap, subst, append_assoc, arith, ◌∙◌}
 use Rattle.std.specs.List.{IsDistinct, list_any}
-use Rattle.std.specs.Map.{values_of}
 use Rattle.std.specs.Option.{is_some, option_map}
 use Rattle.std.proofs.lemmas.Bool.{false≢true, le-leb, lt-leb}
 use Rattle.std.proofs.lemmas.Cmp.{nat_list_eq_equiv}
 use Rattle.std.proofs.lemmas.Slice.Eq.{bytes_eq-Decides}
 use Rattle.std.proofs.lemmas.List.{append-nil}
-use Rattle.std.proofs.lemmas.List.Elements.{All-contains, All-contains_itself, All-from_recursion, All-nil, All-weaker}
+use Rattle.std.proofs.lemmas.List.Elements.{All-contains, All-from_recursion, All-nil, All-weaker}
 use Rattle.std.proofs.lemmas.List.Elements.{Contains-append_left, Contains-append_right, Contains-push}
 use Rattle.std.proofs.lemmas.List.Elements.{Contains-push_cases}
 use Rattle.std.proofs.lemmas.Map.Keys.{IsDistinct-head, IsDistinct-push, IsDistinct-tail}
 use Rattle.gname.specs.Ids.{IsIdOf}
 use Rattle.gname.specs.Laws.{IdsHaveOneFormat}
-use Rattle.gname.specs.declared.formats.Format.{Format}
 use Rattle.gobject.specs.declared.node.Entry.{Entry}
 use Rattle.gobject.specs.declared.node.Node.{Node}
 use Rattle.gobject.specs.Objects.{entry_of, node_at}
@@ -24,10 +22,10 @@ use Rattle.ghistory.specs.Laws.{DistinctAreOnce, OffersAreExact, PlacesAreNodes}
 use Rattle.ghistory.specs.Levels.{distinct_of}
 use Rattle.ghistory.specs.Offer.{IsOffer}
 use Rattle.ghistory.specs.Reach.{IsFull, here}
-use Rattle.grequest.specs.Asked.{Asked, max_haves}
+use Rattle.grequest.specs.Asked.{max_haves}
 use Rattle.grequest.specs.RequestValues.{asked_by_request}
 use Rattle.grequest.specs.declared.request.Request.{Request}
-use Rattle.gsession.specs.Requesting.{IsBatch, MakesNext, Requests, batch_of, is_due}
+use Rattle.gsession.specs.Requesting.{MakesNext, Requests, batch_of, is_due}
 use Rattle.gsession.specs.Sessions.{SessionState, IsSession, after_fault, no_memory, over}
 use Rattle.gsession.specs.Steps.{FitsBatch}
 use Rattle.gsession.specs.declared.fault.ClientFault.{ClientFault}

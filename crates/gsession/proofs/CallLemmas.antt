@@ -7,7 +7,6 @@ use Rattle.std.proofs.lemmas.List.{append-nil}
 use Rattle.gpkt.specs.Change.{Change}
 use Rattle.gpkt.specs.Packets.{Packet}
 use Rattle.ggrammar.specs.Capabilities.{Capability}
-use Rattle.glsreply.specs.LsReplies.{LsReply}
 use Rattle.gfetchreply.specs.FetchReplies.{FetchReply, Pack, Reading, reply_of}
 use Rattle.gobject.specs.declared.node.Entry.{Entry}
 use Rattle.gobject.specs.Packs.{Indexes, IndexFails}
@@ -16,11 +15,11 @@ use Rattle.grepo.specs.declared.ask.Ask.{Ask}
 use Rattle.grepo.specs.declared.ask.RefUpdate.{RefUpdate}
 use Rattle.grepo.specs.declared.fault.RepoFault.TheVariants as repo
 use Rattle.grepo.specs.Repos.{RepoState}
-use Rattle.grequest.specs.Asked.{Asked, Empty, Ls, Fetches, FetchAsked, LsRefsAsked, is_direct}
+use Rattle.grequest.specs.Asked.{Asked, Empty, Ls, Fetches, FetchAsked, is_direct}
 use Rattle.gsession.specs.Calls.{HasCalled, heard, requested, took_refs, took_reply, settled, GoesOn}
 use Rattle.gsession.specs.Calls.{Does, does_nothing, does_end, does_hear, does_ask, does_list, does_take, does_settle}
-use Rattle.gsession.specs.Requesting.{MakesNext, Requests, is_due, waiting_for}
-use Rattle.gsession.specs.Sessions.{SessionState, Hears, IsBegun, after_fault, ends_session, over, tells_unborn}
+use Rattle.gsession.specs.Requesting.{Requests, is_due, waiting_for}
+use Rattle.gsession.specs.Sessions.{SessionState, Hears, after_fault, ends_session, over, tells_unborn}
 use Rattle.gsession.specs.SettlingRefs.{SettlesSession}
 use Rattle.gsession.specs.TakingRefs.{TakesLs, with_refs}
 use Rattle.gsession.specs.TakingReplies.{Awaits, HasPack, TakesHead, TakesReply, acknowledged_by, after_acks}
@@ -32,21 +31,6 @@ use Rattle.gsession.specs.declared.stage.Stage.TheVariants.{Listing, Fetching, S
 use Rattle.gsession.specs.declared.taken.LsTaken.{LsTaken}
 use Rattle.gsession.specs.declared.taken.Taken.{Taken}
 use Rattle.gsession.specs.declared.taken.Taken.TheVariants.{Round, PackTaken}
-
--- it changed nothing; it ended the session; it kept what the server offers; it made a request where none waited; it
--- took
--- the reply to a request for refs, or to one for objects; or it settled
-pub data Does {A : Type 0} (g : List (Entry A)) (old new : SessionState A) : Type 0 where
-  does_nothing : new ≡ old → Does g old new
-  does_end : new ≡ over old → Does g old new
-  does_hear : (offers : Bool) → IsBegun old → new ≡ record old { offers_unborn = offers } → Does g old new
-  does_ask : (asked : Asked) → old.pending ≡ None → MakesNext old g new asked → Does g old new
-  does_list : (asked : LsRefsAsked) (reply : LsReply) (wants : List (List ℕ)) → old.pending ≡ Some (Ls asked)
-      → new ≡ with_refs old reply wants → Does g old new
-  does_take : (asked : FetchAsked) (stage : Stage) (acks : List (List ℕ)) → Awaits old asked
-      → All (Contains asked.haves) acks
-      → (asked.done ≡ true → stage ≡ Settling) → new ≡ after_acks old stage acks → Does g old new
-  does_settle : old.stage ≡ Settling → new ≡ record (over old) { asks = [] } → Does g old new
 
 -- ---- a request is due while refs or objects are to be asked for
 
@@ -144,10 +128,16 @@ module _ {A : Type 0} where
 
   -- ---- what every call leaves as it is
 
-  no_more : (old new : SessionState A) → new.format ≡ old.format → new.tips ≡ old.tips → new.sent ≡ old.sent
-      → GoesOn old new
-  no_more old new format tips sent =
-      record { format = format; tips = tips; sent = ([], sent ∙ sym (append-nil old.sent)) }
+  no_more : (old new : SessionState A) → new.format ≡ old.format → new.refspecs ≡ old.refspecs
+      → new.limit ≡ old.limit → new.ends ≡ old.ends → new.tips ≡ old.tips → new.sent ≡ old.sent → GoesOn old new
+  no_more old new format refspecs limit ends tips sent = record {
+    format = format;
+    refspecs = refspecs;
+    limit = limit;
+    ends = ends;
+    tips = tips;
+    sent = ([], sent ∙ sym (append-nil old.sent));
+  }
 
   asked_on : (old : SessionState A) (asked : Asked) (batch : List (List ℕ)) → GoesOn old (waiting_for old asked batch)
   asked_on old Empty batch = no_more old (waiting_for old Empty batch) refl refl refl refl refl refl

@@ -1,23 +1,18 @@
 -- Taking a reply to fetch, step by step.
-use Rattle.std.proofs.Common.{◌≡◌, ℕ, Bool, true, false, List, [], ◌∷◌, ◌++◌, length, All, Contains, Option, Some, None}
-use Rattle.std.proofs.Common.{Result, Ok, Err, MatchResult, if◌then◌else◌, inl, inr, refl, sym, ap, subst, append_assoc}
+use Rattle.std.proofs.Common.{◌≡◌, ℕ, Bool, true, false, List, [], ◌++◌, length, All, Contains, None}
+use Rattle.std.proofs.Common.{Result, Ok, Err, MatchResult, if◌then◌else◌, refl, sym, ap, subst}
 use Rattle.std.proofs.Common.{arith, ◌∙◌}
 use Rattle.std.proofs.lemmas.List.{append-nil}
 use Rattle.gpkt.specs.Change.{Change}
 use Rattle.gpkt.specs.LineReading.{Reader}
 use Rattle.gpkt.specs.Packets.{Packet}
-use Rattle.ggrammar.specs.Kinds.{ReadsMessage}
-use Rattle.ggrammar.specs.MessageReading.{LeavesReader, ReadsRefused}
-use Rattle.ggrammar.specs.declared.fault.MessageFault.{MessageFault}
-use Rattle.gfetchreply.specs.FetchReplies.{Reading, FetchReply, Acks, Ready, Pack, Says, brings, judge, reply_of}
+use Rattle.ggrammar.specs.MessageReading.{LeavesReader}
+use Rattle.gfetchreply.specs.FetchReplies.{Reading, FetchReply, Acks, Ready, Pack, reply_of}
 use Rattle.gfetchreply.specs.FetchHeads.{FetchHead, head_of, pack_of}
 use Rattle.gfetchreply.specs.FetchHeads as head
-use Rattle.gname.specs.Ids.{IsIdOf}
-use Rattle.gname.specs.declared.formats.Format.{Format}
 use Rattle.gobject.specs.declared.node.Entry.{Entry}
 use Rattle.gobject.specs.Packs.{Indexes, IndexFails}
 use Rattle.ghistory.specs.Graphs.{History}
-use Rattle.ghistory.specs.Insert.{Adds, IsRefused}
 use Rattle.ghistory.specs.Laws.{DistinctAreOnce}
 use Rattle.ghistory.specs.Levels.{distinct_of}
 use Rattle.ghistory.specs.Reach.{Grows}
@@ -27,7 +22,7 @@ use Rattle.ghistory.specs.declared.fault.GraphFault.TheVariants as graph
 use Rattle.grefs.specs.RefLists.{RefList}
 use Rattle.grepo.specs.declared.fault.RepoFault.TheVariants as repo
 use Rattle.grepo.specs.Repos.{RepoState}
-use Rattle.grequest.specs.Asked.{Fetches, FetchAsked, is_direct, max_haves}
+use Rattle.grequest.specs.Asked.{FetchAsked, is_direct}
 use Rattle.gsession.specs.Sessions.{SessionState, AreCommons, IsOpenFetch, LeavesReplies, after_fault}
 use Rattle.gsession.specs.Steps.{AnswersRead, AnswersReply, FitsHead, IsAcksFault}
 use Rattle.gsession.specs.TakingReplies.{Awaits, HasPack, IsFirstStrange, IsReplyFault, IsTakeFault, ReadsFetch}

@@ -1,17 +1,12 @@
 -- Sessions from call to call: what stays true of a session when some of its parts change.
-use Rattle.std.proofs.Common.{◌≡◌, ◌≢◌, ◌⊎◌, ℕ, ◌+◌, ◌≤◌, ◌==◌, ◌||◌, Bool, true, false, List, [], ◌∷◌, ◌++◌, length}
+use Rattle.std.proofs.Common.{◌≡◌, ◌≢◌, ℕ, ◌+◌, ◌≤◌, ◌==◌, Bool, false, List, [], ◌∷◌, ◌++◌, length}
 use Rattle.std.proofs.Common.{All, Contains, Option, Some, None, bytes_eq, refl, sym, ap, subst, arith, length-append, ◌∙◌}
-use Rattle.std.specs.List.{AllPairs, IsDistinct}
-use Rattle.std.specs.Map.{values_of}
-use Rattle.std.proofs.lemmas.List.{append-nil}
+use Rattle.std.specs.List.{IsDistinct}
 use Rattle.std.proofs.lemmas.List.Elements.{All-append, All-contains_itself, All-nil, All-weaker, Contains-append_left}
 use Rattle.std.proofs.lemmas.Bool.{ne_eqb}
 use Rattle.gname.specs.Ids.{IsIdOf}
-use Rattle.gname.specs.declared.formats.Format.{Format}
-use Rattle.ggrammar.specs.declared.ends.Ends.{Ends}
-use Rattle.gspec.specs.Refspecs.{Refspec}
 use Rattle.grepo.specs.declared.ask.Ask.{Ask}
-use Rattle.grequest.specs.Asked.{Asked, Empty, Ls, Fetches, FetchAsked, LsRefsAsked, is_direct, max_haves, max_wants}
+use Rattle.grequest.specs.Asked.{Asked, Ls, Fetches, FetchAsked, LsRefsAsked, is_direct, max_wants}
 use Rattle.gsession.specs.Requesting.{fetch_request}
 use Rattle.gsession.specs.Sessions.{SessionState, AreCommons, FitsStage, IsOpenFetch, IsSession, max_specs, over}
 use Rattle.gsession.specs.Steps.{FitsBatch}

@@ -1,11 +1,11 @@
 -- What decides the session after a reply.
-use Rattle.std.proofs.Common.{◌≡◌, ℕ, List, Result, Ok, Err, Some, refl, sym, ap, subst, ◌∙◌}
+use Rattle.std.proofs.Common.{◌≡◌, ℕ, List, Ok, Err, Some, refl, sym, subst, ◌∙◌}
 use Rattle.ggrammar.specs.Kinds.{ReadsExactly, SaysAtFront}
 use Rattle.ggrammar.specs.MessageBytes.{known}
 use Rattle.gfetchreply.specs.FetchReplies.{FetchReply, Reading, Says, brings, judge}
 use Rattle.gobject.specs.Packs.{Indexes, IndexFails}
 use Rattle.grepo.specs.Repos.{RepoState}
-use Rattle.grequest.specs.Asked.{Asked, Fetches, FetchAsked}
+use Rattle.grequest.specs.Asked.{Fetches, FetchAsked}
 use Rattle.gsession.specs.Sessions.{SessionState}
 use Rattle.gsession.specs.TakingReplies.{Awaits, ReadsFetch, TakesHead, TakingIsDecided}
 use Rattle.gsession.specs.TakingReplies.{reading_for}

@@ -21,9 +21,23 @@ pub(crate) fn first_strange<A: Allocator + Copy>(
 ) -> Option<Oid>
     ensures { MatchOption result (All (Contains haves.now) acks.now) (IsFirstStrange haves.now acks.now) }
 {
-    let offered = set_of(alloc, haves).ok();
+    match set_of(alloc, haves) {
+        Ok(offered) => first_unoffered::<A>(&Some(offered), haves, acks),
+        Err(_) => first_unoffered::<A>(&None, haves, acks),
+    }
+}
+
+// The first acknowledged id that is none of the haves, which the set has where there is one.
+fn first_unoffered<A: Allocator + Copy>(
+    offered: &Option<IndexSet<Oid, IdHasher, A>>,
+    haves: &[Oid],
+    acks: &[Oid],
+) -> Option<Oid>
+    requires { IfSome offered.now (λ set. (a : List ℕ) → (contains bytes_eq set a ≡ true) ↔ Contains haves.now a) }
+    ensures { MatchOption result (All (Contains haves.now) acks.now) (IsFirstStrange haves.now acks.now) }
+{
     for id in acks {
-        if !is_offered(&offered, haves, id) {
+        if !is_offered(offered, haves, id) {
             return Some(*id);
         }
     }

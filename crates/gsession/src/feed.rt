@@ -2,6 +2,7 @@
 #![tactic(auto)]
 
 ghost use Rattle.std.specs.Prelude.{◌≡◌, ◌++◌, [], List, ℕ, true, MatchResult};
+ghost use Rattle.gfetchreply.specs.PackSinks.{TakesPiece};
 ghost use Rattle.gsession.specs.Steps.{MayHaveFed};
 
 use gfetchreply::PackSink;
@@ -82,10 +83,9 @@ impl<K: Indexer<A>, A: Allocator + Copy> PackSink for PackFeed<'_, K, A> {
     // Never is a reply refused for what the indexer says of its pack: its fault is told once the reply is read.
     fn piece(&mut self, bytes: &[u8]) -> bool
         ensures all { result ≡ true }
-        ensures fed { (before : List ℕ) → MayHaveFed (K.fed self.old.indexer.now) (K.index_fails self.old.indexer.now)
-            self.old.feed before
-            → MayHaveFed (K.fed self.new.indexer.now) (K.index_fails self.new.indexer.now)
-            self.new.feed (before ++ bytes.now) }
+        ensures takes { TakesPiece
+            (λ feed taken. MayHaveFed (K.fed feed.indexer.now) (K.index_fails feed.indexer.now) feed.feed taken)
+            self.old self.new bytes.now result }
         ensures same { self.old.indexer.now ≡ self.new.indexer.now }
     {
         if let Err(fault) = self.add(bytes) {

@@ -1,7 +1,8 @@
 use Rattle.std.proofs.Common.{◌≡◌, Option, Ok, ap, subst, ◌∙◌}
 use Rattle.gpkt.specs.Sending.{input_of}
-use Rattle.grequest.specs.RequestReading.{ReadsRequest}
-use Rattle.grequest.specs.RequestValues.{asked_by_request}
+use Rattle.ggrammar.specs.Kinds.{ReadsIfAny}
+use Rattle.grequest.specs.Requests.{Says, brings, judge}
+use Rattle.grequest.specs.RequestValues.{asked_by_request, asked_result}
 use Rattle.grequest.specs.declared.request.Request.{Request}
 use Rattle.ghistory.specs.Graphs.{History}
 use Rattle.gserve.proofs.ExchangeLemmas.{exchanged, reading_refused, refused_to_read}
@@ -14,7 +15,7 @@ returns-in-Ok-Some-clause-exchange g c =
     let server = c.args.server.now in
     let format : c.format.result ≡ server.graph.format = c.format.ensures ∙ ap (λ (h : History g.row.A.Denot). h.format) c.graph-graph.ensures.graph in
     let input = input_of g.S.Source.remaining g.S.Source.is_down c.args.reader.now.source c.read_request_in.new.reader.source in
-    let read = subst (λ (request : Option (Request g.row.A.Denot)). ReadsRequest c.format.result asked_by_request input.read (Ok request)) c.in-Ok-Some.field-0-is c.in-Ok-Some.ensures.read in
+    let read = subst (λ (request : Option (Request g.row.A.Denot)). ReadsIfAny (judge c.format.result) brings (Says c.format.result) input.read (asked_result (Ok request))) c.in-Ok-Some.field-0-is c.in-Ok-Some.ensures.read in
     exchanged server (g.K.Packer.packs c.args.packer.now.packer) (g.K.Packer.pack_fails c.args.packer.now.packer) c.args.ends input _ c.format.result format
     (asked_by_request c.in-Ok-Some.request) c.reply.result read c.in-Ok-Some.ensures.reader.2 c.reply.ensures.replies
 

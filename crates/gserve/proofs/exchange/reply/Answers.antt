@@ -16,15 +16,15 @@ returns-in-Ls-clause-replies g c =
     (replied c.args.server.now (g.K.Packer.packs c.args.packer.now.packer) (g.K.Packer.pack_fails c.args.packer.now.packer) c.args.ends _
     (LsAsked c.in-Ls.asked) (Ls sent.0) c.send_ls_answer.result c.end_of.result c.end_of.ensures (λ is. cc) sent.1 sent.2)
 
-pub returns-in-Fetch-in-Ok-clause-replies : goal.returns-in-Fetch-in-Ok-clause-replies
-returns-in-Fetch-in-Ok-clause-replies g c =
+pub returns-in-Ok-clause-replies : goal.returns-in-Ok-clause-replies
+returns-in-Ok-clause-replies g c =
     rw c.in-Fetch.is
     (replied c.args.server.now (g.K.Packer.packs c.args.packer.now.packer) (g.K.Packer.pack_fails c.args.packer.now.packer) c.args.ends _
     (Fetches c.in-Fetch.asked.asked) (Fetch (reply_in c.in-Ok.reply)) c.send_fetch_reply.result c.end_of-in-Ok.result c.end_of-in-Ok.ensures
     (λ is. cc) c.in-Ok.ensures.answer c.send_fetch_reply.ensures.sent)
 
-pub returns-in-Fetch-in-Err-clause-replies : goal.returns-in-Fetch-in-Err-clause-replies
-returns-in-Fetch-in-Err-clause-replies g c =
+pub returns-in-Err-clause-replies : goal.returns-in-Err-clause-replies
+returns-in-Err-clause-replies g c =
     rw c.in-Fetch.is
     (refused_reply c.args.server.now (g.K.Packer.packs c.args.packer.now.packer) (g.K.Packer.pack_fails c.args.packer.now.packer) c.args.ends _
     (Fetches c.in-Fetch.asked.asked) c.in-Err.fault c.refuse.result c.in-Err.ensures.answer c.refuse.ensures.refused)
@@ -33,6 +33,6 @@ pub returns-in-Ls-clause-goes_on : goal.returns-in-Ls-clause-goes_on
 returns-in-Ls-clause-goes_on g c =
     goes_on_by c.send_ls_answer.result c.end_of.result c.end_of.ensures c.send_ls_answer.ensures.goes_on
 
-pub returns-in-Fetch-in-Ok-clause-goes_on : goal.returns-in-Fetch-in-Ok-clause-goes_on
-returns-in-Fetch-in-Ok-clause-goes_on g c =
+pub returns-in-Ok-clause-goes_on : goal.returns-in-Ok-clause-goes_on
+returns-in-Ok-clause-goes_on g c =
     goes_on_by c.send_fetch_reply.result c.end_of-in-Ok.result c.end_of-in-Ok.ensures c.send_fetch_reply.ensures.goes_on

@@ -3,13 +3,13 @@ use Rattle.gserve.proofs.send.send_fetch_reply.Goals as goal
 
 pub returns-in_err-write_fetch_reply-clause-sent : goal.returns-in_err-write_fetch_reply-clause-sent
 returns-in_err-write_fetch_reply-clause-sent g c =
-    passed_failed g.W.Sink.contents g.W.Sink.passed_on g.W.Sink.is_down g.W.Sink.loans _ _ _ _ _ c.requires c.in_err-write_fetch_reply.ensures
+    passed_failed g.W.Sink.contents g.W.Sink.passed_on g.W.Sink.is_down g.W.Sink.loans _ _ _ _ _ c.requires c.in_err-write_fetch_reply.ensures.lines
     c.from_residual.ensures.1
 
 pub returns-clause-sent : goal.returns-clause-sent
 returns-clause-sent g c =
     passed_pushed g.W.Sink.contents g.W.Sink.passed_on g.W.Sink.is_down g.W.Sink.loans c.writes_join.ensures.pushed
-    _ _ _ _ c.push.result c.in_ok-write_fetch_reply.ensures c.push.ensures
+    _ _ _ _ c.push.result c.in_ok-write_fetch_reply.ensures.lines c.push.ensures
 
 pub returns-clause-goes_on : goal.returns-clause-goes_on
 returns-clause-goes_on g c =

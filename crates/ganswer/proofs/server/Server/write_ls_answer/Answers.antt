@@ -11,7 +11,7 @@ returns-in_err-write_unborn g c =
     let all = canonical_reply c.args.ends reply in
     let unborn = option_copied c.unborn.result in
     law.fails _ _ _ all all (unborn_packets unborn) (lines_and_ending c.args.ends reply.lines) _ _ (law.starts _ all)
-    (answer_parts c.args.ends reply unborn (answers.unborn ∙ sym c.unborn.ensures)) c.in_err-write_unborn.ensures c.from_residual.ensures.1
+    (answer_parts c.args.ends reply unborn (answers.unborn ∙ sym c.unborn.ensures)) c.in_err-write_unborn.ensures.lines c.from_residual.ensures.1
 
 pub returns : goal.returns
 returns g c =
@@ -21,5 +21,5 @@ returns g c =
     let unborn = option_copied c.unborn.result in
     law.ends _ _ _ all (lines_and_ending c.args.ends reply.lines) _
     (law.after_part _ _ _ all all (unborn_packets unborn) (lines_and_ending c.args.ends reply.lines) (law.starts _ all)
-    (answer_parts c.args.ends reply unborn (answers.unborn ∙ sym c.unborn.ensures)) c.in_ok-write_unborn.ensures)
+    (answer_parts c.args.ends reply unborn (answers.unborn ∙ sym c.unborn.ensures)) c.in_ok-write_unborn.ensures.lines)
     (c.write_lines.ensures reply.lines answers.lines)

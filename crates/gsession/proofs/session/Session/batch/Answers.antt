@@ -1,4 +1,4 @@
-use Rattle.std.proofs.Common.{◌≡◌, ◌+◌, ◌≤◌, ◌<◌, ℕ, List, length, subst, sym, arith, ◌∙◌}
+use Rattle.std.proofs.Common.{◌+◌, ◌≤◌, ◌<◌, length, arith, ◌∙◌}
 use Rattle.grequest.specs.Asked.{max_haves}
 use Rattle.gsession.proofs.BatchLemmas.{batch_none, batch_room, offer_fits}
 use Rattle.gsession.proofs.session.Session.batch.Goals as goal

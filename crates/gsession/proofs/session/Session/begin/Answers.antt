@@ -1,4 +1,4 @@
-use Rattle.std.proofs.Common.{All, List, ℕ, refl, sym, ap, subst, arith, length}
+use Rattle.std.proofs.Common.{All, refl, sym, ap, subst, arith, length}
 use Rattle.gname.specs.Ids.{IsIdOf}
 use Rattle.gname.specs.declared.formats.Format.{Format}
 use Rattle.gsession.proofs.SessionLemmas.{begun}

@@ -1,9 +1,17 @@
 use Rattle.std.proofs.Common.{◌≡◌, ℕ, List, ◌++◌, All, Contains, ap, subst, ◌∙◌}
+use Rattle.std.proofs.lemmas.Result.{err_from_is_err_and}
 use Rattle.ghistory.specs.Levels.{distinct_of}
 use Rattle.gsession.specs.Sessions.{SessionState, IsSession}
 use Rattle.gsession.proofs.ReplyLemmas.{are_commons}
 use Rattle.gsession.proofs.SessionLemmas.{open_fetch}
 use Rattle.gsession.proofs.session.Session.commons_with.Goals as goal
+
+pub returns-in_err-with_acks-clause-counts : goal.returns-in_err-with_acks-clause-counts
+returns-in_err-with_acks-clause-counts g c = λ asked waits.
+    let p = err_from_is_err_and c.from_residual.result c.from_residual.ensures.1 in
+    let named : All (Contains asked.haves) c.args.acks.now =
+    rw (c.in_default.is, c.open_haves.ensures asked waits) at c.first_strange.ensures in
+    rw (p.1, p.2) named
 
 pub returns-clause-counts : goal.returns-clause-counts
 returns-clause-counts g c = λ asked waits.

@@ -1,8 +1,8 @@
-use Rattle.std.proofs.Common.{◌≡◌, [], sym, subst, ◌∙◌}
+use Rattle.std.proofs.Common.{[], sym, subst, ◌∙◌}
 use Rattle.gpkt.specs.Change.{change_of}
 use Rattle.gfetchreply.specs.FetchReplies.{Reading}
 use Rattle.gsession.specs.Steps.{AnswersRead, MayHaveFed}
-use Rattle.gsession.specs.TakingReplies.{ReadsFetch, reading_for}
+use Rattle.gsession.specs.TakingReplies.{ReadsFetch}
 use Rattle.gsession.proofs.ReplyLemmas.{read_answer}
 use Rattle.gsession.proofs.session.Session.read_objects.Goals as goal
 

@@ -1,5 +1,4 @@
 use Rattle.std.proofs.Common.{◌≡◌, length, ap, arith}
-use Rattle.gsession.specs.Sessions.{SessionState}
 use Rattle.gsession.specs.declared.stage.Stage.TheVariants.{Fetching}
 use Rattle.gsession.specs.declared.taken.Taken.TheVariants.{Round}
 use Rattle.gsession.proofs.ReplyLemmas.{acked}

@@ -1,10 +1,20 @@
-use Rattle.std.proofs.Common.{◌≡◌, ℕ, List, ◌++◌, All, Contains, refl, sym, ap, subst, ◌∙◌}
+use Rattle.std.proofs.Common.{ℕ, List, ◌++◌, All, Contains, refl, sym, ap, subst, ◌∙◌}
 use Rattle.std.proofs.lemmas.Result.{err_from_is_err_and}
 use Rattle.ghistory.specs.Levels.{distinct_of}
 use Rattle.gfetchreply.specs.FetchHeads.{pack_of}
 use Rattle.gsession.specs.declared.stage.Stage.TheVariants.{Settling}
-use Rattle.gsession.proofs.ReplyLemmas.{acked, graph_fault, same_repo}
+use Rattle.gsession.proofs.ReplyLemmas.{acked, acks_fault, graph_fault, same_repo}
 use Rattle.gsession.proofs.session.Session.take_pack.Goals as goal
+
+pub returns-in_err-commons : goal.returns-in_err-commons
+returns-in_err-commons g c = λ asked reply waits same has fed.
+    let p = err_from_is_err_and c.from_residual.result c.from_residual.ensures.1 in
+    rw (p.1, p.2) (
+      acks_fault (g.K.Indexer.indexes c.args.feed.indexer.now) (g.K.Indexer.index_fails c.args.feed.indexer.now)
+          asked.haves c.args.acks.now c.args.repo.now reply _ same (c.in_err-commons.ensures.counts asked waits),
+      refl,
+      refl,
+    )
 
 pub returns-in_err-entries : goal.returns-in_err-entries
 returns-in_err-entries g c = λ asked reply waits same has fed.

@@ -1,5 +1,4 @@
 use Rattle.std.proofs.Common.{◌≡◌, List, None, Err, length, refl, ap, subst, arith, ◌∙◌}
-use Rattle.glsreply.specs.LsReplies.{LsReply}
 use Rattle.grepo.specs.declared.ask.Ask.{Ask}
 use Rattle.gspec.specs.Refspecs.{Refspec}
 use Rattle.gsession.specs.Asking.{AreWants, unborn_told}

@@ -3,7 +3,7 @@ use Rattle.std.proofs.lemmas.Bool.{false≢true}
 use Rattle.std.proofs.lemmas.List.{take_all}
 use Rattle.std.proofs.lemmas.List.Elements.{All-more}
 use Rattle.gsession.proofs.ListLemmas.{at_front}
-use Rattle.gsession.proofs.acks.first_strange.Goals as goal
+use Rattle.gsession.proofs.acks.first_unoffered.Goals as goal
 
 pub returns-then-not-is_offered : goal.returns-then-not-is_offered
 returns-then-not-is_offered g c = let acks = c.args.acks.now in let k = c.loop-id.id-index in let id =
