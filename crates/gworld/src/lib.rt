@@ -50,4 +50,4 @@ mod world;
 pub use crate::fault::{RunFault, WorldFault};
 pub use crate::outcome::Outcome;
 pub use crate::world::World;
-pub use gscenario::Event;
+pub use gscenario::{Event, Scenario, ScenarioFault};

@@ -2,20 +2,17 @@
 #![tactic(auto)]
 
 ghost use Rattle.std.specs.Prelude.{◌≡◌, ◌≢◌, ◌∷◌, ◌++◌, [], IfOk, MatchResult, length, slice_get};
-ghost use Rattle.ganswer.specs.Answers.{Answers, Refuses, reply_of};
 ghost use Rattle.ganswer.specs.Faults.{serve_fault_row};
-ghost use Rattle.grequest.specs.RequestValues.{asked_by_request};
 ghost use Rattle.gworld.specs.Steps.{HearsStranger, ServesRequest, TalksTo, stranger_outcome};
 ghost use Rattle.gworld.specs.declared.outcome.Outcome.TheVariants as outcome;
 
 use super::{KeptReply, Parts, sent_at};
 use crate::fault::NO_SUCH;
 use crate::outcome::Outcome;
-use ganswer::{OnePack, Reply, ServeFault, Server};
+use ganswer::{ServeFault, Server};
 use ggrammar::Ends;
 use ggraph::Packer;
 use gpkt::memory::{SliceSource, VecSink};
-use grequest::Request;
 use gserve::laws::serving_is_talking;
 use gserve::{End, serve};
 use std::alloc::{AllocError, Allocator};
@@ -47,7 +44,7 @@ impl<A: Allocator + Copy> Parts<A> {
         let alloc = self.repo.graph().allocator();
         match sent_at(&self.sent, number) {
             None => Ok(Outcome::Fault { code: NO_SUCH }),
-            Some(sent) => match answer(&self.server, &sent.request, packer) {
+            Some(sent) => match self.server.answer(&sent.request, packer) {
                 Ok(reply) => {
                     let request = sent.request.copy_in(alloc)?;
                     keep(&mut self.kept, KeptReply { request, reply })
@@ -56,20 +53,6 @@ impl<A: Allocator + Copy> Parts<A> {
             },
         }
     }
-}
-
-// The server's reply to a request.
-fn answer<A: Allocator + Copy, K: Packer<A>>(
-    server: &Server<A>,
-    request: &Request<A>,
-    packer: &K,
-) -> Result<Reply<A>, ServeFault>
-    ensures { MatchResult result
-        (λ reply. Answers server.now (K.packs packer.now) (asked_by_request request.now) (reply_of reply))
-        (λ fault. Refuses server.now (K.pack_fails packer.now) (asked_by_request request.now) fault) }
-{
-    let mut once = OnePack::new(packer);
-    server.answer(request, &mut once)
 }
 
 // Keeps a reply.
@@ -105,8 +88,7 @@ fn talk<A: Allocator + Copy, K: Packer<A>>(
     serving_is_talking::<A, K>();
     let mut source = SliceSource::new(bytes);
     let mut sink = VecSink::new(alloc);
-    let mut once = OnePack::new(packer);
-    let served = serve(server, &mut once, Ends::Plain, &mut source, &mut sink);
+    let served = serve(server, packer, Ends::Plain, &mut source, &mut sink);
     let written = sink.written().len();
     stranger_outcome(written, served.end)
 }
