@@ -16,7 +16,8 @@ use Rattle.ghistory.specs.Laws.{PlacesAreNodes}
 use Rattle.ghistory.specs.Levels.{is_in, new_ids}
 use Rattle.ghistory.specs.Walks.{common_of}
 use Rattle.ghistory.proofs.IdLists.{either_way}
-use Rattle.ganswer.proofs.FormatLemmas.{filter_short, held_format}
+use Rattle.ghistory.proofs.Places.{held_id}
+use Rattle.ganswer.proofs.FormatLemmas.{filter_short}
 
 new_short : (earlier ids : List (List ℕ)) → length (new_ids earlier ids) ≤ length ids
 new_short earlier [] = omega arith
@@ -46,7 +47,7 @@ module _ {A : Type 0} where
       let more = held_have_format law g graph ids in
       let by : Bool → Bool = λ v. list_all (has_format g.format) (cond v (a ∷ rest) rest) in
       either_way (is_some (node_at g.entries a))
-      (λ e. ap by e ∙ ap₂ (λ (u v : Bool). u && v) (eq-eqb (length a) (id_length g.format) (held_format law g graph a e).long) more)
+      (λ e. ap by e ∙ ap₂ (λ (u v : Bool). u && v) (eq-eqb (length a) (id_length g.format) (held_id law g graph a e).long) more)
       (λ e. ap by e ∙ more)
 
   pub commons_fit : PlacesAreNodes A → (g : History A) → IsGraph g → (haves : List (List ℕ)) → length haves ≤ max_haves → acks_fault g.format (common_of g.entries haves) ≡ None

@@ -26,8 +26,9 @@ use Rattle.ganswer.specs.FetchAnswers.{commons_of}
 use Rattle.ganswer.specs.Laws.{FetchAnswersFit, LsAnswersFit}
 use Rattle.ganswer.specs.LsAnswers.{HasAttributes, ShowsLines, all_refs, head_id, head_ref, is_asked, is_shown, missing_target, name_and_id, target_of}
 use Rattle.ganswer.specs.Servers.{Server, IsServer, PointsBelowRefs}
+use Rattle.ghistory.proofs.Places.{held_id}
 use Rattle.ganswer.proofs.FetchLemmas.{commons_short}
-use Rattle.ganswer.proofs.FormatLemmas.{all_held, filter_short, held_format, lines_held, peeled_format, unborn_or_shown, unmap}
+use Rattle.ganswer.proofs.FormatLemmas.{all_held, filter_short, lines_held, peeled_format, unborn_or_shown, unmap}
 
 -- ---- names
 
@@ -73,7 +74,7 @@ module _ {A : Type 0} where
   module _ (places : PlacesAreNodes A) (server : Server A) (is : IsServer server) (asked : LsRefsAsked) where
     fit_line : (line : RefLine) → Holds server.graph.entries line.id → IsRefName line.name → HasAttributes server asked line → IsRefLine server.graph.format line
     fit_line line held name has = record {
-      id = held_format places server.graph is.graph line.id held;
+      id = held_id places server.graph is.graph line.id held;
       name = name;
       symref = subst (λ (o : Option (List ℕ)). IfSome o IsRefName) (sym has.symref) (symref_named server.head is.target (asked.symrefs && bytes_eq line.name head_name));
       peeled = peeled_format places server.graph is.graph asked.peel line.id line.peeled has.peeled;
@@ -108,7 +109,7 @@ module _ {A : Type 0} where
 
   acks_fit : PlacesAreNodes A → (server : Server A) → IsServer server → (asked : FetchAsked) → length asked.haves ≤ max_haves → AreAcks server.graph.format (commons_of server asked)
   acks_fit places server is asked few = record {
-    ids = All-weaker (Holds server.graph.entries) (IsIdOf server.graph.format) (held_format places server.graph is.graph) (commons_of server asked)
+    ids = All-weaker (Holds server.graph.entries) (IsIdOf server.graph.format) (held_id places server.graph is.graph) (commons_of server asked)
         (filter_passes (λ (a : List ℕ). is_some (node_at server.graph.entries a)) (new_ids [] asked.haves));
     few = (let short = commons_short server.graph.entries asked.haves in omega (arith, short, few));
   }

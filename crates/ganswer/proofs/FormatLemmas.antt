@@ -1,22 +1,20 @@
 -- The ids of a server's objects have the format of its graph, and an answer has room for its lines.
 use Rattle.std.proofs.Common.{◌≡◌, ℕ, ◌+◌, ◌≤◌, Bool, true, false, cond, ◌&&◌, List, [], ◌∷◌, ◌++◌, length, map, All, Option, Some, None, IsSome, refl, sym, ap, ap₂, ◌∙◌, subst, arith}
 use Rattle.std.specs.Prelude.{filter, find, is_none, if◌then◌else◌}
-use Rattle.std.specs.List.{slice_get}
 use Rattle.std.specs.Map.{values_of}
 use Rattle.std.specs.Option.{IfSome, option_map, option_map_or}
 use Rattle.std.proofs.lemmas.Bool.{false≢true, lt-ltb}
 use Rattle.std.proofs.lemmas.List.{length-append, length-map}
 use Rattle.std.proofs.lemmas.List.Elements.{All-append, All-cons, All-filter, All-head, All-nil, All-tail}
-use Rattle.std.proofs.lemmas.Option.{none-some, same_Some, slice_get_within, get_or_from_slice_get}
+use Rattle.std.proofs.lemmas.Option.{none-some, same_Some}
 use Rattle.gname.specs.Ids.{IsIdOf}
 use Rattle.gname.specs.Laws.{IdsHaveOneFormat}
 use Rattle.gname.specs.Names.{head_name}
 use Rattle.gname.specs.declared.formats.Format.{Format}
-use Rattle.gname.specs.declared.formats.Format.TheVariants.{Sha1, Sha256}
 use Rattle.gobject.specs.declared.node.Node.{Node}
 use Rattle.gobject.specs.declared.node.Entry.{Entry}
-use Rattle.gobject.specs.Objects.{node_at, entry_of}
-use Rattle.ghistory.specs.Graphs.{HasIdsOf, Holds, IsGraph, History}
+use Rattle.gobject.specs.Objects.{node_at}
+use Rattle.ghistory.specs.Graphs.{Holds, IsGraph, History}
 use Rattle.ghistory.specs.Laws.{PlacesAreNodes}
 use Rattle.ghistory.specs.Peeling.{PeelsTo}
 use Rattle.grefs.specs.RefLists.{RefList, has_name, ref_at}
@@ -29,11 +27,9 @@ use Rattle.glsreply.specs.WellFormed.{first_has_format_of, has_format_of, has_on
 use Rattle.ganswer.specs.LsAnswers.{HasAttributes, IsPeeledIf, ShowsLines, all_refs, head_id, head_ref, is_asked, is_shown, missing_target, name_and_id}
 use Rattle.ganswer.specs.LsBuilding.{IsNextRef}
 use Rattle.ganswer.specs.Servers.{Server, HoldsHead, HoldsRefs, IsServer}
-use Rattle.ghistory.proofs.Holding.{held_node}
 use Rattle.ghistory.proofs.IdLists.{either_way}
-
-all_at : {X : Type 0} (P : X → Type 0) (xs : List X) (k : ℕ) (x : X) → slice_get xs k ≡ Some x → All P xs → P x
-all_at P xs k x at all = subst P (get_or_from_slice_get xs k x x at) (all k x (slice_get_within xs k x at))
+use Rattle.ghistory.proofs.Places.{held_id}
+use Rattle.glsreply.proofs.ValueLemmas.{is_format-same}
 
 pub unmap : {X Y : Type 0} (P : Y → Type 0) (f : X → Y) (xs : List X) → All P (map f xs) → All (λ x. P (f x)) xs
 unmap P f [] all = All-nil (λ x. P (f x))
@@ -46,17 +42,11 @@ filter_short p (x ∷ xs) =
     either_way (p x) (λ e. let long = ap (λ v. length (cond v (x ∷ filter p xs) (filter p xs))) e in omega (arith, rest, long))
     (λ e. let long = ap (λ v. length (cond v (x ∷ filter p xs) (filter p xs))) e in omega (arith, rest, long))
 
--- ---- ids
-
-same_format : (format : Format) → is_format format format ≡ true
-same_format Sha1 = refl
-same_format Sha256 = refl
-
 -- ---- formats of lines
 
 module _ (law : IdsHaveOneFormat) (format : Format) where
   goes_with : (line : RefLine) (id : List ℕ) → IsIdOf format line.id → IsIdOf format id → has_format_of line id ≡ true
-  goes_with line id a b = ap₂ is_format (law format id b).1 (law format line.id a).1 ∙ same_format format
+  goes_with line id a b = ap₂ is_format (law format id b).1 (law format line.id a).1 ∙ is_format-same format
 
   goes_with_peeled : (line : RefLine) (peeled : Option (List ℕ)) → IsIdOf format line.id → IfSome peeled (IsIdOf format) → option_map_or (has_format_of line) peeled true ≡ true
   goes_with_peeled line None a b = refl
@@ -88,14 +78,6 @@ ref_held P (ref ∷ refs) name id at all =
     (λ e. ref_held P refs name id (sym (ap by e) ∙ at) (All-tail P ref.1 (values_of refs) all))
 
 module _ {A : Type 0} where
-  -- an id that is held is of the graph's format
-  pub held_format : PlacesAreNodes A → (g : History A) → IsGraph g → (a : List ℕ) → Holds g.entries a → IsIdOf g.format a
-  held_format law g graph a held =
-      let node = held_node g.entries a held in
-      let place = ((law g.entries graph.differ).0 a node.0).0 node.1 in
-      let entry : HasIdsOf g.format (entry_of a node.0) = all_at (HasIdsOf g.format) g.entries place.0 (entry_of a node.0) place.1 graph.ids in
-      entry.id
-
   peeled_held : (g : List (Entry A)) (id commit : List ℕ) → PeelsTo g id commit → Holds g commit
   peeled_held g id commit (m, tags, is) = subst (λ (o : Option (Node A)). IsSome o) (sym is.held) refl
 
@@ -126,7 +108,7 @@ module _ {A : Type 0} where
   peeled_format law g graph false id None is = tt
   peeled_format law g graph false id (Some commit) is = absurd (none-some commit (sym is))
   peeled_format law g graph true id None is = tt
-  peeled_format law g graph true id (Some commit) is = held_format law g graph commit (peeled_held g.entries id commit is.peels)
+  peeled_format law g graph true id (Some commit) is = held_id law g graph commit (peeled_held g.entries id commit is.peels)
 
   -- an unborn HEAD is not shown as a ref
   pub unborn_or_shown : (is_asked : Bool) (head : Head A) (refs : RefList) → length (unborn_packets (if is_asked then missing_target head refs else None)) + length (head_ref (head_id head refs)) ≤ 1
@@ -164,14 +146,14 @@ module _ {A : Type 0} where
           of_held [] all = All-nil (λ (l : RefLine). IsIdOf server.graph.format l.id)
           of_held (line ∷ lines) all =
               let P : RefLine → Type 0 = λ l. Holds server.graph.entries l.id in
-              All-cons (λ (l : RefLine). IsIdOf server.graph.format l.id) line lines (held_format places server.graph is.graph line.id (All-head P line lines all)) (of_held lines (All-tail P line lines all))
+              All-cons (λ (l : RefLine). IsIdOf server.graph.format l.id) line lines (held_id places server.graph is.graph line.id (All-head P line lines all)) (of_held lines (All-tail P line lines all))
 
       -- the line of the next ref goes with those before it
       pub goes : (line : RefLine) → ShowsLines server asked (ref ∷ []) (line ∷ []) → has_one_format reply.lines line ≡ true
       goes line shows =
           let P : RefLine → Type 0 = λ l. Holds server.graph.entries l.id in
           let here = lines_held server asked (ref ∷ []) (line ∷ []) shows (All-cons (λ (r : List ℕ × List ℕ). Holds server.graph.entries r.1) ref [] ref_is_held (All-nil (λ (r : List ℕ × List ℕ). Holds server.graph.entries r.1))) in
-          let id = held_format places server.graph is.graph line.id (All-head P line [] here) in
+          let id = held_id places server.graph is.graph line.id (All-head P line [] here) in
           let has : HasAttributes server asked line = All-head (HasAttributes server asked) line [] shows.attributes in
           one_format ids server.graph.format reply.lines line id (peeled_format places server.graph is.graph asked.peel line.id line.peeled has.peeled) formats
 

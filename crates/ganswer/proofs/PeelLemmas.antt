@@ -1,10 +1,10 @@
 -- Whether a chain of tags ends at a commit is decided, by following it.
-use Rattle.std.proofs.Common.{◌≡◌, ◌⊎◌, inl, inr, ℕ, ◌+◌, ◌≤◌, zero, suc, Bool, true, false, cond, List, [], ◌∷◌, Option, Some, None, refl, sym, ap, ◌∙◌, subst, arith}
+use Rattle.std.proofs.Common.{◌≡◌, ◌⊎◌, inl, inr, ℕ, zero, suc, Bool, true, false, cond, List, [], ◌∷◌, Option, Some, None, refl, sym, ap, ◌∙◌, subst, arith}
 use Rattle.std.specs.List.{slice_get}
 use Rattle.std.specs.Option.{option_map}
 use Rattle.std.specs.Prelude.{find}
 use Rattle.std.specs.Str.{bytes_eq}
-use Rattle.std.proofs.lemmas.Option.{none-some, same_Some}
+use Rattle.std.proofs.lemmas.Option.{none-some}
 use Rattle.std.proofs.lemmas.Slice.Eq.{bytes_eq-Decides}
 use Rattle.gobject.specs.declared.node.Kind.{Kind}
 use Rattle.gobject.specs.declared.node.Kind.TheVariants.{Commit, Tag}
@@ -12,6 +12,8 @@ use Rattle.gobject.specs.declared.node.Node.{Node}
 use Rattle.gobject.specs.declared.node.Entry.{Entry}
 use Rattle.gobject.specs.Objects.{has_id, node_at}
 use Rattle.ghistory.specs.Peeling.{IsCommit, IsTagOf, PeelsTo, Tags}
+use Rattle.ghistory.proofs.Holding.{one_node}
+use Rattle.ghistory.proofs.PeelLemmas.{no_cycle, no_tag, onward, tags_on}
 
 module _ {A : Type 0} (g : List (Entry A)) where
   -- the id leads to no commit
@@ -23,19 +25,6 @@ module _ {A : Type 0} (g : List (Entry A)) where
 
   -- ---- one object
 
-  same_node : (a : List ℕ) (m n : Node A) → node_at g a ≡ Some m → node_at g a ≡ Some n → m ≡ n
-  same_node a m n at_m at_n = same_Some m n (sym at_m ∙ at_n)
-
-  tag_is_no_commit : (a b : List ℕ) → IsTagOf g a b → IsCommit g a → ⊥
-  tag_is_no_commit a b tag commit =
-      let same = same_node a commit.node tag.node commit.held tag.held in
-      let kinds : Commit ≡ Tag = sym commit.commit ∙ ap (λ (n : Node A). n.kind) same ∙ tag.tag in cc
-
-  one_next : (a b c : List ℕ) → IsTagOf g a b → IsTagOf g a c → b ≡ c
-  one_next a b c tag other =
-      let same = same_node a tag.node other.node tag.held other.held in
-      same_Some b c (sym tag.names ∙ ap (λ (n : Node A). slice_get n.parents 0) same ∙ other.names)
-
   commit_or_not : (a : List ℕ) → IsCommit g a ⊎ (IsCommit g a → ⊥)
   commit_or_not a = by_node (node_at g a) refl
     where
@@ -43,7 +32,7 @@ module _ {A : Type 0} (g : List (Entry A)) where
       by_kind node held Commit commit = inl (record { node = node; held = held; commit = commit })
       by_kind node held Tag tag =
           inr (λ other.
-          let same = same_node a node other.node held other.held in
+          let same = one_node g a node other.node held other.held in
           let kinds : Tag ≡ Commit = sym tag ∙ ap (λ (n : Node A). n.kind) same ∙ other.commit in cc)
 
       by_node : (o : Option (Node A)) → node_at g a ≡ o → IsCommit g a ⊎ (IsCommit g a → ⊥)
@@ -60,12 +49,12 @@ module _ {A : Type 0} (g : List (Entry A)) where
       by_parent node held tag (Some b) names = inl (b, record { node = node; held = held; tag = tag; names = names })
       by_parent node held tag None none =
           inr (λ b other.
-          let same = same_node a node other.node held other.held in
+          let same = one_node g a node other.node held other.held in
           none-some b (sym none ∙ ap (λ (n : Node A). slice_get n.parents 0) same ∙ other.names))
 
       by_kind : (node : Node A) → node_at g a ≡ Some node → (k : Kind) → node.kind ≡ k → TagOrNot a
       by_kind node held Tag tag = by_parent node held tag (slice_get node.parents 0) refl
-      by_kind node held Commit commit = inr (λ b other. tag_is_no_commit a b other (record { node = node; held = held; commit = commit }))
+      by_kind node held Commit commit = inr (λ b other. no_tag g a b (record { node = node; held = held; commit = commit }) other)
 
       by_node : (o : Option (Node A)) → node_at g a ≡ o → TagOrNot a
       by_node None missing = inr (λ b other. none-some other.node (sym missing ∙ other.held))
@@ -73,45 +62,23 @@ module _ {A : Type 0} (g : List (Entry A)) where
 
   -- ---- chains of tags
 
-  -- what is left of a chain to a commit after so many tags of it
-  rest_of : (i m : ℕ) (a b c : List ℕ) → Tags g i a b → Tags g m a c → IsCommit g c → (k : ℕ) × (m ≡ i + k) × Tags g k b c
-  rest_of zero m a b c here chain commit = (m, omega arith, subst (λ (x : List ℕ). Tags g m x c) here chain)
-  rest_of (suc i) zero a b c (next, tag, rest) here commit = absurd (tag_is_no_commit a next tag (subst (IsCommit g) (sym here) commit))
-  rest_of (suc i) (suc m) a b c (next, tag, rest) (other, other_tag, chain) commit =
-      let same = one_next a other next other_tag tag in
-      let more = rest_of i m next b c rest (subst (λ (x : List ℕ). Tags g m x c) same chain) commit in
-      (more.0, omega (arith, more.1), more.2)
-
-  joined : (i m : ℕ) (a b c : List ℕ) → Tags g i a b → Tags g m b c → (k : ℕ) × Tags g k a c
-  joined zero m a b c here chain = (m, subst (λ (x : List ℕ). Tags g m x c) (sym here) chain)
-  joined (suc i) m a b c (next, tag, rest) chain =
-      let more = joined i m next b c rest chain in
-      (suc more.0, (next, tag, more.1))
-
   -- a chain that comes round has no end
-  never_ends : (fuel i m : ℕ) (a c : List ℕ) → m ≤ fuel → Tags g (suc i) a a → Tags g m a c → IsCommit g c → ⊥
-  never_ends zero i m a c short round chain commit =
-      let more = rest_of (suc i) m a a c round chain commit in omega (arith, more.1)
-  never_ends (suc fuel) i m a c short round chain commit =
-      let more = rest_of (suc i) m a a c round chain commit in
-      never_ends fuel i more.0 a c (omega (arith, more.1)) round more.2 commit
-
   comes_round : (i : ℕ) (a : List ℕ) → Tags g (suc i) a a → NeverPeels a
-  comes_round i a round c (m, chain, commit) = never_ends m i m a c (omega arith) round chain commit
+  comes_round i a round c (m, chain, commit) = no_cycle g m m i a c (omega arith) chain commit round
 
   -- an id peels where one does to which tags lead from it
   as_later : (i : ℕ) (a b : List ℕ) → Tags g i a b → PeelsOrNot b → PeelsOrNot a
   as_later i a b leads (inl (c, (m, chain, commit))) =
-      let all = joined i m a b c leads chain in
+      let all = tags_on g i m a b c leads chain in
       inl (c, (all.0, all.1, commit))
   as_later i a b leads (inr never) =
       inr (λ c peels.
-      let more = rest_of i peels.0 a b c leads peels.1 peels.2 in
+      let more = onward g peels.0 i a b c peels.1 peels.2 leads in
       never c (more.0, more.2, peels.2))
 
   -- where no tag leads on, the chain is over
   at_end : (a : List ℕ) → ((b : List ℕ) → IsTagOf g a b → ⊥) → PeelsOrNot a
-  at_end a no_tag =
+  at_end a untagged =
       elim (commit_or_not a) [
         | inl commit ↦ inl (a, (zero, refl, commit))
         | inr no_commit ↦ inr (λ c peels. over c peels no_commit)
@@ -119,7 +86,7 @@ module _ {A : Type 0} (g : List (Entry A)) where
     where
       over : (c : List ℕ) → PeelsTo g a c → (IsCommit g a → ⊥) → ⊥
       over c (zero, here, commit) no_commit = no_commit (subst (IsCommit g) (sym here) commit)
-      over c (suc m, (next, tag, rest), commit) no_commit = no_tag next tag
+      over c (suc m, (next, tag, rest), commit) no_commit = untagged next tag
 
   -- ---- following a chain through more and more entries
 
@@ -148,16 +115,16 @@ module _ {A : Type 0} (g : List (Entry A)) where
           let back : out.last ≡ b = sym (entry_is out.last same) ∙ here in
           inl (as_later i a b leads (inr (comes_round out.steps b (next, tag, subst (λ (x : List ℕ). Tags g out.steps next x) back out.leads))))
       again i b next leads here tag out false differs =
-          let all = joined i (suc out.steps) a b out.last leads (next, tag, out.leads) in
+          let all = tags_on g i (suc out.steps) a b out.last leads (next, tag, out.leads) in
           inr (record { steps = all.0; last = out.last; leads = all.1; out = outside out.last differs out.out })
 
-      onward : (i : ℕ) (b next : List ℕ) → Tags g i a b → entry.id ≡ b → IsTagOf g b next → Follows h next → Follows (entry ∷ h) a
-      onward i b next leads here tag (inl known) = inl (as_later i a b leads (as_later (suc zero) b next (next, tag, refl) known))
-      onward i b next leads here tag (inr out) = again i b next leads here tag out (bytes_eq entry.id out.last) refl
+      by_tag : (i : ℕ) (b next : List ℕ) → Tags g i a b → entry.id ≡ b → IsTagOf g b next → Follows h next → Follows (entry ∷ h) a
+      by_tag i b next leads here tag (inl known) = inl (as_later i a b leads (as_later (suc zero) b next (next, tag, refl) known))
+      by_tag i b next leads here tag (inr out) = again i b next leads here tag out (bytes_eq entry.id out.last) refl
 
       at_entry : (i : ℕ) (b : List ℕ) → Tags g i a b → entry.id ≡ b → TagOrNot b → Follows (entry ∷ h) a
-      at_entry i b leads here (inl (next, tag)) = onward i b next leads here tag (follow_others next)
-      at_entry i b leads here (inr no_tag) = inl (as_later i a b leads (at_end b no_tag))
+      at_entry i b leads here (inl (next, tag)) = by_tag i b next leads here tag (follow_others next)
+      at_entry i b leads here (inr untagged) = inl (as_later i a b leads (at_end b untagged))
 
       by_last : (out : LeadsOut h a) (v : Bool) → bytes_eq entry.id out.last ≡ v → Follows (entry ∷ h) a
       by_last out true same = at_entry out.steps out.last out.leads (entry_is out.last same) (tag_or_not out.last)

@@ -1,5 +1,5 @@
 -- What is missing of a server's parts.
-use Rattle.std.proofs.Common.{◌≡◌, ℕ, ◌+◌, ◌<◌, zero, suc, List, [], ◌∷◌, ◌++◌, length, get_or, take, drop, refl, sym, ap, ◌∙◌, subst, append_assoc, append-nil, add-one, drop-cons, Option, Some, None, Err, IsSome, All, Contains}
+use Rattle.std.proofs.Common.{◌≡◌, ℕ, ◌+◌, ◌<◌, zero, suc, List, [], ◌∷◌, ◌++◌, length, get_or, take, drop, sym, ap, ◌∙◌, subst, append_assoc, append-nil, add-one, drop-cons, Some, Err, IsSome, All, Contains}
 use Rattle.std.specs.List.{slice_get}
 use Rattle.std.specs.Option.{option_map}
 use Rattle.std.proofs.lemmas.List.{take_more, take-append-drop}
@@ -8,6 +8,7 @@ use Rattle.std.proofs.lemmas.List.Elements.{All-append, All-contains, All-map, C
 use Rattle.std.proofs.lemmas.Option.{none-some, same_Some, slice_get_within, get_or_from_slice_get}
 use Rattle.gobject.specs.declared.node.Entry.{Entry}
 use Rattle.gobject.specs.Objects.{node_at, entry_of, IdsDiffer}
+use Rattle.ghistory.proofs.ClosedLemmas.{parents_entry}
 use Rattle.ghistory.proofs.Growing.{at_front}
 use Rattle.ghistory.proofs.Holding.{not_held}
 use Rattle.ghistory.specs.Graphs.{Holds, IsFirstAbsent}
@@ -22,14 +23,6 @@ use Rattle.ganswer.specs.declared.fault.BuildFault.TheVariants as build
 -- ---- parents
 
 module _ {A : Type 0} where
-  parents_entry : (g : List (Entry A)) (p : ℕ) (parents : List (List ℕ)) → option_map (λ entry. entry.node.parents) (slice_get g p) ≡ Some parents
-      → (entry : Entry A) × (slice_get g p ≡ Some entry) × (entry.node.parents ≡ parents)
-  parents_entry g p parents at = by (slice_get g p) refl
-    where
-      by : (o : Option (Entry A)) → slice_get g p ≡ o → (entry : Entry A) × (slice_get g p ≡ Some entry) × (entry.node.parents ≡ parents)
-      by None none = absurd (none-some parents (ap (option_map (λ (entry : Entry A). entry.node.parents)) (sym none) ∙ at))
-      by (Some entry) here = (entry, here, same_Some entry.node.parents parents (ap (option_map (λ (entry : Entry A). entry.node.parents)) (sym here) ∙ at))
-
   -- the parents up to a place, and those at it
   pub parents_more : (P : List ℕ → Type 0) (g : List (Entry A)) (p : ℕ) (parents : List (List ℕ)) → option_map (λ entry. entry.node.parents) (slice_get g p) ≡ Some parents
       → All P (parents_in (take p g)) → All P parents → All P (parents_in (take (p + 1) g))

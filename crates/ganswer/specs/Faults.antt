@@ -1,13 +1,13 @@
--- The tables of faults: the number and the name of each, and the words for a client.
-use Rattle.std.specs.Prelude.{Bool, true, false, codes}
+-- The tables of faults: the number, the name and the text of each, and the words for a client.
+use Rattle.std.specs.Prelude.{ℕ, List, Bool, true, false, codes}
 use Rattle.gname.specs.Faults.{FaultRow}
-use Rattle.gpkt.specs.Faults.{line_fault_row}
+use Rattle.gpkt.specs.Faults.{line_fault_row, line_fault_text}
 use Rattle.gpkt.specs.declared.fault.LineFault.TheVariants as line
-use Rattle.grefs.specs.Faults.{refs_fault_row}
-use Rattle.gobject.specs.Faults.{pack_fault_row}
+use Rattle.grefs.specs.Faults.{refs_fault_row, refs_fault_text}
+use Rattle.gobject.specs.Faults.{pack_fault_row, pack_fault_text}
 use Rattle.gobject.specs.declared.fault.PackFault.TheVariants as pack
-use Rattle.ghistory.specs.Faults.{graph_fault_row}
-use Rattle.ggrammar.specs.Faults.{WhyRow, line_phrase, row_of, why_row}
+use Rattle.ghistory.specs.Faults.{graph_fault_row, graph_fault_text}
+use Rattle.ggrammar.specs.Faults.{WhyRow, line_phrase, message_fault_text, row_of, why_row}
 use Rattle.ggrammar.specs.declared.fault.Why.{Why}
 use Rattle.ggrammar.specs.declared.fault.Why.TheVariants as why
 use Rattle.ganswer.specs.declared.fault.BuildFault.{BuildFault}
@@ -52,3 +52,21 @@ lacks_memory (serve.NotOurs id) = false
 lacks_memory (serve.Pack pack.Memory) = true
 lacks_memory (serve.Pack _) = false
 lacks_memory serve.Memory = true
+
+-- ---- their texts
+abbrev pub build_fault_text : {A : Type 0} → BuildFault A → List ℕ
+build_fault_text (build.Graph fault) = graph_fault_text fault
+build_fault_text (build.Refs fault) = refs_fault_text fault
+build_fault_text (build.NotClosed id) = codes "a parent is missing"
+build_fault_text (build.RefMissing name) = codes "a ref stands at a missing object"
+build_fault_text build.HeadMissing = codes "HEAD stands at a missing object"
+build_fault_text (build.MissingParent id) = codes "a parent of the new object is missing"
+build_fault_text build.Memory = codes "out of memory"
+
+abbrev pub serve_fault_text : ServeFault → List ℕ
+serve_fault_text (serve.Reader fault) = line_fault_text fault
+serve_fault_text (serve.Request fault) = message_fault_text fault
+serve_fault_text serve.NoWants = codes "nothing is wanted"
+serve_fault_text (serve.NotOurs id) = codes "a wanted object is missing"
+serve_fault_text (serve.Pack fault) = pack_fault_text fault
+serve_fault_text serve.Memory = codes "out of memory"

@@ -66,9 +66,3 @@ pub record FetchAnswer {A : Type 0} (server : Server A) (packs : Packs A) (asked
 -- a pack is due: at once, or where enough is common
 abbrev pub IsPackDue : {A : Type 0} → Server A → FetchAsked → Type 0
 IsPackDue server asked = (is_direct asked ≡ true) ⊎ IsReadyFor server asked
-
--- the ids that a reply acknowledges
-abbrev pub acks_of : FetchReply → List (List ℕ)
-acks_of (Acks commons) = commons
-acks_of (Ready commons pack) = commons
-acks_of (Pack pack) = []

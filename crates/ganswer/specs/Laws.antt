@@ -23,7 +23,8 @@ use Rattle.ghello.specs.Offers.{check_fault, has_feature}
 use Rattle.ganswer.specs.Adverts.{advertised}
 use Rattle.ganswer.specs.Answers.{Answers, FetchRefuses, Reply}
 use Rattle.ganswer.specs.Changes.{Adds, Sets, SetsHead}
-use Rattle.ganswer.specs.FetchAnswers.{CanServe, FetchAnswer, SendsPack, acks_of}
+use Rattle.ganswer.specs.FetchAnswers.{CanServe, FetchAnswer, SendsPack}
+use Rattle.gfetchreply.specs.FetchHeads.{acknowledged_by}
 use Rattle.ganswer.specs.LsAnswers.{LsAnswer}
 use Rattle.ganswer.specs.Servers.{Server, IsServer}
 use Rattle.ganswer.specs.declared.fault.BuildFault.{BuildFault}
@@ -87,7 +88,7 @@ pub record AreCommon {A : Type 0} (server : Server A) (asked : FetchAsked) (ids 
 abbrev pub AcksAreCommon : (A : Type 0) → Packs A → Type 0
 AcksAreCommon A packs =
     (server : Server A) (asked : FetchAsked) (reply : FetchReply)
-    → FetchAnswer server packs asked reply → AreCommon server asked (acks_of reply)
+    → FetchAnswer server packs asked reply → AreCommon server asked (acknowledged_by reply)
 
 -- The pack is one of some entries of the server, which may be a graph's. Once they come in at a client whose graph
 -- agrees with the server's and that has the whole ancestry of each have, it has that of each want, and all that a want

@@ -1,9 +1,9 @@
 //! Why a server was not made or not changed, and why a request was not answered.
 
-ghost use Rattle.std.specs.Prelude.{◌≡◌};
+ghost use Rattle.std.specs.Prelude.{◌≡◌, Some};
 ghost use Rattle.gpkt.specs.Faults.{line_fault_row};
 ghost use Rattle.ggrammar.specs.Faults.{line_phrase, row_of};
-ghost use Rattle.ganswer.specs.Faults.{build_fault_row, lacks_memory, serve_fault_row, why_lacks_memory};
+ghost use Rattle.ganswer.specs.Faults.{build_fault_row, build_fault_text, lacks_memory, serve_fault_row, serve_fault_text, why_lacks_memory};
 ghost use Rattle.ganswer.specs.FaultViews.{row_view};
 ghost use Rattle.ganswer.specs.declared.fault.BuildFault.TheVariants as build;
 ghost use Rattle.ganswer.specs.declared.fault.ServeFault.TheVariants as serve;
@@ -13,31 +13,25 @@ use ggraph::{GraphFault, PackFault, RefsFault};
 use gname::{Oid, RefName};
 use gpkt::LineFault;
 use std::alloc::{AllocError, Allocator, Global};
-use thiserror::Error;
+use std::error::Error;
+use std::fmt;
 
 /// Why a server was not made, or not changed.
-#[derive(Debug, Drop, Error)]
+#[derive(Debug, Drop)]
 pub enum BuildFault<A: Allocator + Copy = Global> {
     /// 60 to 64, 75: the graph refuses the object.
-    #[error("{0}")]
     Graph(GraphFault),
     /// 69, 64: the refs refuse the name.
-    #[error("{0}")]
     Refs(RefsFault),
     /// 70: the parent of an object is not there.
-    #[error("a parent is missing")]
     NotClosed { id: Oid },
     /// 71: the object at which a ref stands is not there.
-    #[error("a ref stands at a missing object")]
     RefMissing { name: RefName<A> },
     /// 71: the object at which HEAD stands by its id is not there.
-    #[error("HEAD stands at a missing object")]
     HeadMissing,
     /// 72: the parent of an object that is to be added is not there.
-    #[error("a parent of the new object is missing")]
     MissingParent { id: Oid },
     /// 64: there is no memory for a name.
-    #[error("out of memory")]
     Memory,
 }
 
@@ -72,6 +66,26 @@ impl<A: Allocator + Copy> BuildFault<A> {
     }
 }
 
+impl<A: Allocator + Copy> fmt::Display for BuildFault<A> {
+    ghost output = { λ fault. Some (build_fault_text fault) };
+
+    fn fmt<W: fmt::Write>(&self, f: &mut fmt::Formatter<W>) -> fmt::Result {
+        match self {
+            BuildFault::Graph(fault) => fmt::Display::fmt(fault, f),
+            BuildFault::Refs(fault) => fmt::Display::fmt(fault, f),
+            BuildFault::NotClosed { .. } => f.write_str("a parent is missing"),
+            BuildFault::RefMissing { .. } => f.write_str("a ref stands at a missing object"),
+            BuildFault::HeadMissing => f.write_str("HEAD stands at a missing object"),
+            BuildFault::MissingParent { .. } => f.write_str(
+                "a parent of the new object is missing",
+            ),
+            BuildFault::Memory => f.write_str("out of memory"),
+        }
+    }
+}
+
+impl<A: Allocator + Copy + fmt::Debug> Error for BuildFault<A> {}
+
 impl<A: Allocator + Copy> From<AllocError> for BuildFault<A> {
     ghost from_gives = { λ _ fault. fault ≡ build.Memory };
 
@@ -81,25 +95,19 @@ impl<A: Allocator + Copy> From<AllocError> for BuildFault<A> {
 }
 
 /// Why a request was not answered.
-#[derive(Debug, Drop, Error)]
+#[derive(Debug, Drop)]
 pub enum ServeFault {
     /// 28: there is no memory for the reader of requests.
-    #[error("{0}")]
     Reader(LineFault),
     /// 20 to 54: the request was refused as it was read.
-    #[error("{0}")]
     Request(MessageFault),
     /// 73: a fetch without a want.
-    #[error("nothing is wanted")]
     NoWants,
     /// 74: the first wanted object that is not there.
-    #[error("a wanted object is missing")]
     NotOurs { id: Oid },
     /// 65: the packer refuses the objects to send.
-    #[error("{0}")]
     Pack(PackFault),
     /// 64: there is no memory for the answer.
-    #[error("out of memory")]
     Memory,
 }
 
@@ -175,6 +183,23 @@ impl ServeFault {
         }
     }
 }
+
+impl fmt::Display for ServeFault {
+    ghost output = { λ fault. Some (serve_fault_text fault) };
+
+    fn fmt<W: fmt::Write>(&self, f: &mut fmt::Formatter<W>) -> fmt::Result {
+        match self {
+            ServeFault::Reader(fault) => fmt::Display::fmt(fault, f),
+            ServeFault::Request(fault) => fmt::Display::fmt(fault, f),
+            ServeFault::NoWants => f.write_str("nothing is wanted"),
+            ServeFault::NotOurs { .. } => f.write_str("a wanted object is missing"),
+            ServeFault::Pack(fault) => fmt::Display::fmt(fault, f),
+            ServeFault::Memory => f.write_str("out of memory"),
+        }
+    }
+}
+
+impl Error for ServeFault {}
 
 // Whether a request was not read for want of memory.
 fn why_is_memory(why: &Why) -> bool

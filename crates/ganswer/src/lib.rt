@@ -26,8 +26,8 @@
 //!   the wants at a client that has those of its haves. Wants that are here are refused only for the packer, or out of
 //!   memory. Answers have the forms of their messages, so that what is written of them can be read by a client of the
 //!   same object format. Objects only come to a server, and their ids stay of one format.
-//! - Each fault has the number and the name of its row, and the words for a client; [`ServeFault::is_memory`] tells
-//!   which are want of memory.
+//! - Each fault has the number, the name and the text of its row, and the words for a client; [`ServeFault::is_memory`] says
+//!   which of them mean that there was no memory.
 //! - No call panics, overflows or reads out of bounds, and each returns.
 //!
 //! # Only tested
@@ -36,7 +36,7 @@
 //!
 //! # Neither proved nor tested
 //!
-//! The texts that faults display; that `OnePack` calls its packer once for the one answer that it takes.
+//! That `OnePack` calls its packer once for the one answer that it takes.
 //!
 //! # What a body can still get away with
 //!
@@ -49,7 +49,7 @@
 //!
 //! `ggraph` for graphs, refs, walks and packers, which come from `gobject`, `ghistory`, `grefs` and `gwalk`;
 //! `grequest`, `glsreply`, `gfetchreply` and `ghello` for the messages, `ggrammar` and `gpkt` for what these share,
-//! `gname` for ids and names, `thiserror` for the texts of faults.
+//! `gname` for ids and names.
 #![tactic(auto)]
 
 mod advert;

@@ -1,16 +1,15 @@
 -- How often objects are asked for.
-use Rattle.std.proofs.Common.{◌≡◌, ℕ, ◌+◌, ◌≤◌, List, [], ◌∷◌, length, map, All, Contains, bytes_eq}
+use Rattle.std.proofs.Common.{◌≡◌, ℕ, ◌+◌, ◌≤◌, List, [], ◌∷◌, length, All, Contains, bytes_eq}
 use Rattle.std.proofs.Common.{Option, None, Ok, sym, ap, subst, ◌∙◌, arith}
 use Rattle.std.specs.Prelude.{IsSome}
 use Rattle.std.specs.List.{IsDistinct}
 use Rattle.std.proofs.lemmas.Bool.{false≢true}
 use Rattle.std.proofs.lemmas.Cmp.{nat_list_eq_equiv}
 use Rattle.std.proofs.lemmas.List.{length-map}
-use Rattle.std.proofs.lemmas.List.Elements.{All-contains, All-contains_itself, All-nil, All-weaker}
+use Rattle.std.proofs.lemmas.List.Elements.{All-contains, All-nil}
 use Rattle.std.proofs.lemmas.List.Elements.{Contains-append_right}
 use Rattle.std.proofs.lemmas.Map.Made.{is_member-Decides, length-le_from_is_member}
 use Rattle.std.proofs.lemmas.Slice.Eq.{bytes_eq-Decides}
-use Rattle.std.specs.Map.{values_of}
 use Rattle.gpkt.specs.Packets.{Packet}
 use Rattle.gpkt.specs.Sending.{Input, Output}
 use Rattle.gobject.specs.declared.node.Entry.{Entry}
@@ -19,8 +18,8 @@ use Rattle.gobject.specs.Packs.{Indexes, IndexFails}
 use Rattle.gfetchreply.specs.FetchReplies.{FetchReply}
 use Rattle.ghistory.specs.Graphs.{Holds}
 use Rattle.ghistory.specs.Laws.{DistinctAreOnce}
-use Rattle.ghistory.specs.Levels.{distinct_of}
 use Rattle.ghistory.specs.Reach.{IsFull, SomeReaches}
+use Rattle.ghistory.proofs.Counting.{ids_of}
 use Rattle.ghistory.proofs.Holding.{node_there}
 use Rattle.ghistory.proofs.IdLists.{either_way}
 use Rattle.grepo.specs.Repos.{RepoState, IsWhole}
@@ -30,16 +29,15 @@ use Rattle.gsession.specs.Requesting.{Requests}
 use Rattle.gsession.specs.Sessions.{SessionState, IsSession, FitsStage, tips_of}
 use Rattle.gsession.specs.TakingReplies.{TakesHead}
 use Rattle.gsession.specs.declared.stage.Stage.{Stage}
-use Rattle.gsession.specs.declared.stage.Stage.TheVariants.{Listing, Fetching, Settling}
+use Rattle.gsession.specs.declared.stage.Stage.TheVariants.{Fetching, Settling}
 use Rattle.gsession.specs.declared.taken.Taken.{Taken}
 use Rattle.gsession.specs.declared.taken.Taken.TheVariants.{Round, PackTaken}
+use Rattle.gsession.proofs.NextLaws.{tips_are_full}
+use Rattle.gsession.proofs.SessionLemmas.{listing_fetches, settling_fetches}
 use Rattle.gclient.specs.Steps.{TakesTurn, stage_after}
 use Rattle.gclient.specs.Turns.{ClientState, IsTurn, Takes, Turn}
 
 -- ---- distinct held ids are at most as many as there are objects
-
-abbrev ids_of : {A : Type 0} → List (Entry A) → List (List ℕ)
-ids_of g = map (λ entry. entry.id) g
 
 held_among : {A : Type 0} (g : List (Entry A)) (a : List ℕ) → Holds g a → Contains (ids_of g) a
 held_among [] a held = absurd (false≢true held)
@@ -63,12 +61,6 @@ sent_are_few {A} g s once began =
 
 stage_is : {x y : Stage} {A : Type 0} (s : SessionState A) → s.stage ≡ x → s.stage ≡ y → x ≡ y
 stage_is s one other = sym one ∙ other
-
-settling_fetches : Settling ≡ Fetching → ⊥
-settling_fetches same = cc
-
-listing_fetches : Listing ≡ Fetching → ⊥
-listing_fetches same = cc
 
 module _ {A : Type 0} (indexes : Indexes A) (index_fails : IndexFails) where
   -- where only acknowledgments came, the repository stays
@@ -124,14 +116,6 @@ rounds_within {A} g s is stage pending began =
     omega (arith, fits, few)
 
 -- ---- the beginning
-
-tips_are_full : {A : Type 0} → DistinctAreOnce → (repo : RepoState A) → IsWhole repo
-    → All (IsFull repo.graph.entries) (tips_of repo)
-tips_are_full once repo whole =
-    let ids : List (List ℕ) = values_of repo.refs in
-    All-weaker (Contains (distinct_of ids)) (IsFull repo.graph.entries)
-    (λ a there. All-contains (IsFull repo.graph.entries) ids a whole.safe (((once ids).same a).0 there))
-    (distinct_of ids) (All-contains_itself (distinct_of ids))
 
 -- a session begins on the graph of its repository
 pub begins_on : {A : Type 0} → DistinctAreOnce → (repo : RepoState A) (s : SessionState A) → IsWhole repo

@@ -1,8 +1,6 @@
 -- Requests that are written and passed on, one after the other.
-use Rattle.std.proofs.Common.{◌≡◌, ℕ, Bool, false, List, [], ◌∷◌, ◌++◌, Option, Result, Ok, Err, refl, sym, ap, subst}
+use Rattle.std.proofs.Common.{◌≡◌, ℕ, Bool, List, [], ◌∷◌, ◌++◌, Option, Result, Ok, Err, sym, ap, subst}
 use Rattle.std.proofs.Common.{◌∙◌, append-nil}
-use Rattle.std.specs.Prelude.{OnOk}
-use Rattle.std.proofs.lemmas.Bool.{false≢true}
 use Rattle.std.specs.Io.KnownBytes.{Appends}
 use Rattle.gpkt.specs.Devices.{KeepsPassed}
 use Rattle.gpkt.specs.Laws.{PushesWritten}
@@ -10,8 +8,8 @@ use Rattle.gpkt.specs.LineWriting.{Writer, HasPushed}
 use Rattle.gpkt.specs.Packets.{Packet, canonical_all}
 use Rattle.gpkt.specs.Sending.{output_of, IsUnwritten, Passes, SendsSome}
 use Rattle.gpkt.specs.declared.fault.WriteFault.{WriteFault}
-use Rattle.gpkt.specs.declared.fault.WriteFault.TheVariants.{Failed, Payload, Io}
-use Rattle.gpkt.proofs.SendingLemmas.{fails_after, is_some, keeps_on, keeps_still, passes_join, passes_still}
+use Rattle.gpkt.proofs.SendingLemmas.{fails_after, is_some, passes_join, passes_still}
+use Rattle.ggrammar.proofs.PassingLemmas.{push_fails, pushed_passes}
 use Rattle.ggrammar.specs.Writing.{WritesLines}
 use Rattle.std.specs.List.{flat_map}
 use Rattle.std.proofs.lemmas.Grind.{flat_map-append}
@@ -29,45 +27,9 @@ module _ {W : Type 0} (contents passed_on : W → Option (List ℕ)) (is_down : 
       → HasPushed contents passed_on is_down loans b c result
       → HasPassed (output_of contents passed_on is_down a.sink c.sink) result (canonical_all packets)
   passed_pushed pushes a b c packets (Ok done) wrote pushed =
-      let all = pushes a b c (canonical_all packets) (Ok done) wrote.written pushed in
-      record { written = all.0; passed_on = λ known. all.1; up = pushed.outcome.0.2 }
-  passed_pushed pushes a b c packets (Err Io) wrote pushed = (
-    record {
-      front = canonical_all packets;
-      rest = [];
-      parts = sym (append-nil (canonical_all packets));
-      written = (pushes a b c (canonical_all packets) (Err Io) wrote.written pushed).0;
-      down = pushed.outcome.0.2;
-    },
-    keeps_on (passed_on a.sink) (passed_on b.sink) (passed_on c.sink) wrote.written.passed_on pushed.outcome.1,
-  )
-  passed_pushed pushes a b c packets (Err Payload) wrote pushed = absurd pushed.outcome
-  passed_pushed pushes a b c packets (Err Failed) wrote pushed =
-      absurd (false≢true (sym wrote.written.outcome.0.1 ∙ pushed.outcome.0))
-
-  -- a write that failed
-  pub passed_failed : (a b : Writer W) (packets : List Packet) (fault : WriteFault) → a.failed ≡ false
-      → WritesLines contents passed_on is_down loans a b (Err fault) packets
-      → HasPassed {E = WriteFault} (output_of contents passed_on is_down a.sink b.sink) (Err fault)
-      (canonical_all packets)
-  passed_failed a b packets Io ready wrote = (
-    record {
-      front = wrote.written.outcome.1.0;
-      rest = wrote.written.outcome.1.1;
-      parts = wrote.written.outcome.1.2;
-      written = wrote.written.outcome.1.4;
-      down = wrote.written.outcome.0.2;
-    },
-    keeps_still (passed_on a.sink) (passed_on b.sink) wrote.written.passed_on,
-  )
-  passed_failed a b packets Payload ready wrote = absurd (wrote.fits refl)
-  passed_failed a b packets Failed ready wrote = absurd (false≢true (sym ready ∙ wrote.written.outcome.0))
-
-  -- the writer goes on
-  pub push_goes_on : (b c : Writer W) (result : Result (Unit {0}) WriteFault)
-      → HasPushed contents passed_on is_down loans b c result → OnOk result (c.failed ≡ false)
-  push_goes_on b c (Ok done) pushed = pushed.outcome.0.1
-  push_goes_on b c (Err fault) pushed = tt
+      pushed_passes contents passed_on is_down loans pushes a b c packets done wrote pushed
+  passed_pushed pushes a b c packets (Err fault) wrote pushed =
+      push_fails contents passed_on is_down loans pushes a b c packets fault wrote pushed
 
 -- ---- one after the other
 

@@ -1,6 +1,5 @@
 -- From a request that is made and sent, and a reply that is taken, to a turn; and what turns keep.
 use Rattle.std.proofs.Common.{◌≡◌, ℕ, Bool, false, List, [], ◌∷◌, ◌++◌, Some, None, Ok, Err, refl, sym, ap, subst, ◌∙◌}
-use Rattle.std.proofs.Common.{append-nil}
 use Rattle.gpkt.specs.Change.{Change}
 use Rattle.gpkt.specs.LineReading.{Reader}
 use Rattle.gpkt.specs.Packets.{Packet}
@@ -10,7 +9,7 @@ use Rattle.gfetchreply.specs.FetchReplies.{FetchReply}
 use Rattle.gobject.specs.Packs.{Indexes, IndexFails}
 use Rattle.gobject.specs.declared.node.Entry.{Entry}
 use Rattle.ghistory.specs.Reach.{Grows}
-use Rattle.ghistory.proofs.Growing.{grows_on, inserts_grows}
+use Rattle.ghistory.proofs.Growing.{grows_none, grows_on, inserts_grows}
 use Rattle.grepo.specs.Repos.{RepoState}
 use Rattle.grequest.specs.Asked.{Asked, Empty, Ls, Fetches, LsRefsAsked, FetchAsked}
 use Rattle.gsession.specs.Bounds.{BeganOn, BeganStays}
@@ -223,9 +222,6 @@ module _ {A : Type 0} (indexes : Indexes A) (index_fails : IndexFails) where
       unsent asks.0 new asks.1 unread asks.2
 
 -- ---- what turns keep
-
-grows_none : {A : Type 0} (g h : List (Entry A)) → h ≡ g → Grows g h
-grows_none g h is = ([], is ∙ sym (append-nil g))
 
 -- what a client's turns keep: its refs, its formats and its tips, and that objects only come
 pub record IsKept {A : Type 0} (old new : ClientState A) : Type 0 where

@@ -1,8 +1,8 @@
 // Why a conversation failed.
 #![tactic(auto)]
 
-ghost use Rattle.std.specs.Prelude.{◌≡◌};
-ghost use Rattle.gclient.specs.Faults.{fetch_fault_row};
+ghost use Rattle.std.specs.Prelude.{◌≡◌, Some};
+ghost use Rattle.gclient.specs.Faults.{fetch_fault_row, fetch_fault_text};
 ghost use Rattle.gclient.specs.declared.fault.FetchFault.TheVariants as fetch;
 ghost use Rattle.gsession.specs.declared.fault.ClientFault.TheVariants.{Message};
 
@@ -10,20 +10,18 @@ use ggrammar::MessageFault;
 use gpkt::WriteFault;
 use gsession::ClientFault;
 use std::alloc::{Allocator, Global};
-use thiserror::Error;
+use std::error::Error;
+use std::fmt;
 
 /// Why a conversation failed. Its number tells it apart.
-#[derive(Debug, Drop, Error)]
+#[derive(Debug, Drop)]
 pub enum FetchFault<A: Allocator + Copy = Global> {
     /// 20 to 25, 29, 30 and 41 to 54: the advertisement or a reply was refused, at one of its packets; 60 to 64, 66,
     /// 69, 75, 82, 84, 85 and 86: the session or the repository refused what came, or there is no memory (64).
-    #[error("{0}")]
     Client(ClientFault<A>),
     /// 28: there is no memory for the buffer of the reader, and nothing was read.
-    #[error("out of memory")]
     NoBuffer,
     /// 27: the sink failed. A beginning of the requests stands written.
-    #[error("the sink failed")]
     WriteFailed,
 }
 
@@ -53,6 +51,20 @@ impl<A: Allocator + Copy> FetchFault<A> {
         }
     }
 }
+
+impl<A: Allocator + Copy> fmt::Display for FetchFault<A> {
+    ghost output = { λ fault. Some (fetch_fault_text fault) };
+
+    fn fmt<W: fmt::Write>(&self, f: &mut fmt::Formatter<W>) -> fmt::Result {
+        match self {
+            FetchFault::Client(fault) => fmt::Display::fmt(fault, f),
+            FetchFault::NoBuffer => f.write_str("out of memory"),
+            FetchFault::WriteFailed => f.write_str("the sink failed"),
+        }
+    }
+}
+
+impl<A: Allocator + Copy + fmt::Debug> Error for FetchFault<A> {}
 
 impl<A: Allocator + Copy> From<ClientFault<A>> for FetchFault<A> {
     ghost from_gives = { λ cause fault. fault ≡ fetch.Client cause };

@@ -18,9 +18,9 @@
 //! - A conversation asks for objects at most once more than there are ids that the refs reached when it began, also
 //!   where it fails; the rounds that its session counts are these requests ([`laws`]). So it ends where each call of
 //!   its devices returns, whatever the server says.
-//! - Each fault has the number and the name of its row.
+//! - Each fault has the number, the name and the text of its row.
 //!
-//! # Only tried
+//! # Only tested
 //!
 //! That memory which is there is used: the program `conformance` refuses each allocation of many fetches in turn.
 //!
@@ -30,13 +30,13 @@
 //! came of the conversation, and whether a device has failed, is said all the same. Where the sink fails, a shorter
 //! beginning may stand written. It may report out of memory before it begins, where something is to be kept and where
 //! it settles, take as long as it likes, and flush more often; before it begins want of memory for the session and for
-//! the reader's buffer may stand for one another. The texts of faults are neither proved nor tried.
+//! the reader's buffer may stand for one another.
 //!
 //! # Stands on
 //!
 //! `gsession` for the session, `gspec` and `grepo` for refspecs and the repository, which it offers again; `ghello`
 //! for the advertisement, `grequest` for requests, `ggrammar` and `gpkt` for what messages share, `gfetchreply` for
-//! the limit of a pack, `ggraph` for indexers; `thiserror` for the texts of faults.
+//! the limit of a pack, `ggraph` for indexers.
 #![tactic(auto)]
 
 mod conversation;

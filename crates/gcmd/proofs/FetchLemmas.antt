@@ -1,14 +1,9 @@
 -- The client of a file, and what is saved of it.
-use Rattle.std.proofs.Common.{◌≡◌, ◌≢◌, ℕ, List, All, Option, Some, None, Result, Ok, Err, true, inl, inr, refl, sym, ap, subst, ◌∙◌}
-use Rattle.std.specs.Option.{is_some}
-use Rattle.std.proofs.lemmas.Bool.{false≢true}
+use Rattle.std.proofs.Common.{◌≡◌, ◌≢◌, ℕ, List, All, Result, Ok, Err, inl, inr, refl, sym, ap, subst, ◌∙◌}
 use Rattle.std.proofs.lemmas.List.{append-nil}
-use Rattle.gname.specs.Ids.{IsIdOf}
 use Rattle.ghistory.proofs.OrderLemmas.{all_at}
-use Rattle.gsession.proofs.CommonLemmas.{all_at as all_standing}
-use Rattle.gobject.specs.declared.node.Node.{Node}
-use Rattle.gobject.specs.Objects.{entry_of, node_at}
-use Rattle.ghistory.specs.Graphs.{History, HasIdsOf, Holds, IsGraph}
+use Rattle.ghistory.proofs.Places.{held_id}
+use Rattle.ghistory.specs.Graphs.{History, IsGraph}
 use Rattle.ghistory.specs.Laws.{PlacesAreNodes}
 use Rattle.ghistory.specs.Reach.{IsFull, here}
 use Rattle.ggraph.specs.Saving.{IsFirstOther, SaveRefuses, named_ids, ref_ids}
@@ -28,17 +23,7 @@ use Rattle.gcmd.specs.declared.fault.ProgramFault.{ProgramFault}
 use Rattle.gcmd.specs.declared.fault.ProgramFault.TheVariants as program
 
 module _ {A : Type 0} where
-  -- an id that is held is of the graph's format
-  held_id : PlacesAreNodes A → (g : History A) (a : List ℕ) → IsGraph g → Holds g.entries a → IsIdOf g.format a
-  held_id places g a is held = some_id (node_at g.entries a) held refl
-    where
-      some_id : (found : Option (Node A)) → is_some found ≡ true → node_at g.entries a ≡ found → IsIdOf g.format a
-      some_id None none at = absurd (false≢true none)
-      some_id (Some node) some at =
-          let stands = ((places g.entries is.differ).0 a node).0 at in
-          (all_standing (HasIdsOf g.format) g.entries stands.0 (entry_of a node) is.ids stands.1).id
-
-  -- so no ref of a client stands at an id of another format
+  -- an id that is held has its graph's format, so no ref of a client stands at an id of another format
   none_other : PlacesAreNodes A → (repo : RepoState A) (id : List ℕ) → IsGraph repo.graph → IsWhole repo
       → ¬ (IsFirstOther repo.graph.format (named_ids repo.refs (no_head {A = A})) id)
   none_other places repo id graph whole other =
@@ -46,7 +31,7 @@ module _ {A : Type 0} where
       let full : IsFull repo.graph.entries id =
       all_at (IsFull repo.graph.entries) other.front id other.rest
       (subst (All (IsFull repo.graph.entries)) (sym ids ∙ other.parts) whole.safe) in
-      other.other (held_id places repo.graph id graph (full id here))
+      other.other (held_id places repo.graph graph id (full id here))
 
   -- saving a client fails where there is no memory
   pub only_memory : PlacesAreNodes A → (repo : RepoState A) (fault : SaveFault) → IsGraph repo.graph → IsWhole repo

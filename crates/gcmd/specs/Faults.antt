@@ -2,29 +2,29 @@
 use Rattle.std.specs.Prelude.{ℕ, List, codes, Option, Some, None}
 use Rattle.gname.specs.Faults.{FaultRow}
 use Rattle.gname.specs.Names.{head_name}
-use Rattle.gpkt.specs.Faults.{line_fault_row, write_fault_row}
+use Rattle.gpkt.specs.Faults.{line_fault_row, line_fault_text, write_fault_row}
 use Rattle.gpkt.specs.declared.fault.WriteFault.TheVariants.{Io}
 use Rattle.ggrammar.specs.Faults.{WhyRow}
 use Rattle.ggrammar.specs.declared.fault.Why.{Why}
 use Rattle.ggrammar.specs.declared.fault.Why.TheVariants as why
 use Rattle.ghistory.specs.declared.fault.GraphFault.{GraphFault}
 use Rattle.ghistory.specs.declared.fault.GraphFault.TheVariants as graph
-use Rattle.ggraph.specs.Faults.{load_fault_row}
+use Rattle.ggraph.specs.Faults.{load_fault_row, load_fault_text}
 use Rattle.ggraph.specs.declared.fault.LoadFault.{LoadFault}
 use Rattle.ggraph.specs.declared.fault.LoadFault.TheVariants as load
-use Rattle.ganswer.specs.Faults.{build_fault_row, serve_fault_row}
+use Rattle.ganswer.specs.Faults.{build_fault_row, build_fault_text, serve_fault_row, serve_fault_text}
 use Rattle.ganswer.specs.declared.fault.BuildFault.{BuildFault}
 use Rattle.ganswer.specs.declared.fault.BuildFault.TheVariants as build
 use Rattle.ganswer.specs.declared.fault.ServeFault.{ServeFault}
 use Rattle.ganswer.specs.declared.fault.ServeFault.TheVariants as serve
 use Rattle.gobject.specs.declared.fault.IndexFault.TheVariants as index
-use Rattle.gspec.specs.Faults.{spec_fault_row}
+use Rattle.gspec.specs.Faults.{spec_fault_row, spec_fault_text}
 use Rattle.grepo.specs.declared.fault.RepoFault.{RepoFault}
 use Rattle.grepo.specs.declared.fault.RepoFault.TheVariants as repo
 use Rattle.gsession.specs.Faults.{client_fault_row}
 use Rattle.gsession.specs.declared.fault.ClientFault.{ClientFault}
 use Rattle.gsession.specs.declared.fault.ClientFault.TheVariants as client
-use Rattle.gclient.specs.Faults.{fetch_fault_row}
+use Rattle.gclient.specs.Faults.{fetch_fault_row, fetch_fault_text}
 use Rattle.gclient.specs.declared.fault.FetchFault.{FetchFault}
 use Rattle.gclient.specs.declared.fault.FetchFault.TheVariants as fetch
 use Rattle.gcmd.specs.declared.fault.ProgramFault.{ProgramFault}
@@ -168,3 +168,15 @@ printed_of (program.Line fault) = plain (line_fault_row fault)
 printed_of (program.Spec fault) = plain (spec_fault_row fault)
 printed_of (program.Fetch fault) = printed_of_fetch fault
 printed_of program.WriteFailed = plain (write_fault_row Io)
+
+-- ---- their texts
+abbrev pub program_fault_text : {A : Type 0} → ProgramFault A → List ℕ
+program_fault_text program.Memory = codes "out of memory"
+program_fault_text program.File = codes "the file can't be read"
+program_fault_text (program.Text fault) = load_fault_text fault
+program_fault_text (program.Build fault) = build_fault_text fault
+program_fault_text (program.Request fault) = serve_fault_text fault
+program_fault_text (program.Line fault) = line_fault_text fault
+program_fault_text (program.Spec fault) = spec_fault_text fault
+program_fault_text (program.Fetch fault) = fetch_fault_text fault
+program_fault_text program.WriteFailed = codes "the output failed"

@@ -162,8 +162,8 @@ module _ {A : Type 0} (old : List ℕ) (specs : List Refspec) (limit : ℕ) (end
       pub names : NamesClient old repo
       pub new : RepoState A
       pub result : Result (Fetched A) (FetchFault A)
-      pub conversation : FetchesOver plain_indexes (plain_index_fails A) (start_of repo specs limit ends) input output new
-          result
+      pub conversation : FetchesOver plain_indexes (plain_index_fails A)
+          (start_of repo specs limit ends) input output new result
       pub concludes : EndsAfter repo new result report file outcome
 
     -- what `fetch` does

@@ -1,7 +1,7 @@
 //! The faults that programs end with.
 
-ghost use Rattle.std.specs.Prelude.{◌≡◌};
-ghost use Rattle.gcmd.specs.Faults.{printed_of};
+ghost use Rattle.std.specs.Prelude.{◌≡◌, Some};
+ghost use Rattle.gcmd.specs.Faults.{printed_of, program_fault_text};
 ghost use Rattle.gclient.specs.declared.fault.FetchFault.TheVariants.{Client};
 ghost use Rattle.gcmd.specs.declared.fault.ProgramFault.TheVariants as program;
 ghost use Rattle.gsession.specs.declared.fault.ClientFault.TheVariants.{Repo};
@@ -12,38 +12,30 @@ use gclient::{ClientFault, FetchFault, RepoFault, SpecFault};
 use ggraph::LoadFault;
 use gpkt::LineFault;
 use std::alloc::{Allocator, Global};
-use thiserror::Error;
+use std::error::Error;
+use std::fmt;
 
 /// Why a program ends with status 1. One line is printed of it.
-#[derive(Debug, Drop, Error)]
+#[derive(Debug, Drop)]
 pub enum ProgramFault<A: Allocator + Copy = Global> {
     /// 64: there is no memory for a file, for a buffer of standard input or output, or to judge a repository.
-    #[error("out of memory")]
     Memory,
     /// 95: the repository's file could not be read, or could not be written after a fetch.
-    #[error("the file can't be read")]
     File,
     /// 67, 68, 64: a file is no repository's text.
-    #[error("{0}")]
     Text(LoadFault),
     /// 71, 64: something is missing of the repository that a file names.
-    #[error("{0}")]
     Build(BuildFault<A>),
     /// 20 to 54, 64, 65, 73, 74: a request was refused.
-    #[error("{0}")]
     Request(ServeFault),
     /// 20 to 24, 28: a packet line that was to be shown was refused, or there is no memory to read it.
-    #[error("{0}")]
     Line(LineFault),
     /// 87, 18: a word is no refspec, or there is no memory to keep those that are.
-    #[error("{0}")]
     Spec(SpecFault),
     /// 20 to 25, 27 to 30, 41 to 54, 60 to 64, 66, 69, 75, 80, 82 and 84 to 86: the whole ancestry of a ref of
     /// a client's repository is not held (80), fetching into it failed, or there is no memory.
-    #[error("{0}")]
     Fetch(FetchFault<A>),
     /// 27: the output failed.
-    #[error("the output failed")]
     WriteFailed,
 }
 
@@ -62,6 +54,26 @@ impl<A: Allocator + Copy> ProgramFault<A> {
         FaultLine::of(self).name()
     }
 }
+
+impl<A: Allocator + Copy> fmt::Display for ProgramFault<A> {
+    ghost output = { λ fault. Some (program_fault_text fault) };
+
+    fn fmt<W: fmt::Write>(&self, f: &mut fmt::Formatter<W>) -> fmt::Result {
+        match self {
+            ProgramFault::Memory => f.write_str("out of memory"),
+            ProgramFault::File => f.write_str("the file can't be read"),
+            ProgramFault::Text(fault) => fmt::Display::fmt(fault, f),
+            ProgramFault::Build(fault) => fmt::Display::fmt(fault, f),
+            ProgramFault::Request(fault) => fmt::Display::fmt(fault, f),
+            ProgramFault::Line(fault) => fmt::Display::fmt(fault, f),
+            ProgramFault::Spec(fault) => fmt::Display::fmt(fault, f),
+            ProgramFault::Fetch(fault) => fmt::Display::fmt(fault, f),
+            ProgramFault::WriteFailed => f.write_str("the output failed"),
+        }
+    }
+}
+
+impl<A: Allocator + Copy + fmt::Debug> Error for ProgramFault<A> {}
 
 impl<A: Allocator + Copy> From<LoadFault> for ProgramFault<A> {
     ghost from_gives = { λ cause fault. fault ≡ program.Text cause };

@@ -30,9 +30,9 @@
 //! - [`cmd_lines`] shows exactly the lines that the bytes read spell, to the end of the input or to the first that is
 //!   refused, and passes all of it on; where the sink fails, a beginning of it stands. Where it ends with 0, the
 //!   source has not failed.
-//! - The number and the name of each fault, and its printed line (`specs/Faults.antt`).
+//! - The number, the name and the text of each fault, and its printed line (`specs/Faults.antt`).
 //!
-//! # Only tried
+//! # Only tested
 //!
 //! By the cases of `conformance`: the exact bytes of whole runs; that memory, where there is some, is found; that a device is
 //! not called again after it failed; a byte a call, and a failure at each call in turn.
@@ -47,8 +47,7 @@
 //!
 //! `gserve` for connections and `ganswer` for the server, `gclient` for the client, `gfetchreply` for the limit of a
 //! pack, `ggraph` for repositories' texts and plain packs, `ggrammar` for how replies end, `gpkt` for packet lines and
-//! devices, `gname` for ids, `arrayvec` for texts of bounded length, `hex` for digits, `itoa` for numbers, `thiserror` for
-//! the texts of faults.
+//! devices, `gname` for ids, `arrayvec` for texts of bounded length, `hex` for digits, `itoa` for numbers.
 #![tactic(auto)]
 
 mod check;

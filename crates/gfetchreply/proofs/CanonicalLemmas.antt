@@ -1,8 +1,7 @@
 -- The packets that are written of a reply: there is one list of them, each fits a packet, and they say the reply.
-use Rattle.std.proofs.Common.{◌≡◌, ℕ, zero, suc, ◌+◌, ◌≤◌, ◌<◌, false, List, [], ◌∷◌, ◌++◌, length, take, drop, map, min, codes, inl, inr, Some, None, refl, sym, ap, subst, ◌∙◌, append-nil, length-append, length-drop, length-take, arith, ◌==◌}
+use Rattle.std.proofs.Common.{◌≡◌, ℕ, zero, suc, ◌+◌, ◌≤◌, ◌<◌, false, List, [], ◌∷◌, ◌++◌, length, take, drop, map, min, codes, inl, inr, Some, refl, sym, ap, subst, ◌∙◌, append-nil, length-append, length-drop, length-take, arith}
 use Rattle.std.specs.Prelude.{All}
 use Rattle.std.specs.Option.{is_some}
-use Rattle.std.proofs.lemmas.Bool.{cond-true, eq-eqb}
 use Rattle.std.proofs.lemmas.Bool.Decides.{leb_tells}
 use Rattle.std.proofs.lemmas.List.{nil_from_length, length-map, take-append-drop}
 use Rattle.std.proofs.Math.Seq.{take-append_seam, drop-append_seam}
@@ -10,15 +9,13 @@ use Rattle.std.proofs.lemmas.List.Elements.{All-nil, All-cons, All-head, All-tai
 use Rattle.gpkt.specs.Packets.{Packet, Data, Flush, Delim, ResponseEnd, text, line_feed}
 use Rattle.gpkt.specs.Bands.{band_form, band_payload, max_band, Data as BandData}
 use Rattle.gpkt.specs.Laws.{Fits, TextOfLine}
-use Rattle.gname.specs.Formats.{id_text_length}
-use Rattle.gname.specs.Ids.{IsIdOf, IsIdTextOf, id_text}
+use Rattle.gname.specs.Ids.{IsIdOf, id_text}
 use Rattle.gname.specs.Laws.{IdsHaveTexts, IdsHaveOneFormat}
 use Rattle.gname.specs.Limits.{max_pack}
 use Rattle.gname.specs.declared.formats.Format.{Format}
-use Rattle.gname.specs.declared.formats.Format.TheVariants.{Sha1, Sha256}
 use Rattle.ggrammar.specs.Endings.{ends_with}
-use Rattle.ggrammar.specs.Ids.{id_of_text, ok_of}
 use Rattle.ggrammar.specs.Kinds.{CanonicalSays}
+use Rattle.ggrammar.proofs.IdLemmas.{id_spells, id_text_short, is_spelt}
 use Rattle.ggrammar.specs.Texts.{text_packet}
 use Rattle.ggrammar.specs.declared.ends.Ends.{Ends}
 use Rattle.ggrammar.specs.declared.ends.Ends.TheVariants.{Plain, Response}
@@ -187,17 +184,6 @@ pieces_next pack piece after e size some =
 -- ---- what the packets say
 
 module _ (line_is : TextOfLine) (ids_have : IdsHaveTexts) (one_format : IdsHaveOneFormat) where
-  id_texts : (format : Format) (id : List ℕ) → IsIdOf format id → IsIdTextOf format (id_text id) id
-  id_texts format id is =
-      let of = one_format format id is in
-      subst (λ (f : Format). IsIdTextOf f (id_text id) id) of.1 (ids_have id of.0).0
-
-  id_spelt : (format : Format) (id : List ℕ) → IsIdOf format id → id_of_text format (id_text id) ≡ Some id
-  unfolding id_of_text
-  id_spelt format id is =
-      let spelt = id_texts format id is in
-      cond-true (length (id_text id) == id_text_length format) _ None (eq-eqb _ _ spelt.long) ∙ ap ok_of spelt.spells
-
   -- the payload of an acknowledged id
   abbrev ack_payload : List ℕ → List ℕ
   ack_payload id = (codes "ACK " ++ id_text id) ++ line_feed ∷ []
@@ -205,7 +191,7 @@ module _ (line_is : TextOfLine) (ids_have : IdsHaveTexts) (one_format : IdsHaveO
   ack_given : (format : Format) (id : List ℕ) → IsIdOf format id → ack_id format (reply_form (text (ack_payload id))) ≡ Some id
   ack_given format id is =
       ap (λ (line : List ℕ). ack_id format (reply_form line)) (line_is (codes "ACK " ++ id_text id))
-      ∙ (ap (ack_id format) (ack_form-written (id_text id)) ∙ id_spelt format id is)
+      ∙ (ap (ack_id format) (ack_form-written (id_text id)) ∙ is_spelt format (id_text id) id (id_spells one_format ids_have format id is))
 
   acks_are : (format : Format) (ids : List (List ℕ)) → All (IsIdOf format) ids → All (IsAck format) (map text (map ack_payload ids))
   acks_are format [] are = All-nil (IsAck format)
@@ -291,15 +277,10 @@ module _ (line_is : TextOfLine) (ids_have : IdsHaveTexts) (one_format : IdsHaveO
 
   -- ---- each fits
 
-  id_text_short : (format : Format) → id_text_length format ≤ 64
-  id_text_short Sha1 = omega arith
-  id_text_short Sha256 = omega arith
-
   ack_fits : (format : Format) (id : List ℕ) → IsIdOf format id → Fits (ack_packet id)
   ack_fits format id is =
-      let long = (id_texts format id is).long in
-      let short = id_text_short format in
-      omega (arith, length-append (codes "ACK " ++ id_text id) (line_feed ∷ []), length-append (codes "ACK ") (id_text id))
+      let short = id_text_short one_format ids_have format id is in
+      omega (arith, short, length-append (codes "ACK " ++ id_text id) (line_feed ∷ []), length-append (codes "ACK ") (id_text id))
 
   acks_fit : (format : Format) (ids : List (List ℕ)) → All (IsIdOf format) ids → All Fits (map ack_packet ids)
   acks_fit format [] are = All-nil Fits

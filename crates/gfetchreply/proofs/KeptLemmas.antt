@@ -15,7 +15,7 @@ use Rattle.ggrammar.specs.declared.message.Step.TheVariants as step
 use Rattle.gfetchreply.specs.FetchReplies.{Reading, State, Place, Start, Acking, AfterNak, AfterReady, BeforePack, InPack, Over}
 use Rattle.gfetchreply.specs.FetchReplies.{ReplyForm, Acknowledgments, Nak, Readiness, Packfile, Ack, OtherForm, reply_form, is_readiness, is_ready}
 use Rattle.gfetchreply.specs.FetchReplies.{after_text, next_place, place_of, texts_there, bands_there, ack_texts, band_payloads}
-use Rattle.gfetchreply.specs.FetchReplies.{acks_of, ack_id, brings, data_in, data_of, judge, judge_at, judge_payload, judge_there}
+use Rattle.gfetchreply.specs.FetchReplies.{acks_of, ack_id, brings_into, data_in, data_of, judge, judge_at, judge_payload, judge_there}
 use Rattle.gfetchreply.specs.ReplyState.{Kept, kept_of, first_kept, state_kept, id_list, with_text, with_band, with_packet, data_there, brings_there, TakesOr, TakesMore, TakesBoth, Holds, Leaves}
 use Rattle.gfetchreply.specs.Values.{Acks}
 use Rattle.gfetchreply.proofs.StateLemmas.{place_of-push, ack_texts-push, band_payloads-push, ack_texts-nil, band_payloads-nil, acks_of-append, data-push, data_of-one}
@@ -226,11 +226,11 @@ pub judged_there : (reading : Reading) (state : State) (packet : Packet) → jud
 unfolding judge_at
 judged_there reading state packet = refl
 
-brings_at : (reading : Reading) (front : List Packet) (packet : Packet) → brings reading front packet ≡ brings_there (place_of reading.direct front) packet
-brings_at reading front (Data payload) = refl
-brings_at reading front Flush = refl
-brings_at reading front Delim = refl
-brings_at reading front ResponseEnd = refl
+brings_at : (refuses : Bool) (reading : Reading) (front : List Packet) (packet : Packet) → brings_into refuses reading front packet ≡ brings_there refuses (place_of reading.direct front) packet
+brings_at refuses reading front (Data payload) = refl
+brings_at refuses reading front Flush = refl
+brings_at refuses reading front Delim = refl
+brings_at refuses reading front ResponseEnd = refl
 
 -- ---- what takes a packet
 
@@ -285,17 +285,17 @@ module _ {S : Type 0} (taken : S → List ℕ → Type 0) (same : S → S → Ty
   }
 
   -- taken by what is kept, a packet is taken after the packets so far
-  pub takes_after : (reading : Reading) (kept now : Kept) (old new : S) (name next : ℕ) (front : List Packet) (packet : Packet)
+  pub takes_after : (refuses : Bool) (reading : Reading) (kept now : Kept) (old new : S) (name next : ℕ) (front : List Packet) (packet : Packet)
       (result : Result Step Why) → Holds taken same had starts seat asked reading kept old name front → next ≡ name
       → ((start : S) → same start old → same start new)
-      → TakesBoth taken (judge_at (record reading { format = kept.acks.format }) (state_kept kept) packet) (brings_there kept.place packet)
+      → TakesBoth taken (judge_at (record reading { format = kept.acks.format }) (state_kept kept) packet) (brings_there refuses kept.place packet)
       (with_packet kept packet) now (data_there kept.place packet) old new result
-      → TakesOr (judge reading front packet) (brings reading front packet) (Holds taken same had starts seat asked reading now new next (front ++ packet ∷ []))
+      → TakesOr (judge reading front packet) (brings_into refuses reading front packet) (Holds taken same had starts seat asked reading now new next (front ++ packet ∷ []))
       (Leaves taken same had starts seat asked reading new next front) result
-  takes_after reading kept now old new name next front packet result held stays onward h =
+  takes_after refuses reading kept now old new name next front packet result held stays onward h =
       takes_also
       (sym (ap (λ (k : Kept). judge_at (record reading { format = k.acks.format }) (state_kept k) packet) held.counts))
-      (brings_at reading front packet ∙ sym (ap (λ (k : Kept). brings_there k.place packet) held.counts))
+      (brings_at refuses reading front packet ∙ sym (ap (λ (k : Kept). brings_there refuses k.place packet) held.counts))
       (λ p. record {
         kind = held.kind;
         counts = p.0 ∙ (ap (λ (k : Kept). with_packet k packet) held.counts ∙ sym (kept_push reading.format reading.direct front packet));

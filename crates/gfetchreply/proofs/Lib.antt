@@ -9,7 +9,6 @@ pub mod ReplyManual
 pub mod CanonicalLemmas
 pub mod WritingLemmas
 pub mod KeptLemmas
-pub mod IdOfLemmas
 pub mod ReplyLemmas
 pub mod ReadLaws
 pub mod PacketReasons

@@ -16,6 +16,7 @@ use Rattle.ggrammar.specs.PeerErrors.{peer_error, unless_error}
 use Rattle.ggrammar.specs.declared.fault.MessageFault.{MessageFault}
 use Rattle.ggrammar.specs.declared.fault.Why.{Why}
 use Rattle.ggrammar.specs.declared.fault.Why.TheVariants as why
+use Rattle.ggrammar.proofs.VerdictLemmas.{room_goes_on}
 use Rattle.gfetchreply.specs.FetchManual.{IsBody, IsPackSection}
 use Rattle.gfetchreply.specs.FetchReplies.{Reading, State, Place, Start, Acking, AfterNak, AfterReady, BeforePack, InPack, Over}
 use Rattle.gfetchreply.specs.FetchReplies.{FetchReply, Acks, Ready, Pack, Says, brings, judge, judge_at, judge_band, judge_there, state_of}
@@ -23,7 +24,6 @@ use Rattle.gfetchreply.specs.FetchHeads.{pack_of}
 use Rattle.gfetchreply.specs.Laws.{IsInAnyLimit, IsRefusedOverLimit, OneInWhateverReading}
 use Rattle.gfetchreply.proofs.ReplyEndings.{HasEndings-judge}
 use Rattle.gfetchreply.proofs.ReplyManual.{manual_from_says, one_reply_begins, says_from_manual}
-use Rattle.gfetchreply.proofs.ReplyVerdicts.{has_room}
 
 -- ---- within another limit
 
@@ -144,7 +144,7 @@ room_more : (few : Bool) (bytes limit more : ℕ) (test : Bool) (v : Verdict) �
 room_more few bytes limit more true v longer is e =
     let both = and_parts few (nat_le bytes limit) is in
     let short = leb-true bytes limit both.1 in
-    inr (has_room (few && nat_le bytes more) (and_from few (nat_le bytes more) both.0 (le-leb bytes more (omega arith))) ∙ (sym (has_room (few && nat_le bytes limit) is) ∙ e))
+    inr (room_goes_on (few && nat_le bytes more) (and_from few (nat_le bytes more) both.0 (le-leb bytes more (omega arith))) ∙ (sym (room_goes_on (few && nat_le bytes limit) is) ∙ e))
 room_more few bytes limit more false v longer is e = inl (sym e ∙ ap if_room is)
 
 band_more : (limit more : ℕ) (state : State) (form : Result BandPacket BandFault) (v : Verdict) → limit ≤ more → judge_band limit state form ≡ v

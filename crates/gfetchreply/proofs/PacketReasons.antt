@@ -5,7 +5,7 @@ use Rattle.gpkt.specs.Packets.{Packet, Data, Flush, Delim, ResponseEnd, text}
 use Rattle.gpkt.specs.Bands.{BandPacket, Data as BandData, Progress, Fatal, band_form}
 use Rattle.gpkt.specs.declared.fault.BandFault.{BandFault}
 use Rattle.gname.specs.declared.formats.Format.{Format}
-use Rattle.ggrammar.specs.Endings.{after_flush, at_flush}
+use Rattle.ggrammar.specs.Endings.{at_flush}
 use Rattle.ggrammar.specs.Grammar.{Open, Refused, if_room}
 use Rattle.ggrammar.specs.Ids.{id_of_text}
 use Rattle.ggrammar.specs.MessageBytes.{IsForPacket, RefusesPackets}
@@ -13,7 +13,7 @@ use Rattle.ggrammar.specs.PeerErrors.{peer_error, unless_error}
 use Rattle.ggrammar.specs.declared.ends.Ends.{Ends}
 use Rattle.ggrammar.specs.declared.ends.Ends.TheVariants.{Plain, Response}
 use Rattle.ggrammar.specs.declared.fault.Why.TheVariants as why
-use Rattle.ggrammar.proofs.VerdictLemmas.{of_test, of_room, past_error}
+use Rattle.ggrammar.proofs.VerdictLemmas.{of_end, of_test, of_room, past_error}
 use Rattle.gfetchreply.specs.FetchReplies.{Reading, State, Place, Start, Acking, AfterNak, AfterReady, BeforePack, InPack, Over}
 use Rattle.gfetchreply.specs.FetchReplies.{ReplyForm, Acknowledgments, Nak, Readiness, Packfile, Ack, OtherForm}
 use Rattle.gfetchreply.specs.FetchReplies.{judge, judge_at, judge_there, judge_acking, judge_start, judge_before_pack, judge_late, judge_band, judge_payload, max_acks, max_packets, reply_form, state_of}
@@ -74,12 +74,6 @@ of_payload reading Over state payload = tt
 of_flush : (ends : Ends) → IsForPacket (at_flush ends)
 of_flush Plain = tt
 of_flush Response = tt
-
-of_end : (packet : Packet) → IsForPacket (after_flush packet)
-of_end (Data payload) = past_error (peer_error payload) (Refused why.UnexpectedFrame) tt
-of_end Flush = tt
-of_end Delim = tt
-of_end ResponseEnd = tt
 
 unless_said : (reading : Reading) (place : Place) (state : State) (payload : List ℕ)
     → IsForPacket (unless_error (peer_error payload) (judge_payload reading place state payload))

@@ -1,13 +1,12 @@
 -- The forms of texts and payloads of a reply.
-use Rattle.std.proofs.Common.{◌≡◌, ℕ, Bool, true, false, cond, nat_eq, List, [], ◌∷◌, ◌++◌, length, take, drop, codes, inl, inr, Option, Some, None, refl, sym, ap, subst, ◌∙◌, ◌-◌, suc, arith}
+use Rattle.std.proofs.Common.{◌≡◌, ℕ, Bool, true, false, cond, nat_eq, List, [], ◌∷◌, ◌++◌, length, take, codes, inl, inr, Option, Some, None, refl, sym, ap, subst, ◌∙◌, ◌-◌, suc, arith}
 use Rattle.std.specs.Str.{bytes_eq}
-use Rattle.std.specs.List.{starts_with}
 use Rattle.std.proofs.lemmas.Bool.{and_left, cond-false, cases_cond, eqb-true}
-use Rattle.std.proofs.lemmas.Bool.Decides.{Decides-eqb}
-use Rattle.std.proofs.lemmas.Slice.Eq.{bytes_eq-Decides, starts_is}
+use Rattle.std.proofs.lemmas.Slice.Eq.{bytes_eq-Decides}
 use Rattle.gpkt.specs.Packets.{text}
 use Rattle.gpkt.specs.Bands.{band_form, band_at}
 use Rattle.ggrammar.specs.PeerErrors.{after_word, peer_error}
+use Rattle.ggrammar.proofs.TextLemmas.{follows_word}
 use Rattle.gfetchreply.specs.FetchManual.{IsDataOrProgress}
 use Rattle.gfetchreply.specs.FetchReplies.{ReplyForm, Acknowledgments, Nak, Readiness, Packfile, Ack, OtherForm, ack_or_other, reply_form}
 
@@ -121,20 +120,8 @@ text_reports_none : (payload : List ℕ) (byte : ℕ) (rest : List ℕ) → text
 text_reports_none payload byte rest e not_e =
     let h = text-head payload byte rest e in ap peer_error h.1 ∙ reports_none byte h.0 not_e
 
-after_test : (word line id : List ℕ) (test : Bool) → starts_with nat_eq line word ≡ test
-    → cond test (Some (drop (length word) line)) None ≡ Some id → line ≡ word ++ id
-after_test word line id true starts e =
-    let after : drop (length word) line ≡ id = cc in
-    (starts_is Decides-eqb line word true (sym starts)).0 refl ∙ ap (λ (xs : List ℕ). word ++ xs) after
-after_test word line id false starts e = absurd cc
-
--- what follows a word
-pub after_word-is : (word line id : List ℕ) → after_word word line ≡ Some id → line ≡ word ++ id
-unfolding after_word
-after_word-is word line id e = after_test word line id (starts_with nat_eq line word) refl e
-
 after_ack : (line id : List ℕ) → after_word (codes "ACK ") line ≡ Some id → (rest : List ℕ) × (line ≡ 65 ∷ rest)
-after_ack line id e = (67 ∷ 75 ∷ 32 ∷ id, after_word-is (codes "ACK ") line id e)
+after_ack line id e = (67 ∷ 75 ∷ 32 ∷ id, follows_word (codes "ACK ") line id e)
 
 -- a form that is not another
 abbrev pub IsForm : ReplyForm → Type 0

@@ -7,7 +7,7 @@ use Rattle.ggrammar.specs.Grammar.{IsWhole, Whole}
 use Rattle.ggrammar.specs.Kinds.{ReadsMessage}
 use Rattle.ggrammar.specs.MessageReading.{ReadsWhole, ReadsRefused}
 use Rattle.ggrammar.specs.declared.fault.MessageFault.{MessageFault}
-use Rattle.gfetchreply.specs.FetchReplies.{Reading, State, Place, Start, Acking, AfterNak, AfterReady, BeforePack, InPack, Over, judge_at, place_of, state_of, brings, judge, Says, FetchReply, reply_of, ack_texts, acks_of, band_payloads, data_of, is_ready, Acks, Ready, Pack}
+use Rattle.gfetchreply.specs.FetchReplies.{Reading, State, Place, Start, Acking, AfterNak, AfterReady, BeforePack, InPack, Over, judge_at, place_of, state_of, brings_into, judge, Says, FetchReply, reply_of, ack_texts, acks_of, band_payloads, data_of, is_ready, Acks, Ready, Pack}
 use Rattle.gfetchreply.specs.FetchHeads.{FetchHead, head_of, head_by, pack_of, reply_with}
 use Rattle.gfetchreply.specs.ReplyState.{Kept, data_there, Holds, Leaves}
 use Rattle.gfetchreply.specs.ReplyReading.{TakesReply, RefusesReply}
@@ -73,10 +73,10 @@ module _ {S : Type 0} (taken : S → List ℕ → Type 0) (same : S → S → Ty
         pack = λ old h. subst (λ (xs : List ℕ). taken sink (old ++ xs)) (sym pack) (held.pack old h);
       }
 
-  pub refuses_reply : (asked reading : Reading) (bytes : Change) (sink : S) (name : ℕ) (packets : List Packet) (fault : MessageFault)
-      → ReadsRefused (judge asked) (brings asked) packets bytes fault → Leaves taken same had starts seat asked reading sink name packets
-      → RefusesReply taken asked bytes had sink fault
-  refuses_reply asked reading bytes sink name packets fault refused before =
+  pub refuses_reply : (refuses : Bool) (asked reading : Reading) (bytes : Change) (sink : S) (name : ℕ) (packets : List Packet) (fault : MessageFault)
+      → ReadsRefused (judge asked) (brings_into refuses asked) packets bytes fault → Leaves taken same had starts seat asked reading sink name packets
+      → RefusesReply taken refuses asked bytes had sink fault
+  refuses_reply refuses asked reading bytes sink name packets fault refused before =
       let left : Leaves taken same had starts seat asked asked sink name packets =
       subst (λ r. Leaves taken same had starts seat asked r sink name packets) before.kind before in
       record { packets = packets; refused = refused; short = open_keeps_limit asked packets refused.goes; pack = left.pack }

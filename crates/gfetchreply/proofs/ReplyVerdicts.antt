@@ -11,7 +11,7 @@ use Rattle.ggrammar.specs.Endings.{after_flush}
 use Rattle.ggrammar.specs.Ids.{id_of_text}
 use Rattle.ggrammar.specs.PeerErrors.{peer_error, unless_error}
 use Rattle.ggrammar.specs.declared.fault.Why.TheVariants as why
-use Rattle.ggrammar.proofs.VerdictLemmas.{open_unless, whole_unless}
+use Rattle.ggrammar.proofs.VerdictLemmas.{open_unless, room_goes_on, room_left, room_not_whole, whole_unless}
 use Rattle.gfetchreply.specs.FetchManual.{IsDataOrProgress}
 use Rattle.gfetchreply.specs.FetchReplies.{Reading, State, Place, Start, Acking, AfterNak, AfterReady, BeforePack, InPack, Over}
 use Rattle.gfetchreply.specs.FetchReplies.{ReplyForm, Acknowledgments, Nak, Readiness, Packfile, Ack, OtherForm}
@@ -48,19 +48,6 @@ state_from_start reading packets =
 
 pub judge_is : (reading : Reading) → judge reading ≡ judge_from (judge_at reading) (next_state reading.format) (start reading)
 judge_is reading = λ i. λ front packet. judge_at reading (state_from_start reading front i) packet
-
--- ---- tests
-
-room : (test : Bool) → if_room test ≡ Open → test ≡ true
-room true e = refl
-room false e = cc
-
-not_whole_room : (test : Bool) → if_room test ≡ Whole → ⊥
-not_whole_room true e = cc
-not_whole_room false e = cc
-
-pub has_room : (test : Bool) → test ≡ true → if_room test ≡ Open
-has_room test e = ap if_room e
 
 -- ---- by place
 
@@ -101,8 +88,8 @@ open_data reading state place payload here due none e =
 not_whole_band : (limit : ℕ) (state : State) (form : Result BandPacket BandFault) → judge_band limit state form ≡ Whole → ⊥
 not_whole_band limit state (Err fault) e = cc
 not_whole_band limit state (Ok (Fatal bytes)) e = cc
-not_whole_band limit state (Ok (BandData bytes)) e = not_whole_room _ e
-not_whole_band limit state (Ok (Progress bytes)) e = not_whole_room _ e
+not_whole_band limit state (Ok (BandData bytes)) e = room_not_whole _ e
+not_whole_band limit state (Ok (Progress bytes)) e = room_not_whole _ e
 
 not_whole_start : (form : ReplyForm) → judge_start form ≡ Whole → ⊥
 not_whole_start Acknowledgments e = cc
@@ -113,7 +100,7 @@ not_whole_start (Ack id) e = cc
 not_whole_start OtherForm e = cc
 
 not_whole_ack : (some room : Bool) → cond some (if_room room) (Refused why.BadId) ≡ Whole → ⊥
-not_whole_ack true room e = not_whole_room room e
+not_whole_ack true room e = room_not_whole room e
 not_whole_ack false room e = cc
 
 not_whole_nak : (some : Bool) → cond some (Refused why.WrongSection) Open ≡ Whole → ⊥
@@ -198,7 +185,7 @@ nak_open state false is e = omega (arith, ltb-false 0 state.ack_count is)
 ack_open : (format : Format) (state : State) (digits : List ℕ) (id : Option (List ℕ)) → id_of_text format digits ≡ id
     → cond (is_some id) (if_room (nat_lt state.ack_count max_acks)) (Refused why.BadId) ≡ Open → AckingOn format state (Ack digits)
 ack_open format state digits None is e = cc
-ack_open format state digits (Some id) is e = an_ack digits id is (ltb-true state.ack_count max_acks (room _ e))
+ack_open format state digits (Some id) is e = an_ack digits id is (ltb-true state.ack_count max_acks (room_left _ e))
 
 pub acking_open : (format : Format) (state : State) (form : ReplyForm) → judge_acking format state form ≡ Open → AckingOn format state form
 acking_open format state Acknowledgments e = cc
@@ -211,7 +198,7 @@ acking_open format state OtherForm e = cc
 pub open_acking : (format : Format) (state : State) (form : ReplyForm) → AckingOn format state form → judge_acking format state form ≡ Open
 open_acking format state (Ack digits) (an_ack d id is few) =
     ap (λ (o : Option (List ℕ)). cond (is_some o) (if_room (nat_lt state.ack_count max_acks)) (Refused why.BadId)) is
-    ∙ has_room _ (lt-ltb state.ack_count max_acks few)
+    ∙ room_goes_on _ (lt-ltb state.ack_count max_acks few)
 open_acking format state Nak (a_nak none) = ap (λ (n : ℕ). cond (nat_lt 0 n) (Refused why.WrongSection) Open) none
 open_acking format state Readiness a_readiness = refl
 open_acking format state Acknowledgments on = elim on [ ]
@@ -228,17 +215,17 @@ pub band_open : (limit : ℕ) (state : State) (form : Result BandPacket BandFaul
 band_open limit state (Err fault) within e = cc
 band_open limit state (Ok (Fatal bytes)) within e = cc
 band_open limit state (Ok (BandData bytes)) within e =
-    let both = and_parts _ _ (room _ e) in
+    let both = and_parts _ _ (room_left _ e) in
     record { is = tt; few = ltb-true state.band_count max_packets both.0; short = leb-true _ limit both.1 }
 band_open limit state (Ok (Progress bytes)) within e =
-    record { is = tt; few = ltb-true state.band_count max_packets (room _ e); short = omega arith }
+    record { is = tt; few = ltb-true state.band_count max_packets (room_left _ e); short = omega arith }
 
 pub open_band : (limit : ℕ) (state : State) (form : Result BandPacket BandFault) → BandOn limit state form → judge_band limit state form ≡ Open
 open_band limit state (Err fault) h = absurd h.is
 open_band limit state (Ok (Fatal bytes)) h = absurd h.is
 open_band limit state (Ok (BandData bytes)) h =
-    has_room _ (and_from _ _ (lt-ltb state.band_count max_packets h.few) (le-leb _ limit h.short))
-open_band limit state (Ok (Progress bytes)) h = has_room _ (lt-ltb state.band_count max_packets h.few)
+    room_goes_on _ (and_from _ _ (lt-ltb state.band_count max_packets h.few) (le-leb _ limit h.short))
+open_band limit state (Ok (Progress bytes)) h = room_goes_on _ (lt-ltb state.band_count max_packets h.few)
 
 -- ---- after the flush
 

@@ -19,6 +19,12 @@ pack_of (reply.Acks ids) = []
 pack_of (reply.Ready ids pack) = pack
 pack_of (reply.Pack pack) = pack
 
+-- the ids that are acknowledged
+abbrev pub acknowledged_by : FetchReply → List (List ℕ)
+acknowledged_by (reply.Acks ids) = ids
+acknowledged_by (reply.Ready ids pack) = ids
+acknowledged_by (reply.Pack pack) = []
+
 -- whether the pack comes alone
 abbrev pub is_alone : FetchReply → Bool
 is_alone (reply.Acks ids) = false

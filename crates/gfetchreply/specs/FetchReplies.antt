@@ -246,23 +246,31 @@ judge_at reading state packet = judge_there reading state.place state packet
 abbrev pub judge : Reading → List Packet → Packet → Verdict
 judge reading packets packet = judge_at reading (state_of reading packets) packet
 
--- an acknowledged id is kept, and some data of the pack; progress is not
+-- ---- what takes memory
+
+-- An acknowledged id is kept, for which there may be no memory. Some data of the pack goes to the sink, which may
+-- refuse it, if it is a sink that may refuse pieces. Nothing else is kept.
 abbrev pub form_brings : ReplyForm → Bool
 form_brings (Ack id) = true
 form_brings _ = false
 
-abbrev pub band_brings : Result BandPacket BandFault → Bool
-band_brings (Ok (BandData bytes)) = nat_lt 0 (length bytes)
-band_brings _ = false
+abbrev pub band_brings : Bool → Result BandPacket BandFault → Bool
+band_brings refuses (Ok (BandData bytes)) = refuses && nat_lt 0 (length bytes)
+band_brings refuses _ = false
 
-abbrev pub payload_brings : Place → List ℕ → Bool
-payload_brings Acking payload = form_brings (reply_form (text payload))
-payload_brings InPack payload = band_brings (band_form payload)
-payload_brings _ payload = false
+abbrev pub payload_brings : Bool → Place → List ℕ → Bool
+payload_brings refuses Acking payload = form_brings (reply_form (text payload))
+payload_brings refuses InPack payload = band_brings refuses (band_form payload)
+payload_brings refuses _ payload = false
 
+-- by whether the sink may refuse a piece
+abbrev pub brings_into : Bool → Reading → List Packet → Packet → Bool
+brings_into refuses reading packets (Data payload) = payload_brings refuses (place_of reading.direct packets) payload
+brings_into refuses reading packets _ = false
+
+-- where the pack is kept in memory
 abbrev pub brings : Reading → List Packet → Packet → Bool
-brings reading packets (Data payload) = payload_brings (place_of reading.direct packets) payload
-brings reading packets _ = false
+brings = brings_into true
 
 -- the packets are a reply, and say this
 pub record Says (reading : Reading) (packets : List Packet) (reply : FetchReply) : Type 0 where

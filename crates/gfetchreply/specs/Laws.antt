@@ -1,5 +1,5 @@
 -- What the laws of replies to fetch speak of.
-use Rattle.std.specs.Prelude.{◌≡◌, ℕ, ◌≤◌, List, [], ◌++◌, length, Result, Ok, IfErr}
+use Rattle.std.specs.Prelude.{◌≡◌, ℕ, ◌≤◌, Bool, List, [], ◌++◌, length, Result, Ok, IfErr}
 use Rattle.gpkt.specs.Packets.{Packet, canonical_all}
 use Rattle.ggrammar.specs.Grammar.{IsOpen, IsWhole}
 use Rattle.ggrammar.specs.Kinds.{SaysAtFront}
@@ -57,10 +57,10 @@ module _ {S : Type 0} (taken : S → List ℕ → Type 0) where
 
   -- A reply is read where a front of the bytes spells packets that say it. Memory that is refused, a device that fails
   -- and a reader that had failed are apart.
-  abbrev pub ReadsIntoWhereSaid : Reading → Type 0
-  ReadsIntoWhereSaid reading =
+  abbrev pub ReadsIntoWhereSaid : Bool → Reading → Type 0
+  ReadsIntoWhereSaid refuses reading =
       (bytes new rest : List ℕ) (old sink : S) (result : Result FetchHead MessageFault) (reply : FetchReply)
-      → ReadsReply taken reading (known bytes new) (taken old) sink result
+      → ReadsReply taken refuses reading (known bytes new) (taken old) sink result
       → IfErr result (λ fault. IsOfBytes fault.why) → SaysAtFront (Says reading) bytes rest reply
       → HasReadInto rest new old sink result reply
 
@@ -73,9 +73,9 @@ module _ {S : Type 0} (taken : S → List ℕ → Type 0) where
       × HasReadInto new new old sink (Ok head) reply
 
   -- what is written of a reply reads back, whatever follows
-  abbrev pub ReadsBackInto : Reading → Type 0
-  ReadsBackInto reading =
+  abbrev pub ReadsBackInto : Bool → Reading → Type 0
+  ReadsBackInto refuses reading =
       (rest new : List ℕ) (old sink : S) (result : Result FetchHead MessageFault) (reply : FetchReply)
       → IsReplyIn reading reply
-      → ReadsReply taken reading (known (canonical_all (canonical_reply reading.ends reply) ++ rest) new) (taken old)
-      sink result → IfErr result (λ fault. IsOfBytes fault.why) → HasReadInto rest new old sink result reply
+      → ReadsReply taken refuses reading (known (canonical_all (canonical_reply reading.ends reply) ++ rest) new)
+      (taken old) sink result → IfErr result (λ fault. IsOfBytes fault.why) → HasReadInto rest new old sink result reply

@@ -1,11 +1,11 @@
 -- What reading a reply to fetch answers, and what it leaves in the sink.
-use Rattle.std.specs.Prelude.{◌≡◌, ℕ, ◌≤◌, List, ◌++◌, length, Result, Ok, Err}
+use Rattle.std.specs.Prelude.{◌≡◌, ℕ, ◌≤◌, Bool, List, ◌++◌, length, Result, Ok, Err}
 use Rattle.gpkt.specs.Change.{Change}
 use Rattle.gpkt.specs.Packets.{Packet}
 use Rattle.ggrammar.specs.Kinds.{ReadsMessage}
 use Rattle.ggrammar.specs.MessageReading.{ReadsRefused}
 use Rattle.ggrammar.specs.declared.fault.MessageFault.{MessageFault}
-use Rattle.gfetchreply.specs.FetchReplies.{Reading, FetchReply, Says, band_payloads, brings, data_of, judge}
+use Rattle.gfetchreply.specs.FetchReplies.{Reading, FetchReply, Says, band_payloads, brings_into, data_of, judge}
 use Rattle.gfetchreply.specs.FetchHeads.{FetchHead, head_of, pack_of}
 
 module _ {S : Type 0} (taken : S → List ℕ → Type 0) where
@@ -18,14 +18,15 @@ module _ {S : Type 0} (taken : S → List ℕ → Type 0) where
     pub short : length (pack_of reply) ≤ reading.limit
     pub pack : (before : List ℕ) → had before → taken sink (before ++ pack_of reply)
 
-  -- it is refused after these packets, and the sink has taken their data, which is within the limit
-  pub record RefusesReply (reading : Reading) (bytes : Change) (had : List ℕ → Type 0) (sink : S)
+  -- It is refused after these packets, and the sink has taken their data, which is within the limit. Out of memory
+  -- comes only at an acknowledgment and, where the sink may refuse a piece, at some data of the pack.
+  pub record RefusesReply (refuses : Bool) (reading : Reading) (bytes : Change) (had : List ℕ → Type 0) (sink : S)
       (fault : MessageFault) : Type 0 where
     pub packets : List Packet
-    pub refused : ReadsRefused (judge reading) (brings reading) packets bytes fault
+    pub refused : ReadsRefused (judge reading) (brings_into refuses reading) packets bytes fault
     pub short : length (data_of (band_payloads reading.direct packets)) ≤ reading.limit
     pub pack : (before : List ℕ) → had before → taken sink (before ++ data_of (band_payloads reading.direct packets))
 
-  abbrev pub ReadsReply : Reading → Change → (List ℕ → Type 0) → S → Result FetchHead MessageFault → Type 0
-  ReadsReply reading bytes had sink (Ok head) = TakesReply reading bytes had sink head
-  ReadsReply reading bytes had sink (Err fault) = RefusesReply reading bytes had sink fault
+  abbrev pub ReadsReply : Bool → Reading → Change → (List ℕ → Type 0) → S → Result FetchHead MessageFault → Type 0
+  ReadsReply refuses reading bytes had sink (Ok head) = TakesReply reading bytes had sink head
+  ReadsReply refuses reading bytes had sink (Err fault) = RefusesReply refuses reading bytes had sink fault

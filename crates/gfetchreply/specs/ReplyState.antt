@@ -99,12 +99,12 @@ data_there place Flush = []
 data_there place Delim = []
 data_there place ResponseEnd = []
 
--- whether it brings something to keep
-abbrev pub brings_there : Place → Packet → Bool
-brings_there place (Data payload) = payload_brings place payload
-brings_there place Flush = false
-brings_there place Delim = false
-brings_there place ResponseEnd = false
+-- whether it brings something that takes memory
+abbrev pub brings_there : Bool → Place → Packet → Bool
+brings_there refuses place (Data payload) = payload_brings refuses place payload
+brings_there refuses place Flush = false
+brings_there refuses place Delim = false
+brings_there refuses place ResponseEnd = false
 
 -- ---- what is kept, without where it lies in memory
 

@@ -18,26 +18,27 @@ use ggrammar::laws::{grammars_are_exact, kinds_are_read, messages_are_read};
 use gname::laws::{ids_have_one_format, ids_have_texts};
 use gpkt::laws::text_reads_back;
 
-// Replies as they are read, as a kind of message.
+// Replies as they are read, as a kind of message: whether the sink may refuse a piece, and how they are read.
 struct Replies;
 
 impl Kind for Replies {
-    ghost use Rattle.gfetchreply.specs.FetchReplies.{FetchReply, IsCanonical, Reading, Says, brings, judge};
+    ghost use Rattle.std.specs.Prelude.{Bool};
+    ghost use Rattle.gfetchreply.specs.FetchReplies.{FetchReply, IsCanonical, Reading, Says, brings_into, judge};
     ghost use Rattle.gfetchreply.specs.WellFormed.{IsReplyIn};
 
-    ghost Given = { Reading };
+    ghost Given = { Bool × Reading };
 
     ghost Said = { FetchReply };
 
-    ghost judge = { judge };
+    ghost judge = { λ given. judge given.1 };
 
-    ghost brings = { brings };
+    ghost brings = { λ given. brings_into given.0 given.1 };
 
-    ghost says = { Says };
+    ghost says = { λ given. Says given.1 };
 
-    ghost is_value = { IsReplyIn };
+    ghost is_value = { λ given. IsReplyIn given.1 };
 
-    ghost is_canonical = { λ reading. IsCanonical reading.ends };
+    ghost is_canonical = { λ given. IsCanonical given.1.ends };
 }
 
 /// The constant is the limit that the definitions name.
@@ -117,17 +118,20 @@ pub fn reads_back()
 /// A reply is read into a sink, as [`crate::read_fetch_reply_into_in`] reads it, exactly where a front of the bytes spells
 /// packets that say it.
 pub fn reads_into_exactly<T: PackSink>()
-    ensures said { (reading : Reading) → ReadsIntoWhereSaid T.taken reading }
+    ensures said { (reading : Reading) → ReadsIntoWhereSaid T.taken T.refuses reading }
     ensures only { (reading : Reading) → ReadsIntoOnlySaid T.taken reading }
 {
-    reads_exactly();
+    one_meaning();
+    kinds_are_read::<Replies>();
 }
 
 /// What is written of a reply reads back into a sink, whatever follows it.
 pub fn reads_back_into<T: PackSink>()
-    ensures { (reading : Reading) → reading.limit ≤ max_pack → ReadsBackInto T.taken reading }
+    ensures { (reading : Reading) → reading.limit ≤ max_pack → ReadsBackInto T.taken T.refuses reading }
 {
-    reads_back();
+    one_meaning();
+    canonical_says();
+    kinds_are_read::<Replies>();
 }
 
 /// A reply that is delivered as the answer to another request, or read within another limit. Whatever way some packets

@@ -9,7 +9,8 @@
 //!   with the grammar's reason (`judge` in `specs/FetchReplies.antt`), and the sink has taken exactly the data of the
 //!   packets before, within the limit too. Whatever is answered, the sink is still the same one, as its [`PackSink`] says
 //!   what that is. A sink gets no empty piece. Out of memory stands in for no other fault: it comes only at a packet
-//!   that the grammar takes, and that brings an acknowledged id or some of the pack.
+//!   that the grammar takes, and that brings an acknowledged id; or some of the pack, where the sink is of a kind that may
+//!   refuse a piece. A [`PackSink`] says which it is; a vector may refuse one.
 //!   [`read_fetch_reply_into`] does the same in SHA-1; [`read_fetch_reply_in`] and [`read_fetch_reply`] keep the pack in
 //!   memory.
 //! - [`Acks`] holds ids of one format, at most 4,096, [`PackBytes`] at most `gname::MAX_PACK` bytes, and a
@@ -33,8 +34,9 @@
 //!
 //! # What a body can still get away with
 //!
-//! It may give a sink a piece again that the sink refused, and report out of memory at any id and at any packet with
-//! data, also where the sink was not given that data. Any call may take memory. It may take as long as it likes.
+//! It may report out of memory at any id. Where the pack is kept in memory, it may do so at any packet with data; with
+//! a sink of the caller's, at a packet with data once that sink has refused a piece, which it may be given again. Any
+//! call may take memory. It may take as long as it likes.
 //!
 //! # Stands on
 //!

@@ -1,6 +1,6 @@
 //! Reading a reply to fetch.
 
-ghost use Rattle.std.specs.Prelude.{◌≡◌, ◌≤◌, ℕ, List, length, nat_lt, IfOk, OnOk, Ok};
+ghost use Rattle.std.specs.Prelude.{◌≡◌, ◌≤◌, ◌&&◌, ℕ, List, length, nat_lt, IfOk, OnOk, Ok};
 ghost use Rattle.gpkt.specs.Packets.{Data, packet_of};
 ghost use Rattle.gpkt.specs.Bands.{Data as BandData, band_form};
 ghost use Rattle.ggrammar.specs.PeerErrors.{peer_error, unless_error};
@@ -93,7 +93,7 @@ impl<'s, T: PackSink, A: Allocator + Copy, L: Lent<T>> ReplyReader<'s, T, A, L> 
         ensures in_place { self.new.sink.ghost_name ≡ self.old.sink.ghost_name }
         ensures same { T.same self.old.sink.now self.new.sink.now }
         ensures takes { TakesBoth T.taken (judge_at (reading_with self.old.reading self.old.sections) (state_in self.old.sections) (packet_of line.entry))
-            (brings_there (place_in self.old.sections.place) (packet_of line.entry))
+            (brings_there T.refuses (place_in self.old.sections.place) (packet_of line.entry))
             (with_packet (kept_in self.old.sections) (packet_of line.entry)) (kept_in self.new.sections)
             (data_there (place_in self.old.sections.place) (packet_of line.entry)) self.old.sink.now self.new.sink.now result }
     {
@@ -112,7 +112,7 @@ impl<'s, T: PackSink, A: Allocator + Copy, L: Lent<T>> ReplyReader<'s, T, A, L> 
         ensures same { T.same self.old.sink.now self.new.sink.now }
         ensures takes { TakesBoth T.taken
             (unless_error (peer_error payload.now) (judge_payload (reading_with self.old.reading self.old.sections) (place_in self.old.sections.place) (state_in self.old.sections) payload.now))
-            (payload_brings (place_in self.old.sections.place) payload.now)
+            (payload_brings T.refuses (place_in self.old.sections.place) payload.now)
             (with_payload (place_in self.old.sections.place) (kept_in self.old.sections) payload.now) (kept_in self.new.sections)
             (data_there (place_in self.old.sections.place) (Data payload.now)) self.old.sink.now self.new.sink.now result }
     {
@@ -136,7 +136,7 @@ impl<'s, T: PackSink, A: Allocator + Copy, L: Lent<T>> ReplyReader<'s, T, A, L> 
         ensures in_place { self.new.sink.ghost_name ≡ self.old.sink.ghost_name }
         ensures same { T.same self.old.sink.now self.new.sink.now }
         ensures takes { TakesBoth T.taken (judge_band self.old.reading.limit (state_in self.old.sections) (band_form payload.now))
-            (band_brings (band_form payload.now))
+            (band_brings T.refuses (band_form payload.now))
             (with_band (kept_in self.old.sections) (length (data_in (band_form payload.now)))) (kept_in self.new.sections)
             (data_in (band_form payload.now)) self.old.sink.now self.new.sink.now result }
     {
@@ -154,7 +154,7 @@ impl<'s, T: PackSink, A: Allocator + Copy, L: Lent<T>> ReplyReader<'s, T, A, L> 
         ensures in_place { self.new.sink.ghost_name ≡ self.old.sink.ghost_name }
         ensures same { T.same self.old.sink.now self.new.sink.now }
         ensures takes { TakesBoth T.taken (judge_band self.old.reading.limit (state_in self.old.sections) (Ok (BandData bytes.now)))
-            (nat_lt 0 (length bytes.now))
+            (T.refuses && nat_lt 0 (length bytes.now))
             (with_band (kept_in self.old.sections) (length bytes.now)) (kept_in self.new.sections)
             bytes.now self.old.sink.now self.new.sink.now result }
     {
@@ -172,13 +172,13 @@ impl<'s, T: PackSink, A: Allocator + Copy, L: Lent<T>> ReplyReader<'s, T, A, L> 
 }
 
 impl<T: PackSink, A: Allocator + Copy, L: Lent<T>> Message for ReplyReader<'_, T, A, L> {
-    ghost use Rattle.gfetchreply.specs.FetchReplies.{brings, judge};
+    ghost use Rattle.gfetchreply.specs.FetchReplies.{brings_into, judge};
     ghost use Rattle.gfetchreply.specs.ReplyState.{Holds, Leaves, kept_in};
     ghost use Rattle.gfetchreply.specs.Views.{reading_in};
 
     ghost judge = { λ reader. judge (reading_in reader.reading) };
 
-    ghost brings = { λ reader. brings (reading_in reader.reading) };
+    ghost brings = { λ reader. brings_into T.refuses (reading_in reader.reading) };
 
     ghost holds = { λ reader packets. Holds T.taken T.same L.had L.starts L.seat L.asked (reading_in reader.reading)
         (kept_in reader.sections) reader.sink.now reader.sink.ghost_name packets };
@@ -204,7 +204,7 @@ pub fn read_fetch_reply_into<S: Source, T: PackSink, A: Allocator + Copy, B: All
     sink: &mut T,
     alloc: B,
 ) -> Result<FetchHead<B>, MessageFault>
-    ensures read { ReadsReply T.taken (sha1_reading direct limit ends)
+    ensures read { ReadsReply T.taken T.refuses (sha1_reading direct limit ends)
         (change_of S.remaining reader.old.source reader.new.source) (T.taken sink.old) sink.new (head_result result) }
     ensures format { IfOk result (IsHeadOf Sha1) }
     ensures same { T.same sink.old sink.new }
@@ -226,17 +226,17 @@ pub fn read_fetch_reply_into<S: Source, T: PackSink, A: Allocator + Copy, B: All
 /// The fault has the first packet, from 0, that does not fit, and why. What the line reader refuses comes first
 /// ([`Why::Line`]), then the end of the input ([`Why::Ended`]), then an error that the peer reports
 /// ([`Why::RemoteErr`]), then what the grammar refuses: a 4,097th id, and the packet with which the pack would pass its
-/// limit, with [`Why::Limit`] where their form is right. [`Why::Memory`] comes only at an acknowledged id and at a packet
-/// with some of the pack. After a refusal the sink has taken the data of the packets before, and no more than the limit,
-/// and the line reader has failed exactly where the line itself was refused. Whatever is answered, the sink is still the
-/// same one.
+/// limit, with [`Why::Limit`] where their form is right. [`Why::Memory`] comes only at an acknowledged id and, where the
+/// sink may refuse a piece, at a packet with some of the pack. After a refusal the sink has taken the data of the packets
+/// before, and no more than the limit, and the line reader has failed exactly where the line itself was refused. Whatever
+/// is answered, the sink is still the same one.
 pub fn read_fetch_reply_into_in<S: Source, T: PackSink, A: Allocator + Copy, B: Allocator + Copy>(
     reader: &mut LineReader<S, A>,
     reading: FetchReading,
     sink: &mut T,
     alloc: B,
 ) -> Result<FetchHead<B>, MessageFault>
-    ensures read { ReadsReply T.taken (reading_in reading) (change_of S.remaining reader.old.source reader.new.source)
+    ensures read { ReadsReply T.taken T.refuses (reading_in reading) (change_of S.remaining reader.old.source reader.new.source)
         (T.taken sink.old) sink.new (head_result result) }
     ensures format { IfOk result (IsHeadOf reading.format) }
     ensures same { T.same sink.old sink.new }
@@ -317,7 +317,7 @@ fn read_to_end<S: Source, T: PackSink, A: Allocator + Copy, B: Allocator + Copy,
     requires had { (before : List ℕ) → L.had before → T.taken reply.old.sink.now before }
     requires starts { (start : T) → L.starts start → T.same start reply.old.sink.now }
     ensures in_place { reply.new.sink.ghost_name ≡ reply.old.sink.ghost_name }
-    ensures read { ReadsReply T.taken (reading_in reply.old.reading) (change_of S.remaining reader.old.source reader.new.source)
+    ensures read { ReadsReply T.taken T.refuses (reading_in reply.old.reading) (change_of S.remaining reader.old.source reader.new.source)
         L.had reply.new.sink.now (head_after reply.old.reading.direct reply.new.sections result) }
     ensures format { OnOk result (reply.new.sections.acks.format ≡ reply.old.reading.format) }
     ensures same { (start : T) → L.starts start → T.same start reply.new.sink.now }

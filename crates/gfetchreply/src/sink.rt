@@ -1,6 +1,6 @@
 //! What takes the pack of a reply.
 
-ghost use Rattle.std.specs.Prelude.{◌≡◌, ◌≢◌, ℕ, List, []};
+ghost use Rattle.std.specs.Prelude.{◌≡◌, ◌≢◌, ℕ, Bool, true, List, []};
 ghost use Rattle.gfetchreply.specs.PackSinks.{TakesPiece};
 
 use std::alloc::Allocator;
@@ -13,11 +13,14 @@ pub trait PackSink {
     // The second is still the sink that the first is: what pieces leave as it was.
     ghost same: { Self → Self → Type 0 };
 
+    // Whether a sink of this type may ever refuse a piece.
+    ghost refuses: { Bool };
+
     /// Takes the next piece of the pack, which is never empty. `false` where memory for it is refused; then
-    /// nothing of it is taken.
+    /// nothing of it is taken. A sink that never refuses a piece never answers that.
     fn piece(&mut self, bytes: &[u8]) -> bool
         requires not_empty { bytes.now ≢ [] }
-        ensures takes { TakesPiece taken self.old self.new bytes.now result }
+        ensures takes { TakesPiece taken refuses self.old self.new bytes.now result }
         ensures same { same self.old self.new };
 
     /// Laws of the sink; the call has no effect. Each sink is still itself, and stays so piece after piece.
@@ -26,11 +29,13 @@ pub trait PackSink {
         ensures onward { (first : Self) (second : Self) (third : Self) → same first second → same second third → same first third };
 }
 
-/// A vector takes a pack after the bytes that it has.
+/// A vector takes a pack after the bytes that it has. It may refuse a piece for want of memory.
 impl<A: Allocator + Copy> PackSink for Vec<u8, A> {
     ghost taken = { λ bytes taken. bytes.items ≡ taken };
 
     ghost same = { λ _ _. Unit {0} };
+
+    ghost refuses = { true };
 
     fn piece(&mut self, bytes: &[u8]) -> bool {
         self.extend_from_slice(bytes).is_ok()

@@ -1,13 +1,14 @@
 -- Reading an id answers what its text spells.
-use Rattle.std.proofs.Common.{◌≡◌, ℕ, List, length, None, Some, Result, Ok, Err, inl, inr, refl, sym, ap, ◌∙◌, ◌==◌}
+use Rattle.std.proofs.Common.{◌≡◌, ℕ, ◌≤◌, List, length, None, Some, Result, Ok, Err, inl, inr, refl, sym, ap, subst, ◌∙◌, ◌==◌, arith}
 use Rattle.std.proofs.lemmas.Bool.{cond-true, cond-false, eq-eqb}
 use Rattle.std.proofs.lemmas.Bool.Decides.{eqb_tells}
 use Rattle.hex.specs.Hex.{decode_of}
 use Rattle.hex.specs.declared.error.FromHexError.{FromHexError}
 use Rattle.gname.specs.Formats.{id_text_length}
-use Rattle.gname.specs.Ids.{ReadsId, IsIdTextOf}
-use Rattle.gname.specs.Laws.{TextsHaveOneReading}
+use Rattle.gname.specs.Ids.{ReadsId, IsIdOf, IsIdTextOf, id_text}
+use Rattle.gname.specs.Laws.{IdsHaveOneFormat, IdsHaveTexts, TextsHaveOneReading}
 use Rattle.gname.specs.declared.formats.Format.{Format}
+use Rattle.gname.specs.declared.formats.Format.TheVariants.{Sha1, Sha256}
 use Rattle.gname.specs.declared.ids.OidFault.{OidFault}
 use Rattle.gname.specs.declared.ids.OidFault.TheVariants.{Length, Digit}
 use Rattle.ggrammar.specs.Ids.{id_of_text, ok_of, IdIsSpelt}
@@ -36,7 +37,7 @@ pub decodes : (decoded : Result (List ℕ) FromHexError) (id : List ℕ) → ok_
 decodes (Ok other) id e = cc
 decodes (Err fault) id e = let none : None ≡ Some id = e in cc
 
-spelt_by : (format : Format) (text id : List ℕ) → id_of_text format text ≡ Some id → IsIdTextOf format text id
+pub spelt_by : (format : Format) (text id : List ℕ) → id_of_text format text ≡ Some id → IsIdTextOf format text id
 unfolding id_of_text
 spelt_by format text id e =
     elim (eqb_tells (length text) (id_text_length format)) [
@@ -47,10 +48,29 @@ spelt_by format text id e =
       | inr h ↦ (let none : None ≡ Some id = sym (cond-false (length text == id_text_length format) (ok_of (decode_of text)) None h.0) ∙ e in cc)
     ]
 
-is_spelt : (format : Format) (text id : List ℕ) → IsIdTextOf format text id → id_of_text format text ≡ Some id
+pub is_spelt : (format : Format) (text id : List ℕ) → IsIdTextOf format text id → id_of_text format text ≡ Some id
 unfolding id_of_text
 is_spelt format text id h =
     cond-true (length text == id_text_length format) (ok_of (decode_of text)) None (eq-eqb _ _ h.long) ∙ ap ok_of h.spells
+
+pub id_formed : TextsHaveOneReading → (format : Format) (text id : List ℕ) → id_of_text format text ≡ Some id → IsIdOf format id
+id_formed law format text id e = ((law format text).0 id (spelt_by format text id e)).1
+
+-- the text of an id spells it in its format, and is short
+pub id_spells : IdsHaveOneFormat → IdsHaveTexts → (format : Format) (id : List ℕ) → IsIdOf format id → IsIdTextOf format (id_text id) id
+id_spells one texts format id h =
+    let of = one format id h in
+    subst (λ (f : Format). IsIdTextOf f (id_text id) id) of.1 (texts id of.0).0
+
+few_digits : (format : Format) → id_text_length format ≤ 64
+few_digits Sha1 = omega arith
+few_digits Sha256 = omega arith
+
+pub id_text_short : IdsHaveOneFormat → IdsHaveTexts → (format : Format) (id : List ℕ) → IsIdOf format id → length (id_text id) ≤ 64
+id_text_short one texts format id h =
+    let long = (id_spells one texts format id h).long in
+    let few = few_digits format in
+    omega (arith, long, few)
 
 pub id_is_spelt : IdIsSpelt
 id_is_spelt format text id = (spelt_by format text id, is_spelt format text id)

@@ -3,6 +3,7 @@ pub mod ReadingLemmas
 pub mod IdLemmas
 pub mod CapabilityLemmas
 pub mod WritingLemmas
+pub mod PassingLemmas
 pub mod BytesLemmas
 pub mod RefusalLemmas
 pub mod KindLemmas

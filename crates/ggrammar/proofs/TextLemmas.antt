@@ -1,6 +1,7 @@
 -- The texts of packets, and words at the front of a text.
 use Rattle.std.proofs.Common.{◌≡◌, ℕ, Bool, true, false, if◌then◌else◌, nat_eq, List, [], ◌∷◌, ◌++◌, length, drop, map, Option, Some, None, refl, ap, ◌∙◌}
 use Rattle.std.specs.List.{starts_with}
+use Rattle.std.specs.Prelude.{is_none}
 use Rattle.std.proofs.lemmas.Bool.Decides.{Decides-eqb}
 use Rattle.std.proofs.lemmas.Slice.Eq.{starts_is}
 use Rattle.gpkt.specs.Packets.{Data, text}
@@ -16,6 +17,10 @@ pub tested : {X : Type 0} (b : Bool) (x : Option X) (y : X) → (if b then x els
     → (b ≡ true) × (x ≡ Some y)
 tested true x y e = (refl, e)
 tested false x y e = absurd (let no : None ≡ Some y = e in cc)
+
+pub is_none-None : {X : Type 0} (found : Option X) → is_none found ≡ true → found ≡ None
+is_none-None None e = refl
+is_none-None (Some x) e = cc
 
 -- a text with a word at its front
 pub follows_word : (word line rest : List ℕ) → after_word word line ≡ Some rest → line ≡ word ++ rest

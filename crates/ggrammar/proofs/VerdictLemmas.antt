@@ -1,10 +1,12 @@
 -- Verdicts: what is refused is refused for the packet's own sake, and a peer's error comes before all else.
-use Rattle.std.proofs.Common.{◌≡◌, ℕ, Bool, true, false, cond, List, Option, Some, None, refl}
+use Rattle.std.proofs.Common.{◌≡◌, ℕ, Bool, true, false, cond, List, Option, Some, None, refl, ap}
+use Rattle.gpkt.specs.Packets.{Packet, Data, Flush, Delim, ResponseEnd}
+use Rattle.ggrammar.specs.Endings.{after_flush}
 use Rattle.ggrammar.specs.Grammar.{Verdict, Open, Whole, Refused, if_room}
 use Rattle.ggrammar.specs.MessageBytes.{IsForPacket}
 use Rattle.ggrammar.specs.MessageReading.{IsAccepted}
-use Rattle.ggrammar.specs.PeerErrors.{unless_error}
-use Rattle.ggrammar.specs.declared.fault.Why.TheVariants.{Limit}
+use Rattle.ggrammar.specs.PeerErrors.{peer_error, unless_error}
+use Rattle.ggrammar.specs.declared.fault.Why.TheVariants.{Limit, UnexpectedFrame}
 
 -- ---- packets are refused for their own sake
 
@@ -20,6 +22,13 @@ pub past_error : (said : Option (List ℕ)) (verdict : Verdict) → IsForPacket 
     → IsForPacket (unless_error said verdict)
 past_error (Some said) verdict h = tt
 past_error None verdict h = h
+
+-- behind the flush
+pub of_end : (packet : Packet) → IsForPacket (after_flush packet)
+of_end (Data payload) = past_error (peer_error payload) (Refused UnexpectedFrame) tt
+of_end Flush = tt
+of_end Delim = tt
+of_end ResponseEnd = tt
 
 -- ---- what is not refused reports no error, and had room
 
@@ -39,3 +48,11 @@ accepted_unless (Some said) verdict h = absurd h
 pub room_left : (room : Bool) → if_room room ≡ Open → room ≡ true
 room_left true e = refl
 room_left false e = cc
+
+pub room_goes_on : (room : Bool) → room ≡ true → if_room room ≡ Open
+room_goes_on room e = ap if_room e
+
+-- and where there is room, nothing is whole yet
+pub room_not_whole : (room : Bool) → if_room room ≡ Whole → ⊥
+room_not_whole true e = cc
+room_not_whole false e = cc

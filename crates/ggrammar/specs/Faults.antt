@@ -1,10 +1,12 @@
 -- The table of faults of messages: the number and the name of each, and what the peer is told; and what is kept of a
 -- peer's text.
-use Rattle.std.specs.Prelude.{ℕ, List, codes, take}
+use Rattle.std.specs.Prelude.{ℕ, List, ◌++◌, codes, take}
+use Rattle.std.specs.Fmt.{decimal}
 use Rattle.gpkt.specs.Faults.{FaultRow, band_fault_row, line_fault_row}
 use Rattle.gpkt.specs.Packets.{text}
 use Rattle.gpkt.specs.declared.fault.LineFault.{LineFault}
 use Rattle.gpkt.specs.declared.fault.LineFault.TheVariants as line
+use Rattle.ggrammar.specs.declared.fault.MessageFault.{MessageFault}
 use Rattle.ggrammar.specs.declared.fault.Why.{Why}
 use Rattle.ggrammar.specs.declared.fault.Why.TheVariants as why
 
@@ -53,3 +55,7 @@ why_row why.WrongSection = row_of (51, codes "WrongSection") (codes "refused")
 why_row why.Format = row_of (52, codes "Format") (codes "object format mismatch")
 why_row why.Memory = row_of (53, codes "Memory") (codes "out of memory")
 why_row why.Ended = row_of (54, codes "Ended") (codes "unexpected end")
+
+-- the text of a fault of a message: the place of its packet, and why
+abbrev pub message_fault_text : MessageFault → List ℕ
+message_fault_text fault = codes "packet " ++ decimal fault.frame ++ codes ": " ++ (why_row fault.why).phrase

@@ -1,7 +1,7 @@
 //! Why a message is refused, and at which of its packets.
 
-ghost use Rattle.std.specs.Prelude.{◌≡◌, ◌+◌, ◌≤◌, ◌++◌, length};
-ghost use Rattle.ggrammar.specs.Faults.{why_row, row_of, line_phrase, kept_text, max_peer_text};
+ghost use Rattle.std.specs.Prelude.{◌≡◌, ◌+◌, ◌≤◌, ◌++◌, length, Some};
+ghost use Rattle.ggrammar.specs.Faults.{why_row, row_of, line_phrase, kept_text, max_peer_text, message_fault_text};
 ghost use Rattle.ggrammar.specs.FaultViews.{row_view};
 
 use arrayvec::ArrayVec;
@@ -174,6 +174,8 @@ impl Why {
 }
 
 impl fmt::Display for Why {
+    ghost output = { λ why. Some (why_row why).phrase };
+
     fn fmt<W: fmt::Write>(&self, f: &mut fmt::Formatter<W>) -> fmt::Result {
         f.write_str(self.phrase())
     }
@@ -182,8 +184,7 @@ impl fmt::Display for Why {
 impl Error for Why {}
 
 /// A message that was refused: at which of its packets, from 0, and why.
-#[derive(Debug, Drop, thiserror::Error)]
-#[error("packet {frame}: {why}")]
+#[derive(Debug, Drop)]
 pub struct MessageFault {
     pub frame: u64,
     pub why: Why,
@@ -214,3 +215,14 @@ impl MessageFault {
         self.why.name()
     }
 }
+
+impl fmt::Display for MessageFault {
+    ghost output = { λ fault. Some (message_fault_text fault) };
+
+    fn fmt<W: fmt::Write>(&self, f: &mut fmt::Formatter<W>) -> fmt::Result {
+        let MessageFault { frame, why } = self;
+        write!(f, "packet {frame}: {why}")
+    }
+}
+
+impl Error for MessageFault {}

@@ -21,16 +21,15 @@
 //!
 //! # What a body can still get away with
 //!
-//! It may take as long as it likes, display a fault otherwise than by its phrase, and show anything of a peer's text
-//! by `{:?}`. Where a packet brings something
-//! to keep, a message may be refused as if there were no memory. Where the bytes of a source are not known,
-//! nothing is said of the lines that were read; what a device has done is said all the same. What is kept of a
-//! message after a refusal is for its kind to say.
+//! It may take as long as it likes, and show anything of a peer's text by `{:?}`. Where a packet brings something to
+//! keep, a message may be refused as if there were no memory. Where the bytes of a source are not known, nothing is
+//! said of the lines that were read; what a device has done is said all the same. What is kept of a message after a
+//! refusal is for its kind to say.
 //!
 //! # Stands on
 //!
 //! `gpkt` for packet lines, `gname` for ids and names, `hex` for what spells an id, `arrayvec` for texts of
-//! bounded length, `thiserror` for the text of a fault with its packet.
+//! bounded length.
 #![tactic(auto)]
 
 mod capability;

@@ -1,26 +1,24 @@
 // What loading and saving a repository text refuse.
 #![tactic(auto)]
 
-ghost use Rattle.std.specs.Prelude.{◌≡◌};
-ghost use Rattle.ggraph.specs.Faults.{load_fault_row, save_fault_row};
+ghost use Rattle.std.specs.Prelude.{◌≡◌, Some};
+ghost use Rattle.ggraph.specs.Faults.{load_fault_row, load_fault_text, save_fault_row, save_fault_text};
 ghost use Rattle.ggraph.specs.declared.fault.LoadFault.TheVariants as load;
 ghost use Rattle.ggraph.specs.declared.fault.SaveFault.TheVariants as save;
 
 use gname::Oid;
 use std::alloc::AllocError;
-use thiserror::Error;
+use std::error::Error;
+use std::fmt;
 
 /// Why a repository text was not loaded.
-#[derive(Clone, Copy, Debug, PartialEq, Eq, Drop, Error)]
+#[derive(Clone, Copy, Debug, PartialEq, Eq, Drop)]
 pub enum LoadFault {
     /// The line of a repository text, counted from 1, that is not as its format says.
-    #[error("line {line} of the repository text is wrong")]
     Text { line: usize },
     /// The line of a repository text with a parent that is on no earlier line.
-    #[error("line {line} of the repository text names a parent that comes later")]
     ParentLater { line: usize },
     /// There is no memory.
-    #[error("out of memory")]
     Memory,
 }
 
@@ -51,6 +49,23 @@ impl LoadFault {
     }
 }
 
+impl fmt::Display for LoadFault {
+    ghost output = { λ fault. Some (load_fault_text fault) };
+
+    fn fmt<W: fmt::Write>(&self, f: &mut fmt::Formatter<W>) -> fmt::Result {
+        match self {
+            LoadFault::Text { line } => write!(f, "line {line} of the repository text is wrong"),
+            LoadFault::ParentLater { line } => write!(
+                f,
+                "line {line} of the repository text names a parent that comes later"
+            ),
+            LoadFault::Memory => f.write_str("out of memory"),
+        }
+    }
+}
+
+impl Error for LoadFault {}
+
 impl From<AllocError> for LoadFault {
     ghost from_gives = { λ _ fault. fault ≡ load.Memory };
 
@@ -60,13 +75,11 @@ impl From<AllocError> for LoadFault {
 }
 
 /// Why a repository was not saved.
-#[derive(Clone, Copy, Debug, PartialEq, Eq, Drop, Error)]
+#[derive(Clone, Copy, Debug, PartialEq, Eq, Drop)]
 pub enum SaveFault {
     /// A ref or HEAD stands at this id, which is of another object format than the graph.
-    #[error("an id is of another object format")]
     OtherFormat { id: Oid },
     /// There is no memory.
-    #[error("out of memory")]
     Memory,
 }
 
@@ -95,6 +108,19 @@ impl SaveFault {
         }
     }
 }
+
+impl fmt::Display for SaveFault {
+    ghost output = { λ fault. Some (save_fault_text fault) };
+
+    fn fmt<W: fmt::Write>(&self, f: &mut fmt::Formatter<W>) -> fmt::Result {
+        match self {
+            SaveFault::OtherFormat { .. } => f.write_str("an id is of another object format"),
+            SaveFault::Memory => f.write_str("out of memory"),
+        }
+    }
+}
+
+impl Error for SaveFault {}
 
 impl From<AllocError> for SaveFault {
     ghost from_gives = { λ _ fault. fault ≡ save.Memory };

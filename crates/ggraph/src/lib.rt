@@ -16,7 +16,7 @@
 //!   first, and else only out of memory.
 //! - [`is_safe`] says whether the graph holds the whole ancestry of each ref; refs stay safe as a graph grows, and
 //!   where one is set to an id whose whole ancestry is held.
-//! - Each fault has the number and the name of its row.
+//! - Each fault has the number, the name and the text of its row.
 //! - No call panics, overflows or reads out of bounds, and each returns.
 //!
 //! # What a body can still get away with
@@ -31,7 +31,7 @@
 //! # Stands on
 //!
 //! `gobject`, `ghistory` and `grefs` for what a repository holds, `gname` for ids and names, `memchr` for
-//! the ends of lines, `gwalk` for what the ancestries of refs miss, `thiserror` for the texts of faults.
+//! the ends of lines, `gwalk` for what the ancestries of refs miss.
 #![tactic(auto)]
 
 mod fault;

@@ -39,6 +39,17 @@ chosen_few P xs ys none = omega arith
 chosen_few P xs ys (keep {xs = others} {ys = more} p rest) = let l = chosen_few P others more rest in omega arith
 chosen_few P xs ys (skip {xs = others} left_out rest) = let l = chosen_few P others ys rest in omega arith
 
+-- choosing from a list with one more
+pub selects_keep : {X : Type 0} (P : X → Type 0) (xs ys : List X) (x : X) → Selects P xs ys → P x → Selects P (xs ++ x ∷ []) (ys ++ x ∷ [])
+selects_keep P xs ys x none here = keep here none
+selects_keep P xs ys x (keep {xs = others} {ys = more} p rest) here = keep p (selects_keep P others more x rest here)
+selects_keep P xs ys x (skip {xs = others} {ys = more} out rest) here = skip out (selects_keep P others more x rest here)
+
+pub selects_skip : {X : Type 0} (P : X → Type 0) (xs ys : List X) (x : X) → Selects P xs ys → ¬ (P x) → Selects P (xs ++ x ∷ []) ys
+selects_skip P xs ys x none out = skip out none
+selects_skip P xs ys x (keep {xs = others} {ys = more} p rest) out = keep p (selects_skip P others more x rest out)
+selects_skip P xs ys x (skip {xs = others} {ys = more} left_out rest) out = skip left_out (selects_skip P others more x rest out)
+
 -- ---- which elements are chosen
 
 module _ {X : Type 0} (P : X → Type 0) where

@@ -42,7 +42,7 @@ each_from_closed {A} g differ closed =
 
 -- ---- the parents of the entry at a place
 
-parents_entry : {A : Type 0} (g : List (Entry A)) (p : ℕ) (parents : List (List ℕ)) → option_map (λ entry. entry.node.parents) (slice_get g p) ≡ Some parents → (entry : Entry A) × (slice_get g p ≡ Some entry) × (entry.node.parents ≡ parents)
+pub parents_entry : {A : Type 0} (g : List (Entry A)) (p : ℕ) (parents : List (List ℕ)) → option_map (λ entry. entry.node.parents) (slice_get g p) ≡ Some parents → (entry : Entry A) × (slice_get g p ≡ Some entry) × (entry.node.parents ≡ parents)
 parents_entry {A} g p parents at = by (slice_get g p) refl
   where
     by : (o : Option (Entry A)) → slice_get g p ≡ o → (entry : Entry A) × (slice_get g p ≡ Some entry) × (entry.node.parents ≡ parents)

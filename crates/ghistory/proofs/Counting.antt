@@ -22,7 +22,7 @@ use Rattle.ghistory.proofs.Sharing.{reached_already}
 
 -- ---- distinct ids that are reached are counted
 
-abbrev ids_of : {A : Type 0} → List (Entry A) → List (List ℕ)
+abbrev pub ids_of : {A : Type 0} → List (Entry A) → List (List ℕ)
 ids_of list = map (λ entry. entry.id) list
 
 id_among : {A : Type 0} (list : List (Entry A)) (entry : Entry A) → Contains list entry → Contains (ids_of list) entry.id

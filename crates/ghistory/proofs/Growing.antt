@@ -1,11 +1,12 @@
 -- What a graph keeps as entries come in.
-use Rattle.std.proofs.Common.{◌≡◌, ◌⊎◌, inl, inr, ℕ, zero, suc, ◌+◌, ◌<◌, ◌≤◌, false, List, [], ◌∷◌, ◌++◌, length, get_or, take, All, Contains, None, refl, sym, ap, ◌∙◌, subst, arith, append_assoc, drop, add-one}
+use Rattle.std.proofs.Common.{◌≡◌, ◌⊎◌, inl, inr, ℕ, zero, suc, ◌+◌, ◌<◌, ◌≤◌, false, List, [], ◌∷◌, ◌++◌, length, get_or, take, All, Contains, Some, None, refl, sym, ap, ◌∙◌, subst, arith, append_assoc, drop, add-one}
+use Rattle.std.specs.List.{slice_get}
 use Rattle.std.specs.Option.{is_some}
 use Rattle.std.proofs.lemmas.List.{length-append, append-nil, take_more, take-append-drop, length-take}
 use Rattle.std.proofs.Math.Seq.{take-append_seam, drop-cons}
 use Rattle.ghistory.specs.declared.fault.GraphFault.{GraphFault}
 use Rattle.std.proofs.lemmas.List.Elements.{All-push, All-take, All-cons, All-nil}
-use Rattle.std.proofs.lemmas.Option.{same_Some, none-some}
+use Rattle.std.proofs.lemmas.Option.{same_Some, none-some, get_or_from_slice_get, slice_get_within}
 use Rattle.std.proofs.lemmas.Bool.{false≢true}
 use Rattle.gobject.specs.declared.node.Node.{Node}
 use Rattle.gobject.specs.declared.node.Entry.{Entry}
@@ -111,8 +112,12 @@ keeps_full g h keeps a full b r =
 
 -- ---- inserting
 
+-- a graph that stays grows by nothing
+pub grows_none : {A : Type 0} (g h : List (Entry A)) → h ≡ g → Grows g h
+grows_none g h same = ([], same ∙ sym (append-nil g))
+
 pub comes_grows_by : {A : Type 0} (old : List (Entry A)) (entry : Entry A) (new : List (Entry A)) → (IsNode old entry.id entry.node × (new ≡ old)) ⊎ ((node_at old entry.id ≡ None) × (new ≡ old ++ entry ∷ [])) → Grows old new
-comes_grows_by old entry new (inl c) = ([], c.1 ∙ sym (append-nil old))
+comes_grows_by old entry new (inl c) = grows_none old new c.1
 comes_grows_by old entry new (inr c) = (entry ∷ [], c.1)
 
 pub comes_grows : {A : Type 0} (format : Format) (old : List (Entry A)) (entry : Entry A) (new : List (Entry A)) → ComesIn format old entry new → Grows old new
@@ -122,7 +127,7 @@ pub grows_on : {A : Type 0} (g h k : List (Entry A)) → Grows g h → Grows h k
 grows_on g h k a b = (a.0 ++ b.0, b.1 ∙ ap (λ x. x ++ b.0) a.1 ∙ append_assoc g a.0 b.0)
 
 pub inserts_grows : {A : Type 0} (format : Format) (old entries new : List (Entry A)) → Inserts format old entries new → Grows old new
-inserts_grows format old [] new is = ([], is ∙ sym (append-nil old))
+inserts_grows format old [] new is = grows_none old new is
 inserts_grows format old (entry ∷ entries) new (next, c, rest) =
     grows_on old next new (comes_grows format old entry next c) (inserts_grows format next entries new rest)
 
@@ -146,6 +151,10 @@ pub inserts_more : {A : Type 0} (format : Format) (old entries : List (Entry A))
 inserts_more {A} format old [] entry mid new is c =
     let P : List (Entry A) → Type 0 = λ x. ComesIn format x entry new in (new, subst P is c, refl)
 inserts_more format old (first ∷ entries) entry mid new (next, c, rest) d = (next, c, inserts_more format next entries entry mid new rest d)
+
+-- what holds of a list holds of what stands at a place of it
+pub all_standing : {X : Type 0} (P : X → Type 0) (xs : List X) (k : ℕ) (x : X) → slice_get xs k ≡ Some x → All P xs → P x
+all_standing P xs k x at all = subst P (get_or_from_slice_get xs k x x at) (all k x (slice_get_within xs k x at))
 
 pub take_one : {X : Type 0} (xs : List X) (k : ℕ) (x : X) → k < length xs → x ≡ get_or xs k x → take (k + 1) xs ≡ take k xs ++ x ∷ []
 take_one xs k x inside is = take_more xs k x inside ∙ ap (λ y. take k xs ++ y ∷ []) (sym is)

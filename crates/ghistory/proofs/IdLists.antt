@@ -25,6 +25,11 @@ contains_head x xs = (0, omega arith, refl)
 pub contains_tail : {X : Type 0} → (x : X) (xs : List X) (a : X) → Contains xs a → Contains (x ∷ xs) a
 contains_tail x xs a h = Contains-append_right (x ∷ []) xs a h
 
+-- a list of one has that one alone
+pub only_one : {X : Type 0} → (x a : X) → Contains (x ∷ []) a → a ≡ x
+only_one x a (zero, inside, is) = sym is
+only_one x a (suc k, inside, is) = absurd (omega (arith, inside))
+
 contains_at : {X : Type 0} → (x : X) (xs : List X) (a : X) (k : ℕ) → k < length (x ∷ xs) → get_or (x ∷ xs) k a ≡ a → (x ≡ a) ⊎ Contains xs a
 contains_at x xs a zero h e = inl e
 contains_at x xs a (suc k) h e = inr (k, omega arith, e)

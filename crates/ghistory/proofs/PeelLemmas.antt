@@ -21,7 +21,7 @@ module _ {A : Type 0} (g : List (Entry A)) where
       let same = one_node g a commit.node tag.node commit.held tag.held in
       let kinds = sym commit.commit ∙ ap (λ (n : Node A). n.kind) same ∙ tag.tag in cc
 
-  one_next : (a b c : List ℕ) → IsTagOf g a b → IsTagOf g a c → b ≡ c
+  pub one_next : (a b c : List ℕ) → IsTagOf g a b → IsTagOf g a c → b ≡ c
   one_next a b c tb tc =
       let same = one_node g a tb.node tc.node tb.held tc.held in
       let both : Some b ≡ Some c = sym tb.names ∙ ap (λ (n : Node A). slice_get n.parents 0) same ∙ tc.names in cc
@@ -67,6 +67,12 @@ module _ {A : Type 0} (g : List (Entry A)) where
   pub tags_more : (m : ℕ) (a b c : List ℕ) → Tags g m a b → IsTagOf g b c → Tags g (suc m) a c
   tags_more zero a b c here tag = (c, subst (λ (x : List ℕ). IsTagOf g x c) (sym here) tag, refl)
   tags_more (suc m) a b c (next, first, rest) tag = (next, first, tags_more m next b c rest tag)
+
+  -- one chain after the other
+  pub tags_on : (m n : ℕ) (a b c : List ℕ) → Tags g m a b → Tags g n b c → (k : ℕ) × Tags g k a c
+  tags_on zero n a b c same rest = (n, subst (λ (x : List ℕ). Tags g n x c) (sym same) rest)
+  tags_on (suc m) n a b c (next, tag, more) rest =
+      let on = tags_on m n next b c more rest in (suc on.0, (next, tag, on.1))
 
   pub one_tag_more : (m : ℕ) (a b c : List ℕ) (node : Node A) → Tags g m a b → IsNode g b node → node.kind ≡ Tag → slice_get node.parents 0 ≡ Some c → Tags g (suc m) a c
   one_tag_more m a b c node chain held tag names =

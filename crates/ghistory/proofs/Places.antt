@@ -3,12 +3,14 @@ use Rattle.std.proofs.Common.{◌≡◌, ℕ, true, List, [], ◌∷◌, get_or,
 use Rattle.std.specs.List.{slice_get}
 use Rattle.std.proofs.lemmas.Option.{none-some, slice_get-get_or, get_or_from_slice_get}
 use Rattle.std.proofs.lemmas.List.Quantifiers.{position-Some}
+use Rattle.gname.specs.Ids.{IsIdOf}
 use Rattle.gobject.specs.declared.node.Node.{Node}
 use Rattle.gobject.specs.declared.node.Entry.{Entry}
 use Rattle.gobject.specs.Objects.{entry_of, has_id, place_of}
-use Rattle.ghistory.specs.Graphs.{IsNode}
+use Rattle.ghistory.specs.Graphs.{HasIdsOf, History, Holds, IsGraph, IsNode}
 use Rattle.ghistory.specs.Laws.{IsAt, PlacesAreNodes}
-use Rattle.ghistory.proofs.Holding.{has_id_is, own_place}
+use Rattle.ghistory.proofs.Growing.{all_standing}
+use Rattle.ghistory.proofs.Holding.{has_id_is, held_node, own_place}
 use Rattle.ghistory.proofs.Ordering.{entry_at_place}
 use Rattle.ghistory.proofs.Reaching.{place_inside, place_of_node}
 use Rattle.ghistory.proofs.Sharing.{entry_is, own_node}
@@ -37,3 +39,10 @@ places_are_nodes A g differ = (
   λ a node. (at_of_node g a node, λ at. own_node g at.0 (entry_of a node) differ at.1),
   λ a p. (at_of_place g a p, λ at. own_place g p (entry_of a at.0) differ at.1),
 )
+
+-- an id that is held has the format of its graph
+pub held_id : {A : Type 0} → PlacesAreNodes A → (g : History A) → IsGraph g → (a : List ℕ) → Holds g.entries a → IsIdOf g.format a
+held_id law g graph a held =
+    let node = held_node g.entries a held in
+    let at = ((law g.entries graph.differ).0 a node.0).0 node.1 in
+    (all_standing (HasIdsOf g.format) g.entries at.0 (entry_of a node.0) at.1 graph.ids).id

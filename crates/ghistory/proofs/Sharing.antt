@@ -236,7 +236,8 @@ peels_by : {A : Type 0} (g : List (Entry A)) (steps : ℕ) (a c : List ℕ) → 
 peels_by g zero a c same commit = inl same
 peels_by g (suc steps) a c (next, tag, rest) commit = inr (next, tag, (steps, rest, commit))
 
-names_parent : {A : Type 0} (g : List (Entry A)) (a b : List ℕ) → IsTagOf g a b → HasParent g a b
+-- a tag's id has that id as its parent
+pub names_parent : {A : Type 0} (g : List (Entry A)) (a b : List ℕ) → IsTagOf g a b → HasParent g a b
 names_parent g a b tag =
     let inside = slice_get_within tag.node.parents 0 b tag.names in
     (tag.node, tag.held, (0, inside, get_or_from_slice_get tag.node.parents 0 b b tag.names))

@@ -1,5 +1,5 @@
--- The table of faults: the number and the name of each.
-use Rattle.std.specs.Prelude.{codes}
+-- The table of faults: the number, the name and the text of each.
+use Rattle.std.specs.Prelude.{ℕ, List, codes}
 use Rattle.gname.specs.Faults.{FaultRow}
 use Rattle.ghistory.specs.declared.fault.GraphFault.{GraphFault}
 use Rattle.ghistory.specs.declared.fault.GraphFault.TheVariants as graph
@@ -12,3 +12,12 @@ graph_fault_row graph.TooManyParents = (62, codes "TooManyParents")
 graph_fault_row graph.TagShape = (63, codes "TagShape")
 graph_fault_row graph.Memory = (64, codes "Memory")
 graph_fault_row (graph.OtherFormat id) = (75, codes "OtherFormat")
+
+-- their texts
+abbrev pub graph_fault_text : GraphFault → List ℕ
+graph_fault_text (graph.OtherFormat id) = codes "an id is of another object format"
+graph_fault_text (graph.Conflict id) = codes "another object has this id"
+graph_fault_text graph.TooMany = codes "too many objects"
+graph_fault_text graph.TooManyParents = codes "too many parents"
+graph_fault_text graph.TagShape = codes "a tag has one parent"
+graph_fault_text graph.Memory = codes "out of memory"

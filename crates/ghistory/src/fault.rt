@@ -1,34 +1,29 @@
 // What a call on a graph refuses.
 #![tactic(auto)]
 
-ghost use Rattle.std.specs.Prelude.{◌≡◌};
-ghost use Rattle.ghistory.specs.Faults.{graph_fault_row};
+ghost use Rattle.std.specs.Prelude.{◌≡◌, Some};
+ghost use Rattle.ghistory.specs.Faults.{graph_fault_row, graph_fault_text};
 ghost use Rattle.ghistory.specs.declared.fault.GraphFault.TheVariants.{Memory};
 
 use gname::Oid;
 use std::alloc::{AllocError, AllocFailed};
-use thiserror::Error;
+use std::error::Error;
+use std::fmt;
 
 /// Why a call on a graph was refused.
-#[derive(Clone, Copy, Debug, PartialEq, Eq, Drop, Error)]
+#[derive(Clone, Copy, Debug, PartialEq, Eq, Drop)]
 pub enum GraphFault {
     /// The entry under this id, or one of its parents, is of another object format than the graph.
-    #[error("an id is of another object format")]
     OtherFormat { id: Oid },
     /// The id stands for another node already, in the graph or earlier in the list.
-    #[error("another object has this id")]
     Conflict { id: Oid },
     /// The graph would have more than `MAX_NODES` nodes.
-    #[error("too many objects")]
     TooMany,
     /// The node has more than `MAX_PARENTS` parents.
-    #[error("too many parents")]
     TooManyParents,
     /// A tag whose parents are not exactly one.
-    #[error("a tag has one parent")]
     TagShape,
     /// There is no memory.
-    #[error("out of memory")]
     Memory,
 }
 
@@ -61,6 +56,23 @@ impl GraphFault {
         }
     }
 }
+
+impl fmt::Display for GraphFault {
+    ghost output = { λ fault. Some (graph_fault_text fault) };
+
+    fn fmt<W: fmt::Write>(&self, f: &mut fmt::Formatter<W>) -> fmt::Result {
+        match self {
+            GraphFault::OtherFormat { .. } => f.write_str("an id is of another object format"),
+            GraphFault::Conflict { .. } => f.write_str("another object has this id"),
+            GraphFault::TooMany => f.write_str("too many objects"),
+            GraphFault::TooManyParents => f.write_str("too many parents"),
+            GraphFault::TagShape => f.write_str("a tag has one parent"),
+            GraphFault::Memory => f.write_str("out of memory"),
+        }
+    }
+}
+
+impl Error for GraphFault {}
 
 impl From<AllocError> for GraphFault {
     ghost from_gives = { λ _ fault. fault ≡ Memory };

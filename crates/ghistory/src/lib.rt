@@ -32,8 +32,8 @@
 //!
 //! # Stands on
 //!
-//! `gname` for ids, `gobject` for nodes and entries, `indexmap` for the map from ids to nodes and the set
-//! of distinct ids, and `thiserror` for the texts of faults.
+//! `gname` for ids, `gobject` for nodes and entries, and `indexmap` for the map from ids to nodes and the
+//! set of distinct ids.
 #![tactic(auto)]
 
 mod closed;

@@ -5,16 +5,17 @@ use Rattle.std.proofs.lemmas.List.{length-map}
 use Rattle.std.proofs.lemmas.List.Elements.{All-cons, All-nil, All-head, All-tail, All-append}
 use Rattle.gpkt.specs.Packets.{Packet, Data, Flush, ResponseEnd, text, line_feed}
 use Rattle.gpkt.specs.Laws.{Fits}
-use Rattle.gname.specs.Ids.{IsIdOf, IsIdTextOf, id_text}
+use Rattle.gname.specs.Ids.{IsIdOf, id_text}
 use Rattle.gname.specs.Laws.{IdsHaveTexts}
-use Rattle.gname.specs.Names.{IsRefName, max_name}
+use Rattle.gname.specs.Names.{IsRefName}
 use Rattle.gname.specs.declared.formats.Format.{Format}
-use Rattle.gname.specs.declared.formats.Format.TheVariants.{Sha1, Sha256}
 use Rattle.ggrammar.specs.Endings.{ends_with}
 use Rattle.ggrammar.specs.Kinds.{CanonicalSays}
 use Rattle.ggrammar.specs.Texts.{TextIsRead, text_packet}
 use Rattle.ggrammar.specs.declared.ends.Ends.{Ends}
 use Rattle.ggrammar.specs.declared.ends.Ends.TheVariants.{Plain, Response}
+use Rattle.gname.proofs.NameLemmas.{name_within}
+use Rattle.ggrammar.proofs.IdLemmas.{id_spells, id_text_short}
 use Rattle.glsreply.specs.RefTexts.{RefLine, symref_text, peeled_text, ref_text, unborn_text}
 use Rattle.glsreply.specs.LsReplies.{LsReply, Says, IsCanonicalReply, unborn_packets, ref_packet, canonical_reply}
 use Rattle.glsreply.specs.LsManual.{IsSymref, IsPeeled, IsAttribute, IsRefText, AreRefTexts, IsUnbornFirst, IsLsReply}
@@ -31,19 +32,8 @@ pub record LawsBelow : Type 0 where
   pub words : TextLaws
 
 module _ (laws : LawsBelow) where
-  name_short : (name : List ℕ) → IsRefName name → length name ≤ max_name
-  name_short name h = (laws.words.names name h).within
-
   line_text : (line : List ℕ) → text (line ++ line_feed ∷ []) ≡ line
   line_text line = let same : Some (text (line ++ line_feed ∷ [])) ≡ Some line = laws.reads line in cc
-
-  spelt : (format : Format) (id : List ℕ) → IsIdOf format id → IsIdTextOf format (id_text id) id
-  spelt format id h =
-      let one = laws.words.formats format id h in subst (λ (f : Format). IsIdTextOf f (id_text id) id) one.1 (laws.texts id one.0).0
-
-  id_short : (format : Format) (id : List ℕ) → IsIdOf format id → length (id_text id) ≤ 64
-  id_short Sha1 id h = let long = (spelt Sha1 id h).long in omega (arith, long)
-  id_short Sha256 id h = let long = (spelt Sha256 id h).long in omega (arith, long)
 
   -- ---- texts
 
@@ -53,7 +43,7 @@ module _ (laws : LawsBelow) where
 
   leads_is : (format : Format) (peeled : Option (List ℕ)) → IfSome peeled (IsIdOf format) → IsAttribute (IsPeeled format) (peeled_text peeled) peeled
   leads_is format None h = refl
-  leads_is format (Some id) h = (id_text id, refl, spelt format id h)
+  leads_is format (Some id) h = (id_text id, refl, id_spells laws.words.formats laws.texts format id h)
 
   ref_text_is : (format : Format) (line : RefLine) → IsRefLine format line → IsRefText format (ref_text line) line
   unfolding ref_text
@@ -61,7 +51,7 @@ module _ (laws : LawsBelow) where
     digits = id_text line.id;
     attributes = symref_text line.symref ++ peeled_text line.peeled;
     parts = append_assoc (id_text line.id ++ codes " " ++ line.name) (symref_text line.symref) (peeled_text line.peeled);
-    is_id = spelt format line.id h.id;
+    is_id = id_spells laws.words.formats laws.texts format line.id h.id;
     is_name = h.name;
     are_attributes = record {
       target = symref_text line.symref;
@@ -128,11 +118,11 @@ module _ (laws : LawsBelow) where
 
   symref_short : (symref : Option (List ℕ)) → IfSome symref IsRefName → length (symref_text symref) ≤ 1015
   symref_short None h = omega arith
-  symref_short (Some target) h = omega (arith, length-append (codes " symref-target:") target, name_short target h)
+  symref_short (Some target) h = omega (arith, length-append (codes " symref-target:") target, name_within target h)
 
   peeled_short : (format : Format) (peeled : Option (List ℕ)) → IfSome peeled (IsIdOf format) → length (peeled_text peeled) ≤ 72
   peeled_short format None h = omega arith
-  peeled_short format (Some id) h = omega (arith, length-append (codes " peeled:") (id_text id), id_short format id h)
+  peeled_short format (Some id) h = omega (arith, length-append (codes " peeled:") (id_text id), id_text_short laws.words.formats laws.texts format id h)
 
   line_length : (id name symref peeled : List ℕ)
       → length (id ++ codes " " ++ name ++ symref ++ peeled) ≡ length id + 1 + length name + length symref + length peeled
@@ -146,8 +136,8 @@ module _ (laws : LawsBelow) where
         arith,
         length-append (ref_text line) (line_feed ∷ []),
         line_length (id_text line.id) line.name (symref_text line.symref) (peeled_text line.peeled),
-        id_short format line.id h.id,
-        name_short line.name h.name,
+        id_text_short laws.words.formats laws.texts format line.id h.id,
+        name_within line.name h.name,
         symref_short line.symref h.symref,
         peeled_short format line.peeled h.peeled,
       )
@@ -161,7 +151,7 @@ module _ (laws : LawsBelow) where
   head_fits : (target : List ℕ) → IsRefName target → Fits (text_packet (unborn_text target))
   unfolding unborn_text
   head_fits target named =
-      omega (arith, length-append (unborn_text target) (line_feed ∷ []), length-append (codes "unborn HEAD symref-target:") target, name_short target named)
+      omega (arith, length-append (unborn_text target) (line_feed ∷ []), length-append (codes "unborn HEAD symref-target:") target, name_within target named)
 
   unborn_fit : (unborn : Option (List ℕ)) → IfSome unborn IsRefName → All Fits (unborn_packets unborn)
   unborn_fit None h = All-nil Fits

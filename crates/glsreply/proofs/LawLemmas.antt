@@ -8,7 +8,7 @@ use Rattle.gpkt.specs.Packets.{Packet, Data, Flush, Delim, ResponseEnd, text}
 use Rattle.gname.specs.Laws.{TextsHaveOneReading}
 use Rattle.gname.specs.Names.{IsRefName}
 use Rattle.gname.specs.declared.formats.Format.{Format}
-use Rattle.ggrammar.specs.Grammar.{Verdict, Open, Whole, Refused, IsOpen, IsWhole, HasEndings, if_room}
+use Rattle.ggrammar.specs.Grammar.{Verdict, Open, Whole, Refused, IsOpen, IsWhole, HasEndings}
 use Rattle.ggrammar.specs.Endings.{at_flush}
 use Rattle.ggrammar.specs.PeerErrors.{peer_error}
 use Rattle.ggrammar.specs.Texts.{texts_of}
@@ -16,7 +16,7 @@ use Rattle.ggrammar.specs.declared.ends.Ends.{Ends}
 use Rattle.ggrammar.specs.declared.ends.Ends.TheVariants.{Plain, Response}
 use Rattle.ggrammar.specs.declared.fault.Why.{Why}
 use Rattle.ggrammar.specs.declared.fault.Why.TheVariants.{UnexpectedFrame}
-use Rattle.ggrammar.proofs.VerdictLemmas.{open_unless, whole_unless}
+use Rattle.ggrammar.proofs.VerdictLemmas.{open_unless, room_left, room_not_whole, whole_unless}
 use Rattle.glsreply.specs.RefTexts.{RefLine, line_of, FirstForm, UnbornForm, RefForm, first_form}
 use Rattle.glsreply.specs.LsReplies.{max_lines, is_over, unborn_in, unborn_of, unborn_packets, ref_lines, reply_of, judge_line, judge_first, within_limit, judge_text, judge_at, judge}
 use Rattle.glsreply.specs.WellFormed.{IsRefLine, IsLsReplyIn}
@@ -27,10 +27,7 @@ use Rattle.glsreply.proofs.StateLemmas.{texts_push, over_push, or_false, unborn_
 -- ---- what goes on
 
 pub goes_within : (count : ℕ) (verdict : Verdict) → within_limit count verdict ≡ Open → (count < max_lines) × (verdict ≡ Open)
-goes_within count Open h = (ltb-true _ _ (has_room (nat_lt count max_lines) h), refl) where
-  has_room : (b : Bool) → if_room b ≡ Open → b ≡ true
-  has_room true e = refl
-  has_room false e = cc
+goes_within count Open h = (ltb-true _ _ (room_left (nat_lt count max_lines) h), refl)
 goes_within count Whole h = cc
 goes_within count (Refused why) h = cc
 
@@ -158,10 +155,7 @@ has_endings laws format ends front opened = by_over ends (is_over front) refl op
 -- ---- the last packet of a reply
 
 not_whole_within : (count : ℕ) (verdict : Verdict) → within_limit count verdict ≡ Whole → verdict ≡ Whole
-not_whole_within count Open h = absurd (never (nat_lt count max_lines) h) where
-  never : (b : Bool) → if_room b ≡ Whole → ⊥
-  never true e = cc
-  never false e = cc
+not_whole_within count Open h = absurd (room_not_whole (nat_lt count max_lines) h)
 not_whole_within count Whole h = refl
 not_whole_within count (Refused why) h = cc
 

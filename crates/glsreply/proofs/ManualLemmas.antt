@@ -19,11 +19,11 @@ use Rattle.ggrammar.specs.declared.ends.Ends.{Ends}
 use Rattle.ggrammar.specs.declared.ends.Ends.TheVariants.{Plain, Response}
 use Rattle.ggrammar.specs.declared.fault.Why.{Why}
 use Rattle.ggrammar.specs.declared.fault.Why.TheVariants.{BadId}
+use Rattle.ggrammar.proofs.TextLemmas.{tested}
 use Rattle.glsreply.specs.RefTexts.{RefLine, parts_of, line_of, line_of_parts, FirstForm, UnbornForm, RefForm, first_form, first_of_parts}
 use Rattle.glsreply.specs.LsReplies.{LsReply, Says, max_lines, is_over, unborn_in, unborn_of, ref_lines, judge_line, judge_first, within_limit, judge_text, judge_at, judge}
 use Rattle.glsreply.proofs.ReadManual.{SaysRef, SaysUnborn, IsReadReply}
 use Rattle.glsreply.proofs.GrammarLemmas.{GrammarsAreExact, cond_holds}
-use Rattle.glsreply.proofs.TextLemmas.{some_if}
 use Rattle.glsreply.proofs.StateLemmas.{texts_push, over_push, or_false, unborn_is_no_line, unborn_gives_none, ref_lines-cons}
 use Rattle.glsreply.proofs.LawLemmas.{flush_is, over_ends, over_after_flush}
 
@@ -49,7 +49,7 @@ err_is_no_id Sha256 parts = refl
 error_parts : (payload said : List ℕ) → peer_error payload ≡ Some said → (parts : List (List ℕ)) × (parts_of (text payload) ≡ codes "ERR" ∷ parts)
 unfolding after_word
 error_parts payload said e =
-    let h = some_if (starts_with nat_eq payload (codes "ERR ")) (Some (drop 4 payload)) said e in
+    let h = tested (starts_with nat_eq payload (codes "ERR ")) (Some (drop 4 payload)) said e in
     let begins = (starts_is Decides-eqb payload (codes "ERR ") (starts_with nat_eq payload (codes "ERR ")) refl).0 h.0 in
     let cut = err_text (drop 4 payload) in
     (parts_of cut.0, ap (λ (p : List ℕ). parts_of (text p)) begins ∙ (ap parts_of cut.1 ∙ err_parts cut.0))

@@ -4,7 +4,6 @@ use Rattle.std.specs.Prelude.{nat_lt}
 use Rattle.gpkt.specs.Packets.{Packet, Data, Flush, Delim, ResponseEnd, text}
 use Rattle.gname.specs.Laws.{TextsHaveOneReading}
 use Rattle.gname.specs.declared.formats.Format.{Format}
-use Rattle.ggrammar.specs.Endings.{after_flush}
 use Rattle.ggrammar.specs.Grammar.{Verdict, Open, Whole, Refused}
 use Rattle.ggrammar.specs.MessageBytes.{IsForPacket, RefusesPackets}
 use Rattle.ggrammar.specs.PeerErrors.{peer_error}
@@ -12,8 +11,7 @@ use Rattle.ggrammar.specs.Texts.{texts_of}
 use Rattle.ggrammar.specs.declared.ends.Ends.{Ends}
 use Rattle.ggrammar.specs.declared.ends.Ends.TheVariants.{Plain, Response}
 use Rattle.ggrammar.specs.declared.fault.Why.{Why}
-use Rattle.ggrammar.specs.declared.fault.Why.TheVariants.{UnexpectedFrame}
-use Rattle.ggrammar.proofs.VerdictLemmas.{of_room, past_error}
+use Rattle.ggrammar.proofs.VerdictLemmas.{of_end, of_room, past_error}
 use Rattle.glsreply.specs.RefTexts.{RefLine, FirstForm, UnbornForm, RefForm, first_form, line_of}
 use Rattle.glsreply.specs.LsReplies.{is_over, judge, judge_at, judge_body, judge_first, judge_line, judge_text, max_lines, within_limit}
 use Rattle.glsreply.proofs.GrammarLemmas.{cond_holds}
@@ -57,12 +55,6 @@ module _ (law : TextsHaveOneReading) (format : Format) where
   of_body ends count Flush = of_flush ends count
   of_body ends count Delim = tt
   of_body ends count ResponseEnd = tt
-
-  of_end : (packet : Packet) → IsForPacket (after_flush packet)
-  of_end (Data payload) = past_error (peer_error payload) (Refused UnexpectedFrame) tt
-  of_end Flush = tt
-  of_end Delim = tt
-  of_end ResponseEnd = tt
 
   of_packet : (ends : Ends) (over : Bool) (count : ℕ) (packet : Packet) → IsForPacket (judge_at format ends over count packet)
   unfolding judge_at

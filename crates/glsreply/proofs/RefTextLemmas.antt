@@ -1,28 +1,27 @@
 -- The texts of the manual are read as what they say, and no others are.
-use Rattle.std.proofs.Common.{◌≡◌, ℕ, ◌<◌, Bool, true, false, cond, List, [], ◌∷◌, ◌++◌, length, drop, codes, ◌==◌, nat_eq, nat_lt, Option, Some, None, Result, Ok, Err, inl, inr, refl, sym, ap, subst, ◌∙◌, append_assoc, append-nil, arith}
+use Rattle.std.proofs.Common.{◌≡◌, ℕ, ◌<◌, Bool, true, false, cond, List, [], ◌∷◌, ◌++◌, codes, nat_lt, Option, Some, None, Result, Ok, Err, inl, inr, refl, sym, ap, subst, ◌∙◌, append_assoc, append-nil, arith}
 use Rattle.std.specs.Prelude.{All, is_none}
-use Rattle.std.specs.List.{list_all, join_with_byte, starts_with}
+use Rattle.std.specs.List.{list_all, join_with_byte}
 use Rattle.std.specs.Str.{bytes_eq}
-use Rattle.std.proofs.lemmas.Bool.{cond-true, eq-eqb, eqb-true, ltb-true, ne_eqb}
-use Rattle.std.proofs.lemmas.Bool.Decides.{Decides-eqb}
+use Rattle.std.proofs.lemmas.Bool.{cond-true, ltb-true, ne_eqb}
 use Rattle.std.proofs.lemmas.List.Elements.{All-cons, All-nil, All-head, All-tail, All-append}
 use Rattle.std.proofs.lemmas.List.Sums.{AllPass-from_list_all}
 use Rattle.std.proofs.lemmas.List.Splits.{slice_split_at, slice_split_none, join_with_byte-slice_split}
-use Rattle.std.proofs.lemmas.Slice.Eq.{bytes_eq-Decides, starts_is}
-use Rattle.hex.specs.Hex.{decode_of}
-use Rattle.gname.specs.Formats.{id_text_length}
+use Rattle.std.proofs.lemmas.Slice.Eq.{bytes_eq-Decides}
 use Rattle.gname.specs.Ids.{IsIdTextOf}
 use Rattle.gname.specs.Laws.{IsClean, NamesAreClean, IdTextsAreDigits, IdsHaveOneFormat, TextsHaveOneReading}
 use Rattle.gname.specs.Names.{IsRefName}
 use Rattle.gname.specs.declared.formats.Format.{Format}
-use Rattle.ggrammar.specs.Ids.{id_of_text, ok_of}
+use Rattle.ggrammar.specs.Ids.{id_of_text}
 use Rattle.ggrammar.specs.PeerErrors.{after_word}
 use Rattle.ggrammar.specs.declared.fault.Why.{Why}
 use Rattle.ggrammar.specs.declared.fault.Why.TheVariants.{BadText, BadName}
-use Rattle.ggrammar.proofs.IdLemmas.{decodes}
+use Rattle.gname.proofs.NameLemmas.{name_clean}
+use Rattle.ggrammar.proofs.IdLemmas.{is_spelt, spelt_by}
+use Rattle.ggrammar.proofs.TextLemmas.{follows_word, is_none-None}
 use Rattle.glsreply.specs.RefTexts.{RefLine, Attribute, Symref, Peeled, UnknownAttribute, peeled_or_unknown, symref_or_else, is_space, parts_of, is_name, attribute_of, with_attribute, with_attributes, with_id, line_with_id, line_of_parts, line_of, unborn_target, unborn_after_head, unborn_of_parts, UnbornForm, RefForm, first_of_parts, first_form, unborn_text}
 use Rattle.glsreply.specs.LsManual.{IsSymref, IsPeeled, IsAttribute, AreAttributes, IsRefText}
-use Rattle.glsreply.proofs.TextLemmas.{some_if, name_is}
+use Rattle.glsreply.proofs.TextLemmas.{name_is}
 
 -- the laws of ids and names
 pub record TextLaws : Type 0 where
@@ -97,17 +96,6 @@ ok_if false read why x e = absurd (let no : Err why ≡ Ok x = e in cc)
 same_ok : {X : Type 0} (x y : X) → ◌≡◌ {A = Result X Why} (Ok x) (Ok y) → x ≡ y
 same_ok x y e = cc
 
-none_is : {X : Type 0} (found : Option X) → is_none found ≡ true → found ≡ None
-none_is None e = refl
-none_is (Some x) e = absurd (let no : false ≡ true = e in cc)
-
-follows_word : (word part rest : List ℕ) → after_word word part ≡ Some rest → part ≡ word ++ rest
-unfolding after_word
-follows_word word part rest e =
-    let h = some_if (starts_with nat_eq part word) (Some (drop (length word) part)) rest e in
-    let same : drop (length word) part ≡ rest = cc in
-    (starts_is Decides-eqb part word (starts_with nat_eq part word) refl).0 h.0 ∙ ap (λ (bytes : List ℕ). word ++ bytes) same
-
 is_named : (name : List ℕ) → IsRefName name → is_name name ≡ true
 is_named name h = ap is_none h
 
@@ -148,25 +136,9 @@ unfolding attribute_of
 peeled_is part digits e =
     follows_word (codes "peeled:") part digits (by_peeled (after_word (codes "symref-target:") part) (after_word (codes "peeled:") part) digits e)
 
--- ---- ids
-
-id_is_text : (format : Format) (digits id : List ℕ) → id_of_text format digits ≡ Some id → IsIdTextOf format digits id
-unfolding id_of_text
-id_is_text format digits id e =
-    let h = some_if (length digits == id_text_length format) (ok_of (decode_of digits)) id e in
-    record { long = eqb-true _ _ h.0; spells = decodes (decode_of digits) id h.1 }
-
-id_is_read : (format : Format) (digits id : List ℕ) → IsIdTextOf format digits id → id_of_text format digits ≡ Some id
-unfolding id_of_text
-id_is_read format digits id is =
-    cond-true (length digits == id_text_length format) (ok_of (decode_of digits)) None (eq-eqb _ _ is.long) ∙ ap ok_of is.spells
-
 -- ---- what is read of a text of the manual
 
 module _ (laws : TextLaws) (format : Format) where
-  name_clean : (name : List ℕ) → IsRefName name → IsClean name
-  name_clean name h = (laws.names name h).clean
-
   digits_clean : (digits id : List ℕ) → IsIdTextOf format digits id → IsClean digits
   digits_clean digits id is =
       let one = laws.formats format id ((laws.readings format digits).0 id is).1 in
@@ -208,7 +180,7 @@ module _ (laws : TextLaws) (format : Format) where
         clean = All-cons HasNoSpace part [] (value_part (codes "peeled:") h.0 refl (digits_clean h.0 id h.2)) (All-nil HasNoSpace);
         said = λ id' name symref. ap (λ (read : Result RefLine Why). with_attributes format read [])
             (ap (with_attribute format (with_leads None id' name symref)) (peeled_attribute h.0)
-            ∙ ap (with_id (with_leads None id' name symref)) (id_is_read format h.0 id h.2));
+            ∙ ap (with_id (with_leads None id' name symref)) (is_spelt format h.0 id h.2));
       }
 
   record AreRead (text : List ℕ) (symref peeled : Option (List ℕ)) : Type 0 where
@@ -249,7 +221,7 @@ module _ (laws : TextLaws) (format : Format) where
       ∙ parts_spaced h.digits (ref.name ∷ more.parts) (clean_has_none h.digits (digits_clean h.digits ref.id h.is_id))
       (All-cons HasNoSpace ref.name more.parts (clean_has_none ref.name (name_clean ref.name h.is_name)) more.clean) in
       ap (line_of_parts format) parts
-      ∙ (ap (λ (id : Option (List ℕ)). line_with_id format id (ref.name ∷ more.parts)) (id_is_read format h.digits ref.id h.is_id)
+      ∙ (ap (λ (id : Option (List ℕ)). line_with_id format id (ref.name ∷ more.parts)) (is_spelt format h.digits ref.id h.is_id)
       ∙ (cond-true (is_name ref.name) (with_attributes format (Ok (with_target None ref.id ref.name None)) more.parts) (Err BadName) (is_named ref.name h.is_name)
       ∙ more.said ref.id ref.name))
 
@@ -277,7 +249,7 @@ module _ (format : Format) where
   next_symref line next part text target is e so =
       let free = ok_if (is_none line.symref) (cond (is_name target) (Ok (record line { symref = Some target })) (Err BadName)) BadText next e in
       let named = ok_if (is_name target) (Ok (record line { symref = Some target })) BadName next free.1 in
-      let before = subst (λ (symref : Option (List ℕ)). AreAttributes format text symref line.peeled) (none_is line.symref free.0) so in
+      let before = subst (λ (symref : Option (List ℕ)). AreAttributes format text symref line.peeled) (is_none-None line.symref free.0) so in
       subst (λ (n : RefLine). IsNext line n (text ++ 32 ∷ part)) (same_ok (record line { symref = Some target }) next named.1) (
         refl,
         refl,
@@ -296,7 +268,7 @@ module _ (format : Format) where
       absurd (let no = (ok_if (is_none line.peeled) (with_id line None) BadText next e).1 in cc)
   next_peeled line next part text digits (Some id) is read e so =
       let free = ok_if (is_none line.peeled) (Ok (record line { peeled = Some id })) BadText next e in
-      let before = subst (AreAttributes format text line.symref) (none_is line.peeled free.0) so in
+      let before = subst (AreAttributes format text line.symref) (is_none-None line.peeled free.0) so in
       subst (λ (n : RefLine). IsNext line n (text ++ 32 ∷ part)) (same_ok (record line { peeled = Some id }) next free.1) (
         refl,
         refl,
@@ -305,7 +277,7 @@ module _ (format : Format) where
           leads = 32 ∷ part;
           parts = inl (ap (λ (bytes : List ℕ). bytes ++ 32 ∷ part) (without_leads text line.symref before));
           is_target = before.is_target;
-          is_leads = (digits, ap (λ (bytes : List ℕ). 32 ∷ bytes) is, id_is_text format digits id read);
+          is_leads = (digits, ap (λ (bytes : List ℕ). 32 ∷ bytes) is, spelt_by format digits id read);
         },
       )
 
@@ -348,7 +320,7 @@ module _ (format : Format) where
         attributes = spaced parts;
         parts = of_parts text digits (name ∷ parts) is
             ∙ (sym (text_joins digits name (spaced parts)) ∙ ap (λ (n : List ℕ). digits ++ codes " " ++ n ++ spaced parts) (sym all.1));
-        is_id = subst (IsIdTextOf format digits) (sym all.0) (id_is_text format digits id read);
+        is_id = subst (IsIdTextOf format digits) (sym all.0) (spelt_by format digits id read);
         is_name = subst IsRefName (sym all.1) (name_is name named.0);
         are_attributes = all.2;
       }

@@ -3,7 +3,7 @@ use Rattle.std.proofs.Common.{◌≡◌, ℕ, Bool, true, false, cond, ◌||◌,
 use Rattle.std.specs.Prelude.{All}
 use Rattle.std.specs.List.{filter_map}
 use Rattle.std.specs.Str.{bytes_eq}
-use Rattle.std.proofs.lemmas.Bool.{eqb-true, ne_eqb, or_right}
+use Rattle.std.proofs.lemmas.Bool.{ne_eqb, or_right}
 use Rattle.std.proofs.lemmas.List.{length_push}
 use Rattle.std.proofs.lemmas.List.Elements.{filter_map-append, All-append, All-cons, All-nil, All-head, All-tail}
 use Rattle.std.proofs.lemmas.List.Folds.{list_any-append}
@@ -22,13 +22,13 @@ use Rattle.ggrammar.specs.declared.fault.Why.{Why}
 use Rattle.ggrammar.specs.declared.fault.Why.TheVariants.{BadId, UnexpectedFrame}
 use Rattle.ggrammar.specs.declared.message.Step.{Step}
 use Rattle.ggrammar.specs.declared.message.Step.TheVariants as step
+use Rattle.ggrammar.proofs.IdLemmas.{spelt_by}
 use Rattle.ggrammar.proofs.VerdictLemmas.{accepted_unless}
 use Rattle.glsreply.specs.RefTexts.{RefLine, parts_of, line_of, line_of_parts, line_with_id, FirstForm, UnbornForm, RefForm, first_form, first_of_parts, unborn_of_parts}
 use Rattle.glsreply.specs.LsReplies.{is_flush, is_over, unborn_in, unborn_of, line_in, ref_lines, reply_of, judge_line, judge_first, within_limit, judge_text, judge_at, judge, brings}
 use Rattle.glsreply.specs.ReplyState.{State, Holds, IsLineText, AreLineTexts, KeepsKind, state_of, state_in, with_line, with_first, with_text, with_packet}
 use Rattle.glsreply.specs.declared.reader.LsReplyReader.{LsReplyReader}
 use Rattle.glsreply.proofs.GrammarLemmas.{cond_holds, open_induction}
-use Rattle.glsreply.proofs.TextLemmas.{some_if}
 
 -- ---- verdicts
 
@@ -174,8 +174,7 @@ whole_line_texts format ends packets whole =
 -- ---- a line has ids of one format
 
 id_length_of : (format : Format) (text id : List ℕ) → id_of_text format text ≡ Some id → length text ≡ id_text_length format
-unfolding id_of_text
-id_length_of format text id e = eqb-true _ _ (some_if (length text == id_text_length format) _ id e).0
+id_length_of format text id e = (spelt_by format text id e).long
 
 first_id : (format : Format) (id : Option (List ℕ)) (parts : List (List ℕ)) (ref : RefLine) → line_with_id format id parts ≡ Ok ref → (x : List ℕ) × (id ≡ Some x)
 first_id format None parts ref e = absurd (let no : Err BadId ≡ Ok ref = e in cc)

@@ -1,23 +1,20 @@
 -- What is read of a text is well formed, or is refused for a reason of texts.
-use Rattle.std.proofs.Common.{◌≡◌, ℕ, Bool, true, false, cond, List, [], ◌∷◌, length, ◌==◌, codes, Option, Some, None, Result, Ok, Err, refl, sym, subst}
+use Rattle.std.proofs.Common.{◌≡◌, ℕ, Bool, true, List, [], ◌∷◌, codes, Option, Some, None, Result, Ok, Err, refl, sym, subst}
 use Rattle.std.specs.Prelude.{is_none}
 use Rattle.std.specs.Str.{bytes_eq}
-use Rattle.std.proofs.lemmas.Bool.{eqb-true}
-use Rattle.hex.specs.Hex.{decode_of}
-use Rattle.gname.specs.Formats.{id_text_length}
 use Rattle.gname.specs.Ids.{IsIdOf}
 use Rattle.gname.specs.Laws.{TextsHaveOneReading}
 use Rattle.gname.specs.Names.{IsRefName, name_fault}
-use Rattle.gname.specs.declared.faults.NameFault.{NameFault}
 use Rattle.gname.specs.declared.formats.Format.{Format}
-use Rattle.ggrammar.specs.Ids.{id_of_text, ok_of}
+use Rattle.ggrammar.specs.Ids.{id_of_text}
 use Rattle.ggrammar.specs.PeerErrors.{after_word}
 use Rattle.ggrammar.specs.Grammar.{Refused}
 use Rattle.ggrammar.specs.MessageReading.{IsReason}
 use Rattle.ggrammar.specs.MessageBytes.{IsOfPacket}
 use Rattle.ggrammar.specs.declared.fault.Why.{Why}
 use Rattle.ggrammar.specs.declared.fault.Why.TheVariants as why
-use Rattle.ggrammar.proofs.IdLemmas.{decodes}
+use Rattle.ggrammar.proofs.IdLemmas.{id_formed}
+use Rattle.ggrammar.proofs.TextLemmas.{is_none-None}
 use Rattle.glsreply.specs.RefTexts.{RefLine, Attribute, Symref, Peeled, UnknownAttribute, parts_of, is_name, attribute_of, with_symref, with_id, with_attribute, with_attributes, line_with_name, line_with_id, line_of_parts, line_of, unborn_target, unborn_after_head, unborn_of_parts, FirstForm, UnbornForm, RefForm, first_of_parts, first_form}
 use Rattle.glsreply.specs.WellFormed.{IsRefLine}
 use Rattle.glsreply.specs.LsReplies.{within_limit, judge_line, judge_first, judge_text}
@@ -48,26 +45,10 @@ text_fault why.Format brings h = absurd h
 text_fault why.Memory brings h = absurd h
 text_fault why.Ended brings h = absurd h
 
--- ---- ids
-
-pub some_if : {X : Type 0} (b : Bool) (found : Option X) (x : X) → cond b found None ≡ Some x → (b ≡ true) × (found ≡ Some x)
-some_if true found x e = (refl, e)
-some_if false found x e = cc
-
-pub id_formed : TextsHaveOneReading → (format : Format) (text id : List ℕ) → id_of_text format text ≡ Some id → IsIdOf format id
-unfolding id_of_text
-id_formed law format text id e =
-    let h = some_if (length text == id_text_length format) (ok_of (decode_of text)) id e in
-    ((law format text).0 id (record { long = eqb-true _ _ h.0; spells = decodes (decode_of text) id h.1 })).1
-
 -- ---- names
 
-no_fault : (fault : Option NameFault) → is_none fault ≡ true → fault ≡ None
-no_fault None e = refl
-no_fault (Some fault) e = absurd (let no : false ≡ true = e in cc)
-
 pub name_is : (name : List ℕ) → is_name name ≡ true → IsRefName name
-name_is name h = no_fault (name_fault name) h
+name_is name h = is_none-None (name_fault name) h
 
 -- ---- lines
 

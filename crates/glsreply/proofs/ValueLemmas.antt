@@ -21,7 +21,7 @@ same_format Sha256 Sha256 e = refl
 same_format Sha1 Sha256 e = cc
 same_format Sha256 Sha1 e = cc
 
-is_format-same : (a : Format) → is_format a a ≡ true
+pub is_format-same : (a : Format) → is_format a a ≡ true
 is_format-same Sha1 = refl
 is_format-same Sha256 = refl
 

@@ -8,12 +8,12 @@ use Rattle.gname.specs.Names.{IsRefName, bad_byte, component, empty, first_fault
 abbrev pub ComesBefore : List ℕ → Type 0
 ComesBefore front = (front ≡ []) ⊎ ((more : List ℕ) × (front ≡ more ++ codes "/"))
 
--- where it may end: no byte stands behind it, or the first of them is a slash
+-- where it may end: no byte stands after it, or the first of them is a slash
 abbrev pub ComesBehind : List ℕ → Type 0
 ComesBehind back = (back ≡ []) ⊎ ((more : List ℕ) × (back ≡ codes "/" ++ more))
 
--- the part is a component of the text, and begins at the place: it has no slash, and goes from one slash, or the front of
--- the text, to another, or the end
+-- the part is a component of the text, and begins at the place: it has no slash, and goes from one slash, or the
+-- front of the text, to another, or the end
 pub record IsComponent (text : List ℕ) (place : ℕ) (part : List ℕ) : Type 0 where
   pub front : List ℕ
   pub back : List ℕ
@@ -38,13 +38,15 @@ pub record IsFirstBadComponent (text : List ℕ) (place : ℕ) : Type 0 where
 abbrev pub PassesEarlierRules : List ℕ → Type 0
 PassesEarlierRules text = first_fault (empty ∷ too_long ∷ not_ref ∷ bad_byte ∷ []) text ≡ None
 
--- what is said of components: one begins at the front of a text and behind each slash; their rule finds the first that is
--- not allowed; that is the fault of a text exactly where no earlier rule finds one; and a ref name has none
+-- what is said of components: one begins at the front of a text and after each slash; their rule finds the first that
+-- is not allowed; that is the fault of a text exactly where no earlier rule finds one; and a ref name has none
 pub record ComponentFacts (text : List ℕ) : Type 0 where
-  pub each : (front back : List ℕ) → text ≡ front ++ back → ComesBefore front → (part : List ℕ) × IsComponent text (length front) part
+  pub each : (front back : List ℕ) → text ≡ front ++ back → ComesBefore front →
+      (part : List ℕ) × IsComponent text (length front) part
   pub none_found : (component text ≡ None) ↔ AllowsComponents text
   pub found : (place : ℕ) → (component text ≡ Some (Component place)) ↔ IsFirstBadComponent text place
-  pub fault : (place : ℕ) → (name_fault text ≡ Some (Component place)) ↔ (PassesEarlierRules text × IsFirstBadComponent text place)
+  pub fault : (place : ℕ) → (name_fault text ≡ Some (Component place)) ↔
+      (PassesEarlierRules text × IsFirstBadComponent text place)
   pub name : IsRefName text → AllowsComponents text
 
 abbrev pub ComponentsAreParts : Type 0

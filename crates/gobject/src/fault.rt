@@ -1,25 +1,23 @@
 //! Why entries were not packed, and why bytes were not read as a pack.
 #![tactic(auto)]
 
-ghost use Rattle.std.specs.Prelude.{◌≡◌};
-ghost use Rattle.gobject.specs.Faults.{index_fault_row, pack_fault_row};
+ghost use Rattle.std.specs.Prelude.{◌≡◌, Some};
+ghost use Rattle.gobject.specs.Faults.{index_fault_row, index_fault_text, pack_fault_row, pack_fault_text};
 ghost use Rattle.gobject.specs.declared.fault.PackFault.TheVariants as pack_faults;
 ghost use Rattle.gobject.specs.declared.fault.IndexFault.TheVariants as index_faults;
 
 use std::alloc::{AllocError, AllocFailed};
-use thiserror::Error;
+use std::error::Error;
+use std::fmt;
 
 /// Why a list of entries was not packed.
-#[derive(Clone, Copy, Debug, PartialEq, Eq, Drop, Error)]
+#[derive(Clone, Copy, Debug, PartialEq, Eq, Drop)]
 pub enum PackFault {
     /// There is no memory.
-    #[error("out of memory")]
     Memory,
     /// The pack would have more than `gname::MAX_PACK` bytes.
-    #[error("the pack is too large")]
     TooLarge,
     /// Another cause, of the packer's own.
-    #[error("the packer failed")]
     Other,
 }
 
@@ -48,17 +46,28 @@ impl PackFault {
     }
 }
 
+impl fmt::Display for PackFault {
+    ghost output = { λ fault. Some (pack_fault_text fault) };
+
+    fn fmt<W: fmt::Write>(&self, f: &mut fmt::Formatter<W>) -> fmt::Result {
+        match self {
+            PackFault::Memory => f.write_str("out of memory"),
+            PackFault::TooLarge => f.write_str("the pack is too large"),
+            PackFault::Other => f.write_str("the packer failed"),
+        }
+    }
+}
+
+impl Error for PackFault {}
+
 /// Why bytes were not read as a pack.
-#[derive(Clone, Copy, Debug, PartialEq, Eq, Drop, Error)]
+#[derive(Clone, Copy, Debug, PartialEq, Eq, Drop)]
 pub enum IndexFault {
     /// There is no memory.
-    #[error("out of memory")]
     Memory,
     /// The first line, counted from 1, that is not as the format says.
-    #[error("line {line} of the pack is wrong")]
     Bad { line: usize },
     /// Another cause, of the indexer's own.
-    #[error("the indexer failed")]
     Other,
 }
 
@@ -86,6 +95,20 @@ impl IndexFault {
         }
     }
 }
+
+impl fmt::Display for IndexFault {
+    ghost output = { λ fault. Some (index_fault_text fault) };
+
+    fn fmt<W: fmt::Write>(&self, f: &mut fmt::Formatter<W>) -> fmt::Result {
+        match self {
+            IndexFault::Memory => f.write_str("out of memory"),
+            IndexFault::Bad { line } => write!(f, "line {line} of the pack is wrong"),
+            IndexFault::Other => f.write_str("the indexer failed"),
+        }
+    }
+}
+
+impl Error for IndexFault {}
 
 impl From<AllocError> for PackFault {
     ghost from_gives = { λ _ fault. fault ≡ pack_faults.Memory };

@@ -16,7 +16,7 @@
 //! - Bytes have one bad line at most, and a pack has none: [`laws`].
 //! - What a packer and an indexer that lose nothing must do is [`Faithful`]; a plain pack of a list
 //!   with distinct ids reads back as that list.
-//! - Each fault has the number and the name of its row.
+//! - Each fault has the number, the name and the text of its row.
 //! - No call panics, overflows or reads out of bounds, and each returns.
 //!
 //! # What a body can still get away with
@@ -33,7 +33,7 @@
 //! # Stands on
 //!
 //! `gname` for ids, `memchr` for the ends of parts, `arrayvec` for a part that is cut, `itoa` for the
-//! count in a pack, `thiserror` for the texts of faults; the proofs cite `hex`.
+//! count in a pack; the proofs cite `hex`.
 #![tactic(auto)]
 
 mod fault;

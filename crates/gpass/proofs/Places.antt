@@ -2,7 +2,7 @@
 use Rattle.std.proofs.Common.{◌≡◌, ◌⊎◌, inl, inr, ℕ, zero, suc, ◌+◌, ◌<◌, ◌≤◌, Bool, true, false, List, [], ◌∷◌, ◌++◌, length, get_or, set, take, Contains, Option, Some, None, IsSome, rules, max, refl, sym, ap, ◌∙◌, subst, arith, replicate}
 use Rattle.std.specs.List.{slice_get}
 use Rattle.std.specs.Option.{option_map}
-use Rattle.std.proofs.lemmas.List.{get_or-set_same, get_or-set_other, length-set, take_more}
+use Rattle.std.proofs.lemmas.List.{get_or-set_same, get_or-set_other, length-set}
 use Rattle.std.proofs.lemmas.List.Elements.{All-contains, Contains-append_left, Contains-push, Contains-push_cases}
 use Rattle.std.proofs.lemmas.Option.{none-some, same_Some}
 use Rattle.std.specs.Ordering.{ord_max, nat_cmp}
@@ -13,17 +13,15 @@ use Rattle.gobject.specs.declared.node.Entry.{Entry}
 use Rattle.gobject.specs.Objects.{node_at, place_of, IdsDiffer}
 use Rattle.ghistory.specs.Graphs.{History, Holds, HasParent, IsNode, IsGraph, IsOrdered}
 use Rattle.gpass.specs.Passes.{IsEdge, IsInOrder, IsPlaceOf, MarksAll, is_marked}
+use Rattle.ghistory.proofs.Growing.{take_one}
 use Rattle.ghistory.proofs.Holding.{own_place}
+use Rattle.ghistory.proofs.IdLists.{only_one}
 use Rattle.ghistory.proofs.Reaching.{place_inside, node_at_place, place_of_node}
 use Rattle.gpass.proofs.Ids.{entry_there, one_place}
 use Rattle.ghistory.proofs.Places.{id_at_place}
 
 pub contains_none : {X : Type 0} (x : X) → Contains [] x → ⊥
 contains_none x h = let k : h.0 < 0 = h.1 in omega arith
-
-pub only_one : (a x : List ℕ) → Contains (a ∷ []) x → x ≡ a
-only_one a x (zero, inside, is) = sym is
-only_one a x (suc k, inside, is) = absurd (omega arith)
 
 -- ---- parents
 
@@ -185,24 +183,21 @@ module _ {A : Type 0} (g : List (Entry A)) (ids : List (List ℕ)) (old new : Li
 -- ---- one id after the other
 
 module _ {A : Type 0} (g : List (Entry A)) (ids : List (List ℕ)) (i : ℕ) (a : List ℕ) (inside : i < length ids) (is : a ≡ get_or ids i a) where
-  pub one_more : take (i + 1) ids ≡ take i ids ++ a ∷ []
-  one_more = take_more ids i a inside ∙ ap (λ x. take i ids ++ x ∷ []) (sym is)
-
   -- the place of an item
   pub item_place : (p : ℕ) → place_of g a ≡ Some p → IsPlaceOf g ids p
   item_place p at = record { id = a; among = (i, inside, sym is); at = at }
 
   pub marks_next : (old new : List Bool) (p : ℕ) → MarksAll g (take i ids) old new → place_of g a ≡ Some p → MarksAll g (take (i + 1) ids) old (set new p true)
-  marks_next old new p before at = rw one_more (marks_more g (take i ids) old new a before p at)
+  marks_next old new p before at = rw (take_one ids i a inside is) (marks_more g (take i ids) old new a before p at)
 
   pub marks_past : (old new : List Bool) → MarksAll g (take i ids) old new → place_of g a ≡ None → MarksAll g (take (i + 1) ids) old new
-  marks_past old new before absent = rw one_more (marks_stay g (take i ids) old new a before (λ p e _. none-some p (sym absent ∙ e)))
+  marks_past old new before absent = rw (take_one ids i a inside is) (marks_stay g (take i ids) old new a before (λ p e _. none-some p (sym absent ∙ e)))
 
   -- a place of the ids so far
   pub place_next : (p : ℕ) → IsPlaceOf g (take (i + 1) ids) p → IsPlaceOf g (take i ids) p ⊎ (place_of g a ≡ Some p)
   place_next p x =
       let P : List (List ℕ) → Type 0 = λ xs. IsPlaceOf g xs p in
-      let y = subst P one_more x in
+      let y = subst P (take_one ids i a inside is) x in
       let Q : List ℕ → Type 0 = λ b. place_of g b ≡ Some p in
       elim (Contains-push_cases (take i ids) a y.id y.among) [
         | inl c ↦ inl (record { id = y.id; among = c; at = y.at })

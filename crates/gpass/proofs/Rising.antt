@@ -14,8 +14,9 @@ use Rattle.ghistory.specs.Reach.{Reaches, here, onward}
 use Rattle.gpass.specs.Passes.{IsEdge, IsInOrder, IsPlaceOf, IsReachingAt, MarksAll, HasMarked, MarksReaching, is_marked}
 use Rattle.ghistory.proofs.Holding.{own_place}
 use Rattle.ghistory.proofs.Reaching.{place_same, place_of_node}
+use Rattle.ghistory.proofs.IdLists.{only_one}
 use Rattle.gpass.proofs.Ids.{entry_there}
-use Rattle.gpass.proofs.Places.{HasParentsFirst, parents_first, edge_place, place_edge, edge_down, only_one, set_cases, set_there, set_kept, none_marked}
+use Rattle.gpass.proofs.Places.{HasParentsFirst, parents_first, edge_place, place_edge, edge_down, set_cases, set_there, set_kept, none_marked}
 
 -- ---- one of the goals
 

@@ -7,14 +7,16 @@ use Rattle.std.proofs.lemmas.Bool.{false≢true, false_from_ne_true}
 use Rattle.gobject.specs.declared.node.Entry.{Entry}
 use Rattle.gobject.specs.Objects.{place_of}
 use Rattle.ghistory.specs.Peeling.{IsTagOf, Tags}
-use Rattle.ghistory.specs.Selecting.{Selects, none, keep, skip}
+use Rattle.ghistory.specs.Selecting.{Selects, none}
 use Rattle.ghistory.specs.Sending.{IsNew, IsTagToSend, IsToSend, IsListToSend}
 use Rattle.gpass.specs.Passes.{IsInOrder, IsDone, IsOpenTag, MarksTags, is_marked, is_open}
+use Rattle.ghistory.proofs.Choosing.{selects_keep, selects_skip}
 use Rattle.ghistory.proofs.Holding.{own_place}
+use Rattle.ghistory.proofs.PeelLemmas.{tags_on}
 use Rattle.ghistory.proofs.Reaching.{place_same, place_of_node}
 use Rattle.gpass.proofs.Ids.{entry_there}
 use Rattle.gpass.proofs.Places.{parents_first, marked_inside}
-use Rattle.gpass.proofs.TagChains.{tags_on, chain_peels, commit_below}
+use Rattle.gpass.proofs.TagChains.{chain_peels, commit_below}
 use Rattle.gpass.proofs.Counting.{shut_idle}
 
 -- ---- tags
@@ -81,16 +83,6 @@ module _ {A : Type 0} (g : List (Entry A)) (wants commons tips : List (List ℕ)
 
 -- ---- one place after the other
 
-Selects-keep : {X : Type 0} {P : X → Type 0} {xs ys : List X} (x : X) → Selects P xs ys → P x → Selects P (xs ++ x ∷ []) (ys ++ x ∷ [])
-Selects-keep x none p = keep p none
-Selects-keep x (keep q s) p = keep q (Selects-keep x s p)
-Selects-keep x (skip q s) p = skip q (Selects-keep x s p)
-
-Selects-skip : {X : Type 0} {P : X → Type 0} {xs ys : List X} (x : X) → Selects P xs ys → ¬ (P x) → Selects P (xs ++ x ∷ []) ys
-Selects-skip x none p = skip p none
-Selects-skip x (keep q s) p = keep q (Selects-skip x s p)
-Selects-skip x (skip q s) p = skip q (Selects-skip x s p)
-
 take_there : {X : Type 0} (xs : List X) (i : ℕ) (x : X) → slice_get xs i ≡ Some x → take (i + 1) xs ≡ take i xs ++ x ∷ []
 take_there [] i x at = absurd (none-some x at)
 take_there (y ∷ xs) zero x at = let same : y ≡ x = same_Some y x at in rw same refl
@@ -102,7 +94,7 @@ skips_on P g n (suc d) ys fits never so_far =
     let before = skips_on P g n d ys (omega arith) (λ p entry low high at. never p entry low (omega arith) at) so_far in
     let there = entry_there g (n + d) (omega arith) in
     let e : n + suc d ≡ n + d + 1 = omega arith in
-    rw (e, take_there g (n + d) there.0 there.1) (Selects-skip there.0 before (never (n + d) there.0 (omega arith) (omega arith) there.1))
+    rw (e, take_there g (n + d) there.0 there.1) (selects_skip P (take (n + d) g) ys there.0 before (never (n + d) there.0 (omega arith) (omega arith) there.1))
 
 module _ {A : Type 0} (g : List (Entry A)) (wants commons tips : List (List ℕ)) (wanted known : List Bool) (next : ℕ) (done : IsDone g wants commons wanted known next) (order : IsInOrder g) (tagged : List Bool) (marks : MarksTags g tips wanted known tagged) where
   pub none_so_far : next ≤ length g → Selects (IsToSend g wants commons tips) (take next g) []
@@ -116,12 +108,12 @@ module _ {A : Type 0} (g : List (Entry A)) (wants commons tips : List (List ℕ)
         | inl o ↦ open_sent g wants commons tips wanted known next done order tagged marks p entry at o
         | inr t ↦ tagged_sent g wants commons tips wanted known next done order tagged marks p entry at t
       ] in
-      rw (take_there g p entry at) (Selects-keep entry before sent)
+      rw (take_there g p entry at) (selects_keep (IsToSend g wants commons tips) (take p g) list entry before sent)
 
   pub drops_place : (list : List (Entry A)) (p : ℕ) → p < length g → is_open wanted known p ≡ false → is_marked tagged p ≡ false → Selects (IsToSend g wants commons tips) (take p g) list → Selects (IsToSend g wants commons tips) (take (p + 1) g) list
   drops_place list p inside shut bare before =
       let there = entry_there g p inside in
-      rw (take_there g p there.0 there.1) (Selects-skip there.0 before (not_sent g wants commons tips wanted known next done order tagged marks p there.0 there.1 shut bare))
+      rw (take_there g p there.0 there.1) (selects_skip (IsToSend g wants commons tips) (take p g) list there.0 before (not_sent g wants commons tips wanted known next done order tagged marks p there.0 there.1 shut bare))
 
   pub all_places : (list : List (Entry A)) (end : ℕ) → length wanted ≤ end → length tagged ≤ end → end ≤ length g → Selects (IsToSend g wants commons tips) (take end g) list → IsListToSend g wants commons tips list
   all_places list end w t fits before =

@@ -10,17 +10,15 @@ use Rattle.gobject.specs.declared.node.Kind.TheVariants.{Commit, Tag}
 use Rattle.gobject.specs.declared.node.Node.{Node}
 use Rattle.gobject.specs.declared.node.Entry.{Entry}
 use Rattle.gobject.specs.Objects.{place_of, IsShaped}
-use Rattle.ghistory.specs.Graphs.{HasParent, IsNode}
 use Rattle.ghistory.specs.Peeling.{IsTagOf, IsCommit, Tags, PeelsTo}
 use Rattle.gpass.specs.Passes.{IsInOrder, IsPlaceOf, IsCommitAt, IsTagAt, IsLedTo, IsPeeledAt, IsOnChain, MarksChain, IsOpenTag, MarksTags, is_marked, is_open}
+use Rattle.ghistory.proofs.Growing.{take_one}
 use Rattle.ghistory.proofs.Holding.{own_place}
+use Rattle.ghistory.proofs.PeelLemmas.{no_tag, one_next, onward, peel_ends, tags_more}
 use Rattle.ghistory.proofs.Reaching.{place_same, node_at_place}
+use Rattle.ghistory.proofs.Sharing.{names_parent}
 use Rattle.gpass.proofs.Ids.{one_place, entry_there}
-use Rattle.gpass.proofs.Places.{HasParentsFirst, parents_first, contains_none, set_cases, set_there, set_kept, none_marked, place_next, one_more}
-
-contains_first : (xs : List (List ℕ)) (b : List ℕ) → slice_get xs 0 ≡ Some b → Contains xs b
-contains_first [] b is = absurd (none-some b is)
-contains_first (x ∷ xs) b is = (0, omega arith, same_Some x b is)
+use Rattle.gpass.proofs.Places.{HasParentsFirst, parents_first, contains_none, set_cases, set_there, set_kept, none_marked, place_next}
 
 first_none : (xs : List (List ℕ)) → length xs ≡ 1 → slice_get xs 0 ≡ None → ⊥
 first_none [] one none = omega arith
@@ -30,49 +28,6 @@ contains_get : {X : Type 0} (xs : List X) (p : ℕ) (x : X) → slice_get xs p �
 contains_get [] p x at = absurd (none-some x at)
 contains_get (y ∷ xs) zero x at = (0, omega arith, same_Some y x at)
 contains_get (y ∷ xs) (suc p) x at = let h = contains_get xs p x at in let inside = h.1 in (suc h.0, omega arith, h.2)
-
-module _ {A : Type 0} (g : List (Entry A)) where
-  one_node : (a : List ℕ) (m n : Node A) → IsNode g a m → IsNode g a n → m ≡ n
-  one_node a m n hm hn = same_Some m n (sym hm ∙ hn)
-
-  no_tag : (a b : List ℕ) → IsCommit g a → IsTagOf g a b → ⊥
-  no_tag a b commit tag =
-      let same = one_node a commit.node tag.node commit.held tag.held in
-      let kinds = sym commit.commit ∙ ap (λ (n : Node A). n.kind) same ∙ tag.tag in cc
-
-  one_next : (a b c : List ℕ) → IsTagOf g a b → IsTagOf g a c → b ≡ c
-  one_next a b c tb tc =
-      let same = one_node a tb.node tc.node tb.held tc.held in
-      same_Some b c (sym tb.names ∙ ap (λ (n : Node A). slice_get n.parents 0) same ∙ tc.names)
-
-  tag_parent : (a b : List ℕ) → IsTagOf g a b → HasParent g a b
-  tag_parent a b tag = (tag.node, tag.held, contains_first tag.node.parents b tag.names)
-
-  pub tags_on : (m n : ℕ) (a b c : List ℕ) → Tags g m a b → Tags g n b c → (k : ℕ) × Tags g k a c
-  tags_on zero n a b c same rest = (n, subst (λ (x : List ℕ). Tags g n x c) (sym same) rest)
-  tags_on (suc m) n a b c (next, tag, more) rest =
-      let on = tags_on m n next b c more rest in (suc on.0, (next, tag, on.1))
-
-  -- a chain that ends at a commit goes through each object to which fewer tags lead
-  pub onward : (m i : ℕ) (a b c : List ℕ) → Tags g m a c → IsCommit g c → Tags g i a b → (j : ℕ) × (m ≡ i + j) × Tags g j b c
-  onward m zero a b c chain commit here = (m, omega arith, subst (λ (x : List ℕ). Tags g m x c) here chain)
-  onward zero (suc i) a b c chain commit (next, tag, rest) = absurd (no_tag c next commit (subst (λ (x : List ℕ). IsTagOf g x next) chain tag))
-  onward (suc m) (suc i) a b c (next, tag, rest) commit (next', tag', rest') =
-      let same = one_next a next' next tag' tag in
-      let more = onward m i next b c rest commit (subst (λ (x : List ℕ). Tags g i x b) same rest') in
-      (more.0, omega (arith, more.1), more.2)
-
-  pub peel_ends : (a b c : List ℕ) (i : ℕ) → Tags g i a b → IsCommit g b → PeelsTo g a c → b ≡ c
-  peel_ends a b c i here last (m, chain, commit) =
-      ends (onward m i a b c chain commit here)
-    where
-      ends : (j : ℕ) × (m ≡ i + j) × Tags g j b c → b ≡ c
-      ends (zero, e, end) = end
-      ends (suc j, e, (next, tag, rest)) = absurd (no_tag b next last tag)
-
-  pub tags_more : (m : ℕ) (a b c : List ℕ) → Tags g m a b → IsTagOf g b c → Tags g (suc m) a c
-  tags_more zero a b c here tag = (c, subst (λ (x : List ℕ). IsTagOf g x c) (sym here) tag, refl)
-  tags_more (suc m) a b c (next, first, rest) tag = (next, first, tags_more m next b c rest tag)
 
 -- ---- what stands at a place
 
@@ -107,7 +62,7 @@ module _ {A : Type 0} (g : List (Entry A)) (order : IsInOrder g) (p : ℕ) (insi
         let a : List ℕ = (there.0).id in
         let at = own_place g p there.0 order.differ there.1 in
         let tag : IsTagOf g a b = record { node = node; held = node_at_place g a p at ∙ are; tag = kind; names = names } in
-        let q = parents_first g order a b p at (tag_parent g a b tag) in
+        let q = parents_first g order a b p at (names_parent g a b tag) in
         (q.0, q.1, record { id = a; at = at; named = b; named_at = q.1; tag = tag; below = q.2 })
 
     pub tag_at : (b : List ℕ) → node.kind ≡ Tag → slice_get node.parents 0 ≡ Some b → MatchOption (place_of g b) (IsCommitAt g p) (λ q. IsTagAt g p q)
@@ -174,7 +129,7 @@ module _ {A : Type 0} (g : List (Entry A)) where
   tags_down ordered zero a b p q at bt same =
       let e = one_place g a p q at (ap (place_of g) same ∙ bt) in omega arith
   tags_down ordered (suc m) a b p q at bt (next, tag, rest) =
-      let on = ordered a next p at (tag_parent g a next tag) in
+      let on = ordered a next p at (names_parent g a next tag) in
       let low = tags_down ordered m next b on.0 q on.1 bt rest in
       let below : on.0 < p = on.2 in
       omega arith
@@ -265,7 +220,7 @@ tags_none g wanted known end = record {
 module _ {A : Type 0} (g : List (Entry A)) (tips : List (List ℕ)) (i : ℕ) (tip : List ℕ) (inside : i < length tips) (is : tip ≡ get_or tips i tip) (wanted known tagged : List Bool) (before : MarksTags g (take i tips) wanted known tagged) where
   more_tips : (p : ℕ) → IsPlaceOf g (take i tips) p → IsPlaceOf g (take (i + 1) tips) p
   more_tips p x =
-      let e = one_more g tips i tip inside is in
+      let e = take_one tips i tip inside is in
       rw e (record { id = x.id; among = Contains-append_left (take i tips) (tip ∷ []) x.id x.among; at = x.at })
 
   more_open : (p : ℕ) → IsOpenTag g (take i tips) wanted known p → IsOpenTag g (take (i + 1) tips) wanted known p
@@ -306,6 +261,6 @@ module _ {A : Type 0} (g : List (Entry A)) (tips : List (List ℕ)) (i : ℕ) (t
       ];
       only = λ p m. elim (chain.only p m) [
         | inl m ↦ more_open p (before.only p m)
-        | inr x ↦ record { start = start; tip = (let e = one_more g tips i tip inside is in rw e (record { id = tip; among = Contains-push (take i tips) tip; at = at })); chain = x; commit = commit; peeled = peeled; open_there = is_so }
+        | inr x ↦ record { start = start; tip = (let e = take_one tips i tip inside is in rw e (record { id = tip; among = Contains-push (take i tips) tip; at = at })); chain = x; commit = commit; peeled = peeled; open_there = is_so }
       ];
     }

@@ -1,5 +1,6 @@
--- The tables of faults: the number and the name of each.
+-- The tables of faults: the number, the name and the text of each.
 use Rattle.std.specs.Prelude.{ℕ, List, codes}
+use Rattle.gpkt.specs.declared.device.Down.{Down}
 use Rattle.gpkt.specs.declared.fault.LineFault.{LineFault}
 use Rattle.gpkt.specs.declared.fault.LineFault.TheVariants as line
 use Rattle.gpkt.specs.declared.fault.WriteFault.{WriteFault}
@@ -31,3 +32,25 @@ write_fault_row write.Io = (27, codes "Io")
 abbrev pub band_fault_row : BandFault → FaultRow
 band_fault_row band.NoBand = (29, codes "NoBand")
 band_fault_row band.BadBand = (30, codes "BadBand")
+
+-- their texts
+abbrev pub line_fault_text : LineFault → List ℕ
+line_fault_text line.BadDigits = codes "bad packet length"
+line_fault_text line.Reserved = codes "reserved packet length"
+line_fault_text line.TooLong = codes "packet too long"
+line_fault_text line.Truncated = codes "unexpected end of input inside a packet"
+line_fault_text line.Io = codes "the source failed"
+line_fault_text line.Failed = codes "an earlier read had failed"
+line_fault_text line.Memory = codes "out of memory"
+
+abbrev pub write_fault_text : WriteFault → List ℕ
+write_fault_text write.Failed = codes "an earlier write had failed"
+write_fault_text write.Payload = codes "payload too long"
+write_fault_text write.Io = codes "the sink failed"
+
+abbrev pub band_fault_text : BandFault → List ℕ
+band_fault_text band.NoBand = codes "no band"
+band_fault_text band.BadBand = codes "bad band"
+
+abbrev pub down_text : Down → List ℕ
+down_text fault = codes "the device failed"

@@ -1,18 +1,29 @@
 //! Where bytes come from and go to.
 
-ghost use Rattle.std.specs.Prelude.{◌≡◌, ℕ, ◌∷◌, List, Bool, Option, OnErr, OnOk, IsErr, is_err, true, false};
+ghost use Rattle.std.specs.Prelude.{◌≡◌, ℕ, ◌∷◌, List, Bool, Option, Some, OnErr, OnOk, IsErr, is_err, true, false};
 ghost use Rattle.std.specs.Io.{ReadsAtMost, WritesAtMost};
 ghost use Rattle.std.specs.Io.KnownBytes.{Keeps, ReadConsumes, WriteAppends};
 ghost use Rattle.gpkt.specs.Change.{change_of};
 ghost use Rattle.gpkt.specs.Devices.{AnswersDown, KeepsPassed, PassesAll, TakesSome};
+ghost use Rattle.gpkt.specs.Faults.{down_text};
 
+use std::error::Error;
+use std::fmt;
 use std::marker::Model;
-use thiserror::Error;
 
 /// A device failed. It is down from this call on, and every later call answers the same.
-#[derive(Clone, Copy, Debug, PartialEq, Eq, Error)]
-#[error("the device failed")]
+#[derive(Clone, Copy, Debug, PartialEq, Eq)]
 pub struct Down;
+
+impl fmt::Display for Down {
+    ghost output = { λ fault. Some (down_text fault) };
+
+    fn fmt<W: fmt::Write>(&self, f: &mut fmt::Formatter<W>) -> fmt::Result {
+        f.write_str("the device failed")
+    }
+}
+
+impl Error for Down {}
 
 /// A device that bytes are read from.
 ///

@@ -1,33 +1,28 @@
 //! Why a line was not read, or not written, and why a payload is of no band.
 
-ghost use Rattle.std.specs.Prelude.{◌≡◌};
-ghost use Rattle.gpkt.specs.Faults.{band_fault_row, line_fault_row, write_fault_row};
+ghost use Rattle.std.specs.Prelude.{◌≡◌, Some};
+ghost use Rattle.gpkt.specs.Faults.{band_fault_row, band_fault_text, line_fault_row, line_fault_text, write_fault_row};
+ghost use Rattle.gpkt.specs.Faults.{write_fault_text};
 
-use thiserror::Error;
+use std::error::Error;
+use std::fmt;
 
 /// Why a line was not read.
-#[derive(Clone, Copy, Debug, PartialEq, Eq, Error)]
+#[derive(Clone, Copy, Debug, PartialEq, Eq)]
 pub enum LineFault {
     /// All four digits came, and one is no hexadecimal digit. Nothing after them is read.
-    #[error("bad packet length")]
     BadDigits,
     /// The digits are `0003`, which no line has. Nothing after them is read.
-    #[error("reserved packet length")]
     Reserved,
     /// The digits announce more than 65,520 bytes. Nothing after them is read.
-    #[error("packet too long")]
     TooLong,
     /// The input ends inside the four digits or the payload.
-    #[error("unexpected end of input inside a packet")]
     Truncated,
     /// The source failed in this call.
-    #[error("the source failed")]
     Io,
     /// An earlier call had failed. Nothing is read.
-    #[error("an earlier read had failed")]
     Failed,
     /// No memory for the buffer.
-    #[error("out of memory")]
     Memory,
 }
 
@@ -62,18 +57,33 @@ impl LineFault {
     }
 }
 
+impl fmt::Display for LineFault {
+    ghost output = { λ fault. Some (line_fault_text fault) };
+
+    fn fmt<W: fmt::Write>(&self, f: &mut fmt::Formatter<W>) -> fmt::Result {
+        match self {
+            LineFault::BadDigits => f.write_str("bad packet length"),
+            LineFault::Reserved => f.write_str("reserved packet length"),
+            LineFault::TooLong => f.write_str("packet too long"),
+            LineFault::Truncated => f.write_str("unexpected end of input inside a packet"),
+            LineFault::Io => f.write_str("the source failed"),
+            LineFault::Failed => f.write_str("an earlier read had failed"),
+            LineFault::Memory => f.write_str("out of memory"),
+        }
+    }
+}
+
+impl Error for LineFault {}
+
 /// Why a line was not written.
-#[derive(Clone, Copy, Debug, PartialEq, Eq, Error)]
+#[derive(Clone, Copy, Debug, PartialEq, Eq)]
 pub enum WriteFault {
     /// An earlier call had failed. Nothing is written.
-    #[error("an earlier write had failed")]
     Failed,
     /// The payload, with its line feed, has more than 65,516 bytes. Nothing is written, and the writer
     /// goes on as before.
-    #[error("payload too long")]
     Payload,
     /// The sink failed in this call. A beginning of the packet stands written.
-    #[error("the sink failed")]
     Io,
 }
 
@@ -104,14 +114,26 @@ impl WriteFault {
     }
 }
 
+impl fmt::Display for WriteFault {
+    ghost output = { λ fault. Some (write_fault_text fault) };
+
+    fn fmt<W: fmt::Write>(&self, f: &mut fmt::Formatter<W>) -> fmt::Result {
+        match self {
+            WriteFault::Failed => f.write_str("an earlier write had failed"),
+            WriteFault::Payload => f.write_str("payload too long"),
+            WriteFault::Io => f.write_str("the sink failed"),
+        }
+    }
+}
+
+impl Error for WriteFault {}
+
 /// Why a payload is of no band.
-#[derive(Clone, Copy, Debug, PartialEq, Eq, Error)]
+#[derive(Clone, Copy, Debug, PartialEq, Eq)]
 pub enum BandFault {
     /// The payload is empty, so no byte names a band.
-    #[error("no band")]
     NoBand,
     /// The first byte names no band.
-    #[error("bad band")]
     BadBand,
 }
 
@@ -140,3 +162,16 @@ impl BandFault {
         }
     }
 }
+
+impl fmt::Display for BandFault {
+    ghost output = { λ fault. Some (band_fault_text fault) };
+
+    fn fmt<W: fmt::Write>(&self, f: &mut fmt::Formatter<W>) -> fmt::Result {
+        match self {
+            BandFault::NoBand => f.write_str("no band"),
+            BandFault::BadBand => f.write_str("bad band"),
+        }
+    }
+}
+
+impl Error for BandFault {}

@@ -30,7 +30,7 @@
 //!   the same bytes one begins the other; bytes are empty, or spell a line at their front, or have a
 //!   reason why not, and are read in one way; lines read, and bytes written, one after the other join;
 //!   a payload is of a band exactly where it is that band's byte and bytes ([`laws`]).
-//! - The number and the name of each fault (`specs/Faults.antt`).
+//! - The number, the name and the text of each fault (`specs/Faults.antt`).
 //!
 //! # Only tested
 //!
@@ -42,15 +42,15 @@
 //! # What a body can still get away with
 //!
 //! A device that is always down; a source that gives a byte a call, and a sink that takes one; a
-//! buffer that is never made, and a constructor that reads before it fails; another text for a fault; a
-//! [`memory::Limited`] that hinders otherwise than it was told, and a [`memory::VecSink`] that counts no
+//! buffer that is never made, and a constructor that reads before it fails; a
+//! [`memory::Limited`] that hinders otherwise than it was asked, and a [`memory::VecSink`] that counts no
 //! flush. A sink that passes bytes on at once says that
 //! it is not known which were passed on, since a write keeps what is known. A flush that fails may have
 //! passed on any of what was held back.
 //!
 //! # Stands on
 //!
-//! `hex` for the digits, `thiserror` for the texts of the faults, std's `Read` and `Write`.
+//! `hex` for the digits, std's `Read` and `Write`.
 #![tactic(auto)]
 
 mod band;

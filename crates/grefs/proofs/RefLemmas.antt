@@ -27,7 +27,7 @@ order = slice_cmp nat_cmp
 
 -- ---- two names
 
-flipped : (x y : List ℕ) → order x y ≡ Less → order y x ≡ Greater
+pub flipped : (x y : List ℕ) → order x y ≡ Less → order y x ≡ Greater
 flipped x y h = nat_list_cmp_total.antisymm y x ∙ ap ordering_reverse h
 
 unflipped : (x y : List ℕ) → order x y ≡ Greater → order y x ≡ Less
@@ -42,7 +42,7 @@ higher_differs x y h = sym (is_eq-slice_cmp y x) ∙ ap is_eq (flipped x y h)
 bytes_eq-itself : (x : List ℕ) → bytes_eq x x ≡ true
 bytes_eq-itself x = (bytes_eq-Decides x x).1 refl
 
-other_false : (x y : List ℕ) (b : Bool) → bytes_eq x y ≡ b → y ≢ x → b ≡ false
+pub other_false : (x y : List ℕ) (b : Bool) → bytes_eq x y ≡ b → y ≢ x → b ≡ false
 other_false x y true h differs = absurd (differs (sym ((bytes_eq-Decides x y).0 h)))
 other_false x y false h differs = refl
 

@@ -12,6 +12,7 @@ use Rattle.gobject.specs.declared.node.Entry.{Entry}
 use Rattle.ghistory.specs.Graphs.{History}
 use Rattle.ghistory.specs.Laws.{ReachingGoesOn}
 use Rattle.ghistory.specs.Reach.{IsFull}
+use Rattle.ghistory.proofs.IdLists.{contains_tail}
 use Rattle.ghistory.proofs.Pairs.{past}
 use Rattle.grefs.specs.Laws.{RefsComeInOrder}
 use Rattle.grefs.specs.RefLists.{AreBelow, IsRefs, RefList, ref_at}
@@ -25,7 +26,6 @@ use Rattle.grepo.specs.Laws.{SettingStaysWhole, SettlingStaysWhole}
 use Rattle.grepo.specs.Repos.{ComeFrom, IsWhole, RepoState}
 use Rattle.grepo.specs.Settling.{Settles}
 use Rattle.grepo.proofs.OneSettling.{some_mover, stands}
-use Rattle.grepo.proofs.RefMapLemmas.{one_more_there}
 use Rattle.grepo.proofs.RepoLemmas.{set_from, whole_installed}
 
 -- ---- what a look-up finds
@@ -52,7 +52,7 @@ found_step other refs ref true e is rest =
     let name : other.0 ≡ ref.0 = (bytes_eq-Decides other.0 ref.0).0 e in
     let id : other.1 ≡ ref.1 = same_Some other.1 ref.1 (sym (ref_at-hit other refs ref.0 e) ∙ is) in
     (0, omega arith, ap (λ (n : List ℕ). (n, other.1)) name ∙ ap (λ (i : List ℕ). (ref.0, i)) id)
-found_step other refs ref false e is rest = one_more_there other refs ref (rest (sym (ref_at-skip other refs ref.0 e) ∙ is))
+found_step other refs ref false e is rest = contains_tail other refs ref (rest (sym (ref_at-skip other refs ref.0 e) ∙ is))
 
 -- what is found is there
 found_there : (refs : RefList) (ref : List ℕ × List ℕ) → ref_at refs ref.0 ≡ Some ref.1 → Contains refs ref

@@ -1,25 +1,22 @@
 -- Refs in a map, in the order of their names.
-use Rattle.std.proofs.Common.{◌≡◌, ◌≢◌, ◌⊎◌, inl, inr, ℕ, suc, ◌+◌, ◌<◌, Bool, true, false, cond, if◌then◌else◌, ◌≤◌, List, [], ◌∷◌, ◌++◌, length, take, drop, get_or, All, Contains, Option, None, Some, refl, sym, ap, ◌∙◌, subst, arith}
+use Rattle.std.proofs.Common.{◌≡◌, ◌≢◌, ◌⊎◌, inl, inr, ℕ, ◌+◌, ◌<◌, Bool, true, false, cond, if◌then◌else◌, ◌≤◌, List, [], ◌∷◌, ◌++◌, length, take, drop, get_or, All, Contains, Option, None, Some, refl, sym, ap, ◌∙◌, subst, arith}
 use Rattle.std.specs.BTreeMap.{insert_entry, is_at}
-use Rattle.std.specs.Cmp.Lexicographic.{slice_cmp}
 use Rattle.std.specs.List.{find}
 use Rattle.std.specs.Map.{lookup}
 use Rattle.std.specs.Option.{is_some, option_map}
-use Rattle.std.specs.Ordering.{is_eq, match_ordering, nat_cmp, ordering_reverse}
+use Rattle.std.specs.Ordering.{is_eq, match_ordering}
 use Rattle.std.specs.Str.{bytes_eq}
 use Rattle.std.specs.declared.cmp.Ordering.{Ordering}
 use Rattle.std.specs.declared.cmp.Ordering.TheVariants.{Less, Equal, Greater}
-use Rattle.std.proofs.lemmas.Cmp.{nat_list_cmp_total, nat_list_eq_equiv}
+use Rattle.std.proofs.lemmas.Cmp.{nat_list_eq_equiv}
 use Rattle.std.proofs.lemmas.List.{drop_more, take-append-drop, take_more}
 use Rattle.std.proofs.lemmas.List.Elements.{All-cons, All-contains, All-contains_itself, All-nil, All-weaker}
 use Rattle.std.proofs.lemmas.Map.Lookups.{exact_bytes}
 use Rattle.std.proofs.lemmas.Map.Text.{is_eq-slice_cmp}
-use Rattle.std.proofs.lemmas.Slice.Eq.{bytes_eq-Decides}
 use Rattle.grefs.specs.Laws.{RefsComeInOrder}
 use Rattle.grefs.specs.RefLists.{AreBelow, IsBelowRefs, IsRefs, RefList, SetsRef, has_name, max_refs, ref_at}
-
-abbrev pub order : List ℕ → List ℕ → Ordering
-order = slice_cmp nat_cmp
+use Rattle.grefs.proofs.RefLemmas.{flipped, order, other_false}
+use Rattle.ghistory.proofs.IdLists.{contains_head, contains_tail}
 
 -- ---- look-ups
 
@@ -38,27 +35,17 @@ lookup_ref (ref ∷ refs) name =
     ap (λ (b : Bool). cond b (Some ref.1) (lookup (is_at (order name)) refs)) (same_test name ref.0)
     ∙ at_step (bytes_eq ref.0 name) ref (find (has_name name) refs) (lookup (is_at (order name)) refs) (lookup_ref refs name)
 
-other_name : (name other : List ℕ) (b : Bool) → bytes_eq name other ≡ b → other ≢ name → b ≡ false
-other_name name other true is differs = absurd (differs (sym ((bytes_eq-Decides name other).0 is)))
-other_name name other false is differs = refl
-
 pub at_other : (name other : List ℕ) → other ≢ name → is_at (order name) other ≡ false
-at_other name other differs = is_eq-slice_cmp name other ∙ other_name name other (bytes_eq name other) refl differs
+at_other name other differs = is_eq-slice_cmp name other ∙ other_false name other (bytes_eq name other) refl differs
 
 -- ---- a name that is put at an id
 
 abbrev Either : List ℕ → List ℕ → RefList → List ℕ × List ℕ → Type 0
 Either name id old ref = (ref ≡ (name, id)) ⊎ Contains old ref
 
-pub one_more_there : (ref : List ℕ × List ℕ) (refs : RefList) (other : List ℕ × List ℕ) → Contains refs other → Contains (ref ∷ refs) other
-one_more_there ref refs other there = let low = there.1 in (suc there.0, omega (arith, low), there.2)
-
 either_more : (name id : List ℕ) (ref : List ℕ × List ℕ) (refs new : RefList) → All (Either name id refs) new → All (Either name id (ref ∷ refs)) new
 either_more name id ref refs new each =
-    All-weaker (Either name id refs) (Either name id (ref ∷ refs)) (λ r either. elim either [ inl is ↦ inl is | inr there ↦ inr (one_more_there ref refs r there) ]) new each
-
-head_there : (ref : List ℕ × List ℕ) (refs : RefList) → Contains (ref ∷ refs) ref
-head_there ref refs = (0, omega arith, refl)
+    All-weaker (Either name id refs) (Either name id (ref ∷ refs)) (λ r either. elim either [ inl is ↦ inl is | inr there ↦ inr (contains_tail ref refs r there) ]) new each
 
 each_old : (name id : List ℕ) (refs : RefList) → All (Either name id refs) refs
 each_old name id refs = All-weaker (Contains refs) (Either name id refs) (λ r there. inr there) refs (All-contains_itself refs)
@@ -70,7 +57,7 @@ each_step name id ref refs Equal is rest =
     All-cons (Either name id (ref ∷ refs)) (ref.0, id) refs (inl (ap (λ (n : List ℕ). (n, id)) (sym (exact_bytes name ref.0 is))))
     (either_more name id ref refs refs (each_old name id refs))
 each_step name id ref refs Greater is rest =
-    All-cons (Either name id (ref ∷ refs)) ref (insert_entry order refs name id) (inr (head_there ref refs)) (either_more name id ref refs (insert_entry order refs name id) rest)
+    All-cons (Either name id (ref ∷ refs)) ref (insert_entry order refs name id) (inr (contains_head ref refs)) (either_more name id ref refs (insert_entry order refs name id) rest)
 
 -- nothing else comes
 pub each_set : (refs : RefList) (name id : List ℕ) → All (Either name id refs) (insert_entry order refs name id)
@@ -85,9 +72,6 @@ names_set refs name id below is =
     (λ ref either. elim either [ inl same ↦ subst P (sym same) is | inr there ↦ All-contains P refs ref below there ]) (insert_entry order refs name id) (each_set refs name id)
 
 -- ---- a name above the others
-
-flipped : (low high : List ℕ) → order low high ≡ Less → order high low ≡ Greater
-flipped low high is = nat_list_cmp_total.antisymm high low ∙ ap ordering_reverse is
 
 pub set_last : (refs : RefList) (name id : List ℕ) → AreBelow refs name → insert_entry order refs name id ≡ refs ++ (name, id) ∷ []
 set_last [] name id below = refl

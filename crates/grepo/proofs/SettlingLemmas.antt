@@ -1,9 +1,9 @@
 -- Settling ask by ask.
-use Rattle.std.proofs.Common.{◌≡◌, ◌≢◌, inl, inr, ℕ, ◌+◌, ◌<◌, Bool, true, false, cond, List, [], ◌∷◌, ◌++◌, length, take, get_or, All, count_by, Option, None, Some, Err, refl, sym, ap, ◌∙◌, subst, arith}
+use Rattle.std.proofs.Common.{◌≡◌, ◌≢◌, inl, inr, ℕ, ◌+◌, ◌<◌, Bool, true, false, cond, List, [], ◌∷◌, ◌++◌, length, take, get_or, map, All, Contains, count_by, Option, None, Some, Err, refl, sym, ap, ◌∙◌, subst, arith}
 use Rattle.std.specs.List.{AllZip}
 use Rattle.std.specs.Option.{is_none}
 use Rattle.std.proofs.lemmas.List.{get_or_append_left, get_or_at, get_or_default, get_or-map, get_or-take, length-append, length-map, length-take}
-use Rattle.std.proofs.lemmas.List.Elements.{All-nil, All-push}
+use Rattle.std.proofs.lemmas.List.Elements.{All-contains, All-map, All-more, All-nil, All-push}
 use Rattle.std.proofs.lemmas.List.Sums.{count_by_more_yes, sum_by_push, sum_by-take-le}
 use Rattle.gname.specs.Names.{head_name}
 use Rattle.gname.proofs.ListLemmas.{All-parts}
@@ -118,11 +118,32 @@ module _ {A : Type 0} where
       let there : get_or asks place d ≡ ask = get_or_default asks place d ask inside ∙ is in
       λ same. differ k place d before inside (ap (λ (a : Ask A). a.name) (sym (get_or-take place asks k d before)) ∙ same ∙ ap (λ (a : Ask A). a.name) (sym there))
 
+  -- an ask for HEAD is one of them
+  pub head_at : (asks : List (Ask A)) (place : ℕ) (ask : Ask A) → place < length asks → get_or asks place ask ≡ ask → ask.name ≡ head_name → Contains (map (λ a. a.name) asks) head_name
+  head_at asks place ask inside is head =
+      let name : Ask A → List ℕ = λ a. a.name in
+      (place, (let same = length-map asks name in omega (arith, inside, same)), get_or-map name asks place ask head_name inside ∙ ap name is ∙ head)
+
+  -- no ask is for HEAD
+  abbrev pub NoHead : List (Ask A) → Type 0
+  NoHead asks = All (λ ask. ask.name ≢ head_name) asks
+
+  pub no_head_more : (asks : List (Ask A)) (place : ℕ) (ask : Ask A) → place < length asks → get_or asks place ask ≡ ask → NoHead (take place asks) → ask.name ≢ head_name
+      → NoHead (take (place + 1) asks)
+  no_head_more asks place ask inside is none differs =
+      let Other : Ask A → Type 0 = λ a. a.name ≢ head_name in
+      All-more Other asks place ask inside none (subst Other (sym is) differs)
+
+  pub no_head_there : (asks : List (Ask A)) → NoHead asks → ¬ (Contains (map (λ a. a.name) asks) head_name)
+  no_head_there asks none there =
+      let Other : List ℕ → Type 0 = λ name. name ≢ head_name in
+      All-contains Other (map (λ (a : Ask A). a.name) asks) head_name (All-map Other (λ (a : Ask A). a.name) asks none) there refl
+
   -- a ref that can't be set stands in the way of settling
   pub cannot_settle : (g : List (Entry A)) (old : RefList) (asks : List (Ask A)) (place : ℕ) (updates : List RefUpdate) (before : RefList) (ask : Ask A)
       → NamesDiffer asks → place < length asks → get_or asks place ask ≡ ask → HasSettled g old (take place asks) updates before → CannotSet before ask.name → CannotSettle old asks
   cannot_settle g old asks place updates before ask differ inside is settled (inl head) =
-      inl (place, omega (arith, inside, length-map asks (λ (a : Ask A). a.name)), get_or-map (λ (a : Ask A). a.name) asks place ask head_name inside ∙ ap (λ (a : Ask A). a.name) is ∙ head)
+      inl (head_at asks place ask inside is head)
   cannot_settle g old asks place updates before ask differ inside is settled (inr full) =
       let new : is_new old ask ≡ true = ap is_none (sym (unmoved g old (take place asks) updates before ask settled (differ_before asks place ask differ inside is)) ∙ full.0) in
       let next = count_by_more_yes (is_new old) asks place ask inside (ap (is_new old) is ∙ new) in
@@ -132,18 +153,18 @@ module _ {A : Type 0} where
 
   -- why an ask is not taken is why the asks are not settled
   pub refuses_ask : (g : List (Entry A)) (old : RefList) (asks : List (Ask A)) (ask : Ask A) (before after : RefList) (fault : RepoFault A)
-      → (CannotSet before ask.name → CannotSettle old asks) → TakesAsk g old ask before after (Err fault) → IsRefusal old asks fault
-  refuses_ask g old asks ask before after (Refs refs.Refs) why takes = why takes
-  refuses_ask g old asks ask before after (Refs refs.Memory) why takes = tt
-  refuses_ask g old asks ask before after (Graph graph.Memory) why takes = tt
-  refuses_ask g old asks ask before after (Graph cause) why takes = absurd takes
-  refuses_ask g old asks ask before after fault why takes = absurd takes
+      → ¬ (CannotSettle old asks) → (CannotSet before ask.name → CannotSettle old asks) → TakesAsk g old ask before after (Err fault) → IsRefusal old asks fault
+  refuses_ask g old asks ask before after (Refs refs.Refs) can why takes = why takes
+  refuses_ask g old asks ask before after (Refs refs.Memory) can why takes = can
+  refuses_ask g old asks ask before after (Graph graph.Memory) can why takes = tt
+  refuses_ask g old asks ask before after (Graph cause) can why takes = absurd takes
+  refuses_ask g old asks ask before after fault can why takes = absurd takes
 
   -- and why the repository stays
   pub refuses_asks : (old : RepoState A) (asks : List (Ask A)) (fault : RepoFault A) → All (IsFull old.graph.entries) (asked_ids asks)
       → IsRefusal old.refs asks fault → SettlesAsks old asks old (Err fault)
   refuses_asks old asks (Refs refs.Refs) full why = (refl, full, why)
-  refuses_asks old asks (Refs refs.Memory) full why = (refl, full)
+  refuses_asks old asks (Refs refs.Memory) full why = (refl, full, why)
   refuses_asks old asks (Graph graph.Memory) full why = refl
   refuses_asks old asks (Graph cause) full why = absurd why
   refuses_asks old asks fault full why = absurd why

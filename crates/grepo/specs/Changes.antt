@@ -59,7 +59,8 @@ SetsLocal old name id new (Err (Graph graph.Memory)) = new ≡ old
 SetsLocal old name id new (Err _) = ⊥
 
 -- what settling asks answers: they are settled, and the whole ancestry of each asked id is held; or what of that is
--- missing; or that the refs can't be set; or that there is no memory
+-- missing; or that the refs can't be set; or that they can, and there is no memory to set them; or that there is none
+-- for a walk or a copy
 abbrev pub SettlesAsks : {A : Type 0} → RepoState A → List (Ask A) → RepoState A
     → Result (List RefUpdate) (RepoFault A) → Type 0
 SettlesAsks old asks new (Ok updates) =
@@ -69,6 +70,6 @@ SettlesAsks old asks new (Err (NotConnected missing)) =
 SettlesAsks old asks new (Err (Refs refs.Refs)) =
     (new ≡ old) × All (IsFull old.graph.entries) (asked_ids asks) × CannotSettle old.refs asks
 SettlesAsks old asks new (Err (Refs refs.Memory)) =
-    (new ≡ old) × All (IsFull old.graph.entries) (asked_ids asks)
+    (new ≡ old) × All (IsFull old.graph.entries) (asked_ids asks) × ¬ (CannotSettle old.refs asks)
 SettlesAsks old asks new (Err (Graph graph.Memory)) = new ≡ old
 SettlesAsks old asks new (Err _) = ⊥

@@ -1,8 +1,8 @@
--- The table of faults: the number and the name of each.
-use Rattle.std.specs.Prelude.{codes}
+-- The table of faults: the number, the name and the text of each.
+use Rattle.std.specs.Prelude.{ℕ, List, codes}
 use Rattle.gname.specs.Faults.{FaultRow}
-use Rattle.ghistory.specs.Faults.{graph_fault_row}
-use Rattle.grefs.specs.Faults.{refs_fault_row}
+use Rattle.ghistory.specs.Faults.{graph_fault_row, graph_fault_text}
+use Rattle.grefs.specs.Faults.{refs_fault_row, refs_fault_text}
 use Rattle.grepo.specs.declared.fault.RepoFault.{RepoFault}
 use Rattle.grepo.specs.declared.fault.RepoFault.TheVariants.{UnsafeRef, NotHeld, NotConnected, MissingParent, Graph, Refs}
 
@@ -14,3 +14,12 @@ repo_fault_row (NotHeld missing) = (81, codes "NotHeld")
 repo_fault_row (NotConnected missing) = (85, codes "NotConnected")
 repo_fault_row (Graph fault) = graph_fault_row fault
 repo_fault_row (Refs fault) = refs_fault_row fault
+
+-- ---- their texts
+abbrev pub repo_fault_text : {A : Type 0} → RepoFault A → List ℕ
+repo_fault_text (MissingParent id) = codes "a parent is not held"
+repo_fault_text (UnsafeRef name) = codes "the ancestry of a ref is not held"
+repo_fault_text (NotHeld missing) = codes "the ancestry of an id is not held"
+repo_fault_text (NotConnected missing) = codes "the ancestries of the asked ids are not held"
+repo_fault_text (Graph fault) = graph_fault_text fault
+repo_fault_text (Refs fault) = refs_fault_text fault

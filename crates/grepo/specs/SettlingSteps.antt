@@ -24,10 +24,11 @@ pub record HasSettled {A : Type 0} (g : List (Entry A)) (old : RefList) (asks : 
   pub settles : Settles g old asks updates new
   pub count : length new ≡ length old + count_by (is_new old) asks
 
--- why asks are not settled: the refs can't be set, or there is no memory
+-- why asks are not settled: the refs can't be set; or they can, and there is no memory to set them; or there is none
+-- for a walk or a copy
 abbrev pub IsRefusal : {A : Type 0} → RefList → List (Ask A) → RepoFault A → Type 0
 IsRefusal old asks (Refs refs.Refs) = CannotSettle old asks
-IsRefusal old asks (Refs refs.Memory) = ⊤
+IsRefusal old asks (Refs refs.Memory) = ¬ (CannotSettle old asks)
 IsRefusal old asks (Graph graph.Memory) = ⊤
 IsRefusal old asks _ = ⊥
 

@@ -1,37 +1,32 @@
 // What a call on a repository refuses.
 #![tactic(auto)]
 
-ghost use Rattle.std.specs.Prelude.{◌≡◌};
+ghost use Rattle.std.specs.Prelude.{◌≡◌, Some};
 ghost use Rattle.ghistory.specs.declared.fault.GraphFault.TheVariants.{Memory};
-ghost use Rattle.grepo.specs.Faults.{repo_fault_row};
+ghost use Rattle.grepo.specs.Faults.{repo_fault_row, repo_fault_text};
 ghost use Rattle.grepo.specs.declared.fault.RepoFault.TheVariants as repo;
 
 use ghistory::GraphFault;
 use gname::{Oid, RefName};
 use grefs::RefsFault;
 use std::alloc::{AllocError, AllocFailed, Allocator, Global};
-use thiserror::Error;
+use std::error::Error;
+use std::fmt;
 
 /// Why a call on a repository was refused.
-#[derive(Debug, Drop, Error)]
+#[derive(Debug, Drop)]
 pub enum RepoFault<A: Allocator + Copy = Global> {
     /// A parent of the object that was to be added is not held.
-    #[error("a parent is not held")]
     MissingParent { id: Oid },
     /// The whole ancestry of the id at which this ref stands is not held.
-    #[error("the ancestry of a ref is not held")]
     UnsafeRef { name: RefName<A> },
     /// Of the ancestry of the id at which a ref was to stand this id is missing.
-    #[error("the ancestry of an id is not held")]
     NotHeld { missing: Oid },
     /// Of the ancestries of the ids that were asked for this id is missing.
-    #[error("the ancestries of the asked ids are not held")]
     NotConnected { missing: Oid },
-    /// The graph refused it, or there is no memory for its walks.
-    #[error("{0}")]
+    /// The graph refused it, or there is no memory for a walk or a copy.
     Graph(GraphFault),
-    /// The refs refused it.
-    #[error("{0}")]
+    /// A ref can't be set, or it can and there is no memory to set it.
     Refs(RefsFault),
 }
 
@@ -64,6 +59,25 @@ impl<A: Allocator + Copy> RepoFault<A> {
         }
     }
 }
+
+impl<A: Allocator + Copy> fmt::Display for RepoFault<A> {
+    ghost output = { λ fault. Some (repo_fault_text fault) };
+
+    fn fmt<W: fmt::Write>(&self, f: &mut fmt::Formatter<W>) -> fmt::Result {
+        match self {
+            RepoFault::MissingParent { .. } => f.write_str("a parent is not held"),
+            RepoFault::UnsafeRef { .. } => f.write_str("the ancestry of a ref is not held"),
+            RepoFault::NotHeld { .. } => f.write_str("the ancestry of an id is not held"),
+            RepoFault::NotConnected { .. } => f.write_str(
+                "the ancestries of the asked ids are not held",
+            ),
+            RepoFault::Graph(fault) => fmt::Display::fmt(fault, f),
+            RepoFault::Refs(fault) => fmt::Display::fmt(fault, f),
+        }
+    }
+}
+
+impl<A: Allocator + Copy + fmt::Debug> Error for RepoFault<A> {}
 
 impl<A: Allocator + Copy> From<GraphFault> for RepoFault<A> {
     ghost from_gives = { λ cause fault. fault ≡ repo.Graph cause };

@@ -16,28 +16,29 @@
 //!   whether it is forced.
 //! - [`Repo::settle`] moves all refs that may move to the ids that are asked for, at once, and leaves all others: it
 //!   moves none where the ancestry of one id is not held, or where the refs can't all be set. It says what became of
-//!   each ask. What the ids reach is marked, and all other marks stay.
+//!   each ask. What the ids reach is marked, and all other marks stay. Want of memory for refs (`RepoFault::Refs`) is
+//!   reported only where they can all be set.
 //! - After a fault of any call the repository is as it was, the marks too.
 //! - [`Repo::missing`] answers what is missing of the ancestries of some ids.
-//! - Each fault has the number and the name of its row.
+//! - Each fault has the number, the name and the text of its row.
 //! - No call panics, overflows or reads out of bounds, and each returns.
 //!
 //! [`laws`] say that a repository stays whole where objects come to its graph, where a ref is set and where asks
 //! are settled; that a fault changes nothing; that nothing is missing of ancestries that are held; and that there is
 //! one settling of some asks.
 //!
-//! # Only tried
+//! # Only tested
 //!
 //! That memory which is there is used: the program `conformance` refuses each allocation of many fetches in turn.
 //!
 //! # What a body can still get away with
 //!
 //! Where several ids are missing it may answer any. It may report out of memory as often as it likes, but not of an
-//! object that is held: only memory tells what is missing of an ancestry, so that want of it may stand for an unsafe
-//! ref, for ids whose ancestries are not held, and, where asks are settled, for refs that can't be set. A walk may go
-//! on from marked objects. A call may take as long as it likes, and more memory than it needs. No clause says where
-//! memory comes from: [`Asks::allocator`] may answer any allocator of its kind, and [`Asks::ids`] may take its memory
-//! from that of the asks. The texts of the faults are neither proved nor tried.
+//! object that is held: only memory tells what is missing of an ancestry, so that want of it for walks and copies
+//! (`RepoFault::Graph`) may stand for an unsafe ref, for ids whose ancestries are not held, and for refs that can't be
+//! set. A walk may go on from marked objects. A call may take as long as it likes, and more memory than it needs. No
+//! clause says where memory comes from: [`Asks::allocator`] may answer any allocator of its kind, and [`Asks::ids`] may
+//! take its memory from that of the asks.
 //!
 //! # Time
 //!
@@ -48,7 +49,7 @@
 //! # Stands on
 //!
 //! `ggraph` for graphs, refs and walks, and below it `gobject`, `ghistory`, `grefs` and `gwalk`; `gname` for ids and
-//! names; `indexmap` for asks by name; `thiserror` for the texts of faults.
+//! names; `indexmap` for asks by name.
 #![tactic(auto)]
 
 mod ask;

@@ -168,8 +168,8 @@ impl<A: Allocator + Copy> Repo<A> {
     /// a ref moves.
     ///
     /// It fails with `NotConnected` and an id that is missing of the ancestries of the asked ids, then with `Refs`
-    /// where an ask is for HEAD or there would be too many refs, and where there is no memory. The repository is then
-    /// as it was.
+    /// where an ask is for HEAD or there would be too many refs, before memory is taken for refs; and where there is no
+    /// memory. The repository is then as it was.
     pub fn settle(&mut self, asks: &Asks<A>) -> Result<Vec<RefUpdate, A>, RepoFault<A>>
         ensures settles { MatchResult result
             (λ updates. SettlesAsks self.old asks.now self.new (Ok updates.items))

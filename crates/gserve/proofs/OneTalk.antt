@@ -1,7 +1,6 @@
 -- The bytes of a client say what is written to it, where each request has one answer.
-use Rattle.std.proofs.Common.{◌≡◌, ◌≢◌, ℕ, zero, suc, ◌<◌, ◌≤◌, ◌+◌, ◌++◌, List, [], ◌∷◌, All, length, false, Option, Some, None, Result, Ok, Err, refl, sym, ap, subst, ◌∙◌, inl, inr, append_assoc, arith}
+use Rattle.std.proofs.Common.{◌≡◌, ◌≢◌, ℕ, zero, suc, ◌<◌, ◌≤◌, ◌+◌, ◌++◌, List, [], ◌∷◌, All, length, false, Option, None, Result, Ok, Err, refl, sym, ap, subst, ◌∙◌, inl, inr, append_assoc, arith}
 use Rattle.std.proofs.lemmas.Bool.{false≢true}
-use Rattle.std.specs.Prelude.{IsSome}
 use Rattle.std.specs.List.{flat_map}
 use Rattle.std.proofs.lemmas.List.Elements.{All-contains, All-head, All-tail, Contains-append_right, Contains-get_or}
 use Rattle.gname.specs.declared.formats.Format.{Format}
@@ -9,6 +8,7 @@ use Rattle.gobject.specs.declared.node.Entry.{Entry}
 use Rattle.gobject.specs.Objects.{node_at}
 use Rattle.gobject.specs.Packs.{PackFails, Packs}
 use Rattle.ghistory.specs.Graphs.{Holds, IsFirstAbsent}
+use Rattle.gwalk.proofs.Tagging.{none_held}
 use Rattle.gpkt.specs.Laws.{SpellingsSplit}
 use Rattle.gpkt.specs.LineReading.{ReadsLines}
 use Rattle.gpkt.specs.Packets.{Packet, canonical_all}
@@ -41,13 +41,6 @@ HasOneAnswer server packs =
 
 -- ---- ids that are held, and the first that is not
 
-is_none : {X : Type 0} (found : Option X) → found ≡ None → IsSome found → ⊥
-is_none None same some = cc
-is_none (Some x) same some = cc
-
-none_held : {A : Type 0} (g : List (Entry A)) (a : List ℕ) → node_at g a ≡ None → Holds g a → ⊥
-none_held g a absent held = is_none (node_at g a) absent held
-
 heads : (a b : List ℕ) (xs ys : List (List ℕ)) → a ∷ xs ≡ b ∷ ys → a ≡ b
 heads a b xs ys same = cc
 
@@ -59,9 +52,9 @@ one_absent : {A : Type 0} (g : List (Entry A)) (front others : List (List ℕ)) 
     → front ++ a ∷ rest ≡ others ++ b ∷ after → a ≡ b
 one_absent g [] [] a b rest after ours theirs absent missing same = heads a b rest after same
 one_absent g [] (x ∷ others) a b rest after ours theirs absent missing same =
-    absurd (none_held g a absent (subst (Holds g) (sym (heads a x rest (others ++ b ∷ after) same)) (All-head (Holds g) x others theirs)))
+    absurd (none_held (node_at g a) (subst (Holds g) (sym (heads a x rest (others ++ b ∷ after) same)) (All-head (Holds g) x others theirs)) absent)
 one_absent g (x ∷ front) [] a b rest after ours theirs absent missing same =
-    absurd (none_held g b missing (subst (Holds g) (heads x b (front ++ a ∷ rest) after same) (All-head (Holds g) x front ours)))
+    absurd (none_held (node_at g b) (subst (Holds g) (heads x b (front ++ a ∷ rest) after same) (All-head (Holds g) x front ours)) missing)
 one_absent g (x ∷ front) (y ∷ others) a b rest after ours theirs absent missing same =
     one_absent g front others a b rest after (All-tail (Holds g) x front ours) (All-tail (Holds g) y others theirs) absent missing
     (tails x y (front ++ a ∷ rest) (others ++ b ∷ after) same)

@@ -42,9 +42,9 @@
 //! many requests were answered, how it ended, and whether a device has failed is said all the same. Where the sink
 //! fails, a shorter beginning may stand written, and more than the replies that count may have been passed on. It may
 //! report out of memory in the place of the reply to a fetch whose wants are all here, where the packer was not asked;
-//! while it reads a request, at a packet that brings something to keep; and in the place of the advertisement. Before
-//! the first request 64 may stand for 28, and 28 for 64: both say that there is no memory to begin and that nothing was
-//! read. It may take as long as it likes, and flush more often.
+//! while it reads a request, at a packet that brings something to keep; and in the place of the advertisement. Where
+//! there is no memory to begin, faults 64 and 28 may stand for each other: both say that nothing was read. It may take
+//! as long as it likes, and flush more often.
 //!
 //! # Stands on
 //!

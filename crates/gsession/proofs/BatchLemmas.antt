@@ -15,9 +15,7 @@ use Rattle.std.proofs.lemmas.Map.Keys.{IsDistinct-head, IsDistinct-push, IsDisti
 use Rattle.gname.specs.Ids.{IsIdOf}
 use Rattle.gname.specs.Laws.{IdsHaveOneFormat}
 use Rattle.gobject.specs.declared.node.Entry.{Entry}
-use Rattle.gobject.specs.declared.node.Node.{Node}
-use Rattle.gobject.specs.Objects.{entry_of, node_at}
-use Rattle.ghistory.specs.Graphs.{History, HasIdsOf, Holds, IsGraph}
+use Rattle.ghistory.specs.Graphs.{History, IsGraph}
 use Rattle.ghistory.specs.Laws.{DistinctAreOnce, OffersAreExact, PlacesAreNodes}
 use Rattle.ghistory.specs.Levels.{distinct_of}
 use Rattle.ghistory.specs.Offer.{IsOffer}
@@ -32,7 +30,8 @@ use Rattle.gsession.specs.declared.fault.ClientFault.{ClientFault}
 use Rattle.gsession.specs.declared.stage.Stage.{Stage}
 use Rattle.gsession.specs.declared.stage.Stage.TheVariants.{Listing, Fetching, Settling, Over}
 use Rattle.ghistory.proofs.IdLists.{contains_from_any}
-use Rattle.gsession.proofs.CommonLemmas.{all_at, all_distinct, batch_ids}
+use Rattle.ghistory.proofs.Places.{held_id}
+use Rattle.gsession.proofs.CommonLemmas.{all_distinct, batch_ids}
 
 -- ---- lists without repeats
 
@@ -99,20 +98,11 @@ module _ {A : Type 0} where
 
   -- ---- tips
 
-  held_id : PlacesAreNodes A → (g : History A) (a : List ℕ) → IsGraph g → Holds g.entries a → IsIdOf g.format a
-  held_id places g a is held = some_id (node_at g.entries a) held refl
-    where
-      some_id : (found : Option (Node A)) → is_some found ≡ true → node_at g.entries a ≡ found → IsIdOf g.format a
-      some_id None none at = absurd (false≢true none)
-      some_id (Some node) some at =
-          let stands = ((places g.entries is.differ).0 a node).0 at in
-          (all_at (HasIdsOf g.format) g.entries stands.0 (entry_of a node) is.ids stands.1).id
-
   pub tip_ids : DistinctAreOnce → PlacesAreNodes A → (g : History A) (ids : List (List ℕ)) → IsGraph g
       → All (IsFull g.entries) ids → All (IsIdOf g.format) (distinct_of ids)
   tip_ids law places g ids is full =
       all_distinct law (IsIdOf g.format) ids
-      (All-weaker (IsFull g.entries) (IsIdOf g.format) (λ a whole. held_id places g a is (whole a here)) ids full)
+      (All-weaker (IsFull g.entries) (IsIdOf g.format) (λ a whole. held_id places g is a (whole a here)) ids full)
 
   -- ---- which request is due
 

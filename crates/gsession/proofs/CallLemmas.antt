@@ -22,7 +22,8 @@ use Rattle.gsession.specs.Requesting.{Requests, is_due, waiting_for}
 use Rattle.gsession.specs.Sessions.{SessionState, Hears, after_fault, ends_session, over, tells_unborn}
 use Rattle.gsession.specs.SettlingRefs.{SettlesSession}
 use Rattle.gsession.specs.TakingRefs.{TakesLs, with_refs}
-use Rattle.gsession.specs.TakingReplies.{Awaits, HasPack, TakesHead, TakesReply, acknowledged_by, after_acks}
+use Rattle.gsession.specs.TakingReplies.{Awaits, HasPack, TakesHead, TakesReply, after_acks}
+use Rattle.gfetchreply.specs.FetchHeads.{acknowledged_by}
 use Rattle.gsession.specs.TakingReplies.{reading_for}
 use Rattle.gsession.specs.declared.fault.ClientFault.{ClientFault}
 use Rattle.gsession.specs.declared.fault.ClientFault.TheVariants.{NoOpenRequest, Repo}
@@ -54,7 +55,7 @@ direct_pack : (direct : Bool) (pack : List ℕ) (other reply : FetchReply) → d
 direct_pack true pack other reply e is = subst (λ (r : FetchReply). HasPack r) (sym is) tt
 direct_pack false pack other reply e is = absurd (false≢true e)
 
-says_pack : (reading : Reading) (lines : List Packet) (reply : FetchReply) → reading.direct ≡ true
+pub says_pack : (reading : Reading) (lines : List Packet) (reply : FetchReply) → reading.direct ≡ true
     → reply ≡ reply_of reading lines → HasPack reply
 says_pack reading lines reply direct says = direct_pack reading.direct _ _ reply direct says
 

@@ -1,12 +1,12 @@
 -- Ids of a session: what is common stays among what was offered, and what is offered has the session's format.
-use Rattle.std.proofs.Common.{◌≡◌, ◌≢◌, ℕ, ◌<◌, ◌≤◌, None, arith, List, ◌++◌, length, All, Contains, Some}
+use Rattle.std.proofs.Common.{◌≡◌, ◌≢◌, ℕ, ◌<◌, ◌≤◌, None, arith, List, ◌++◌, length, All, Contains}
 use Rattle.std.proofs.Common.{inl, inr, sym, subst, ◌∙◌}
 use Rattle.std.specs.List.{slice_get}
 use Rattle.std.proofs.lemmas.Cmp.{nat_list_eq_equiv}
-use Rattle.std.proofs.lemmas.List.Elements.{All-append, All-contains, All-contains_itself, All-head, All-nil, All-cons}
-use Rattle.std.proofs.lemmas.List.Elements.{All-tail, All-weaker}
+use Rattle.std.proofs.lemmas.List.Elements.{All-append, All-contains, All-contains_itself}
+use Rattle.std.proofs.lemmas.List.Elements.{All-weaker}
 use Rattle.std.proofs.lemmas.Map.Made.{length-le_from_is_member}
-use Rattle.std.proofs.lemmas.Option.{get_or_from_slice_get, none-some, slice_get_cases}
+use Rattle.std.proofs.lemmas.Option.{none-some, slice_get_cases}
 use Rattle.gname.specs.Ids.{IsIdOf}
 use Rattle.gname.specs.Laws.{IdsHaveOneFormat}
 use Rattle.gname.specs.declared.formats.Format.{Format}
@@ -18,7 +18,7 @@ use Rattle.ghistory.specs.Laws.{DistinctAreOnce, OffersAreExact, PlacesAreNodes}
 use Rattle.ghistory.specs.Levels.{distinct_of}
 use Rattle.ghistory.specs.Offer.{IsOffer}
 use Rattle.ghistory.specs.Reach.{Reaches, here, onward}
-use Rattle.ghistory.specs.Selecting.{Selects, none, keep, skip}
+use Rattle.ghistory.proofs.Growing.{all_standing}
 use Rattle.ghistory.proofs.IdLists.{any_from_contains, contains_from_any}
 
 -- ---- lists
@@ -32,20 +32,6 @@ pub all_distinct : DistinctAreOnce → (P : List ℕ → Type 0) (ids : List (Li
 all_distinct law P ids all =
     All-weaker (Contains (distinct_of ids)) P (λ a there. All-contains P ids a all (((law ids).same a).0 there))
     (distinct_of ids) (All-contains_itself (distinct_of ids))
-
-pub all_selected : {X : Type 0} (P Q : X → Type 0) (xs ys : List X) → Selects Q xs ys → All P xs → All P ys
-all_selected P Q xs ys none all = All-nil P
-all_selected P Q xs ys (keep {x = x} {xs = others} {ys = more} q rest) all =
-    All-cons P x more (All-head P x others all) (all_selected P Q others more rest (All-tail P x others all))
-all_selected P Q xs ys (skip {x = x} {xs = others} {ys = more} q rest) all =
-    all_selected P Q others more rest (All-tail P x others all)
-
-pub all_at : {X : Type 0} (P : X → Type 0) (xs : List X) (i : ℕ) (x : X) → All P xs → slice_get xs i ≡ Some x → P x
-all_at P xs i x all at =
-    elim (slice_get_cases xs i).1 [
-      | inl inside ↦ subst P (get_or_from_slice_get xs i x x at) (all i x inside.1)
-      | inr past ↦ absurd (none-some x (sym past.1 ∙ at))
-    ]
 
 -- something stands at each place of a list
 pub none_inside : {X : Type 0} (xs : List X) (i : ℕ) → i < length xs → slice_get xs i ≢ None
@@ -88,7 +74,7 @@ module _ {A : Type 0} where
       → All P g.entries → IsNode g.entries a node → P (entry_of a node)
   node_has places P g a node is all at =
       let stands = ((places g.entries is.differ).0 a node).0 at in
-      all_at P g.entries stands.0 (entry_of a node) all stands.1
+      all_standing P g.entries stands.0 (entry_of a node) stands.1 all
 
   -- a parent of an id of the format is of the format
   parent_id : PlacesAreNodes A → IdsHaveOneFormat → (format : Format) (g : History A) (a b : List ℕ) → IsGraph g

@@ -15,7 +15,7 @@ use Rattle.grepo.proofs.AskLemmas.{differ_push, with_ask_new}
 use Rattle.gsession.specs.Asking.{ask_of, asked_of, asks_by, asks_by_all, with_asks}
 use Rattle.gsession.specs.Laws.{FirstIsAsked, IsFirstFor, LeadsElsewhere}
 use Rattle.gsession.proofs.AskLemmas.{asks_by-append, asks_by_all-append, asks_none, asks_one}
-use Rattle.gsession.proofs.ListLemmas.{at_front}
+use Rattle.ghistory.proofs.Growing.{at_front}
 
 module _ {A : Type 0} where
   -- something is asked of the ref
@@ -199,8 +199,8 @@ module _ {A : Type 0} where
       let rest : List (Ask A) = asks_by spec (drop (j + 1) lines) ++ asks_by_all (drop (i + 1) specs) ls in
       let all : List (Ask A) = asks_by_all specs lines in
       let parts : all ≡ front ++ ask ∷ rest =
-      ap (λ (l : List RefLine). asks_by_all specs l) (at_front lines j line told.1 told.2)
-      ∙ ap (λ (s : List Refspec). asks_by_all s ls) (at_front specs i spec among.1 among.2)
+      ap (λ (l : List RefLine). asks_by_all specs l) (at_front lines j line told.1 (sym told.2))
+      ∙ ap (λ (s : List Refspec). asks_by_all s ls) (at_front specs i spec among.1 (sym among.2))
       ∙ all_parts (take i specs) spec (drop (i + 1) specs) (take j lines) line (drop (j + 1) lines) e in
       All-contains (λ (a : Ask A). HasAsk (asked_of specs lines) a.name) all ask (has_each [] all)
       (subst (λ (l : List (Ask A)). Contains l ask) (sym parts)

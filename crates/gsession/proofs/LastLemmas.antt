@@ -23,6 +23,7 @@ use Rattle.gsession.proofs.BatchLemmas.{joined_once}
 use Rattle.gsession.proofs.BoundLemmas.{in_batch}
 use Rattle.gsession.specs.Calls.{Does, does_nothing, does_end, does_hear, does_ask, does_list, does_take, does_settle}
 use Rattle.gsession.proofs.CallLemmas.{does, due_idle}
+use Rattle.gsession.proofs.SessionLemmas.{over_fetches, settling_fetches}
 
 -- ---- what can't be
 
@@ -35,14 +36,8 @@ same_fetch one other same = cc
 settling_lists : Settling ≡ Listing → ⊥
 settling_lists same = cc
 
-settling_fetches : Settling ≡ Fetching → ⊥
-settling_fetches same = cc
-
-over_lists : Over ≡ Listing → ⊥
+pub over_lists : Over ≡ Listing → ⊥
 over_lists same = cc
-
-over_fetches : Over ≡ Fetching → ⊥
-over_fetches same = cc
 
 -- ---- lists
 

@@ -1,6 +1,6 @@
 -- What is asked for and wanted, haves, what a reply does to a repository, and sessions that are over.
 use Rattle.std.proofs.Common.{◌≡◌, ◌⊎◌, ℕ, true, false, List, [], ◌∷◌, ◌++◌, filter, All, Contains, if◌then◌else◌}
-use Rattle.std.proofs.Common.{Option, Some, None, Ok, Err, inl, inr, refl, sym, ap, subst, ◌∙◌, arith}
+use Rattle.std.proofs.Common.{Option, Some, None, Ok, Err, inl, inr, refl, sym, ap, subst, ◌∙◌}
 use Rattle.std.specs.Prelude.{IsSome}
 use Rattle.std.proofs.lemmas.Bool.{false≢true}
 use Rattle.std.proofs.lemmas.List.Elements.{All-append, All-cons, All-contains, All-contains_itself, All-filter}
@@ -19,7 +19,8 @@ use Rattle.gobject.specs.declared.node.Node.{Node}
 use Rattle.gobject.specs.Objects.{node_at}
 use Rattle.gobject.specs.Packs.{Indexes, IndexFails}
 use Rattle.ghistory.specs.Laws.{DistinctAreOnce, OffersAreExact, ReachingGoesOn}
-use Rattle.ghistory.proofs.Choosing.{one_choice}
+use Rattle.ghistory.proofs.Choosing.{chosen_all, one_choice}
+use Rattle.ghistory.proofs.IdLists.{contains_head}
 use Rattle.ghistory.specs.Levels.{distinct_of}
 use Rattle.ghistory.specs.Reach.{IsFull, SomeReaches}
 use Rattle.ghistory.specs.Selecting.{Selects, none, keep, skip}
@@ -40,20 +41,16 @@ use Rattle.gsession.specs.TakingRefs.{ReadsRefs, TakesLines, with_refs}
 use Rattle.gsession.specs.TakingReplies.{TakesHead}
 use Rattle.gsession.specs.declared.fault.ClientFault.TheVariants.{Index, Message, NoOpenRequest, Repo, StrangeAck}
 use Rattle.gsession.specs.declared.fault.ClientFault.TheVariants.{TooManyWants}
-use Rattle.gsession.specs.declared.stage.Stage.TheVariants.{Listing, Settling, Over}
+use Rattle.gsession.specs.declared.stage.Stage.TheVariants.{Settling, Over}
 use Rattle.gsession.specs.declared.taken.LsTaken.{LsTaken}
 use Rattle.gsession.specs.declared.taken.Taken.{Taken}
 use Rattle.gsession.specs.declared.taken.Taken.TheVariants.{Round, PackTaken}
 use Rattle.gsession.proofs.BoundLemmas.{in_batch}
-use Rattle.gsession.proofs.CommonLemmas.{all_distinct, all_selected}
-use Rattle.gsession.proofs.LastLemmas.{IsUnsent, batch_unsent, none_follows}
-use Rattle.ghistory.proofs.Growing.{inserts_grows}
-use Rattle.gsession.proofs.ReplyLemmas.{grows_to}
+use Rattle.gsession.proofs.CommonLemmas.{all_distinct}
+use Rattle.gsession.proofs.LastLemmas.{IsUnsent, batch_unsent, none_follows, over_lists}
+use Rattle.ghistory.proofs.Growing.{grows_none, inserts_grows}
 
 -- ---- choosing
-
-head_of_list : {X : Type 0} (x : X) (xs : List X) → Contains (x ∷ xs) x
-head_of_list x xs = (0, omega arith, refl)
 
 selected_are : {X : Type 0} (P : X → Type 0) (xs ys : List X) → Selects P xs ys → All P ys
 selected_are P xs ys none = All-nil P
@@ -70,16 +67,13 @@ selected_or_not : {X : Type 0} (P : X → Type 0) (xs ys : List X) → Selects P
     → All (λ a. Contains ys a ⊎ ¬ (P a)) xs
 selected_or_not P xs ys none = All-nil (λ a. Contains [] a ⊎ ¬ (P a))
 selected_or_not P xs ys (keep {x = x} {xs = others} {ys = more} p rest) =
-    All-cons (λ a. Contains (x ∷ more) a ⊎ ¬ (P a)) x others (inl (head_of_list x more))
+    All-cons (λ a. Contains (x ∷ more) a ⊎ ¬ (P a)) x others (inl (contains_head x more))
     (All-weaker (λ a. Contains more a ⊎ ¬ (P a)) (λ a. Contains (x ∷ more) a ⊎ ¬ (P a)) (one_more P x more) others
     (selected_or_not P others more rest))
 selected_or_not P xs ys (skip {x = x} {xs = others} left_out rest) =
     All-cons (λ a. Contains ys a ⊎ ¬ (P a)) x others (inr left_out) (selected_or_not P others ys rest)
 
 -- ---- stages
-
-over_begun : Over ≡ Listing → ⊥
-over_begun same = cc
 
 over_settles : Over ≡ Settling → ⊥
 over_settles same = cc
@@ -98,7 +92,7 @@ module _ {A : Type 0} where
   asks_more P old [] all new = all
   asks_more P old (ask ∷ more) all new =
       asks_more P (with_ask old ask) more
-      (ask_more P old ask all (All-contains P (ask ∷ more) ask new (head_of_list ask more)))
+      (ask_more P old ask all (All-contains P (ask ∷ more) ask new (contains_head ask more)))
       (All-weaker (Contains more) P
       (λ a there. All-contains P (ask ∷ more) a new (Contains-append_right (ask ∷ []) more a there)) more
       (All-contains_itself more))
@@ -126,7 +120,7 @@ module _ {A : Type 0} where
   asks_of_specs specs lines [] all = All-nil (IsAskOf {A = A} specs lines)
   asks_of_specs specs lines (spec ∷ some) all =
       All-append (IsAskOf {A = A} specs lines) (asks_by spec lines) (asks_by_all some lines)
-      (asks_of_spec specs lines spec (All-contains (Contains specs) (spec ∷ some) spec all (head_of_list spec some)))
+      (asks_of_spec specs lines spec (All-contains (Contains specs) (spec ∷ some) spec all (contains_head spec some)))
       (asks_of_specs specs lines some
       (All-weaker (Contains some) (Contains specs)
       (λ a there. All-contains (Contains specs) (spec ∷ some) a all (Contains-append_right (spec ∷ []) some a there))
@@ -165,7 +159,7 @@ module _ {A : Type 0} where
       All-weaker (λ a. Contains wants a ⊎ ¬ (IsLacking g a)) (IsMet g wants) (wanted_or_full g wants) (distinct_of ids)
       (selected_or_not (IsLacking g) (distinct_of ids) wants are) in
       record {
-        asked = all_selected (Contains ids) (IsLacking g) (distinct_of ids) wants are
+        asked = chosen_all (IsLacking g) (Contains ids) (distinct_of ids) wants are
             (all_distinct law (Contains ids) ids (All-contains_itself ids));
         missing = selected_are (IsLacking g) (distinct_of ids) wants are;
         others = All-weaker (Contains ids) (IsMet g wants)
@@ -236,7 +230,7 @@ module _ {A : Type 0} where
   still_grows : (r after : RepoState A) → after ≡ r → OnlyGrows r after
   still_grows r after same =
       subst (λ (x : RepoState A). OnlyGrows r x) (sym same)
-      (record { grows = grows_to r.graph.entries r.graph.entries refl; format = refl; refs = refl; marks = refl })
+      (record { grows = grows_none r.graph.entries r.graph.entries refl; format = refl; refs = refl; marks = refl })
 
   head_grows : (indexes : Indexes A) (index_fails : IndexFails)
       → (old new : SessionState A) (r after : RepoState A) (reply : FetchReply) (taken : Taken)
@@ -261,7 +255,7 @@ module _ {A : Type 0} where
   over_waits s asked is waits = none-some asked (sym is.pending ∙ waits)
 
   pub over_hears_none : OverHearsNone A
-  over_hears_none old new capabilities (Ok done) is hears = absurd (over_begun (sym is.stage ∙ hears.0.0))
+  over_hears_none old new capabilities (Ok done) is hears = absurd (over_lists (sym is.stage ∙ hears.0.0))
   over_hears_none old new capabilities (Err NoOpenRequest) is hears = record { refused = refl; same = hears.1 }
   over_hears_none old new capabilities (Err _) is hears = absurd hears
 

@@ -6,7 +6,6 @@ use Rattle.std.proofs.lemmas.List.{append-nil, map-append, take-append-drop, tak
 use Rattle.std.proofs.lemmas.List.Elements.{All-contains, All-contains_itself, All-weaker, Contains-append_left}
 use Rattle.std.proofs.lemmas.List.Elements.{Contains-append_right}
 use Rattle.ghistory.specs.Levels.{distinct_of, is_in, new_ids}
-use Rattle.ghistory.specs.Selecting.{Selects, none, keep, skip}
 use Rattle.gspec.specs.Refspecs.{Refspec}
 use Rattle.grepo.specs.declared.ask.Ask.{Ask}
 use Rattle.grepo.specs.Asks.{with_ask}
@@ -31,14 +30,6 @@ pub split_at : {X : Type 0} (xs : List X) (i : ℕ) (x : X) → i < length xs �
 split_at {X} xs i x low at =
     sym (take-append-drop (i + 1) xs)
     ∙ ap (λ (l : List X). l ++ drop (i + 1) xs) (take_more xs i x low ∙ ap (λ (y : X). take i xs ++ y ∷ []) at)
-
-pub at_front : {X : Type 0} (xs : List X) (i : ℕ) (x : X) → i < length xs → get_or xs i x ≡ x
-    → xs ≡ take i xs ++ x ∷ drop (i + 1) xs
-at_front xs i x low at = split_at xs i x low at ∙ append_assoc (take i xs) (x ∷ []) (drop (i + 1) xs)
-
-pub take_one : {X : Type 0} (xs : List X) (i : ℕ) (x : X) → i < length xs → x ≡ get_or xs i x
-    → take (i + 1) xs ≡ take i xs ++ x ∷ []
-take_one {X} xs i x low at = take_more xs i x low ∙ ap (λ (y : X). take i xs ++ y ∷ []) (sym at)
 
 -- ---- distinct ids
 
@@ -92,17 +83,3 @@ pub with_asks-append : {A : Type 0} (asks xs ys : List (Ask A))
     → with_asks asks (xs ++ ys) ≡ with_asks (with_asks asks xs) ys
 with_asks-append asks [] ys = refl
 with_asks-append asks (x ∷ xs) ys = with_asks-append (with_ask asks x) xs ys
-
--- choosing from a list with one more
-pub selects_keep : {X : Type 0} (P : X → Type 0) (xs ys : List X) (x : X) → Selects P xs ys → P x
-    → Selects P (xs ++ x ∷ []) (ys ++ x ∷ [])
-selects_keep P xs ys x none here = keep here none
-selects_keep P xs ys x (keep {xs = others} {ys = more} p rest) here = keep p (selects_keep P others more x rest here)
-selects_keep P xs ys x (skip {xs = others} {ys = more} out rest) here =
-    skip out (selects_keep P others more x rest here)
-
-pub selects_skip : {X : Type 0} (P : X → Type 0) (xs ys : List X) (x : X) → Selects P xs ys → ¬ (P x)
-    → Selects P (xs ++ x ∷ []) ys
-selects_skip P xs ys x none out = skip out none
-selects_skip P xs ys x (keep {xs = others} {ys = more} p rest) out = keep p (selects_skip P others more x rest out)
-selects_skip P xs ys x (skip {xs = others} {ys = more} not rest) out = skip not (selects_skip P others more x rest out)

@@ -18,7 +18,8 @@ use Rattle.gsession.specs.Laws.{AreCommonsAfter, CommonsAreHaves, RepliesAddComm
 use Rattle.gsession.specs.Requesting.{IsNext, waiting_for}
 use Rattle.gsession.specs.Sessions.{SessionState, over}
 use Rattle.gsession.specs.TakingRefs.{with_refs}
-use Rattle.gsession.specs.TakingReplies.{Awaits, TakesHead, acknowledged_by, after_acks}
+use Rattle.gsession.specs.TakingReplies.{Awaits, TakesHead, after_acks}
+use Rattle.gfetchreply.specs.FetchHeads.{acknowledged_by}
 use Rattle.gsession.specs.declared.taken.Taken.{Taken}
 use Rattle.gsession.specs.declared.taken.Taken.TheVariants.{Round, PackTaken}
 use Rattle.gsession.specs.Calls.{Does, does_nothing, does_end, does_hear, does_ask, does_list, does_take, does_settle}

@@ -3,11 +3,9 @@ use Rattle.std.proofs.Common.{◌≡◌, ◌∙◌, ℕ, true, false, List, [], 
 use Rattle.std.proofs.Common.{sym, ap, subst}
 use Rattle.std.specs.Map.{values_of}
 use Rattle.std.proofs.lemmas.Bool.{false≢true}
-use Rattle.std.proofs.lemmas.List.Elements.{All-contains, All-contains_itself, All-head, All-nil, All-weaker}
+use Rattle.std.proofs.lemmas.List.Elements.{All-contains_itself, All-head, All-nil, All-weaker}
 use Rattle.std.proofs.lemmas.List.Elements.{Contains-append_left, Contains-append_right, Contains-push}
-use Rattle.gpkt.specs.Packets.{Packet}
-use Rattle.gfetchreply.specs.FetchReplies.{Reading, FetchReply, Acks, Ready, Pack, reply_of}
-use Rattle.gfetchreply.specs.FetchHeads.{head_of}
+use Rattle.gfetchreply.specs.FetchReplies.{FetchReply}
 use Rattle.gobject.specs.declared.node.Entry.{Entry}
 use Rattle.gobject.specs.Packs.{Indexes, IndexFails}
 use Rattle.ghistory.specs.Graphs.{Holds}
@@ -21,24 +19,14 @@ use Rattle.gsession.specs.Laws.{OneNext}
 use Rattle.gsession.specs.Requesting.{IsBatch, IsNext, batch_of, batch_size, fetch_request, waiting_for}
 use Rattle.gsession.specs.Sessions.{SessionState}
 use Rattle.gsession.specs.TakingReplies.{DoneIsLast, HasPack, TakesHead, reading_for}
-use Rattle.gsession.specs.declared.stage.Stage.TheVariants.{Listing, Fetching, Settling}
+use Rattle.gsession.specs.declared.stage.Stage.TheVariants.{Settling}
 use Rattle.gsession.specs.declared.taken.Taken.{Taken}
 use Rattle.gsession.specs.declared.taken.Taken.TheVariants.{Round, PackTaken}
 use Rattle.gsession.proofs.BoundLemmas.{in_batch}
-use Rattle.gsession.proofs.CallLemmas.{done_direct}
-use Rattle.gsession.proofs.ReplyLemmas.{no_acks}
+use Rattle.gsession.proofs.CallLemmas.{done_direct, says_pack}
+use Rattle.gsession.proofs.CommonLemmas.{all_distinct}
+use Rattle.gsession.proofs.SessionLemmas.{listing_fetches}
 use Rattle.gsession.proofs.TakingLaws.{one_asked}
-
--- a direct reply has a pack
-direct_pack : (reading : Reading) (reply : FetchReply) (lines : List Packet) → reading.direct ≡ true
-    → reply ≡ reply_of reading lines → HasPack reply
-direct_pack reading (Acks ids) lines direct says =
-    absurd (false≢true (sym (no_acks reading.direct _ _ ids (ap head_of says)) ∙ direct))
-direct_pack reading (Ready ids pack) lines direct says = tt
-direct_pack reading (Pack pack) lines direct says = tt
-
-stages_differ : Listing ≡ Fetching → ⊥
-stages_differ same = cc
 
 module _ {A : Type 0} where
   -- no id of a batch was offered before
@@ -83,9 +71,9 @@ module _ {A : Type 0} where
   one_request exact s g (Ls asked) Empty batch other is too = absurd too
   one_request exact s g (Ls asked) (Ls also) batch other is too =
       (ap Ls (is.1 ∙ sym too.1), is.2 ∙ sym too.2)
-  one_request exact s g (Ls asked) (Fetches also) batch other is too = absurd (stages_differ (sym is.0 ∙ too.0))
+  one_request exact s g (Ls asked) (Fetches also) batch other is too = absurd (listing_fetches (sym is.0 ∙ too.0))
   one_request exact s g (Fetches asked) Empty batch other is too = absurd too
-  one_request exact s g (Fetches asked) (Ls also) batch other is too = absurd (stages_differ (sym too.0 ∙ is.0))
+  one_request exact s g (Fetches asked) (Ls also) batch other is too = absurd (listing_fetches (sym too.0 ∙ is.0))
   one_request exact s g (Fetches asked) (Fetches also) batch other is too =
       let same : batch ≡ other = one_batch exact s g batch other is.2 too.2 in
       (ap Fetches (is.1 ∙ ap (fetch_request s.wants s.commons) same ∙ sym too.1), same)
@@ -97,13 +85,10 @@ module _ {A : Type 0} where
         made.2 ∙ ap (λ (r : Asked). waiting_for old r made.0) same.0 ∙ ap (waiting_for old also) same.1 ∙ sym too.2,
       )
 
-  tips_are_full : DistinctAreOnce → (r : RepoState A) → IsWhole r
+  -- the whole ancestry of each tip is held
+  pub tips_are_full : DistinctAreOnce → (r : RepoState A) → IsWhole r
       → All (IsFull r.graph.entries) (distinct_of (values_of r.refs))
-  tips_are_full once r whole =
-      let ids : List (List ℕ) = values_of r.refs in
-      All-weaker (Contains (distinct_of ids)) (IsFull r.graph.entries)
-      (λ a there. All-contains (IsFull r.graph.entries) ids a whole.safe (((once ids).same a).0 there))
-      (distinct_of ids) (All-contains_itself (distinct_of ids))
+  tips_are_full once r whole = all_distinct once (IsFull r.graph.entries) (values_of r.refs) whole.safe
 
   pub began_begins : DistinctAreOnce → BeganBegins A
   began_begins once r refspecs limit ends session whole begins =
@@ -126,5 +111,5 @@ module _ {A : Type 0} (indexes : Indexes A) (index_fails : IndexFails) where
       let direct : is_direct takes.0 ≡ true =
       subst (λ (r : FetchAsked). is_direct r ≡ true) (sym same) (done_direct asked done) in
       let reads = takes.2.1 in
-      let has = direct_pack (reading_for old takes.0) takes.2.0 reads.lines direct reads.says.says in
+      let has = says_pack (reading_for old takes.0) reads.lines takes.2.0 direct reads.says.says in
       settles_next old new s repo_new takes.2.0 taken has takes.2.2.1

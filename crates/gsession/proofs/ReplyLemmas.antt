@@ -2,21 +2,19 @@
 use Rattle.std.proofs.Common.{◌≡◌, ℕ, Bool, true, false, List, [], ◌++◌, length, All, Contains, None}
 use Rattle.std.proofs.Common.{Result, Ok, Err, MatchResult, if◌then◌else◌, refl, sym, ap, subst}
 use Rattle.std.proofs.Common.{arith, ◌∙◌}
-use Rattle.std.proofs.lemmas.List.{append-nil}
 use Rattle.gpkt.specs.Change.{Change}
 use Rattle.gpkt.specs.LineReading.{Reader}
 use Rattle.gpkt.specs.Packets.{Packet}
 use Rattle.ggrammar.specs.MessageReading.{LeavesReader}
 use Rattle.gfetchreply.specs.FetchReplies.{Reading, FetchReply, Acks, Ready, Pack, reply_of}
-use Rattle.gfetchreply.specs.FetchHeads.{FetchHead, head_of, pack_of}
+use Rattle.gfetchreply.specs.FetchHeads.{FetchHead, acknowledged_by, head_of, pack_of}
 use Rattle.gfetchreply.specs.FetchHeads as head
-use Rattle.gobject.specs.declared.node.Entry.{Entry}
 use Rattle.gobject.specs.Packs.{Indexes, IndexFails}
 use Rattle.ghistory.specs.Graphs.{History}
 use Rattle.ghistory.specs.Laws.{DistinctAreOnce}
 use Rattle.ghistory.specs.Levels.{distinct_of}
 use Rattle.ghistory.specs.Reach.{Grows}
-use Rattle.ghistory.proofs.Growing.{inserts_grows}
+use Rattle.ghistory.proofs.Growing.{grows_none, inserts_grows}
 use Rattle.ghistory.specs.declared.fault.GraphFault.{GraphFault}
 use Rattle.ghistory.specs.declared.fault.GraphFault.TheVariants as graph
 use Rattle.grefs.specs.RefLists.{RefList}
@@ -27,7 +25,7 @@ use Rattle.gsession.specs.Sessions.{SessionState, AreCommons, IsOpenFetch, Leave
 use Rattle.gsession.specs.Steps.{AnswersRead, AnswersReply, FitsHead, IsAcksFault}
 use Rattle.gsession.specs.TakingReplies.{Awaits, HasPack, IsFirstStrange, IsReplyFault, IsTakeFault, ReadsFetch}
 use Rattle.gsession.specs.TakingReplies.{RefusesPack, TakesHead, TakesReply}
-use Rattle.gsession.specs.TakingReplies.{acknowledged_by, after_acks, reading_for}
+use Rattle.gsession.specs.TakingReplies.{after_acks, reading_for}
 use Rattle.gsession.specs.declared.fault.ClientFault.{ClientFault}
 use Rattle.gsession.specs.declared.fault.ClientFault.TheVariants.{Index, Message, NoOpenRequest, Repo, StrangeAck}
 use Rattle.gsession.specs.declared.fault.ClientFault.TheVariants.{TooManySpecs, TooManyWants}
@@ -66,7 +64,7 @@ pack_pack (Ready also pack) same = tt
 pack_pack (Pack pack) same = tt
 
 -- a direct reply has no acknowledgments alone
-pub no_acks : (direct : Bool) (pack : List ℕ) (other : FetchReply) (ids : List (List ℕ))
+no_acks : (direct : Bool) (pack : List ℕ) (other : FetchReply) (ids : List (List ℕ))
     → head.Acks ids ≡ head_of (if direct then Pack pack else other) → direct ≡ false
 no_acks true pack other ids same = cc
 no_acks false pack other ids same = refl
@@ -108,16 +106,13 @@ module _ {A : Type 0} where
       ∙ ap (λ (r : RefList). record old { refs = r; known = new.known }) refs
       ∙ ap (λ (k : List Bool). record old { known = k }) known
 
-  pub grows_to : (g h : List (Entry A)) → h ≡ g → Grows g h
-  grows_to g h same = ([], same ∙ sym (append-nil g))
-
   module _ (indexes : Indexes A) (index_fails : IndexFails) where
     takes_grow : (old : SessionState A) (repo_old : RepoState A) (reply : FetchReply) (new : SessionState A)
         (repo_new : RepoState A) (taken : Taken)
         → TakesHead indexes index_fails old repo_old reply new repo_new taken
         → Grows repo_old.graph.entries repo_new.graph.entries
     takes_grow old repo_old reply new repo_new (Round common) takes =
-        grows_to repo_old.graph.entries repo_new.graph.entries (ap (λ (r : RepoState A). r.graph.entries) takes.3)
+        grows_none repo_old.graph.entries repo_new.graph.entries (ap (λ (r : RepoState A). r.graph.entries) takes.3)
     takes_grow old repo_old reply new repo_new (PackTaken added) takes =
         inserts_grows repo_old.graph.format repo_old.graph.entries takes.2.0 repo_new.graph.entries takes.2.2.adds.1
 
@@ -129,7 +124,7 @@ module _ {A : Type 0} where
     reply_grows old repo_old change new repo_new (Ok taken) answers =
         takes_grow old repo_old answers.2.0 new repo_new taken answers.2.2.1
     reply_grows old repo_old change new repo_new (Err fault) answers =
-        grows_to repo_old.graph.entries repo_new.graph.entries (ap (λ (r : RepoState A). r.graph.entries) answers.2)
+        grows_none repo_old.graph.entries repo_new.graph.entries (ap (λ (r : RepoState A). r.graph.entries) answers.2)
 
     -- ---- faults
 

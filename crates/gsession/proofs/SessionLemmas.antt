@@ -21,13 +21,13 @@ fits_as : {A : Type 0} (s : SessionState A) (st other : Stage) (p also : Option 
     → FitsStage s st p → FitsStage s other also
 fits_as s st other p also same same_p fits = subst (λ x. FitsStage s x also) same (subst (FitsStage s st) same_p fits)
 
-listing_fetches : Listing ≡ Fetching → ⊥
+pub listing_fetches : Listing ≡ Fetching → ⊥
 listing_fetches same = cc
 
-settling_fetches : Settling ≡ Fetching → ⊥
+pub settling_fetches : Settling ≡ Fetching → ⊥
 settling_fetches same = cc
 
-over_fetches : Over ≡ Fetching → ⊥
+pub over_fetches : Over ≡ Fetching → ⊥
 over_fetches same = cc
 
 -- a request for refs waits before any for objects was made

@@ -1,11 +1,11 @@
 -- Which ids have their whole ancestry held.
-use Rattle.std.proofs.Common.{◌≡◌, ◌↔◌, ℕ, Bool, true, false, List, [], ◌∷◌, All, Contains, Option, Some, None}
+use Rattle.std.proofs.Common.{◌≡◌, ◌↔◌, ℕ, Bool, true, false, List, [], ◌∷◌, All, Option, Some, None}
 use Rattle.std.proofs.Common.{true≢false, not, refl, sym, ap, subst, ◌∙◌}
 use Rattle.std.specs.Bool.{IsTrue}
 use Rattle.std.specs.Prelude.{slice_index_or}
 use Rattle.std.specs.Option.{is_none, is_some}
 use Rattle.std.proofs.lemmas.Option.{same_Some}
-use Rattle.std.proofs.lemmas.List.Elements.{All-contains, All-cons, All-head, All-map, All-nil}
+use Rattle.std.proofs.lemmas.List.Elements.{All-head, All-map}
 use Rattle.gname.specs.Ids.{IsIdOf}
 use Rattle.gname.specs.declared.formats.Format.{Format}
 use Rattle.gobject.specs.declared.node.Entry.{Entry}
@@ -18,12 +18,10 @@ use Rattle.gwalk.specs.Marks.{AreFull}
 use Rattle.grepo.specs.declared.ask.Ask.{Ask}
 use Rattle.grepo.specs.Asks.{asked_ids}
 use Rattle.gsession.specs.Asking.{AreWants}
-use Rattle.gsession.proofs.CommonLemmas.{all_distinct, all_selected}
+use Rattle.ghistory.proofs.Choosing.{chosen_all}
+use Rattle.ghistory.proofs.IdLists.{only_one}
+use Rattle.gsession.proofs.CommonLemmas.{all_distinct}
 use Rattle.ghistory.specs.Levels.{distinct_of}
-
--- only an id itself is in a list of it
-only_one : (a b : List ℕ) → Contains (a ∷ []) b → a ≡ b
-only_one a b there = All-contains (λ c. a ≡ c) (a ∷ []) b (All-cons (λ c. a ≡ c) a [] refl (All-nil (λ c. a ≡ c))) there
 
 -- what `is_none` answers
 pub none_by : {X : Type 0} (found : Option X) (answer : Bool) → is_some found ≡ not answer → is_none found ≡ answer
@@ -49,7 +47,7 @@ module _ {A : Type 0} where
   full_unless_missing g a None full = (λ _. All-head (IsFull g) a [] full, λ _. refl)
   full_unless_missing g a (Some b) lost =
       let from = lost.0 in
-      let path : Reaches g a b = subst (λ c. Reaches g c b) (sym (only_one a from.0 from.1)) from.2 in
+      let path : Reaches g a b = subst (λ c. Reaches g c b) (only_one a from.0 from.1) from.2 in
       (λ none. absurd (true≢false (sym none)), λ full. absurd (true≢false (sym (full b path) ∙ ap is_some lost.1)))
 
   -- an id that is not held
@@ -63,5 +61,5 @@ module _ {A : Type 0} where
       → AreWants g asks wants
       → (format : Format) → All (λ (ask : Ask A). IsIdOf format ask.id) asks → All (IsIdOf format) wants
   want_ids law g asks wants are format ids =
-      all_selected (IsIdOf format) (λ a. ¬ (IsFull g a)) (distinct_of (asked_ids asks)) wants are
+      chosen_all (λ a. ¬ (IsFull g a)) (IsIdOf format) (distinct_of (asked_ids asks)) wants are
       (all_distinct law (IsIdOf format) (asked_ids asks) (All-map (IsIdOf format) (λ (ask : Ask A). ask.id) asks ids))

@@ -1,9 +1,9 @@
--- The table of faults: the number and the name of each.
-use Rattle.std.specs.Prelude.{codes}
+-- The table of faults: the number, the name and the text of each.
+use Rattle.std.specs.Prelude.{ℕ, List, codes}
 use Rattle.gname.specs.Faults.{FaultRow}
-use Rattle.ggrammar.specs.Faults.{why_row}
-use Rattle.gobject.specs.Faults.{index_fault_row}
-use Rattle.grepo.specs.Faults.{repo_fault_row}
+use Rattle.ggrammar.specs.Faults.{message_fault_text, why_row}
+use Rattle.gobject.specs.Faults.{index_fault_row, index_fault_text}
+use Rattle.grepo.specs.Faults.{repo_fault_row, repo_fault_text}
 use Rattle.gsession.specs.declared.fault.ClientFault.{ClientFault}
 use Rattle.gsession.specs.declared.fault.ClientFault.TheVariants.{Index, Message, NoOpenRequest, Repo, StrangeAck}
 use Rattle.gsession.specs.declared.fault.ClientFault.TheVariants.{TooManySpecs, TooManyWants}
@@ -17,3 +17,13 @@ client_fault_row NoOpenRequest = (83, codes "NoOpenRequest")
 client_fault_row (StrangeAck id) = (84, codes "StrangeAck")
 client_fault_row TooManyWants = (86, codes "TooManyWants")
 client_fault_row (Repo fault) = repo_fault_row fault
+
+-- ---- their texts
+abbrev pub client_fault_text : {A : Type 0} → ClientFault A → List ℕ
+client_fault_text (Message fault) = message_fault_text fault
+client_fault_text (Index fault) = index_fault_text fault
+client_fault_text TooManySpecs = codes "too many refspecs"
+client_fault_text NoOpenRequest = codes "no such request is open"
+client_fault_text (StrangeAck id) = codes "an id was acknowledged that was not offered"
+client_fault_text TooManyWants = codes "too many wants"
+client_fault_text (Repo fault) = repo_fault_text fault

@@ -20,7 +20,8 @@ use Rattle.gsession.specs.Requesting.{MakesNext, Requests}
 use Rattle.gsession.specs.Sessions.{SessionState, Hears, IsOpenFetch, IsSession}
 use Rattle.gsession.specs.SettlingRefs.{SettlesSession}
 use Rattle.gsession.specs.TakingRefs.{TakesLs}
-use Rattle.gsession.specs.TakingReplies.{Awaits, TakesRead, TakesReply, acknowledged_by}
+use Rattle.gsession.specs.TakingReplies.{Awaits, TakesRead, TakesReply}
+use Rattle.gfetchreply.specs.FetchHeads.{acknowledged_by}
 use Rattle.gsession.specs.declared.fault.ClientFault.{ClientFault}
 use Rattle.gsession.specs.declared.taken.LsTaken.{LsTaken}
 use Rattle.gsession.specs.declared.taken.Taken.{Taken}
@@ -61,8 +62,8 @@ AsksAreOfLines A =
 abbrev pub LeadsElsewhere : List ℕ → Refspec → RefLine → Type 0
 LeadsElsewhere name spec line = matches spec line.name ≡ true → destination_of spec line.name ≢ name
 
--- the refspec takes the line to a ref, and is the first to do so: no refspec before it takes any line there, nor does it
--- take one before this line
+-- the refspec takes the line to a ref, and is the first to do so: no refspec before it takes any line there, nor does
+-- it take one before this line
 pub record IsFirstFor (specs : List Refspec) (lines : List RefLine) (spec : Refspec) (line : RefLine) : Type 0 where
   pub before : List Refspec
   pub after : List Refspec

@@ -1,14 +1,14 @@
 -- Taking the reply to fetch (gitprotocol-v2(5), "fetch"). A pack is indexed as it comes, and its objects come to the
 -- graph once the reply was read to its end; that is our own rule, and so is which of several faults is reported.
-use Rattle.std.specs.Prelude.{◌≡◌, true, ℕ, List, [], ◌∷◌, ◌++◌, length, All, Contains, Some, None, Result, Ok, Err}
+use Rattle.std.specs.Prelude.{◌≡◌, true, false, ℕ, List, [], ◌∷◌, ◌++◌, length, All, Contains, Some, None, Result, Ok, Err}
 use Rattle.gpkt.specs.Change.{Change}
 use Rattle.gpkt.specs.Packets.{Packet}
 use Rattle.ggrammar.specs.Kinds.{ReadsMessage}
 use Rattle.ggrammar.specs.MessageBytes.{known}
 use Rattle.ggrammar.specs.MessageReading.{ReadsRefused}
 use Rattle.ggrammar.specs.declared.fault.MessageFault.{MessageFault}
-use Rattle.gfetchreply.specs.FetchReplies.{Reading, FetchReply, Acks, Ready, Pack, Says, brings, judge}
-use Rattle.gfetchreply.specs.FetchHeads.{pack_of}
+use Rattle.gfetchreply.specs.FetchReplies.{Reading, FetchReply, Acks, Ready, Pack, Says, brings_into, judge}
+use Rattle.gfetchreply.specs.FetchHeads.{acknowledged_by, pack_of}
 use Rattle.gobject.specs.declared.node.Entry.{Entry}
 use Rattle.gobject.specs.Packs.{Indexes, IndexFails}
 use Rattle.ghistory.specs.Levels.{distinct_of}
@@ -25,12 +25,6 @@ use Rattle.gsession.specs.declared.fault.ClientFault.{ClientFault}
 use Rattle.gsession.specs.declared.fault.ClientFault.TheVariants.{NoOpenRequest, Message, StrangeAck, Index, Repo}
 use Rattle.gsession.specs.declared.taken.Taken.{Taken}
 use Rattle.gsession.specs.declared.taken.Taken.TheVariants.{Round, PackTaken}
-
--- the ids that a reply acknowledges
-abbrev pub acknowledged_by : FetchReply → List (List ℕ)
-acknowledged_by (Acks ids) = ids
-acknowledged_by (Ready ids pack) = ids
-acknowledged_by (Pack pack) = []
 
 -- it has a pack
 abbrev pub HasPack : FetchReply → Type 0
@@ -105,10 +99,11 @@ reading_for s asked = record { format = s.format; direct = is_direct asked; limi
 abbrev pub ReadsFetch : Reading → Change → FetchReply → Type 0
 ReadsFetch reading change reply = ReadsMessage (judge reading) (Says reading) change reply
 
--- the reply is refused before its end
+-- The reply is refused before its end. The pack's way to the indexer refuses no piece (`false`), so out of memory comes
+-- only at an acknowledged id.
 abbrev pub RefusesFetch : Reading → Change → MessageFault → Type 0
 RefusesFetch reading change fault =
-    (front : List Packet) × ReadsRefused (judge reading) (brings reading) front change fault
+    (front : List Packet) × ReadsRefused (judge reading) (brings_into false reading) front change fault
 
 -- this request for objects waits for its reply
 abbrev pub Awaits : {A : Type 0} → SessionState A → FetchAsked → Type 0

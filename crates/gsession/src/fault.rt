@@ -1,10 +1,10 @@
 // What a call of a session refuses.
 #![tactic(auto)]
 
-ghost use Rattle.std.specs.Prelude.{◌≡◌};
+ghost use Rattle.std.specs.Prelude.{◌≡◌, Some};
 ghost use Rattle.ghistory.specs.declared.fault.GraphFault.TheVariants.{Memory};
 ghost use Rattle.grepo.specs.declared.fault.RepoFault.TheVariants.{Graph};
-ghost use Rattle.gsession.specs.Faults.{client_fault_row};
+ghost use Rattle.gsession.specs.Faults.{client_fault_row, client_fault_text};
 ghost use Rattle.gsession.specs.Sessions.{ends_session};
 ghost use Rattle.gsession.specs.declared.fault.ClientFault.TheVariants as client;
 
@@ -13,31 +13,25 @@ use ggraph::{GraphFault, IndexFault};
 use gname::Oid;
 use grepo::RepoFault;
 use std::alloc::{AllocError, AllocFailed, Allocator, Global};
-use thiserror::Error;
+use std::error::Error;
+use std::fmt;
 
 /// Why a call of a session was refused. Its number tells it apart.
-#[derive(Debug, Drop, Error)]
+#[derive(Debug, Drop)]
 pub enum ClientFault<A: Allocator + Copy = Global> {
     /// 20 to 25, 29, 30 and 41 to 54: the reply was refused, at one of its packets.
-    #[error("{0}")]
     Message(MessageFault),
     /// 66: the indexer refused the pack.
-    #[error("{0}")]
     Index(IndexFault),
     /// 82: there are more refspecs than a session takes.
-    #[error("too many refspecs")]
     TooManySpecs,
     /// 83: the call does not fit what the session waits for. Nothing changes.
-    #[error("no such request is open")]
     NoOpenRequest,
     /// 84: the server acknowledged this id, which the request did not name.
-    #[error("an id was acknowledged that was not offered")]
     StrangeAck { id: Oid },
     /// 86: more objects are wanted than a request takes.
-    #[error("too many wants")]
     TooManyWants,
     /// 60 to 64, 69, 75 and 85: the repository refused it, or there is no memory (64).
-    #[error("{0}")]
     Repo(RepoFault<A>),
 }
 
@@ -86,6 +80,26 @@ impl<A: Allocator + Copy> ClientFault<A> {
         }
     }
 }
+
+impl<A: Allocator + Copy> fmt::Display for ClientFault<A> {
+    ghost output = { λ fault. Some (client_fault_text fault) };
+
+    fn fmt<W: fmt::Write>(&self, f: &mut fmt::Formatter<W>) -> fmt::Result {
+        match self {
+            ClientFault::Message(fault) => fmt::Display::fmt(fault, f),
+            ClientFault::Index(fault) => fmt::Display::fmt(fault, f),
+            ClientFault::TooManySpecs => f.write_str("too many refspecs"),
+            ClientFault::NoOpenRequest => f.write_str("no such request is open"),
+            ClientFault::StrangeAck { .. } => f.write_str(
+                "an id was acknowledged that was not offered",
+            ),
+            ClientFault::TooManyWants => f.write_str("too many wants"),
+            ClientFault::Repo(fault) => fmt::Display::fmt(fault, f),
+        }
+    }
+}
+
+impl<A: Allocator + Copy + fmt::Debug> Error for ClientFault<A> {}
 
 impl<A: Allocator + Copy> From<MessageFault> for ClientFault<A> {
     ghost from_gives = { λ cause fault. fault ≡ client.Message cause };

@@ -1,7 +1,7 @@
 // The pack of a reply on its way to the indexer.
 #![tactic(auto)]
 
-ghost use Rattle.std.specs.Prelude.{◌≡◌, ◌++◌, [], List, ℕ, true, MatchResult};
+ghost use Rattle.std.specs.Prelude.{◌≡◌, ◌++◌, [], List, ℕ, false, MatchResult};
 ghost use Rattle.gfetchreply.specs.PackSinks.{TakesPiece};
 ghost use Rattle.gsession.specs.Steps.{MayHaveFed};
 
@@ -80,12 +80,13 @@ impl<K: Indexer<A>, A: Allocator + Copy> PackSink for PackFeed<'_, K, A> {
 
     ghost same = { λ one other. one.indexer.now ≡ other.indexer.now };
 
-    // Never is a reply refused for what the indexer says of its pack: its fault is told once the reply is read.
+    // Each piece is taken: the indexer's fault is told once the reply is read.
+    ghost refuses = { false };
+
     fn piece(&mut self, bytes: &[u8]) -> bool
-        ensures all { result ≡ true }
         ensures takes { TakesPiece
             (λ feed taken. MayHaveFed (K.fed feed.indexer.now) (K.index_fails feed.indexer.now) feed.feed taken)
-            self.old self.new bytes.now result }
+            false self.old self.new bytes.now result }
         ensures same { self.old.indexer.now ≡ self.new.indexer.now }
     {
         if let Err(fault) = self.add(bytes) {

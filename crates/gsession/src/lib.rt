@@ -18,8 +18,9 @@
 //! - [`Session::take_reply`] reads one reply to its end, whatever its bytes are, and nothing after it. Each id that is
 //!   common from then on was a have of the request. What comes to the repository is a list that the indexer may answer
 //!   for the pack, all of it or none. A reply that is refused is reported first, then an id that the request did not
-//!   name, then the indexer's fault, then the graph's. Out of memory is reported only where no id is strange, and a reply
-//!   is not refused for what the indexer says of its pack.
+//!   name, then the indexer's fault, then the graph's. For want of memory a reply is refused only at an acknowledged id,
+//!   and for what the indexer says of its pack at no packet; once it was read, out of memory is reported only where no
+//!   id is strange.
 //! - [`Session::settle`] moves the refs as `Repo::settle` does, once a pack was taken or nothing is wanted.
 //! - [`Session::pending`] lends the request that waits, whose ids are of the session's format, so that it can be written;
 //!   [`Session::asks`] and [`Session::wants`] lend what is asked for.
@@ -30,19 +31,19 @@
 //! - Where the bytes to come are known, they and the answer decide the session after a reply to fetch. Each request
 //!   without `done` names an id that none before it offered, and none follows one with `done`; so a session asks for
 //!   objects at most once more than there are ids that its tips reach ([`laws`]).
-//! - Each fault has the number and the name of its row. No call panics, overflows or reads out of bounds, and each
+//! - Each fault has the number, the name and the text of its row. No call panics, overflows or reads out of bounds, and each
 //!   returns where the reader's calls return.
 //!
-//! # Only tried
+//! # Only tested
 //!
 //! That memory which is there is used: the program `conformance` refuses each allocation of many fetches in turn.
 //!
 //! # What a body can still get away with
 //!
-//! It may report out of memory as often as it likes where no fault stands before; in place of the fault of the indexer or
-//! of the graph, too. It may keep all of a pack and feed it once, start the indexer more often than it has to, or feed it
-//! after its fault; take as long as it likes, and more memory than it needs. The texts of faults are neither proved nor
-//! tried.
+//! It may report out of memory as often as it likes where no fault stands before: while a reply to fetch is read, at an
+//! acknowledged id; once it was read, in place of the fault of the indexer or of the graph, too. It may keep all of a pack
+//! and feed it once, start the indexer more often than it has to, or feed it after its fault; take as long as it likes,
+//! and more memory than it needs.
 //!
 //! # What it costs
 //!
@@ -53,8 +54,7 @@
 //! # Stands on
 //!
 //! `gspec` for refspecs, `grepo` for the repository, `grequest`, `glsreply`, `gfetchreply` and `ghello` for messages,
-//! `ggraph` and `gwalk` for what is offered, `gobject` for indexers, `indexmap` for sets of ids, `thiserror` for the
-//! texts of faults.
+//! `ggraph` and `gwalk` for what is offered, `gobject` for indexers, `indexmap` for sets of ids.
 #![tactic(auto)]
 
 mod acks;

@@ -29,7 +29,8 @@ IsUnmarked g marks a = (place : ℕ) × (place_of g a ≡ Some place) × (slice_
 -- parent of it reaches so
 pub data ReachesPast {A : Type 0} (g : List (Entry A)) (marks : List Bool) : List ℕ → List ℕ → Type 0 where
   there : {a : List ℕ} → ReachesPast g marks a a
-  further : {a b c : List ℕ} → IsUnmarked g marks a → HasParent g a b → ReachesPast g marks b c → ReachesPast g marks a c
+  further : {a b c : List ℕ} → IsUnmarked g marks a → HasParent g a b →
+      ReachesPast g marks b c → ReachesPast g marks a c
 
 -- one of the ids reaches `b` so
 abbrev pub SomeReachesPast : {A : Type 0} → List (Entry A) → List Bool → List (List ℕ) → List ℕ → Type 0

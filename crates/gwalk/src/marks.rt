@@ -92,7 +92,7 @@ fn either<A: Allocator + Copy>(
     Ok(marks)
 }
 
-// Whether a number is marked. One past the end is not.
+/// Whether a number is marked. One past the end is not.
 pub fn is_marked(marks: &[bool], number: usize) -> bool
     ensures { result ≡ slice_index_or marks.now number false }
 {

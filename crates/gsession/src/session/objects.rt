@@ -21,7 +21,7 @@ use std::alloc::Allocator;
 
 impl<A: Allocator + Copy> Session<A> {
     ghost use Rattle.gfetchreply.specs.FetchReplies.{FetchReply};
-    ghost use Rattle.gfetchreply.specs.FetchHeads.{head_of, pack_of};
+    ghost use Rattle.gfetchreply.specs.FetchHeads.{acknowledged_by, head_of, pack_of};
     ghost use Rattle.gfetchreply.specs.Views.{head_in, reading_in};
     ghost use Rattle.ghistory.specs.Levels.{distinct_of};
     ghost use Rattle.ghistory.specs.Reach.{Grows};
@@ -29,16 +29,17 @@ impl<A: Allocator + Copy> Session<A> {
     ghost use Rattle.gsession.specs.Sessions.{AreCommons, LeavesReplies};
     ghost use Rattle.gsession.specs.Steps.{AnswersRead, AnswersReply, FitsHead, IsAcksFault, MayHaveFed};
     ghost use Rattle.gsession.specs.TakingReplies.{Awaits, AwaitsObjects, HasPack, TakesReply};
-    ghost use Rattle.gsession.specs.TakingReplies.{acknowledged_by, after_acks, reading_for};
+    ghost use Rattle.gsession.specs.TakingReplies.{after_acks, reading_for};
 
     /// Takes the reply to a request for objects, and nothing after it. Its pack goes to the indexer as it comes. Once
     /// the reply was read to its end, each acknowledged id must be one of the request's haves, and is common from then
     /// on; and all objects of the pack come to the repository, or none.
     ///
     /// It fails with `NoOpenRequest` where no such reply is due, and nothing is read then. Else the session is over,
-    /// and the repository as before: with `Message` where the reply is refused, with `StrangeAck`, with `Index` where
-    /// the indexer refused the pack, and with `Repo` where the graph refuses its objects, or there is no memory. The
-    /// first of these is reported; for a reply without a pack nothing of the indexer's.
+    /// and the repository as before: with `Message` where the reply is refused, for want of memory only at an
+    /// acknowledged id; with `StrangeAck`; with `Index` where the indexer refused the pack; and with `Repo` where the
+    /// graph refuses its objects, or there is no memory. The first of these is reported; for a reply without a pack
+    /// nothing of the indexer's.
     pub fn take_reply<S: Source, K: Indexer<A>, B: Allocator + Copy>(
         &mut self,
         repo: &mut Repo<A>,

@@ -1,4 +1,5 @@
-use Rattle.gclient.proofs.SendingLemmas.{passed_failed, passed_pushed, push_goes_on}
+use Rattle.ggrammar.proofs.PassingLemmas.{push_goes_on, write_fails}
+use Rattle.gclient.proofs.SendingLemmas.{passed_pushed}
 use Rattle.gclient.proofs.send.send_request.Goals as goal
 
 pub returns-in-Ok-clause-sent : goal.returns-in-Ok-clause-sent
@@ -12,6 +13,6 @@ returns-in-Ok-clause-goes_on g c =
 
 pub returns-in-Err-clause-sent : goal.returns-in-Err-clause-sent
 returns-in-Err-clause-sent g c =
-    passed_failed g.W.Sink.contents g.W.Sink.passed_on g.W.Sink.is_down g.W.Sink.loans _ _ _ c.in-Err.fault
+    write_fails g.W.Sink.contents g.W.Sink.passed_on g.W.Sink.is_down g.W.Sink.loans _ _ _ c.in-Err.fault
     c.requires.well
     c.in-Err.ensures.lines

@@ -38,7 +38,7 @@ returns-in-Err-clause-same g c = c.in-Err.ensures.read.leaves.is_same
 pub returns-in-Err-clause-read : goal.returns-in-Err-clause-read
 returns-in-Err-clause-read g c =
     let read = c.in-Err.ensures.read in
-    refuses_reply g.T.PackSink.taken g.T.PackSink.same g.L.Lent.had g.L.Lent.starts g.L.Lent.seat (reading_in c.args.reply.now.reading) (reading_in c.read_message.new.message.reading)
+    refuses_reply g.T.PackSink.taken g.T.PackSink.same g.L.Lent.had g.L.Lent.starts g.L.Lent.seat g.T.PackSink.refuses (reading_in c.args.reply.now.reading) (reading_in c.read_message.new.message.reading)
     (change_of g.S.Source.remaining c.args.reader.now.source c.read_message.new.reader.source) c.read_message.new.message.sink.now c.read_message.new.message.sink.ghost_name
     read.front c.in-Err.fault read.refused
     (subst (λ asked. Leaves g.T.PackSink.taken g.T.PackSink.same g.L.Lent.had g.L.Lent.starts g.L.Lent.seat asked (reading_in c.read_message.new.message.reading) c.read_message.new.message.sink.now c.read_message.new.message.sink.ghost_name read.front)

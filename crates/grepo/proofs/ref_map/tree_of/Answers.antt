@@ -1,7 +1,8 @@
 use Rattle.std.proofs.Common.{List, ℕ, ◌∙◌, ap, sym, take}
 use Rattle.std.specs.BTreeMap.{insert_entry}
 use Rattle.grefs.specs.RefLists.{RefList}
-use Rattle.grepo.proofs.RefMapLemmas.{copied_more, order}
+use Rattle.grefs.proofs.RefLemmas.{order}
+use Rattle.grepo.proofs.RefMapLemmas.{copied_more}
 use Rattle.grepo.proofs.ref_map.tree_of.Goals as goal
 
 pub loop-pair-preserved : goal.loop-pair-preserved

@@ -1,4 +1,5 @@
-use Rattle.gserve.proofs.SendingLemmas.{passed_failed, passed_pushed, push_goes_on}
+use Rattle.ggrammar.proofs.PassingLemmas.{push_goes_on}
+use Rattle.gserve.proofs.SendingLemmas.{passed_failed, passed_pushed}
 use Rattle.gserve.proofs.send.send_fetch_reply.Goals as goal
 
 pub returns-in_err-write_fetch_reply-clause-sent : goal.returns-in_err-write_fetch_reply-clause-sent

@@ -1,5 +1,6 @@
 use Rattle.std.proofs.Common.{◌∙◌}
-use Rattle.gserve.proofs.SendingLemmas.{passed_failed, passed_pushed, push_goes_on}
+use Rattle.ggrammar.proofs.PassingLemmas.{push_goes_on}
+use Rattle.gserve.proofs.SendingLemmas.{passed_failed, passed_pushed}
 use Rattle.gserve.proofs.send.send_ls_answer.Goals as goal
 
 pub returns-in_err-write_ls_answer-clause-sent : goal.returns-in_err-write_ls_answer-clause-sent

@@ -2,7 +2,7 @@ use Rattle.std.proofs.Common.{ℕ, ◌+◌, ◌≤◌, List, length, take, drop,
 use Rattle.std.proofs.lemmas.Bool.{false≢true}
 use Rattle.std.proofs.lemmas.List.{take_all}
 use Rattle.std.proofs.lemmas.List.Elements.{All-more}
-use Rattle.gsession.proofs.ListLemmas.{at_front}
+use Rattle.ghistory.proofs.Growing.{at_front}
 use Rattle.gsession.proofs.acks.first_unoffered.Goals as goal
 
 pub returns-then-not-is_offered : goal.returns-then-not-is_offered
@@ -10,7 +10,7 @@ returns-then-not-is_offered g c = let acks = c.args.acks.now in let k = c.loop-i
     c.id-item.result in record {
       front = take k acks;
       rest = drop (k + 1) acks;
-      parts = at_front acks k id c.loop-id-test.true (sym c.id-item.is);
+      parts = at_front acks k id c.loop-id-test.true c.id-item.is;
       named = c.loop-id.invariant;
       strange = λ there. false≢true (sym c.if-not-is_offered.true ∙ c.is_offered.ensures.1 there);
     }

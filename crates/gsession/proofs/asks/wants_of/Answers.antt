@@ -5,7 +5,8 @@ use Rattle.ghistory.specs.Levels.{distinct_of}
 use Rattle.ghistory.specs.Reach.{IsFull}
 use Rattle.ghistory.specs.Selecting.{Selects, none}
 use Rattle.grepo.specs.Asks.{asked_ids}
-use Rattle.gsession.proofs.ListLemmas.{selects_keep, selects_skip, take_one}
+use Rattle.ghistory.proofs.Choosing.{selects_keep, selects_skip}
+use Rattle.ghistory.proofs.Growing.{take_one}
 use Rattle.gsession.proofs.WantLemmas.{want_ids}
 use Rattle.gsession.proofs.asks.wants_of.Goals as goal
 use Rattle.gsession.proofs.asks.wants_of.Goals.{then-not-branch+in_ok-push, else-not-branch}

@@ -9,7 +9,7 @@ use Rattle.gfetchreply.proofs.reading.ReplyReader.take_packet.Goals as goal
 pub returns-in-Data-clause-takes : goal.returns-in-Data-clause-takes
 returns-in-Data-clause-takes g c =
     rw c.in-Data.is (judged_as g.T.PackSink.taken (with_payload (place_in c.args.self.now.sections.place) (kept_in c.args.self.now.sections) c.in-Data.payload.now)
-    (kept_in c.take_payload.new.self.sections) (payload_brings (place_in c.args.self.now.sections.place) c.in-Data.payload.now)
+    (kept_in c.take_payload.new.self.sections) (payload_brings g.T.PackSink.refuses (place_in c.args.self.now.sections.place) c.in-Data.payload.now)
     (data_at (place_in c.args.self.now.sections.place) c.in-Data.payload.now) c.args.self.now.sink.now c.take_payload.new.self.sink.now
     (data_judged (reading_with c.args.self.now.reading c.args.self.now.sections) (state_in c.args.self.now.sections) c.in-Data.payload.now)
     c.take_payload.result c.take_payload.ensures.takes)
