@@ -33,5 +33,6 @@ returns-in_err-update-clause-settles g c =
     let is = get_or_from_slice_get asks place ask ask c.aim.ensures in
     rw (p.1, p.2)
     (refuses_ask c.args.graph.now.entries c.args.refs.now asks ask c.loop-place.new c.take_ask.new.refs _
+    (λ cannot. (let is = c.cannot_settle.ensures.1 cannot in let not = c.if-cannot_settle.false in cc))
     (cannot_settle c.args.graph.now.entries c.args.refs.now asks place c.loop-place.updates.items c.loop-place.new ask c.len-place-end.ensures.differ inside is c.loop-place.invariant)
     c.in_err-update.ensures)
