@@ -9,4 +9,4 @@ program=$(realpath "${GITV2:-crates/gitv2/out/gitv2}")
 [ -x "$program" ] || { echo "bench/run.sh: no program at $program" >&2; exit 1; }
 folder=$(mktemp -d)
 trap 'rm -rf "$folder"' EXIT
-python3 bench/measure.py "$program" "$folder" "${1:-1000000}" "${2:-65536}" "${3:-5}"
+python3 -B bench/measure.py "$program" "$folder" "${1:-1000000}" "${2:-65536}" "${3:-5}"
