@@ -1,0 +1,480 @@
+"""Replays the served cases of conformance through git, and prints docs/DIFFERENCES.md.
+
+usage: against_git.py DATA
+
+A case says what a client sends and what the server answers. Its ids are made up, so a repository with the same graph
+is made for git, and ids are put in each other's place: in what is sent those of git, in what git answers those of the
+case. Of a pack only its commits and tags are compared, since packs are of another format here.
+"""
+
+import hashlib
+import os
+import re
+import subprocess
+import sys
+import tempfile
+import zlib
+
+MARKS = {b"0000": "flush", b"0001": "delimiter", b"0002": "response-end"}
+
+
+# ---- the cases
+
+
+class Row:
+    """A case: its name, what it runs, and the lines that say what is said, each with how often it counts."""
+
+    def __init__(self, name):
+        self.name, self.runs, self.lines, self.has_other_packer = name, [], [], False
+
+
+class Cases:
+    """The texts, the rows and the facts on names of the files of cases."""
+
+    def __init__(self, folder):
+        self.texts, self.talks, self.rows, self.names = {}, {}, [], []
+        for file in open(f"{folder}/../args").read().split():
+            self.read(open(f"{folder}/{file}", "rb").read().split(b"\n"))
+
+    def read(self, lines):
+        block, times = None, 1
+        for line in lines:
+            word, _, rest = line.partition(b" ")
+            if word == b"times":
+                times = int(rest)
+                continue
+            if not line:
+                block = None
+            elif word in (b"text", b"talk"):
+                block = (self.texts if word == b"text" else self.talks)[rest.decode()] = []
+            elif block is not None:
+                block.append((line, times))
+            elif word == b"row":
+                self.rows.append(Row(rest.decode()))
+            elif word == b"run":
+                self.rows[-1].runs.append(rest.decode(errors="backslashreplace").split())
+            elif word == b"packer":
+                self.rows[-1].has_other_packer = True
+            elif word == b"use":
+                self.rows[-1].lines += self.talks[rest.decode()]
+            elif word == b"name":
+                due, _, name = rest.partition(b": ")
+                self.names.append((due.decode(), self.spelled(name, 1)))
+            elif self.rows:
+                self.rows[-1].lines.append((line, times))
+            times = 1
+
+    def text(self, name):
+        """The bytes of a text."""
+        lines = [self.spelled(line, time + 1) for line, times in self.texts[name] for time in range(times)]
+        return b"".join(line + b"\n" for line in lines)
+
+    def said(self, row):
+        """What is said in a case: by whom and how, as `C:`, and the bytes."""
+        for line, times in row.lines:
+            if re.match(rb"[CS][:.=123]", line):
+                for time in range(times):
+                    yield line[:2].decode(), self.spelled(line[3:], time + 1)
+
+    def spelled(self, line, time):
+        """The bytes that a line spells."""
+
+        def one(match):
+            escape, inside = match.groups()
+            if escape is not None:
+                if len(escape) == 3:
+                    return bytes([int(escape[1:], 16)])
+                return {b"n": b"\n", b"0": b"\0"}.get(escape, escape)
+            if inside[:1] == b"#":
+                width, _, more = inside[1:].partition(b"+")
+                return b"%0*d" % (int(width), time + int(more or 0))
+            part, star, count = inside.partition(b"*")
+            if star:
+                return part * int(count)
+            return inside * 40 if len(inside) == 1 else self.text(inside.decode())
+
+        return re.sub(rb"\\(x[0-9a-f]{2}|.)|\{([^}]*)\}", one, line, flags=re.S)
+
+
+# ---- git
+
+
+def git(*words, data=b"", cwd=None, **more):
+    """Runs git, and answers what it wrote, or None where it failed."""
+    ran = subprocess.run(["git", *words], input=data, cwd=cwd, capture_output=True, env={**ENV, **more})
+    return ran.stdout if ran.returncode == 0 else None
+
+
+ENV = {
+    "PATH": os.environ["PATH"],
+    "HOME": "/nonexistent",
+    "GIT_CONFIG_NOSYSTEM": "1",
+    "LC_ALL": "C",
+}
+
+
+def changed_ids(data, ids):
+    """Puts other ids in the place of those that stand alone in some bytes."""
+
+    def other(match):
+        id = match[0].decode()
+        return ids.get(id.lower(), id).encode()
+
+    return re.sub(rb"(?<![0-9a-fA-F])(?:[0-9a-fA-F]{64}|[0-9a-fA-F]{40})(?![0-9a-fA-F])", other, data)
+
+
+class Repository:
+    """A repository of git with the graph of a text, and the ids that stand for each other."""
+
+    def __init__(self, text, folder):
+        self.path, self.ids, self.kinds, refs = folder, {}, {}, ""
+        lines = text.decode().splitlines()
+        self.format = lines[0].split()[2] if lines[0] != "gitv2 1" else "sha1"
+        git("init", "--quiet", "--bare", f"--object-format={self.format}", folder)
+        self.tree = self.write("tree", "")
+        for line in lines[1:]:
+            kind, *parts = line.split(" ")
+            if kind in "ct":
+                self.add(kind, *parts)
+            elif kind == "r":
+                refs += f"create {parts[1]} {self.ids[parts[0]]}\n"
+            elif kind == "h":
+                self.set_head(*parts)
+        self.ours = {real: ours for ours, real in self.ids.items()}
+        git("update-ref", "--stdin", data=refs.encode(), cwd=folder)
+
+    def write(self, kind, body):
+        """Writes an object, and answers its id."""
+        data = f"{kind} {len(body)}\0{body}".encode()
+        id = hashlib.new(self.format, data).hexdigest()
+        os.makedirs(f"{self.path}/objects/{id[:2]}", exist_ok=True)
+        with open(f"{self.path}/objects/{id[:2]}/{id[2:]}", "wb") as file:
+            file.write(zlib.compress(data))
+        return id
+
+    def add(self, kind, id, *parents):
+        who = "A <a@example.com> 1 +0000"
+        real = [self.ids[parent] for parent in parents]
+        if kind == "c":
+            body = "".join(f"parent {parent}\n" for parent in real)
+            body = f"tree {self.tree}\n{body}author {who}\ncommitter {who}\n\n{id}\n"
+        else:
+            body = f"object {real[0]}\ntype {self.kinds[parents[0]]}\ntag {id}\ntagger {who}\n\n{id}\n"
+        self.kinds[id] = {"c": "commit", "t": "tag"}[kind]
+        self.ids[id] = self.write(self.kinds[id], body)
+
+    def set_head(self, kind, value=""):
+        # A repository of git always has a HEAD; where there is none here it points at a branch that is not there.
+        text = self.ids[value] if kind == "id" else f"ref: {value or 'refs/heads/none'}"
+        with open(f"{self.path}/HEAD", "w") as file:
+            file.write(f"{text}\n")
+
+    def to_git(self, data):
+        return changed_ids(data, self.ids)
+
+    def from_git(self, data):
+        return changed_ids(data, self.ours)
+
+    def packed(self, pack):
+        """The commits and tags of a pack, by the ids of the case."""
+        with tempfile.TemporaryDirectory() as folder:
+            with open(f"{folder}/pack", "wb") as file:
+                file.write(pack)
+            words = ["index-pack", f"--object-format={self.format}", "-o", "index", "pack"]
+            if git(*words, cwd=folder) is None:
+                return "a pack that git can't read"
+            index = open(f"{folder}/index", "rb").read()
+        lines = self.from_git(git("show-index", f"--object-format={self.format}", data=index)).decode().splitlines()
+        return pack_of(line.split()[1] for line in lines if self.tree not in line)
+
+    def answers(self, request, is_connection):
+        """What `git upload-pack` writes, and what it says on standard error when it fails."""
+        words = ["upload-pack", "--strict"] + ([] if is_connection else ["--stateless-rpc"])
+        ran = subprocess.run(
+            ["git", *words, self.path], input=request, capture_output=True, env={**ENV, "GIT_PROTOCOL": "version=2"}
+        )
+        why = re.findall(r"^(?:fatal|BUG): .*", ran.stderr.decode(errors="backslashreplace"), re.M)
+        return ran.stdout, why[-1] if ran.returncode else ""
+
+
+# ---- what is said, as lists of words that can be compared
+
+
+def pack_of(ids):
+    return "pack of " + (" ".join(sorted(ids)) or "nothing")
+
+
+def packet(payload):
+    return b"%04x" % (len(payload) + 4) + payload
+
+
+def request_of(said):
+    """The bytes that the client sends, and a flush where it stops at a packet that is refused here."""
+    sent = b""
+    for how, text in said:
+        if how == "C:":
+            sent += text if text in MARKS else packet(text + b"\n")
+        elif how == "C.":
+            sent += packet(text)
+        elif how == "C=":
+            sent += text
+    last = said[-2:]
+    is_refused = [how for how, _ in last] == ["C:", "S:"] and last[1][1] != b"ERR upload-pack: unexpected end"
+    if is_refused and last[0][1] != b"0000":
+        sent += b"0000"
+    return sent
+
+
+def due_of(talk):
+    """What the case says that the server answers. The side bands are taken apart, and a pack is its ids."""
+    said, pack = [], None
+    for how, text in talk:
+        if how[0] != "S":
+            continue
+        if how == "S1":
+            pack = (pack or b"") + text
+            continue
+        if pack is not None:
+            said.append(pack_of(line.split()[1].decode() for line in pack.splitlines()[1:-1]))
+            pack = None
+        said.append(MARKS.get(text) or text.decode(errors="backslashreplace"))
+    return said
+
+
+def said_by(repository, written, fatal):
+    """What git answers, in the same words."""
+    said, pack = [], None
+    while written:
+        length = int(written[:4], 16)
+        payload, mark = written[4:length], MARKS.get(written[:4])
+        written = written[max(length, 4) :]
+        if pack is not None and not mark:
+            pack += payload[1:] if payload[:1] == b"\1" else b""
+            continue
+        if pack is not None:
+            said.append(repository.packed(pack))
+            pack = None
+        text = mark or repository.from_git(payload).decode(errors="backslashreplace").removesuffix("\n")
+        said.append(text)
+        pack = b"" if text == "packfile" else None
+    if fatal and not (said and said[-1].startswith("ERR ")):
+        said.append(repository.from_git(fatal.encode()).decode())
+    return said
+
+
+def without_advertisement(said):
+    if said[:1] != ["version 2"]:
+        return [], said
+    end = said.index("flush") + 1
+    return said[:end], said[end:]
+
+
+# ---- differences
+
+# Why git answers otherwise: a word for the table, what it means, what is due here, and what git answers.
+REASONS = [
+    (
+        "error line",
+        "Both refuse the request. Here an `ERR` line tells the client; git says it on standard error alone, and ends.",
+        r"ERR .*",
+        r"(fatal|BUG): .*",
+    ),
+    (
+        "no wants",
+        "A fetch that wants nothing is refused here; git writes nothing, and waits for the next request.",
+        r"ERR upload-pack: no wants",
+        r"",
+    ),
+    (
+        "cut short",
+        "An input that ends within a packet where a request is due is refused here; for git the connection has ended.",
+        r"ERR upload-pack: unexpected end",
+        r"",
+    ),
+    (
+        "limit",
+        "Requests have fewer wants, haves and prefixes here, so that one takes a bounded amount of memory.",
+        r"ERR upload-pack: limit exceeded",
+        r"(?!fatal).*",
+    ),
+    (
+        "prefix",
+        "A prefix that begins no ref name is refused here; git takes any bytes, which then match nothing.",
+        r"ERR upload-pack: bad ref name",
+        r"(?!fatal).*",
+    ),
+    (
+        "end of an id",
+        "An id is all that follows `want ` or `have ` here; git reads its digits, and looks at nothing after them.",
+        r"ERR upload-pack: bad object id",
+        r"(?!fatal).*",
+    ),
+    (
+        "capability",
+        "`agent` and `object-format` have one value here, of the manual's form; git takes any agent, none, or several.",
+        r"ERR upload-pack: bad line",
+        r"(?!fatal).*",
+    ),
+    (
+        "unborn",
+        "An unborn HEAD is shown wherever `unborn` was asked for; git shows it only where `symrefs` was, too.",
+        r"unborn HEAD .*",
+        r"",
+    ),
+    (
+        "repeated have",
+        "A common id is acknowledged once; git does so for each `have` that names it.",
+        r"",
+        r"ACK .*",
+    ),
+    (
+        "ready",
+        "Each wanted id has to reach a common one before a pack is sent; git takes parents of a common id for common.",
+        r"",
+        r"ready .*",
+    ),
+    (
+        "response-end",
+        "`gitv2 upload --response-end` ends each reply of a stateless connection itself; for git its HTTP helper does.",
+        r"response-end",
+        r"",
+    ),
+    (
+        "fewer capabilities",
+        "Git has more capabilities and arguments. Here all that is served is advertised, and nothing else is taken.",
+        r"agent=gitv2/1 .*|ERR upload-pack: unknown capability",
+        r"agent=git/.*|(?!fatal).*",
+    ),
+]
+
+
+def parted(ours, theirs):
+    """What is left of two answers without what they begin and end with alike."""
+    while ours and theirs and ours[0] == theirs[0]:
+        ours, theirs = ours[1:], theirs[1:]
+    while ours and theirs and ours[-1] == theirs[-1]:
+        ours, theirs = ours[:-1], theirs[:-1]
+    return " / ".join(ours), " / ".join(theirs)
+
+
+def reason_of(ours, theirs):
+    for word, _, here, there in REASONS:
+        if re.fullmatch(here, ours, re.S) and re.fullmatch(there, theirs, re.S):
+            return word
+    sys.exit(f"no reason is known why gitv2 answers {ours!r}, and git {theirs!r}")
+
+
+def shown(text):
+    """A text in a table: an id as in the cases, and no more than a line of it."""
+    text = re.sub(r"(.)\1{39,}", lambda run: f"{{{run[1]}*{len(run[0])}}}".replace("*40}", "}"), text)
+    text = re.sub(r"\s", " ", text)
+    text = text if len(text) <= 130 else text[:127] + "..."
+    return f"`{text}`".replace("|", "\\|") if text else "nothing"
+
+
+def is_whole(text):
+    """Whether a text is that of a repository in which nothing is missing, and parents come first."""
+    ids = set()
+    for line in text.splitlines():
+        kind, *parts = line.split(" ")
+        needed = {"c": parts[1:], "t": parts[1:], "r": parts[:1], "h": parts[1:] if parts[:1] == ["id"] else []}
+        if not ids.issuperset(needed.get(kind, [])):
+            return False
+        if kind in ("c", "t"):
+            ids.add(parts[0])
+    return text.endswith("end\n")
+
+
+def compare(name, talk, repository, is_connection):
+    """The differences of a case: what differs, what is due here, and what git answers in its place."""
+    written, fatal = repository.answers(repository.to_git(request_of(talk)), is_connection)
+    due, answered = due_of(talk), said_by(repository, written, fatal)
+    due_advert, due = without_advertisement(due)
+    advert, answered = without_advertisement(answered)
+    if due_advert != advert:
+        yield "the advertisement", *parted(due_advert, advert)
+    if "response-end" in due:
+        yield "the end of a reply with `--response-end`", "response-end", ""
+        due = [text for text in due if text != "response-end"]
+    if due != answered:
+        yield name, *parted(due, answered)
+
+
+def replay(cases, folder):
+    """The rows of the table, by what differs; and how many cases were replayed, are alike, and were left out."""
+    repositories, table, alike, replayed, packers, broken = {}, {}, 0, 0, 0, 0
+    for row in cases.rows:
+        # A conversation with a client of ours at the other end says nothing more of the server.
+        if not {run[0] for run in row.runs} <= {"upload", "ls"}:
+            continue
+        run = row.runs[0]
+        name = run[-1]
+        text = cases.text(name)
+        if row.has_other_packer:
+            packers += 1
+        elif not is_whole(text.decode(errors="backslashreplace")):
+            broken += 1
+        else:
+            if name not in repositories:
+                repositories[name] = Repository(text, f"{folder}/{name}")
+            found = compare(row.name, list(cases.said(row)), repositories[name], run[0] == "upload")
+            found = {what: parts for what, *parts in found}
+            table |= found
+            replayed += 1
+            alike += row.name not in found
+    return table, {"replayed": replayed, "alike": alike, "packers": packers, "broken": broken}
+
+
+def name_rows(names):
+    for due, name in names:
+        # No argument of a program has the byte 0.
+        if b"\0" not in name:
+            is_taken = subprocess.run(["git", "check-ref-format", name], env=ENV).returncode == 0
+            if is_taken != (due == "ok"):
+                yield name.decode(errors="backslashreplace"), due, "ok" if is_taken else "refused"
+
+
+def main(data):
+    cases = Cases(data)
+    with tempfile.TemporaryDirectory() as folder:
+        table, counts = replay(cases, folder)
+    print(INTRODUCTION.format(version=git("version").decode().split()[2], **counts))
+    print("| Reason | What it means |\n|---|---|")
+    for word, meaning, _, _ in REASONS:
+        print(f"| {word} | {meaning} |")
+    print("\n## Requests\n\n| Case | Here | git | Reason |\n|---|---|---|---|")
+    rows = [(name, ours, theirs, reason_of(ours, theirs)) for name, (ours, theirs) in table.items()]
+    order = [word for word, _, _, _ in REASONS]
+    for name, ours, theirs, reason in sorted(rows, key=lambda row: order.index(row[3])):
+        print(f"| {name} | {shown(ours)} | {shown(theirs)} | {reason} |")
+    print(NAMES)
+    for name, due, answer in name_rows(cases.names):
+        print(f"| {shown(name)} | {due} | {answer} | {NAME_REASONS[due]} |")
+
+
+INTRODUCTION = """# Differences from git
+
+Written by `examples/against-git.sh`, which replays the served cases of `crates/conformance/data` through
+`git upload-pack` {version}, protocol version 2, and their ref names through `git check-ref-format`.
+
+The ids of the cases are made up, so git has a repository with the same graph, and ids are put in each other's place.
+Packs are compared by the commits and tags in them: their order, their format, and git's trees are its own. Where a case
+stops at the packet that is refused here, a flush is added, so that git has a whole request. Progress is left out.
+
+{replayed} cases were replayed, and {alike} of them are answered alike. Left out are {packers} cases with a packer
+that fails or lies, {broken} with a file of which something is missing, which git can't have, and those with our client
+at the other end. [PROTOCOL.md](PROTOCOL.md) marks each difference **own**.
+"""
+
+NAMES = """
+## Ref names
+
+| Name | Here | git | Reason |
+|---|---|---|---|"""
+
+NAME_REASONS = {
+    "ok": "`git check-ref-format` takes names of one part only with `--allow-onelevel`; HEAD is a ref's name",
+    "11 TooLong": "names have at most 1,000 bytes here",
+}
+
+main(sys.argv[1])
