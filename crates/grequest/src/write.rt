@@ -25,9 +25,9 @@ use std::alloc::Allocator;
 /// nothing else. The format is that of the repository's objects, and the caller gives a request with ids the
 /// format of these ids.
 ///
-/// It fails with `Io` where the sink fails, and then a beginning of the request stands written; with `Failed`
-/// where the writer had failed before. A request is what [`reads_back`](crate::laws::reads_back) asks of one, so
-/// what is written of it reads back.
+/// It takes no memory. It fails with `Io` where the sink fails, and then a beginning of the request stands
+/// written; with `Failed` where the writer had failed before. A request is what
+/// [`reads_back`](crate::laws::reads_back) asks of one, so what is written of it reads back.
 pub fn write_request<A: Allocator + Copy, W: Sink>(
     request: &Request<A>,
     format: Format,
