@@ -1,6 +1,8 @@
 -- The table of the programs' faults: what is printed of each.
 use Rattle.std.specs.Prelude.{ℕ, List, codes, Option, Some, None}
-use Rattle.gname.specs.Faults.{FaultRow}
+use Rattle.gname.specs.Faults.{FaultRow, name_fault_row, name_fault_text}
+use Rattle.gname.specs.declared.faults.NameFault.{NameFault}
+use Rattle.gname.specs.declared.faults.NameFault.TheVariants as name
 use Rattle.gname.specs.Names.{head_name}
 use Rattle.gpkt.specs.Faults.{line_fault_row, line_fault_text, write_fault_row}
 use Rattle.gpkt.specs.declared.fault.WriteFault.TheVariants.{Io}
@@ -31,18 +33,32 @@ use Rattle.gcmd.specs.declared.fault.ProgramFault.{ProgramFault}
 use Rattle.gcmd.specs.declared.fault.ProgramFault.TheVariants as program
 
 -- what is printed of a fault: its number and its name, and, where it has them, the place of a packet in its message,
--- the line of a text, an id, and a name or a text
+-- the line of a text, the place of a byte in a name, an id, and a name or a text
 pub record Printed : Type 0 where
   pub number : ℕ
   pub name : List ℕ
   pub frame : Option ℕ
   pub line : Option ℕ
+  pub at : Option ℕ
   pub id : Option (List ℕ)
   pub text : Option (List ℕ)
 
 -- a number and a name alone
 abbrev pub plain : FaultRow → Printed
-plain row = record { number = row.0; name = row.1; frame = None; line = None; id = None; text = None }
+plain row = record { number = row.0; name = row.1; frame = None; line = None; at = None; id = None; text = None }
+
+-- ---- names
+
+-- the byte at which a name is refused
+abbrev pub place_in_name : NameFault → Option ℕ
+place_in_name (name.BadByte at) = Some at
+place_in_name (name.Component at) = Some at
+place_in_name (name.DoubleDot at) = Some at
+place_in_name (name.AtBrace at) = Some at
+place_in_name _ = None
+
+abbrev pub printed_of_name : NameFault → Printed
+printed_of_name fault = record (plain (name_fault_row fault)) { at = place_in_name fault }
 
 -- ---- repository texts
 
@@ -168,6 +184,9 @@ printed_of (program.Line fault) = plain (line_fault_row fault)
 printed_of (program.Spec fault) = plain (spec_fault_row fault)
 printed_of (program.Fetch fault) = printed_of_fetch fault
 printed_of program.WriteFailed = plain (write_fault_row Io)
+printed_of (program.Name fault) = printed_of_name fault
+printed_of program.PairLimit = plain (94, codes "PairLimit")
+printed_of program.Socket = plain (96, codes "Socket")
 
 -- ---- their texts
 abbrev pub program_fault_text : {A : Type 0} → ProgramFault A → List ℕ
@@ -180,3 +199,6 @@ program_fault_text (program.Line fault) = line_fault_text fault
 program_fault_text (program.Spec fault) = spec_fault_text fault
 program_fault_text (program.Fetch fault) = fetch_fault_text fault
 program_fault_text program.WriteFailed = codes "the output failed"
+program_fault_text (program.Name fault) = name_fault_text fault
+program_fault_text program.PairLimit = codes "a message is too long"
+program_fault_text program.Socket = codes "a socket failed"

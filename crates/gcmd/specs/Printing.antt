@@ -1,5 +1,5 @@
 -- The line that is printed of a fault: `gitv2: fault NUMBER NAME`, and then, where the fault has them and in this
--- order, the packet, the line, and the id, the name or the text.
+-- order, the packet, the line, the byte, and the id, the name or the text.
 use Rattle.std.specs.Prelude.{ℕ, ◌+◌, ◌*◌, ◌≤◌, ◌++◌, ◌&&◌, nat_le, if◌then◌else◌, List, [], length, map, codes}
 use Rattle.std.specs.Prelude.{Option, None, Some, ⊤}
 use Rattle.std.specs.Fmt.{decimal}
@@ -37,7 +37,8 @@ subject_part None None = []
 abbrev pub printed_line : Printed → List ℕ
 printed_line row =
     codes "gitv2: fault " ++ decimal row.number ++ codes " " ++ row.name ++ number_part (codes " frame ") row.frame
-    ++ number_part (codes " line ") row.line ++ subject_part row.id row.text ++ codes "\n"
+    ++ number_part (codes " line ") row.line ++ number_part (codes " at ") row.at
+    ++ subject_part row.id row.text ++ codes "\n"
 
 -- the line of a fault
 unfoldable pub fault_line : {A : Type 0} → ProgramFault A → List ℕ
@@ -52,6 +53,7 @@ row_view row = record {
   name = row.name.now;
   frame = row.frame;
   line = row.line;
+  at = row.at;
   id = row.id;
   text = option_copied row.text;
 }
@@ -72,9 +74,9 @@ max_fault_name = 32
 abbrev pub max_subject : ℕ
 max_subject = 1 + max_name
 
--- the most bytes of a line: 28 of its words, the name, three numbers and the subject
+-- the most bytes of a line: 32 of its words, the name, four numbers and the subject
 abbrev pub max_fault_line : ℕ
-max_fault_line = 28 + max_fault_name + 3 * max_decimal + max_subject
+max_fault_line = 32 + max_fault_name + 4 * max_decimal + max_subject
 
 abbrev pub IsShortText : Option (List ℕ) → Type 0
 IsShortText None = ⊤

@@ -42,10 +42,7 @@ fn keep<A: Allocator + Copy>(specs: &mut Vec<Spec<A>, A>, spec: Spec<A>) -> Resu
 ///
 /// It fails with `Text` where the file is the text of no repository, and at the line of HEAD where that stands
 /// somewhere; else with `Fetch` where the whole ancestry of a ref is not held. Both may be out of memory.
-pub(crate) fn open_client<A: Allocator + Copy>(
-    alloc: A,
-    file: &[u8],
-) -> Result<Repo<A>, ProgramFault<A>>
+pub fn open_client<A: Allocator + Copy>(alloc: A, file: &[u8]) -> Result<Repo<A>, ProgramFault<A>>
     ensures { OpensClient file.now result }
 {
     let repository = load(alloc, file, Order::Any)?;

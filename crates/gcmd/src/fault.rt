@@ -10,6 +10,7 @@ use crate::print::FaultLine;
 use ganswer::{BuildFault, ServeFault};
 use gclient::{ClientFault, FetchFault, RepoFault, SpecFault};
 use ggraph::LoadFault;
+use gname::NameFault;
 use gpkt::LineFault;
 use std::alloc::{Allocator, Global};
 use std::error::Error;
@@ -37,6 +38,12 @@ pub enum ProgramFault<A: Allocator + Copy = Global> {
     Fetch(FetchFault<A>),
     /// 27: the output failed.
     WriteFailed,
+    /// 11, 13, 18: a word is no prefix of names, or there is no memory to keep it.
+    Name(NameFault),
+    /// 94: a message between both ends of a pair is longer than they may be.
+    PairLimit,
+    /// 96: a socket could not be opened, or a connection could not be accepted.
+    Socket,
 }
 
 impl<A: Allocator + Copy> ProgramFault<A> {
@@ -69,6 +76,9 @@ impl<A: Allocator + Copy> fmt::Display for ProgramFault<A> {
             ProgramFault::Spec(fault) => fmt::Display::fmt(fault, f),
             ProgramFault::Fetch(fault) => fmt::Display::fmt(fault, f),
             ProgramFault::WriteFailed => f.write_str("the output failed"),
+            ProgramFault::Name(fault) => fmt::Display::fmt(fault, f),
+            ProgramFault::PairLimit => f.write_str("a message is too long"),
+            ProgramFault::Socket => f.write_str("a socket failed"),
         }
     }
 }
@@ -112,5 +122,13 @@ impl<A: Allocator + Copy> From<LineFault> for ProgramFault<A> {
 
     fn from(cause: LineFault) -> ProgramFault<A> {
         ProgramFault::Line(cause)
+    }
+}
+
+impl<A: Allocator + Copy> From<NameFault> for ProgramFault<A> {
+    ghost from_gives = { λ cause fault. fault ≡ program.Name cause };
+
+    fn from(cause: NameFault) -> ProgramFault<A> {
+        ProgramFault::Name(cause)
     }
 }

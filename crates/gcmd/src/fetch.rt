@@ -116,8 +116,9 @@ fn fetch_for<A: Allocator + Copy, S: Source, W: Sink, R: Sink>(
     }
 }
 
-// Ends a fetch that settled the refs: makes the new text of the file, and reports.
-fn conclude<A: Allocator + Copy, R: Sink>(
+/// Ends a fetch that settled the refs: makes the new text of the client's file, and reports. It answers how that came out,
+/// and the text. Where there is no memory for the text, there is none, and nothing is reported.
+pub fn conclude<A: Allocator + Copy, R: Sink>(
     alloc: A,
     repo: &Repo<A>,
     fetched: &Fetched<A>,
@@ -148,8 +149,10 @@ fn text_of<A: Allocator + Copy>(alloc: A, repo: &Repo<A>) -> Result<Vec<u8, A>, 
     }
 }
 
-// Writes the report.
-fn send_report<A: Allocator + Copy, R: Sink>(
+/// Writes the report of a fetch, and passes it on.
+///
+/// It fails with `Memory`, and nothing is written, or with `WriteFailed`.
+pub fn send_report<A: Allocator + Copy, R: Sink>(
     alloc: A,
     fetched: &Fetched<A>,
     report: &mut R,

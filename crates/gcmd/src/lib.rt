@@ -66,12 +66,14 @@ mod send;
 mod upload;
 
 pub use crate::check::cmd_check;
-pub use crate::client_file::read_specs;
+pub use crate::client_file::{open_client, read_specs};
 pub use crate::fault::ProgramFault;
-pub use crate::fetch::{FetchRun, cmd_fetch};
+pub use crate::fetch::{FetchRun, cmd_fetch, conclude, send_report};
 pub use crate::lines::cmd_lines;
 pub use crate::ls::cmd_ls;
-pub use crate::program::cmd_failed;
+pub use crate::program::{cmd_failed, finish};
+pub use crate::repository::load_server;
+pub use crate::send::send;
 pub use crate::upload::cmd_upload;
 pub use gclient::Spec;
 pub use gfetchreply::PackLimit;

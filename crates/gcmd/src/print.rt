@@ -1,9 +1,9 @@
 //! How faults are printed: `gitv2: fault NUMBER NAME`, and then, where the fault has them and in this order, ` frame K`,
-//! ` line K`, and a space and the id, the name or the text, each byte outside 32 to 126 as `?`.
+//! ` line K`, ` at K`, and a space and the id, the name or the text, each byte outside 32 to 126 as `?`.
 
 ghost use Rattle.std.specs.Prelude.{◌≡◌, ◌+◌, ◌≤◌, ◌++◌, length, map, None, []};
 ghost use Rattle.std.specs.Option.{option_copied};
-ghost use Rattle.gcmd.specs.Faults.{id_in_build, id_in_graph, id_in_request, frame_in_request, line_in_text, printed_of, printed_of_build, printed_of_client, printed_of_fetch, printed_of_request, printed_of_text, ref_in_build, said_in, said_in_request};
+ghost use Rattle.gcmd.specs.Faults.{id_in_build, id_in_graph, id_in_request, frame_in_request, line_in_text, place_in_name, printed_of, printed_of_build, printed_of_client, printed_of_fetch, printed_of_name, printed_of_request, printed_of_text, ref_in_build, said_in, said_in_request};
 ghost use Rattle.gcmd.specs.Printing.{max_decimal, max_fault_line, max_fault_name, max_subject, number_part, printed_line, row_view, shown, subject_part, IsShort, IsShortText};
 ghost use Rattle.gpkt.specs.Sending.{output_of};
 ghost use Rattle.gcmd.specs.Outputs.{IsSent};
@@ -17,12 +17,12 @@ use ganswer::{BuildFault, ServeFault};
 use gclient::{ClientFault, FetchFault};
 use ggrammar::Why;
 use ggraph::{GraphFault, LoadFault};
-use gname::{HEAD, Oid};
+use gname::{HEAD, NameFault, Oid};
 use gpkt::{Down, Sink, WriteFault};
 use std::alloc::Allocator;
 
-/// The most bytes of a fault's line: its words, a name of 32, three numbers of 20, and a text of 1,000.
-const MAX_FAULT_LINE: usize = 1_121;
+/// The most bytes of a fault's line: its words, a name of 32, four numbers of 20, and a text of 1,000.
+const MAX_FAULT_LINE: usize = 1_145;
 
 /// What is printed of a fault.
 #[derive(Clone, Copy)]
@@ -31,6 +31,8 @@ pub(crate) struct FaultLine<'a> {
     name: &'static str,
     frame: Option<u64>,
     line: Option<usize>,
+    // The place of a byte in a name.
+    at: Option<usize>,
     id: Option<Oid>,
     // A name, or a text.
     text: Option<&'a [u8]>,
@@ -55,6 +57,9 @@ impl<'a> FaultLine<'a> {
                 WriteFault::Io.code(),
                 WriteFault::Io.name(),
             ),
+            ProgramFault::Name(fault) => FaultLine::of_name(fault),
+            ProgramFault::PairLimit => FaultLine::plain(94, "PairLimit"),
+            ProgramFault::Socket => FaultLine::plain(96, "Socket"),
         }
     }
 
@@ -63,7 +68,7 @@ impl<'a> FaultLine<'a> {
         requires { length name.now ≤ max_fault_name }
         ensures number { result.number ≡ number }
         ensures name { result.name.now ≡ name.now }
-        ensures places { (result.frame ≡ None) × (result.line ≡ None) }
+        ensures places { (result.frame ≡ None) × (result.line ≡ None) × (result.at ≡ None) }
         ensures subject { (result.id ≡ None) × (option_copied result.text ≡ None) }
     {
         FaultLine {
@@ -71,6 +76,7 @@ impl<'a> FaultLine<'a> {
             name,
             frame: None,
             line: None,
+            at: None,
             id: None,
             text: None,
         }
@@ -83,6 +89,17 @@ impl<'a> FaultLine<'a> {
     {
         FaultLine {
             line: line_in_text(fault),
+            ..FaultLine::plain(fault.code(), fault.name())
+        }
+    }
+
+    // A name that is refused, with the byte.
+    fn of_name(fault: &NameFault) -> FaultLine<'a>
+        ensures row { row_view result ≡ printed_of_name fault.now }
+        ensures short { IsShort result }
+    {
+        FaultLine {
+            at: place_in_name(fault),
             ..FaultLine::plain(fault.code(), fault.name())
         }
     }
@@ -175,6 +192,7 @@ impl<'a> FaultLine<'a> {
         add(self.name.as_bytes(), text);
         add_place(b" frame ", self.frame, text);
         add_place(b" line ", as_number(self.line), text);
+        add_place(b" at ", as_number(self.at), text);
         add_subject(self.id, self.text, text);
         add(b"\n", text);
     }
@@ -237,6 +255,19 @@ fn shown(byte: u8) -> u8
         byte
     } else {
         b'?'
+    }
+}
+
+// The byte at which a name is refused.
+fn place_in_name(fault: &NameFault) -> Option<usize>
+    ensures { result ≡ place_in_name fault.now }
+{
+    match fault {
+        NameFault::BadByte { at }
+        | NameFault::Component { at }
+        | NameFault::DoubleDot { at }
+        | NameFault::AtBrace { at } => Some(*at),
+        _ => None,
     }
 }
 

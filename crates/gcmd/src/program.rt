@@ -21,7 +21,7 @@ pub fn cmd_failed<A: Allocator + Copy, E: Sink>(fault: ProgramFault<A>, errors: 
 }
 
 /// Ends a program as its work came out: prints the fault that was met, if one was. It answers the exit status.
-pub(crate) fn finish<A: Allocator + Copy, E: Sink>(
+pub fn finish<A: Allocator + Copy, E: Sink>(
     outcome: Result<(), ProgramFault<A>>,
     errors: &mut E,
 ) -> u8

@@ -11,10 +11,7 @@ use std::alloc::Allocator;
 ///
 /// It fails with `Text` where the file is the text of no repository in which each parent comes before its children; else
 /// with `Build` where a ref, or HEAD by its id, stands at an object that is not there. Both may be out of memory.
-pub(crate) fn load_server<A: Allocator + Copy>(
-    alloc: A,
-    file: &[u8],
-) -> Result<Server<A>, ProgramFault<A>>
+pub fn load_server<A: Allocator + Copy>(alloc: A, file: &[u8]) -> Result<Server<A>, ProgramFault<A>>
     ensures { LoadsServer file.now result }
 {
     let repository = load(alloc, file, Order::ParentsFirst)?;

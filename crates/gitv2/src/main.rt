@@ -8,29 +8,34 @@
 //! # Only tested
 //!
 //! What the words mean (`words.rt`), and one run of `ls` (`args`, `stdin`, `stdout`, `data/`). The other
-//! runs are tried by hand: no test sees which function `run` calls for `check`, `fetch`, `lines` and `upload`, what a
-//! missing file gives, or that `fetch` writes its file before it reports.
+//! runs are tried by hand: no test of the gate sees which function `run` calls for the other commands, what a missing file
+//! gives, or that `fetch` writes its file before it reports. `examples/over-tcp.sh` runs those that open sockets.
 //!
 //! # What a body can still get away with
 //!
-//! Anything else: no contract can say what a file or a stream of the system gives or takes.
+//! Anything else: no contract can say what a file, a stream or a socket of the system gives or takes.
 //!
 //! # Stands on
 //!
-//! `gcmd` for the work, `gpkt` for devices, `clap` for the words.
+//! `gcmd` and `gtcp` for the work, `gpkt` for devices, `clap` for the words.
 #![tactic(auto)]
 
 mod words;
 
 use crate::words::{Command, Fetch};
 use gcmd::{
-    Ends, FetchRun, ProgramFault, cmd_check, cmd_failed, cmd_fetch, cmd_lines, cmd_ls, cmd_upload,
-    read_specs,
+    Ends, FetchRun, ProgramFault, Spec, cmd_check, cmd_failed, cmd_fetch, cmd_lines, cmd_ls,
+    cmd_upload, read_specs,
 };
 use gpkt::memory::VecSink;
 use gpkt::{Down, FromRead, Sink, ToWrite, write_all};
+use gtcp::{
+    Listing, Pair, Place, RemoteFetch, Service, cmd_fetch_remote, cmd_ls_remote, cmd_pair,
+    cmd_serve, read_prefixes,
+};
 use std::alloc::Global;
 use std::io::{BufReader, BufWriter, Write};
+use std::net::{Net, TcpListener, TcpStream};
 use std::process::ExitCode;
 use std::rt::{Env, Files};
 use std::{env, fs, io};
@@ -53,16 +58,44 @@ fn read_words<R: Env + AllocGlobal>(rt: &R) -> Option<Command> {
 
 fn run<R, E>(rt: &R, command: Command, errors: &mut E) -> u8
 where
-    R: Files + Input + Print + AllocGlobal,
+    R: Files + Input + Print + AllocGlobal + Net<Stream = TcpStream, Listener = TcpListener>,
     E: Sink,
 {
     match command {
         Command::Check { file } => check(rt, file.as_str(), errors),
         Command::Fetch(asked) => fetch(rt, &asked, errors),
         Command::Lines => show_lines(rt, errors),
-        Command::LsStdioServer { file } => serve(rt, Service::Request, file.as_str(), errors),
+        Command::LsStdioServer { file } => serve(rt, Served::Request, file.as_str(), errors),
         Command::Upload { ends, file } => {
-            serve(rt, Service::Connection(ends), file.as_str(), errors)
+            serve(rt, Served::Connection(ends), file.as_str(), errors)
+        }
+        Command::LsTcp { place, prefixes } => {
+            list_remote(rt, &place, prefixes.as_slice(), errors)
+        }
+        Command::Pair {
+            server,
+            client,
+            specs,
+        } => pair(
+            rt,
+            server.as_str(),
+            client.as_str(),
+            specs.as_slice(),
+            errors,
+        ),
+        Command::Serve {
+            place,
+            connections,
+            ends,
+            file,
+        } => {
+            let service = Service {
+                place: &place,
+                connections,
+                ends,
+                file: b"",
+            };
+            listen(rt, service, file.as_str(), errors)
         }
     }
 }
@@ -110,7 +143,7 @@ const REPLY_BUFFER: usize = 65_536;
 
 // What is served on standard input and standard output.
 #[derive(Drop)]
-enum Service {
+enum Served {
     // One request, with no advertisement before it.
     Request,
     // A connection.
@@ -118,7 +151,7 @@ enum Service {
 }
 
 // Serves the repository of a file.
-fn serve<R, E>(rt: &R, service: Service, file: &str, errors: &mut E) -> u8
+fn serve<R, E>(rt: &R, served: Served, file: &str, errors: &mut E) -> u8
 where
     R: Files + Input + Print + AllocGlobal,
     E: Sink,
@@ -136,28 +169,132 @@ where
     let mut input = FromRead::new(&mut stdin);
     let mut output = ToWrite::new(&mut stdout);
     let text = text.as_slice();
-    match service {
-        Service::Request => cmd_ls(alloc, text, &mut input, &mut output, errors),
-        Service::Connection(ends) => {
+    match served {
+        Served::Request => cmd_ls(alloc, text, &mut input, &mut output, errors),
+        Served::Connection(ends) => {
             cmd_upload(alloc, text, ends, &mut input, &mut output, errors)
         }
     }
 }
 
+// Serves the repository of a file to those who connect.
+fn listen<R, E>(rt: &R, service: Service<'_, Global>, file: &str, errors: &mut E) -> u8
+where
+    R: Files + Print + AllocGlobal + Net<Stream = TcpStream, Listener = TcpListener>,
+    E: Sink,
+{
+    let Ok(text) = fs::read(rt, file) else {
+        return fail(ProgramFault::File, errors);
+    };
+    let service = Service {
+        file: text.as_slice(),
+        ..service
+    };
+    let mut stdout = io::writer(rt);
+    let mut output = ToWrite::new(&mut stdout);
+    cmd_serve(rt, rt.alloc(), &service, &mut output, errors)
+}
+
+// Lists the refs of a server.
+fn list_remote<R, E>(rt: &R, place: &Place, words: &[String], errors: &mut E) -> u8
+where
+    R: Print + AllocGlobal + Net<Stream = TcpStream, Listener = TcpListener>,
+    E: Sink,
+{
+    let prefixes = match read_prefixes(rt.alloc(), words) {
+        Ok(prefixes) => prefixes,
+        Err(fault) => return fail(fault, errors),
+    };
+    let listing = Listing {
+        place,
+        prefixes: prefixes.as_slice(),
+    };
+    let mut stdout = io::writer(rt);
+    let mut output = ToWrite::new(&mut stdout);
+    cmd_ls_remote(rt, rt.alloc(), &listing, &mut output, errors)
+}
+
+// Fetches from the repository of one file into that of another, both ends in this process.
+fn pair<R, E>(rt: &R, server: &str, client: &str, words: &[String], errors: &mut E) -> u8
+where
+    R: Files + Print + AllocGlobal + Net<Stream = TcpStream, Listener = TcpListener>,
+    E: Sink,
+{
+    let specs = match read_specs(rt.alloc(), words) {
+        Ok(specs) => specs,
+        Err(fault) => return fail(fault, errors),
+    };
+    let Ok(server) = fs::read(rt, server) else {
+        return fail(ProgramFault::File, errors);
+    };
+    let Ok(client) = fs::read(rt, client) else {
+        return fail(ProgramFault::File, errors);
+    };
+    let pair = Pair {
+        server: server.as_slice(),
+        client: client.as_slice(),
+        specs: specs.as_slice(),
+    };
+    let mut stdout = io::writer(rt);
+    let mut output = ToWrite::new(&mut stdout);
+    cmd_pair(rt, rt.alloc(), &pair, &mut output, errors)
+}
+
 // Fetches into the repository of a file.
 fn fetch<R, E>(rt: &R, asked: &Fetch, errors: &mut E) -> u8
 where
-    R: Files + Input + Print + AllocGlobal,
+    R: Files + Input + Print + AllocGlobal + Net<Stream = TcpStream, Listener = TcpListener>,
     E: Sink,
 {
-    let alloc = rt.alloc();
-    let specs = match read_specs(alloc, asked.specs.as_slice()) {
+    let specs = match read_specs(rt.alloc(), asked.specs.as_slice()) {
         Ok(specs) => specs,
         Err(fault) => return fail(fault, errors),
     };
     let Ok(text) = fs::read(rt, asked.file.as_str()) else {
         return fail(ProgramFault::File, errors);
     };
+    match &asked.place {
+        Some(place) => {
+            let fetch = RemoteFetch {
+                place,
+                specs: specs.as_slice(),
+                limit: asked.limit,
+                ends: asked.ends,
+                file: text.as_slice(),
+            };
+            fetch_remote(rt, &fetch, asked.file.as_str(), errors)
+        }
+        None => fetch_stdio(rt, asked, text.as_slice(), specs.as_slice(), errors),
+    }
+}
+
+// Fetches over TCP.
+fn fetch_remote<R, E>(rt: &R, fetch: &RemoteFetch<'_, Global>, file: &str, errors: &mut E) -> u8
+where
+    R: Files + Print + AllocGlobal + Net<Stream = TcpStream, Listener = TcpListener>,
+    E: Sink,
+{
+    let mut report = VecSink::new(rt.alloc());
+    let run = cmd_fetch_remote(rt, rt.alloc(), fetch, &mut report, errors);
+    match keep(rt, file, &run, errors) {
+        Kept::Yes => {}
+        Kept::No(status) => return status,
+    }
+    let mut stdout = io::writer(rt);
+    let mut output = ToWrite::new(&mut stdout);
+    match show(report.written(), &mut output) {
+        Ok(()) => 0,
+        Err(_) => fail(ProgramFault::WriteFailed, errors),
+    }
+}
+
+// Fetches on standard input and standard output.
+fn fetch_stdio<R, E>(rt: &R, asked: &Fetch, text: &[u8], specs: &[Spec], errors: &mut E) -> u8
+where
+    R: Files + Input + Print + AllocGlobal,
+    E: Sink,
+{
+    let alloc = rt.alloc();
     let Ok(mut stdin) = BufReader::new(alloc, rt.reader()) else {
         return fail(ProgramFault::Memory, errors);
     };
@@ -169,8 +306,8 @@ where
     let mut report = VecSink::new(alloc);
     let run = cmd_fetch(
         alloc,
-        text.as_slice(),
-        specs.as_slice(),
+        text,
+        specs,
         asked.limit,
         asked.ends,
         &mut input,
@@ -178,33 +315,44 @@ where
         &mut report,
         errors,
     );
-    keep(rt, asked.file.as_str(), &run, report.written(), errors)
-}
-
-// Writes the file anew where it has a new text, and shows the report then. Of two faults only the first is printed: where
-// there was no memory for the report, that the file can't be written is not.
-fn keep<R, E>(rt: &R, file: &str, run: &FetchRun, report: &[u8], errors: &mut E) -> u8
-where
-    R: Files,
-    E: Sink,
-{
-    let Some(text) = &run.file else {
-        return run.status;
-    };
-    let is_written = fs::write(rt, file, text.as_slice()).is_ok();
-    if run.status != 0 {
-        return run.status;
+    match keep(rt, asked.file.as_str(), &run, errors) {
+        Kept::Yes => {}
+        Kept::No(status) => return status,
     }
-    if !is_written {
-        return fail(ProgramFault::File, errors);
-    }
-    match show(report, errors) {
+    match show(report.written(), errors) {
         Ok(()) => 0,
         Err(_) => 1,
     }
 }
 
-fn show<E: Sink>(report: &[u8], errors: &mut E) -> Result<(), Down> {
-    write_all(errors, report)?;
-    errors.flush()
+// Whether there is a report to be shown; else with which status the program ends.
+enum Kept {
+    Yes,
+    No(u8),
+}
+
+// Writes the file anew where it has a new text. Of two faults only the first is printed: where there was no memory for the
+// report, that the file can't be written is not.
+fn keep<R, E>(rt: &R, file: &str, run: &FetchRun, errors: &mut E) -> Kept
+where
+    R: Files,
+    E: Sink,
+{
+    let Some(text) = &run.file else {
+        return Kept::No(run.status);
+    };
+    let is_written = fs::write(rt, file, text.as_slice()).is_ok();
+    if run.status != 0 {
+        return Kept::No(run.status);
+    }
+    if is_written {
+        Kept::Yes
+    } else {
+        Kept::No(fail(ProgramFault::File, errors))
+    }
+}
+
+fn show<W: Sink>(report: &[u8], output: &mut W) -> Result<(), Down> {
+    write_all(output, report)?;
+    output.flush()
 }

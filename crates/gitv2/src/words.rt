@@ -2,11 +2,14 @@
 
 use clap::{Arg, ArgAction, ArgMatches};
 use gcmd::{Ends, PackLimit};
+use gtcp::Place;
 use std::alloc::{AllocError, Global};
 
 /// What is fetched, how, and into which file.
 #[derive(Debug, Drop)]
 pub(crate) struct Fetch {
+    /// Where from. `None` where that is what standard input and standard output lead to.
+    pub(crate) place: Option<Place>,
     pub(crate) limit: PackLimit,
     pub(crate) ends: Ends,
     pub(crate) file: String,
@@ -17,15 +20,40 @@ pub(crate) struct Fetch {
 #[derive(Debug, Drop)]
 pub(crate) enum Command {
     /// `check FILE`
-    Check { file: String },
-    /// `fetch --stdio [--limit N] [--response-end] FILE SPEC...`
+    Check {
+        file: String,
+    },
+    /// `fetch (--stdio or --tcp ADDR --path PATH) [--limit N] [--response-end] FILE SPEC...`
     Fetch(Fetch),
     /// `lines`
     Lines,
     /// `ls --stdio-server FILE`
-    LsStdioServer { file: String },
+    LsStdioServer {
+        file: String,
+    },
+    /// `ls --tcp ADDR --path PATH [PREFIX]...`
+    LsTcp {
+        place: Place,
+        prefixes: Vec<String>,
+    },
+    /// `pair SERVERFILE CLIENTFILE SPEC...`
+    Pair {
+        server: String,
+        client: String,
+        specs: Vec<String>,
+    },
+    /// `serve --listen ADDR --path PATH --connections N [--response-end] FILE`
+    Serve {
+        place: Place,
+        connections: u32,
+        ends: Ends,
+        file: String,
+    },
     /// `upload [--response-end] FILE`
-    Upload { ends: Ends, file: String },
+    Upload {
+        ends: Ends,
+        file: String,
+    },
 }
 
 /// The command that the words name, the first of which is the program's own. `None` where they name
@@ -40,6 +68,8 @@ pub(crate) fn read(alloc: Global, words: &[String]) -> Option<Command> {
         ("fetch", fetch) => fetch_command(alloc, fetch),
         ("lines", _) => Some(Command::Lines),
         ("ls", ls) => ls_command(alloc, ls),
+        ("pair", pair) => pair_command(alloc, pair),
+        ("serve", serve) => serve_command(alloc, serve),
         ("upload", upload) => upload_command(alloc, upload),
         _ => None,
     }
@@ -53,13 +83,27 @@ fn program<'a>(alloc: Global) -> Result<clap::Command<'a>, AllocError> {
     let check = clap::Command::new(alloc, "check").arg(file(alloc))?;
     let fetch = clap::Command::new(alloc, "fetch")
         .arg(flag(alloc, "stdio"))?
-        .arg(Arg::new(alloc, "limit").long("limit"))?
+        .arg(valued(alloc, "tcp"))?
+        .arg(valued(alloc, "path"))?
+        .arg(valued(alloc, "limit"))?
         .arg(flag(alloc, "response-end"))?
         .arg(file(alloc))?
         .arg(specs(alloc))?;
     let lines = clap::Command::new(alloc, "lines");
     let ls = clap::Command::new(alloc, "ls")
         .arg(flag(alloc, "stdio-server"))?
+        .arg(valued(alloc, "tcp"))?
+        .arg(valued(alloc, "path"))?
+        .arg(Arg::new(alloc, "word").num_args(0..))?;
+    let pair = clap::Command::new(alloc, "pair")
+        .arg(file(alloc))?
+        .arg(Arg::new(alloc, "client").required(true))?
+        .arg(specs(alloc))?;
+    let serve = clap::Command::new(alloc, "serve")
+        .arg(valued(alloc, "listen"))?
+        .arg(valued(alloc, "path"))?
+        .arg(valued(alloc, "connections"))?
+        .arg(flag(alloc, "response-end"))?
         .arg(file(alloc))?;
     let upload = clap::Command::new(alloc, "upload")
         .arg(flag(alloc, "response-end"))?
@@ -69,11 +113,17 @@ fn program<'a>(alloc: Global) -> Result<clap::Command<'a>, AllocError> {
         .subcommand(fetch)?
         .subcommand(lines)?
         .subcommand(ls)?
+        .subcommand(pair)?
+        .subcommand(serve)?
         .subcommand(upload)
 }
 
 fn flag<'a>(alloc: Global, name: &'static str) -> Arg<'a> {
     Arg::new(alloc, name).long(name).action(ArgAction::SetTrue)
+}
+
+fn valued<'a>(alloc: Global, name: &'static str) -> Arg<'a> {
+    Arg::new(alloc, name).long(name)
 }
 
 fn file<'a>(alloc: Global) -> Arg<'a> {
@@ -94,15 +144,39 @@ fn check_command(alloc: Global, matches: &ArgMatches<'_>) -> Option<Command> {
 }
 
 fn fetch_command(alloc: Global, matches: &ArgMatches<'_>) -> Option<Command> {
-    if !matches.get_flag("stdio") {
-        return None;
-    }
+    let place = match way_of(matches, "stdio")? {
+        Way::Stdio => None,
+        Way::Tcp => Some(place_in(alloc, matches, "tcp")?),
+    };
     Some(Command::Fetch(Fetch {
+        place,
         limit: limit_in(matches)?,
         ends: ends_in(matches),
         file: file_in(alloc, matches)?,
-        specs: specs_in(alloc, matches).ok()?,
+        specs: words_in(alloc, matches, "spec").ok()?,
     }))
+}
+
+// How a server is reached.
+#[derive(Clone, Copy)]
+enum Way {
+    Stdio,
+    Tcp,
+}
+
+// By the flag, without a place; or by a place, without the flag.
+fn way_of(matches: &ArgMatches<'_>, flag: &str) -> Option<Way> {
+    let is_named = matches.get_str("tcp").is_some() || matches.get_str("path").is_some();
+    match (matches.get_flag(flag), is_named) {
+        (true, false) => Some(Way::Stdio),
+        (false, true) => Some(Way::Tcp),
+        _ => None,
+    }
+}
+
+// The address of this option, and the path.
+fn place_in(alloc: Global, matches: &ArgMatches<'_>, option: &str) -> Option<Place> {
+    Place::new(alloc, matches.get_str(option)?, matches.get_str("path")?)
 }
 
 // The limit that is asked for, or that of a fetch where none is. `None` where it is no number, or too high.
@@ -121,14 +195,19 @@ fn number_in(text: &str) -> Option<usize> {
     text.parse::<usize>().ok()
 }
 
-fn specs_in(alloc: Global, matches: &ArgMatches<'_>) -> Result<Vec<String>, AllocError> {
-    let mut specs = Vec::new(alloc);
-    if let Some(words) = matches.get_strs("spec") {
-        for word in words {
-            specs.push(String::from_str(alloc, word)?)?;
+// The words of an argument that may have many.
+fn words_in(
+    alloc: Global,
+    matches: &ArgMatches<'_>,
+    name: &str,
+) -> Result<Vec<String>, AllocError> {
+    let mut words = Vec::new(alloc);
+    if let Some(found) = matches.get_strs(name) {
+        for word in found {
+            words.push(String::from_str(alloc, word)?)?;
         }
     }
-    Ok(specs)
+    Ok(words)
 }
 
 fn ends_in(matches: &ArgMatches<'_>) -> Ends {
@@ -140,11 +219,57 @@ fn ends_in(matches: &ArgMatches<'_>) -> Ends {
 }
 
 fn ls_command(alloc: Global, matches: &ArgMatches<'_>) -> Option<Command> {
-    if !matches.get_flag("stdio-server") {
-        return None;
+    let mut words = words_in(alloc, matches, "word").ok()?;
+    match way_of(matches, "stdio-server")? {
+        Way::Stdio if words.len() == 1 => {
+            let file = words.pop()?;
+            Some(Command::LsStdioServer { file })
+        }
+        Way::Stdio => None,
+        Way::Tcp => {
+            let place = place_in(alloc, matches, "tcp")?;
+            Some(Command::LsTcp {
+                place,
+                prefixes: words,
+            })
+        }
     }
+}
+
+fn pair_command(alloc: Global, matches: &ArgMatches<'_>) -> Option<Command> {
+    let server = file_in(alloc, matches)?;
+    let client = String::from_str(alloc, matches.get_str("client")?).ok()?;
+    let specs = words_in(alloc, matches, "spec").ok()?;
+    Some(Command::Pair {
+        server,
+        client,
+        specs,
+    })
+}
+
+// The most connections that are served.
+const MAX_CONNECTIONS: usize = 1_000_000;
+
+fn serve_command(alloc: Global, matches: &ArgMatches<'_>) -> Option<Command> {
+    let place = place_in(alloc, matches, "listen")?;
+    let connections = connections_in(matches.get_str("connections")?)?;
     let file = file_in(alloc, matches)?;
-    Some(Command::LsStdioServer { file })
+    let ends = ends_in(matches);
+    Some(Command::Serve {
+        place,
+        connections,
+        ends,
+        file,
+    })
+}
+
+fn connections_in(text: &str) -> Option<u32> {
+    let number = number_in(text)?;
+    if (1..=MAX_CONNECTIONS).contains(&number) {
+        Some(number as u32)
+    } else {
+        None
+    }
 }
 
 fn upload_command(alloc: Global, matches: &ArgMatches<'_>) -> Option<Command> {
@@ -182,6 +307,11 @@ mod tests {
             Some(Command::Lines) => Ok(Some(("lines", String::new(alloc)))),
             Some(Command::Upload { ends, file }) => Ok(Some((upload_with(ends), file))),
             Some(Command::Fetch(fetch)) => Ok(Some(("fetch", fetch.file))),
+            Some(Command::Serve { file, .. }) => Ok(Some(("serve", file))),
+            Some(Command::Pair { server, .. }) => Ok(Some(("pair", server))),
+            Some(Command::LsTcp { place, .. }) => {
+                Ok(Some(("ls --tcp", String::from_str(alloc, place.address())?)))
+            }
             None => Ok(None),
         }
     }
@@ -211,6 +341,24 @@ mod tests {
             ("gitv2 upload upload", "upload", "upload"),
             ("gitv2 lines", "lines", ""),
             ("other-name lines", "lines", ""),
+            ("gitv2 ls --tcp h:1 --path /p", "ls --tcp", "h:1"),
+            (
+                "gitv2 ls a --path / b --tcp [::1]:65535 c",
+                "ls --tcp",
+                "[::1]:65535",
+            ),
+            ("gitv2 pair a b s t", "pair", "a"),
+            (
+                "gitv2 serve --listen h:0 --path /p --connections 1 a",
+                "serve",
+                "a",
+            ),
+            (
+                "gitv2 serve a --connections=1000000 --path=/p --response-end --listen a:b:00080",
+                "serve",
+                "a",
+            ),
+            ("gitv2 fetch --tcp h:1 --path /p a s", "fetch", "a"),
         ];
         for (line, name, want) in lines {
             let (command, file) = command_in(rt.alloc(), line)?.ok_or("usage")?;
@@ -283,6 +431,36 @@ mod tests {
             "gitv2 lines --help",
             "gitv2 lines lines",
             "gitv2 lines check a",
+            "gitv2 ls --tcp h:1",
+            "gitv2 ls --path /p",
+            "gitv2 ls --stdio-server --path /p a",
+            "gitv2 ls --stdio-server --tcp h:1 --path /p a",
+            "gitv2 ls --tcp h:1 --tcp h:1 --path /p",
+            "gitv2 ls --tcp h --path /p",
+            "gitv2 ls --tcp h: --path /p",
+            "gitv2 ls --tcp :1 --path /p",
+            "gitv2 ls --tcp h:65536 --path /p",
+            "gitv2 ls --tcp h:+1 --path /p",
+            "gitv2 ls --tcp h:1 --path p",
+            "gitv2 ls --tcp h:1 --path /p --limit 5",
+            "gitv2 fetch --stdio --tcp h:1 --path /p a s",
+            "gitv2 fetch --stdio --path /p a s",
+            "gitv2 fetch --tcp h:1 a s",
+            "gitv2 fetch --tcp h:1 --path /p a",
+            "gitv2 pair",
+            "gitv2 pair a",
+            "gitv2 pair a b",
+            "gitv2 pair --stdio a b s",
+            "gitv2 serve",
+            "gitv2 serve --listen h:1 --path /p --connections 1",
+            "gitv2 serve --listen h:1 --path /p a",
+            "gitv2 serve --listen h:1 --connections 1 a",
+            "gitv2 serve --path /p --connections 1 a",
+            "gitv2 serve --listen h:1 --path /p --connections 0 a",
+            "gitv2 serve --listen h:1 --path /p --connections 1000001 a",
+            "gitv2 serve --listen h:1 --path /p --connections -1 a",
+            "gitv2 serve --listen h:1 --path /p --connections 1 a b",
+            "gitv2 serve --tcp h:1 --path /p --connections 1 a",
         ];
         for line in lines {
             assert!(rt; command_in(rt.alloc(), line)?.is_none(), "{line}");

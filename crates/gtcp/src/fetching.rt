@@ -1,0 +1,157 @@
+//! A server at the other end of a stream, as its client.
+
+ghost use Rattle.std.specs.Prelude.{◌≡◌, IfOk, OnErr};
+ghost use Rattle.ghistory.specs.Reach.{Grows};
+ghost use Rattle.grepo.specs.Repos.{IsWhole};
+ghost use Rattle.grepo.specs.Settling.{Settles};
+
+use crate::stream::{MESSAGE_BUFFER, send_at_once};
+use gclient::{FetchFault, Fetched, Repo, Spec};
+use gconnect::{fetch_git, list_git};
+use gfetchreply::PackLimit;
+use ggrammar::{Ends, MessageFault};
+use ggraph::Indexer;
+use ghello::Hello;
+use glsreply::LsReply;
+use gname::Prefix;
+use gpkt::{FromRead, ToWrite};
+use grequest::LsRefsRequest;
+use std::alloc::Allocator;
+use std::io::{BufReader, BufWriter};
+use std::net::TcpStream;
+
+/// What is fetched, and how.
+#[derive(Clone, Copy)]
+pub(crate) struct Wanted<'a, A: Allocator + Copy> {
+    pub(crate) specs: &'a [Spec<A>],
+    pub(crate) limit: PackLimit,
+    pub(crate) ends: Ends,
+}
+
+/// Fetches by refspecs from the server at the other end of the stream: writes the first line of a `git://` connection
+/// (gitprotocol-pack(5), "Git Transport"), which names the host and the path, and then does as `gclient::fetch_over`.
+///
+/// It fails with 42 at packet 0 where the host or the path is not well-formed, and with 53 or 28 where there is no memory;
+/// nothing is read or written then. Else as `fetch_over` fails: the refs are as before, and to the graph objects only came.
+pub fn fetch_on<A: Allocator + Copy, K: Indexer<A>>(
+    stream: TcpStream,
+    host: &[u8],
+    path: &[u8],
+    repo: &mut Repo<A>,
+    indexer: &K,
+    specs: &[Spec<A>],
+    limit: PackLimit,
+    ends: Ends,
+) -> Result<Fetched<A>, FetchFault<A>>
+    ensures settled { IfOk result (λ fetched. Settles repo.new.graph.entries repo.old.refs fetched.settled.asks
+        fetched.settled.updates.items repo.new.refs) }
+    ensures refs { OnErr result (repo.new.refs ≡ repo.old.refs) }
+    ensures grows { Grows repo.old.graph.entries repo.new.graph.entries }
+    ensures safe { IsWhole repo.new }
+{
+    // A look-up says that the repository is whole.
+    let _format = repo.format();
+    let hello = match Hello::new(repo.graph().allocator(), path, host) {
+        Ok(hello) => hello,
+        Err(fault) => return Err(FetchFault::from(fault)),
+    };
+    let wanted = Wanted { specs, limit, ends };
+    fetch_from(&stream, &hello, repo, indexer, &wanted)
+}
+
+/// The same, with a first line that is made.
+pub(crate) fn fetch_from<A: Allocator + Copy, K: Indexer<A>>(
+    stream: &TcpStream,
+    hello: &Hello<A>,
+    repo: &mut Repo<A>,
+    indexer: &K,
+    wanted: &Wanted<'_, A>,
+) -> Result<Fetched<A>, FetchFault<A>>
+    ensures settled { IfOk result (λ fetched. Settles repo.new.graph.entries repo.old.refs fetched.settled.asks
+        fetched.settled.updates.items repo.new.refs) }
+    ensures refs { OnErr result (repo.new.refs ≡ repo.old.refs) }
+    ensures grows { Grows repo.old.graph.entries repo.new.graph.entries }
+    ensures safe { IsWhole repo.new }
+{
+    // A look-up says that the repository is whole.
+    let _format = repo.format();
+    let alloc = repo.graph().allocator();
+    send_at_once(stream);
+    let Ok(mut reader) = BufReader::new(alloc, stream) else {
+        return Err(FetchFault::NoBuffer);
+    };
+    let Ok(mut writer) = BufWriter::with_capacity(alloc, MESSAGE_BUFFER, stream) else {
+        return Err(FetchFault::NoBuffer);
+    };
+    let mut source = FromRead::new(&mut reader);
+    let mut sink = ToWrite::new(&mut writer);
+    let (specs, limit, ends) = (wanted.specs, wanted.limit, wanted.ends);
+    fetch_git(
+        repo,
+        hello,
+        &mut source,
+        &mut sink,
+        indexer,
+        specs,
+        limit,
+        ends,
+    )
+}
+
+/// Lists the refs of the server at the other end of the stream that begin with one of the prefixes, or all where there is
+/// none, with what symbolic refs point at and tags lead to, and an unborn `HEAD` where the server offers to tell of it
+/// (gitprotocol-v2(5), "ls-refs").
+///
+/// It fails with 48 at packet 0 at a 65th prefix, with 42 at packet 0 where the host or the path is not well-formed, and
+/// with 53 or 28 where there is no memory; nothing is read or written then. Else as `gconnect::list_git` fails.
+pub fn ls_on<A: Allocator + Copy>(
+    alloc: A,
+    stream: TcpStream,
+    host: &[u8],
+    path: &[u8],
+    prefixes: &[Prefix<A>],
+) -> Result<LsReply<A>, FetchFault<A>> {
+    let asked = match request_for(alloc, prefixes) {
+        Ok(asked) => asked,
+        Err(fault) => return Err(FetchFault::from(fault)),
+    };
+    match Hello::new(alloc, path, host) {
+        Ok(hello) => ls_from(alloc, &stream, &hello, asked),
+        Err(fault) => Err(FetchFault::from(fault)),
+    }
+}
+
+/// The same, with a first line and a request that are made.
+pub(crate) fn ls_from<A: Allocator + Copy>(
+    alloc: A,
+    stream: &TcpStream,
+    hello: &Hello<A>,
+    asked: LsRefsRequest<A>,
+) -> Result<LsReply<A>, FetchFault<A>> {
+    send_at_once(stream);
+    let Ok(mut reader) = BufReader::new(alloc, stream) else {
+        return Err(FetchFault::NoBuffer);
+    };
+    let Ok(mut writer) = BufWriter::with_capacity(alloc, MESSAGE_BUFFER, stream) else {
+        return Err(FetchFault::NoBuffer);
+    };
+    let mut source = FromRead::new(&mut reader);
+    let mut sink = ToWrite::new(&mut writer);
+    list_git(hello, &mut source, &mut sink, asked, alloc)
+}
+
+/// A request for refs, with what they point at and lead to.
+///
+/// It fails with `Limit` at a 65th prefix, and where there is no memory.
+pub(crate) fn request_for<A: Allocator + Copy>(
+    alloc: A,
+    prefixes: &[Prefix<A>],
+) -> Result<LsRefsRequest<A>, MessageFault> {
+    let mut asked = LsRefsRequest::new(alloc);
+    asked.set_symrefs(true);
+    asked.set_peel(true);
+    for prefix in prefixes {
+        asked.push_prefix(prefix.as_bytes())?;
+    }
+    Ok(asked)
+}

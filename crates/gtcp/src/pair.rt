@@ -1,0 +1,285 @@
+//! Both ends of a connection in one process, turn by turn.
+
+ghost use Rattle.std.specs.Prelude.{◌≡◌, [], None, true, IfOk, IsErr};
+ghost use Rattle.grepo.specs.Settling.{Settles};
+
+use crate::message::MessageSink;
+use crate::stream::{limit_silence, send_at_once};
+use ganswer::Server;
+use gclient::{FetchFault, Fetched, Repo, Spec};
+use gcmd::ProgramFault;
+use gconnect::{fetch_git, hear};
+use gfetchreply::PackLimit;
+use ggrammar::Ends;
+use ggraph::PlainPack;
+use ghello::Hello;
+use gpkt::memory::SliceSource;
+use gpkt::{Down, FromRead, Sink, Source, ToWrite};
+use gserve::{ExchangeEnd, serve, serve_one};
+use std::alloc::Allocator;
+use std::io::BufReader;
+use std::net::{Net, SocketAddr, TcpListener, TcpStream};
+
+// What the client reads. Where it has read all that the server passed on, it is the server's turn.
+#[derive(Drop)]
+struct Answers<'a, N, F, W, A: Allocator + Copy> {
+    server: &'a Server<A>,
+    // The client's end.
+    near: N,
+    // The server's end.
+    far: F,
+    far_sink: MessageSink<W, A>,
+    has_advertised: bool,
+    // How many bytes the client has read.
+    read: usize,
+    is_down: bool,
+}
+
+impl<'a, N: Source, F: Source, W: Sink, A: Allocator + Copy> Answers<'a, N, F, W, A> {
+    // The server's turn: it hears the client's first line and advertises, or it answers one request.
+    fn take_turn(&mut self)
+        ensures { self.new.is_down ≡ self.old.is_down }
+    {
+        if self.has_advertised {
+            let _ended = self.answer_one();
+            return;
+        }
+        self.has_advertised = true;
+        if hear(&mut self.far, self.server.graph().allocator()).is_ok() {
+            self.advertise();
+        }
+    }
+
+    // A connection whose client asks for nothing gets the advertisement alone.
+    fn advertise(&mut self)
+        ensures { self.new.is_down ≡ self.old.is_down }
+    {
+        let mut nothing = SliceSource::new(b"");
+        let _served = serve(
+            self.server,
+            &PlainPack,
+            Ends::Plain,
+            &mut nothing,
+            &mut self.far_sink,
+        );
+    }
+
+    fn answer_one(&mut self) -> ExchangeEnd
+        ensures { self.new.is_down ≡ self.old.is_down }
+    {
+        serve_one(
+            self.server,
+            &PlainPack,
+            Ends::Plain,
+            &mut self.far,
+            &mut self.far_sink,
+        )
+    }
+
+    // How many bytes the server has passed on that the client has not read.
+    fn left(&self) -> usize {
+        self.far_sink.passed().saturating_sub(self.read)
+    }
+
+    fn fail<T>(&mut self) -> Result<T, Down>
+        ensures down { self.new.is_down ≡ true }
+        ensures err { IsErr result }
+    {
+        self.is_down = true;
+        Err(Down)
+    }
+}
+
+impl<N: Source, F: Source, W: Sink, A: Allocator + Copy> Source for Answers<'_, N, F, W, A> {
+    ghost use Rattle.std.specs.Coded.{coded_bool};
+
+    ghost remaining = { λ _. None };
+
+    ghost is_down = { λ s. s.is_down };
+
+    ghost loans = { λ _. [] };
+
+    fn read(&mut self, buf: &mut [u8]) -> Result<usize, Down> {
+        if self.is_down {
+            return Err(Down);
+        }
+        if self.left() == 0 {
+            self.take_turn();
+        }
+        if self.far_sink.has_failed() {
+            return self.fail();
+        }
+        let room = buf.len().min(self.left());
+        match self.near.read(&mut buf[..room]) {
+            Ok(count) => {
+                self.read = self.read.saturating_add(count);
+                Ok(count)
+            }
+            Err(_) => self.fail(),
+        }
+    }
+}
+
+// Both ends of one connection of this process.
+#[derive(Drop)]
+struct Joined {
+    near: TcpStream,
+    far: TcpStream,
+}
+
+// How many strangers may connect before the client's own connection is found.
+const MAX_STRANGERS: usize = 16;
+
+// The address at which both ends meet, at any port that is free; and the host and the path that the client names.
+const MEETING: &str = "127.0.0.1:0";
+
+const HOST: &[u8] = b"127.0.0.1";
+
+const PATH: &[u8] = b"/";
+
+fn connect<N>(net: &N) -> Option<Joined>
+where
+    N: Net<Stream = TcpStream, Listener = TcpListener>,
+{
+    let listener = TcpListener::bind(net, MEETING).ok()?;
+    let near = TcpStream::connect(net, listener.local_addr().ok()?).ok()?;
+    let far = accept_from(&listener, near.local_addr().ok()?)?;
+    Some(Joined { near, far })
+}
+
+// Accepts the connection of this peer.
+fn accept_from(listener: &TcpListener, client: SocketAddr) -> Option<TcpStream> {
+    for _ in 0..MAX_STRANGERS {
+        let (stream, peer) = listener.accept().ok()?;
+        if peer == client {
+            return Some(stream);
+        }
+    }
+    None
+}
+
+/// Fetches by refspecs from the server into the repository, over a connection of this process, with plain packs.
+///
+/// It fails with `PairLimit` where a message would have more than [`MAX_MESSAGE`](crate::MAX_MESSAGE) bytes: nothing of
+/// it is written, and both ends stop. It fails with `Socket` where there is no such connection, and with `Memory` where
+/// there is no memory for its buffers; else as `gclient::fetch_over` fails.
+pub(crate) fn fetch_in_pair<A: Allocator + Copy, N>(
+    net: &N,
+    server: &Server<A>,
+    repo: &mut Repo<A>,
+    specs: &[Spec<A>],
+) -> Result<Fetched<A>, ProgramFault<A>>
+where
+    N: Net<Stream = TcpStream, Listener = TcpListener>,
+    ensures settled { IfOk result (λ fetched. Settles repo.new.graph.entries repo.old.refs fetched.settled.asks
+        fetched.settled.updates.items repo.new.refs) }
+{
+    match connect(net) {
+        Some(ends) => fetch_between(server, repo, specs, &ends.near, &ends.far),
+        None => Err(ProgramFault::Socket),
+    }
+}
+
+// The same, over a connection with these ends.
+fn fetch_between<A: Allocator + Copy>(
+    server: &Server<A>,
+    repo: &mut Repo<A>,
+    specs: &[Spec<A>],
+    near: &TcpStream,
+    far: &TcpStream,
+) -> Result<Fetched<A>, ProgramFault<A>>
+    ensures settled { IfOk result (λ fetched. Settles repo.new.graph.entries repo.old.refs fetched.settled.asks
+        fetched.settled.updates.items repo.new.refs) }
+{
+    let alloc = repo.graph().allocator();
+    for stream in [near, far] {
+        send_at_once(stream);
+        limit_silence(stream);
+    }
+    let Ok(mut near_reader) = BufReader::new(alloc, near) else {
+        return Err(ProgramFault::Memory);
+    };
+    let Ok(mut far_reader) = BufReader::new(alloc, far) else {
+        return Err(ProgramFault::Memory);
+    };
+    let mut near_writer = near;
+    let mut far_writer = far;
+    let near_end = (
+        FromRead::new(&mut near_reader),
+        ToWrite::new(&mut near_writer),
+    );
+    let far_end = (
+        FromRead::new(&mut far_reader),
+        ToWrite::new(&mut far_writer),
+    );
+    converse(server, repo, specs, near_end, far_end)
+}
+
+// The same, over these devices of both ends.
+fn converse<A, N, V, F, W>(
+    server: &Server<A>,
+    repo: &mut Repo<A>,
+    specs: &[Spec<A>],
+    near_end: (N, V),
+    far_end: (F, W),
+) -> Result<Fetched<A>, ProgramFault<A>>
+where
+    A: Allocator + Copy,
+    N: Source + Drop,
+    V: Sink + Drop,
+    F: Source + Drop,
+    W: Sink + Drop,
+    ensures settled { IfOk result (λ fetched. Settles repo.new.graph.entries repo.old.refs fetched.settled.asks
+        fetched.settled.updates.items repo.new.refs) }
+{
+    let alloc = repo.graph().allocator();
+    let (near, near_sink) = near_end;
+    let (far, far_sink) = far_end;
+    let mut answers = Answers {
+        server,
+        near,
+        far,
+        far_sink: MessageSink::new(alloc, far_sink),
+        has_advertised: false,
+        read: 0,
+        is_down: false,
+    };
+    let mut requests = MessageSink::new(alloc, near_sink);
+    match fetch_as_client(repo, specs, &mut answers, &mut requests) {
+        Ok(fetched) => {
+            let _closed = answers.answer_one();
+            Ok(fetched)
+        }
+        Err(_) if requests.is_too_long() || answers.far_sink.is_too_long() => {
+            Err(ProgramFault::PairLimit)
+        }
+        Err(fault) => Err(ProgramFault::Fetch(fault)),
+    }
+}
+
+// The client's end.
+fn fetch_as_client<A: Allocator + Copy, S: Source, W: Sink>(
+    repo: &mut Repo<A>,
+    specs: &[Spec<A>],
+    answers: &mut S,
+    requests: &mut W,
+) -> Result<Fetched<A>, FetchFault<A>>
+    ensures settled { IfOk result (λ fetched. Settles repo.new.graph.entries repo.old.refs fetched.settled.asks
+        fetched.settled.updates.items repo.new.refs) }
+{
+    let hello = match Hello::new(repo.graph().allocator(), PATH, HOST) {
+        Ok(hello) => hello,
+        Err(fault) => return Err(FetchFault::from(fault)),
+    };
+    let limit = PackLimit::default();
+    fetch_git(
+        repo,
+        &hello,
+        answers,
+        requests,
+        &PlainPack,
+        specs,
+        limit,
+        Ends::Plain,
+    )
+}

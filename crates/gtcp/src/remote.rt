@@ -1,0 +1,295 @@
+//! The programs that open sockets, as functions over the network, bytes and sinks.
+
+use crate::fetching::{Wanted, fetch_from, ls_from, request_for};
+use crate::listing::text_of;
+use crate::pair::fetch_in_pair;
+use crate::place::Place;
+use crate::serving::serve_listener;
+use gclient::{FetchFault, Spec};
+use gcmd::{FetchRun, ProgramFault, conclude, finish, load_server, open_client, send, send_report};
+use gfetchreply::PackLimit;
+use ggrammar::Ends;
+use ggraph::PlainPack;
+use glsreply::LsReply;
+use gname::Prefix;
+use gpkt::Sink;
+use std::alloc::Allocator;
+use std::net::{Net, TcpListener, TcpStream};
+
+// ---- serving
+
+/// What is served: at which address and path, to how many connections, how replies end, and the text of the repository.
+#[derive(Clone, Copy)]
+pub struct Service<'a, A: Allocator + Copy> {
+    pub place: &'a Place<A>,
+    pub connections: u32,
+    pub ends: Ends,
+    pub file: &'a [u8],
+}
+
+/// `gitv2 serve --listen ADDR --path PATH --connections N [--response-end] FILE`: shows the port that is listened at as
+/// the line `listening PORT` on `output`, and then serves so many connections, one after the other, as
+/// [`serve_listener`] does. The fault of a connection is one line on `errors`, and so is the fault that ends the program.
+///
+/// It answers the exit status: 0 where all connections were served, whatever their faults; 1 where the file is not served,
+/// there is no such socket, the port can't be shown, or a connection can't be accepted.
+pub fn cmd_serve<A: Allocator + Copy, N, W: Sink, E: Sink>(
+    net: &N,
+    alloc: A,
+    service: &Service<'_, A>,
+    output: &mut W,
+    errors: &mut E,
+) -> u8
+where
+    N: Net<Stream = TcpStream, Listener = TcpListener>,
+{
+    let outcome = serve_all(net, alloc, service, output, errors);
+    finish(outcome, errors)
+}
+
+fn serve_all<A: Allocator + Copy, N, W: Sink, E: Sink>(
+    net: &N,
+    alloc: A,
+    service: &Service<'_, A>,
+    output: &mut W,
+    errors: &mut E,
+) -> Result<(), ProgramFault<A>>
+where
+    N: Net<Stream = TcpStream, Listener = TcpListener>,
+{
+    let server = load_server(alloc, service.file)?;
+    let Ok(listener) = TcpListener::bind(net, service.place.address()) else {
+        return Err(ProgramFault::Socket);
+    };
+    announce(alloc, &listener, output)?;
+    let path = service.place.hello().path();
+    let (connections, ends) = (service.connections, service.ends);
+    serve_listener(
+        &server,
+        &PlainPack,
+        listener,
+        path,
+        connections,
+        ends,
+        errors,
+    )
+}
+
+// Shows the port that is listened at.
+fn announce<A: Allocator + Copy, W: Sink>(
+    alloc: A,
+    listener: &TcpListener,
+    output: &mut W,
+) -> Result<(), ProgramFault<A>> {
+    match listener.local_addr() {
+        Ok(address) => show_port(alloc, address.port(), output),
+        Err(_) => Err(ProgramFault::Socket),
+    }
+}
+
+fn show_port<A: Allocator + Copy, W: Sink>(
+    alloc: A,
+    port: u16,
+    output: &mut W,
+) -> Result<(), ProgramFault<A>> {
+    match format!(in alloc; "listening {port}\n") {
+        Ok(line) => show(line.as_bytes(), output),
+        Err(_) => Err(ProgramFault::Memory),
+    }
+}
+
+fn show<A: Allocator + Copy, W: Sink>(text: &[u8], output: &mut W) -> Result<(), ProgramFault<A>> {
+    match send(text, output) {
+        Ok(()) => Ok(()),
+        Err(_) => Err(ProgramFault::WriteFailed),
+    }
+}
+
+// Connects to a server.
+fn connect<A: Allocator + Copy, N>(net: &N, place: &Place<A>) -> Result<TcpStream, ProgramFault<A>>
+where
+    N: Net<Stream = TcpStream, Listener = TcpListener>,
+{
+    match TcpStream::connect(net, place.address()) {
+        Ok(stream) => Ok(stream),
+        Err(_) => Err(ProgramFault::Socket),
+    }
+}
+
+// ---- listing
+
+/// What is listed: of the server at which place, and the refs with which prefixes, or all where there is none.
+#[derive(Clone, Copy)]
+pub struct Listing<'a, A: Allocator + Copy> {
+    pub place: &'a Place<A>,
+    pub prefixes: &'a [Prefix<A>],
+}
+
+/// `gitv2 ls --tcp ADDR --path PATH [PREFIX]...`: lists the refs of a server, a line each on `output`, as its reply has
+/// them (gitprotocol-v2(5), "ls-refs"). An unborn `HEAD` comes first, where the server tells of it. A fault is one line on
+/// `errors`.
+///
+/// It answers the exit status: 0 where the lines are written and passed on, 1 where a fault was met.
+pub fn cmd_ls_remote<A: Allocator + Copy, N, W: Sink, E: Sink>(
+    net: &N,
+    alloc: A,
+    listing: &Listing<'_, A>,
+    output: &mut W,
+    errors: &mut E,
+) -> u8
+where
+    N: Net<Stream = TcpStream, Listener = TcpListener>,
+{
+    finish(list_remote(net, alloc, listing, output), errors)
+}
+
+fn list_remote<A: Allocator + Copy, N, W: Sink>(
+    net: &N,
+    alloc: A,
+    listing: &Listing<'_, A>,
+    output: &mut W,
+) -> Result<(), ProgramFault<A>>
+where
+    N: Net<Stream = TcpStream, Listener = TcpListener>,
+{
+    let reply = ask_remote(net, alloc, listing)?;
+    show_reply(alloc, &reply, output)
+}
+
+// Asks the server.
+fn ask_remote<A: Allocator + Copy, N>(
+    net: &N,
+    alloc: A,
+    listing: &Listing<'_, A>,
+) -> Result<LsReply<A>, ProgramFault<A>>
+where
+    N: Net<Stream = TcpStream, Listener = TcpListener>,
+{
+    let asked = match request_for(alloc, listing.prefixes) {
+        Ok(asked) => asked,
+        Err(fault) => return Err(ProgramFault::Fetch(FetchFault::from(fault))),
+    };
+    let stream = connect(net, listing.place)?;
+    match ls_from(alloc, &stream, listing.place.hello(), asked) {
+        Ok(reply) => Ok(reply),
+        Err(fault) => Err(ProgramFault::Fetch(fault)),
+    }
+}
+
+fn show_reply<A: Allocator + Copy, W: Sink>(
+    alloc: A,
+    reply: &LsReply<A>,
+    output: &mut W,
+) -> Result<(), ProgramFault<A>> {
+    match text_of(alloc, reply) {
+        Ok(text) => show(text.as_slice(), output),
+        Err(_) => Err(ProgramFault::Memory),
+    }
+}
+
+// ---- fetching
+
+/// What is fetched: from the server at which place, by which refspecs, how many bytes a pack may have, how replies end,
+/// and the text of the repository that is fetched into.
+#[derive(Clone, Copy)]
+pub struct RemoteFetch<'a, A: Allocator + Copy> {
+    pub place: &'a Place<A>,
+    pub specs: &'a [Spec<A>],
+    pub limit: PackLimit,
+    pub ends: Ends,
+    pub file: &'a [u8],
+}
+
+/// `gitv2 fetch --tcp ADDR --path PATH [--limit N] [--response-end] FILE SPEC...`: fetches by refspecs from a server into
+/// the client's repository of a file, as `gcmd::cmd_fetch` does. The report goes to `report`. A fault is one line on
+/// `errors`.
+///
+/// It answers the exit status, and the new text of the file where the refs were settled: then it is to be written, and
+/// the report to be shown after it. Where the conversation failed the file stays as it is.
+pub fn cmd_fetch_remote<A: Allocator + Copy, N, R: Sink, E: Sink>(
+    net: &N,
+    alloc: A,
+    fetch: &RemoteFetch<'_, A>,
+    report: &mut R,
+    errors: &mut E,
+) -> FetchRun<A>
+where
+    N: Net<Stream = TcpStream, Listener = TcpListener>,
+{
+    let (outcome, file) = fetch_remote(net, alloc, fetch, report);
+    let status = finish(outcome, errors);
+    FetchRun { status, file }
+}
+
+// Fetches, and answers how that came out, and the new text of the file where there is one.
+fn fetch_remote<A: Allocator + Copy, N, R: Sink>(
+    net: &N,
+    alloc: A,
+    fetch: &RemoteFetch<'_, A>,
+    report: &mut R,
+) -> (Result<(), ProgramFault<A>>, Option<Vec<u8, A>>)
+where
+    N: Net<Stream = TcpStream, Listener = TcpListener>,
+{
+    let mut repo = match open_client(alloc, fetch.file) {
+        Ok(repo) => repo,
+        Err(fault) => return (Err(fault), None),
+    };
+    let stream = match connect(net, fetch.place) {
+        Ok(stream) => stream,
+        Err(fault) => return (Err(fault), None),
+    };
+    let wanted = Wanted {
+        specs: fetch.specs,
+        limit: fetch.limit,
+        ends: fetch.ends,
+    };
+    match fetch_from(&stream, fetch.place.hello(), &mut repo, &PlainPack, &wanted) {
+        Ok(fetched) => conclude(alloc, &repo, &fetched, report),
+        Err(fault) => (Err(ProgramFault::Fetch(fault)), None),
+    }
+}
+
+// ---- both ends
+
+/// Both ends of a fetch: the texts of the repository that is served and of the one that is fetched into, and the
+/// refspecs.
+#[derive(Clone, Copy)]
+pub struct Pair<'a, A: Allocator + Copy> {
+    pub server: &'a [u8],
+    pub client: &'a [u8],
+    pub specs: &'a [Spec<A>],
+}
+
+/// `gitv2 pair SERVERFILE CLIENTFILE SPEC...`: fetches by refspecs from the one repository into the other, over a
+/// connection of this process, turn by turn, and reports on `output` as `fetch` does. A message has at most
+/// [`MAX_MESSAGE`](crate::MAX_MESSAGE) bytes. No file is written. A fault is one line on `errors`.
+///
+/// It answers the exit status: 0 where the report is written and passed on, 1 where a fault was met.
+pub fn cmd_pair<A: Allocator + Copy, N, W: Sink, E: Sink>(
+    net: &N,
+    alloc: A,
+    pair: &Pair<'_, A>,
+    output: &mut W,
+    errors: &mut E,
+) -> u8
+where
+    N: Net<Stream = TcpStream, Listener = TcpListener>,
+{
+    finish(meet(net, alloc, pair, output), errors)
+}
+
+fn meet<A: Allocator + Copy, N, W: Sink>(
+    net: &N,
+    alloc: A,
+    pair: &Pair<'_, A>,
+    output: &mut W,
+) -> Result<(), ProgramFault<A>>
+where
+    N: Net<Stream = TcpStream, Listener = TcpListener>,
+{
+    let server = load_server(alloc, pair.server)?;
+    let mut repo = open_client(alloc, pair.client)?;
+    let fetched = fetch_in_pair(net, &server, &mut repo, pair.specs)?;
+    send_report(alloc, &fetched, output)
+}

@@ -1,0 +1,160 @@
+//! A repository served to those who connect.
+
+use crate::stream::{MESSAGE_BUFFER, drop_unread, limit_silence, send_at_once};
+use ganswer::Server;
+use gcmd::{ProgramFault, cmd_failed};
+use gconnect::{GitEnd, serve_git};
+use ggrammar::Ends;
+use ggraph::Packer;
+use gpkt::{FromRead, Sink, Source, ToWrite};
+use gserve::End;
+use std::alloc::Allocator;
+use std::io::{BufReader, BufWriter, Read, Write};
+use std::net::{TcpListener, TcpStream};
+
+// A repository, and the path at which it is served.
+#[derive(Drop)]
+struct Service<'a, K, A: Allocator + Copy> {
+    server: &'a Server<A>,
+    packer: &'a K,
+    path: &'a [u8],
+    ends: Ends,
+}
+
+/// Serves so many connections, one after the other, each from its first line on (gitprotocol-pack(5), "Git Transport").
+/// The fault of one is one line on `errors`, and the next is served all the same. A peer that says nothing, or takes
+/// nothing, for [`MAX_SILENCE`](crate::MAX_SILENCE) seconds has failed. Where there is no memory for a buffer a connection
+/// is served without one.
+///
+/// It fails with `Socket` where a connection can't be accepted, and serves none from then on.
+pub fn serve_listener<A: Allocator + Copy, K: Packer<A>, E: Sink>(
+    server: &Server<A>,
+    packer: &K,
+    listener: TcpListener,
+    path: &[u8],
+    connections: u32,
+    ends: Ends,
+    errors: &mut E,
+) -> Result<(), ProgramFault<A>> {
+    let service = Service {
+        server,
+        packer,
+        path,
+        ends,
+    };
+    serve_each(&service, &listener, connections, errors)
+}
+
+// Serves so many connections.
+fn serve_each<A: Allocator + Copy, K: Packer<A>, E: Sink>(
+    service: &Service<'_, K, A>,
+    listener: &TcpListener,
+    connections: u32,
+    errors: &mut E,
+) -> Result<(), ProgramFault<A>> {
+    for _ in 0..connections {
+        match listener.accept() {
+            Ok((stream, _)) => tell(serve_stream(service, &stream), errors),
+            Err(_) => return Err(ProgramFault::Socket),
+        }
+    }
+    Ok(())
+}
+
+// Prints the fault of a connection, if it had one.
+fn tell<A: Allocator + Copy, E: Sink>(outcome: Result<(), ProgramFault<A>>, errors: &mut E) {
+    if let Err(fault) = outcome {
+        let _ = cmd_failed(fault, errors);
+    }
+}
+
+// Serves one connection.
+fn serve_stream<A: Allocator + Copy, K: Packer<A>>(
+    service: &Service<'_, K, A>,
+    stream: &TcpStream,
+) -> Result<(), ProgramFault<A>> {
+    send_at_once(stream);
+    limit_silence(stream);
+    let ended = serve_buffered(service, stream);
+    drop_unread(stream);
+    outcome_of(ended)
+}
+
+// Serves it through buffers, where there is memory for them.
+fn serve_buffered<A: Allocator + Copy, K: Packer<A>>(
+    service: &Service<'_, K, A>,
+    stream: &TcpStream,
+) -> GitEnd {
+    match BufReader::new(service.server.graph().allocator(), stream) {
+        Ok(mut reader) => serve_from(service, &mut reader, stream),
+        Err(_) => {
+            let mut reader = stream;
+            serve_from(service, &mut reader, stream)
+        }
+    }
+}
+
+// Serves it from a reader.
+fn serve_from<A: Allocator + Copy, K: Packer<A>, R: Read>(
+    service: &Service<'_, K, A>,
+    reader: &mut R,
+    stream: &TcpStream,
+) -> GitEnd {
+    let alloc = service.server.graph().allocator();
+    match BufWriter::with_capacity(alloc, MESSAGE_BUFFER, stream) {
+        Ok(mut writer) => {
+            let ended = serve_between(service, reader, &mut writer);
+            // What could not be written is not tried again.
+            let (_stream, _unwritten) = writer.into_parts();
+            ended
+        }
+        Err(_) => {
+            let mut writer = stream;
+            serve_between(service, reader, &mut writer)
+        }
+    }
+}
+
+// Serves it between a reader and a writer.
+fn serve_between<A: Allocator + Copy, K: Packer<A>, R: Read, W: Write>(
+    service: &Service<'_, K, A>,
+    reader: &mut R,
+    writer: &mut W,
+) -> GitEnd {
+    let mut source = FromRead::new(reader);
+    let mut sink = ToWrite::new(writer);
+    serve_devices(service, &mut source, &mut sink)
+}
+
+fn serve_devices<A: Allocator + Copy, K: Packer<A>, S: Source, W: Sink>(
+    service: &Service<'_, K, A>,
+    source: &mut S,
+    sink: &mut W,
+) -> GitEnd {
+    serve_git(
+        service.server,
+        service.packer,
+        service.path,
+        service.ends,
+        source,
+        sink,
+    )
+}
+
+// How a connection came out. That its client asked for another path is no fault of it.
+fn outcome_of<A: Allocator + Copy>(ended: GitEnd) -> Result<(), ProgramFault<A>> {
+    match ended {
+        GitEnd::Served(served) => outcome_of_end(served.end),
+        GitEnd::Elsewhere => Ok(()),
+        GitEnd::Refused(fault) => Err(ProgramFault::Request(fault)),
+        GitEnd::WriteFailed => Err(ProgramFault::WriteFailed),
+    }
+}
+
+fn outcome_of_end<A: Allocator + Copy>(ended: End) -> Result<(), ProgramFault<A>> {
+    match ended {
+        End::Closed | End::Ended => Ok(()),
+        End::Refused(fault) => Err(ProgramFault::Request(fault)),
+        End::WriteFailed => Err(ProgramFault::WriteFailed),
+    }
+}

@@ -1,0 +1,44 @@
+//! What is set and done at a stream of TCP, whoever speaks on it.
+
+use std::io::Read;
+use std::net::TcpStream;
+use std::time::Duration;
+
+/// The bytes of a message that go out in one write.
+pub(crate) const MESSAGE_BUFFER: usize = 65_536;
+
+/// How many seconds a peer of the server may say nothing, or take nothing.
+pub const MAX_SILENCE: u64 = 60;
+
+// The bytes of one read, and the most reads, of input that nobody wants.
+const DROPPED_BYTES: usize = 4_096;
+
+const MAX_DROPS: usize = 1_024;
+
+/// Sends each message at once, without waiting for the next.
+pub(crate) fn send_at_once(stream: &TcpStream) {
+    let _ = stream.set_nodelay(true);
+}
+
+/// Lets a read and a write fail where the peer says nothing, or takes nothing, for so long.
+pub(crate) fn limit_silence(stream: &TcpStream) {
+    let limit = Duration::from_secs(MAX_SILENCE);
+    let _ = stream.set_read_timeout(Some(limit));
+    let _ = stream.set_write_timeout(Some(limit));
+}
+
+/// Drops what has come and was not read, and waits for nothing. A socket that is closed over such input resets the
+/// connection, and the peer might then lose the last message.
+pub(crate) fn drop_unread(stream: &TcpStream) {
+    let mut dropped = [0; DROPPED_BYTES];
+    let mut reader = stream;
+    if stream.set_nonblocking(true).is_err() {
+        return;
+    }
+    for _ in 0..MAX_DROPS {
+        match reader.read(&mut dropped) {
+            Ok(0) | Err(_) => return,
+            Ok(_) => {}
+        }
+    }
+}
