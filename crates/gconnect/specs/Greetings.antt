@@ -1,0 +1,40 @@
+-- The first line of a `git://` connection, as the client writes it (gitprotocol-pack(5), "Git Transport").
+use Rattle.std.specs.Prelude.{◌≡◌, false, List, Option, ℕ}
+use Rattle.gpkt.specs.Packets.{canonical_all}
+use Rattle.gpkt.specs.Sending.{Input, Output, IsUnread, Passes}
+use Rattle.ghello.specs.Hello.{Hello, canonical_hello}
+use Rattle.gclient.specs.Conversations.{FailsToSend}
+
+-- its bytes
+abbrev pub hello_bytes : Hello → List ℕ
+hello_bytes hello = canonical_all (canonical_hello hello)
+
+-- the output up to a place, with the sink well there
+abbrev pub head_of : Output → Option (List ℕ) → Option (List ℕ) → Output
+head_of output written passed = record {
+  written = record { old = output.written.old; new = written };
+  passed_on = record { old = output.passed_on.old; new = passed };
+  was_down = output.was_down;
+  is_down = false;
+}
+
+-- the output from there on
+abbrev pub tail_of : Output → Option (List ℕ) → Option (List ℕ) → Output
+tail_of output written passed = record {
+  written = record { old = written; new = output.written.new };
+  passed_on = record { old = passed; new = output.passed_on.new };
+  was_down = false;
+  is_down = output.is_down;
+}
+
+-- the first line is passed on, and then this holds of the rest of the output
+pub record HasGreeted (hello : Hello) (output : Output) (Rest : Output → Type 0) : Type 0 where
+  pub written : Option (List ℕ)
+  pub passed : Option (List ℕ)
+  pub greets : Passes (head_of output written passed) (hello_bytes hello)
+  pub rest : Rest (tail_of output written passed)
+
+-- the sink failed as it was to be sent, and nothing is read
+pub record CannotGreet (hello : Hello) (input : Input) (output : Output) : Type 0 where
+  pub fails : FailsToSend output (hello_bytes hello)
+  pub unread : IsUnread input

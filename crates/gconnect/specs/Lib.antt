@@ -1,0 +1,7 @@
+pub mod Greetings
+pub mod GitConnections
+pub mod GitFetches
+pub mod Listings
+pub use Rattle.gpkt.specs.Sending
+pub use Rattle.gserve.specs.Conversations
+pub use Rattle.gclient.specs.Conversations

@@ -1,0 +1,57 @@
+//! A client's conversation, from its first line on.
+
+ghost use Rattle.std.specs.Prelude.{◌≡◌, ◌≤◌, ◌+◌, ℕ, IfOk, OnErr};
+ghost use Rattle.gpkt.specs.Sending.{input_of, output_of};
+ghost use Rattle.ghistory.specs.Reach.{Grows};
+ghost use Rattle.ghistory.specs.Walks.{CountsReached};
+ghost use Rattle.grepo.specs.Repos.{IsWhole};
+ghost use Rattle.grepo.specs.Settling.{Settles};
+ghost use Rattle.gsession.specs.Sessions.{tips_of};
+ghost use Rattle.gclient.specs.Conversations.{start_of};
+ghost use Rattle.gconnect.specs.GitFetches.{FetchesGit};
+
+use crate::greeting::greet;
+use gclient::{FetchFault, Fetched, Repo, Spec, fetch_over};
+use gfetchreply::PackLimit;
+use ggrammar::Ends;
+use ggraph::Indexer;
+use ghello::Hello;
+use gpkt::{Sink, Source};
+use std::alloc::Allocator;
+
+/// Fetches by refspecs from a server (gitprotocol-pack(5), "Git Transport"): writes the first line, which names the path
+/// that is asked for, passes it on, and goes on as [`fetch_over`].
+///
+/// It fails with 27 where the first line can't be sent: then nothing is read, and the repository is as it was. Else it
+/// fails as `fetch_over` does. After every fault the refs are as before, and to the graph objects only came.
+pub fn fetch_git<S: Source, W: Sink, A: Allocator + Copy, K: Indexer<A>>(
+    repo: &mut Repo<A>,
+    hello: &Hello<A>,
+    source: &mut S,
+    sink: &mut W,
+    indexer: &K,
+    specs: &[Spec<A>],
+    limit: PackLimit,
+    ends: Ends,
+) -> Result<Fetched<A>, FetchFault<A>>
+    ensures fetches { FetchesGit (K.indexes indexer.now) (K.index_fails indexer.now)
+        (start_of repo.old specs.now limit ends) hello.now
+        (input_of S.remaining S.is_down source.old source.new)
+        (output_of W.contents W.passed_on W.is_down sink.old sink.new) repo.new result }
+    ensures settled { IfOk result (λ fetched. Settles repo.new.graph.entries repo.old.refs fetched.settled.asks
+        fetched.settled.updates.items repo.new.refs) }
+    ensures refs { OnErr result (repo.new.refs ≡ repo.old.refs) }
+    ensures grows { Grows repo.old.graph.entries repo.new.graph.entries }
+    ensures safe { IsWhole repo.new }
+    ensures bound { IfOk result (λ fetched. (held parents : ℕ)
+        → CountsReached repo.old.graph.entries (tips_of repo.old) held parents → fetched.requests ≤ held + 1) }
+    ensures source_loans { S.loans source.new ≡ S.loans source.old }
+    ensures sink_loans { W.loans sink.new ≡ W.loans sink.old }
+{
+    // A look-up says that the repository is whole.
+    let _format = repo.format();
+    match greet(hello, sink) {
+        Ok(()) => fetch_over(repo, source, sink, indexer, specs, limit, ends),
+        Err(_) => Err(FetchFault::WriteFailed),
+    }
+}

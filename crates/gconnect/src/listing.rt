@@ -1,0 +1,108 @@
+//! Listing the refs of a server, from the first line on.
+
+ghost use Rattle.std.specs.Prelude.{◌≡◌, false, MatchResult, None, Some};
+ghost use Rattle.gname.specs.declared.formats.Format.{Format};
+ghost use Rattle.gpkt.specs.Sending.{input_of, output_of};
+ghost use Rattle.ghello.specs.Offers.{check_fault};
+ghost use Rattle.gconnect.specs.Listings.{Lists, ListsGit};
+
+use crate::greeting::greet;
+use crate::request_line::send_request;
+use gclient::FetchFault;
+use ggrammar::{Ends, MessageFault};
+use ghello::{Advert, Hello, read_advert};
+use glsreply::{LsReply, read_ls_reply_in};
+use gname::Format;
+use gpkt::laws::reads_join;
+use gpkt::{LineBuffer, LineReader, LineWriter, Sink, Source};
+use grequest::{LsRefsRequest, Request};
+use std::alloc::Allocator;
+
+/// Lists the refs of a server (gitprotocol-pack(5), "Git Transport"; gitprotocol-v2(5), "ls-refs"): writes the first line,
+/// reads the advertisement, asks for refs, reads the reply, and ends the conversation with a lone flush. What is written is
+/// passed on each time before anything is read, and nothing after the reply is read.
+///
+/// The ids are of the format that the advertisement names, and an unborn `HEAD` is asked for exactly where the server
+/// offers to tell of it, whatever the request says.
+///
+/// It fails with 28 where there is no memory for the buffer of a reader, and nothing is read; with 20 to 25, 41, 42, 48,
+/// 49, 53 and 54 where the advertisement is refused, and these, 46 and 47 where the reply is; with 43 or 52 where a client
+/// can't go on with the server; and with 27 where the sink fails, and a beginning of what was due stands then.
+pub fn list_git<S: Source, W: Sink, A: Allocator + Copy>(
+    hello: &Hello<A>,
+    source: &mut S,
+    sink: &mut W,
+    asked: LsRefsRequest<A>,
+    alloc: A,
+) -> Result<LsReply<A>, FetchFault<A>>
+    ensures lists { ListsGit asked hello.now
+        (input_of S.remaining S.is_down source.old source.new)
+        (output_of W.contents W.passed_on W.is_down sink.old sink.new) result }
+    ensures source_loans { S.loans source.new ≡ S.loans source.old }
+    ensures sink_loans { W.loans sink.new ≡ W.loans sink.old }
+{
+    match greet(hello, sink) {
+        Ok(()) => list_over(source, sink, asked, alloc),
+        Err(_) => Err(FetchFault::WriteFailed),
+    }
+}
+
+/// Lists the refs of a server as [`list_git`] does, with no first line.
+pub fn list_over<S: Source, W: Sink, A: Allocator + Copy>(
+    source: &mut S,
+    sink: &mut W,
+    asked: LsRefsRequest<A>,
+    alloc: A,
+) -> Result<LsReply<A>, FetchFault<A>>
+    ensures lists { Lists asked
+        (input_of S.remaining S.is_down source.old source.new)
+        (output_of W.contents W.passed_on W.is_down sink.old sink.new) result }
+    ensures source_loans { S.loans source.new ≡ S.loans source.old }
+    ensures sink_loans { W.loans sink.new ≡ W.loans sink.old }
+{
+    let buffer = match LineBuffer::new(alloc) {
+        Ok(buffer) => buffer,
+        Err(_) => return Err(FetchFault::NoBuffer),
+    };
+    let mut reader = LineReader::with_buffer(buffer, source);
+    let mut writer = LineWriter::new(sink);
+    let listed = list(&mut reader, &mut writer, asked, alloc);
+    let _source = reader.into_inner();
+    let _sink = writer.into_inner();
+    listed
+}
+
+// Hears the server, asks for refs, and ends the conversation after the reply.
+fn list<S: Source, W: Sink, A: Allocator + Copy>(
+    reader: &mut LineReader<S, A>,
+    writer: &mut LineWriter<W>,
+    mut asked: LsRefsRequest<A>,
+    alloc: A,
+) -> Result<LsReply<A>, FetchFault<A>>
+    requires reader { reader.old.failed ≡ false }
+    requires writer { writer.old.failed ≡ false }
+    ensures lists { Lists asked
+        (input_of S.remaining S.is_down reader.old.source reader.new.source)
+        (output_of W.contents W.passed_on W.is_down writer.old.sink writer.new.sink) result }
+    ensures source_loans { S.loans reader.new.source ≡ S.loans reader.old.source }
+    ensures sink_loans { W.loans writer.new.sink ≡ W.loans writer.old.sink }
+{
+    reads_join();
+    let advert = read_advert(reader, alloc)?;
+    let format = format_in(&advert)?;
+    asked.set_unborn(advert.has_feature(b"ls-refs", b"unborn"));
+    send_request(&Request::Ls(asked), format, writer)?;
+    let reply = read_ls_reply_in(reader, format, Ends::Plain, alloc)?;
+    send_request(&Request::<A>::Empty, format, writer)?;
+    Ok(reply)
+}
+
+// The format of the server's ids, where a client can go on with the server.
+fn format_in<A: Allocator + Copy>(advert: &Advert<A>) -> Result<Format, MessageFault>
+    ensures { MatchResult result (λ format. check_fault format advert.now ≡ None)
+        (λ fault. ((format : Format) → check_fault format advert.now ≡ Some fault.why) × (fault.frame ≡ 0)) }
+{
+    let format = advert.format().unwrap_or(Format::Sha1);
+    advert.check_in(format)?;
+    Ok(format)
+}

@@ -1,0 +1,33 @@
+//! A request that is written and passed on.
+
+ghost use Rattle.std.specs.Prelude.{◌≡◌, false, OnOk};
+ghost use Rattle.gpkt.specs.Sending.{output_of};
+ghost use Rattle.grequest.specs.RequestValues.{IsOfFormat, asked_by_request};
+ghost use Rattle.gclient.specs.Conversations.{request_bytes};
+ghost use Rattle.gclient.specs.Steps.{HasPassed};
+
+use gname::Format;
+use gpkt::laws::writes_join;
+use gpkt::{LineWriter, Sink, WriteFault};
+use grequest::{Request, write_request};
+use std::alloc::Allocator;
+
+/// Writes a request, and passes it on. It leaves the writer well, or its sink is down.
+pub(crate) fn send_request<W: Sink, A: Allocator + Copy>(
+    request: &Request<A>,
+    format: Format,
+    writer: &mut LineWriter<W>,
+) -> Result<(), WriteFault>
+    requires well { writer.old.failed ≡ false }
+    requires ids { IsOfFormat format request.now }
+    ensures sent { HasPassed (output_of W.contents W.passed_on W.is_down writer.old.sink writer.new.sink) result
+        (request_bytes format (asked_by_request request.now)) }
+    ensures goes_on { OnOk result (writer.new.failed ≡ false) }
+    ensures loans { W.loans writer.new.sink ≡ W.loans writer.old.sink }
+{
+    writes_join::<W>();
+    match write_request(request, format, writer) {
+        Ok(()) => writer.push(),
+        Err(fault) => Err(fault),
+    }
+}
