@@ -71,7 +71,7 @@ pub use crate::fault::ProgramFault;
 pub use crate::fetch::{FetchRun, cmd_fetch, conclude, send_report};
 pub use crate::lines::cmd_lines;
 pub use crate::ls::cmd_ls;
-pub use crate::program::{cmd_failed, finish};
+pub use crate::program::{cmd_failed, finish, print_fault};
 pub use crate::repository::load_server;
 pub use crate::send::send;
 pub use crate::upload::cmd_upload;

@@ -1,12 +1,14 @@
 //! How programs end.
 
 ghost use Rattle.std.specs.Prelude.{◌≡◌, Err};
+ghost use Rattle.gcmd.specs.Outputs.{IsSent};
+ghost use Rattle.gcmd.specs.Printing.{fault_line};
 ghost use Rattle.gcmd.specs.Programs.{ExitsWith};
 ghost use Rattle.gpkt.specs.Sending.{output_of};
 
 use crate::fault::ProgramFault;
 use crate::print::FaultLine;
-use gpkt::Sink;
+use gpkt::{Down, Sink};
 use std::alloc::Allocator;
 
 /// Prints the fault as one line on `errors`, passes it on, and answers the exit status, which is 1. Where
@@ -16,8 +18,20 @@ pub fn cmd_failed<A: Allocator + Copy, E: Sink>(fault: ProgramFault<A>, errors: 
         (output_of E.contents E.passed_on E.is_down errors.old errors.new) result }
     ensures loans { E.loans errors.new ≡ E.loans errors.old }
 {
-    let _ = FaultLine::of(&fault).print(errors);
+    let _ = print_fault(&fault, errors);
     1
+}
+
+/// Prints the fault as one line on `errors`, and passes it on. At an error a beginning of the line stands printed, and
+/// the sink is down.
+pub fn print_fault<A: Allocator + Copy, E: Sink>(
+    fault: &ProgramFault<A>,
+    errors: &mut E,
+) -> Result<(), Down>
+    ensures printed { IsSent (output_of E.contents E.passed_on E.is_down errors.old errors.new) result (fault_line fault.now) }
+    ensures loans { E.loans errors.new ≡ E.loans errors.old }
+{
+    FaultLine::of(fault).print(errors)
 }
 
 /// Ends a program as its work came out: prints the fault that was met, if one was. It answers the exit status.

@@ -1,0 +1,4 @@
+pub mod Telling
+pub mod Listing
+pub mod Messages
+pub mod Remote

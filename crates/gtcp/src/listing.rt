@@ -1,7 +1,13 @@
 //! Refs as they are listed, and prefixes of words.
 
+ghost use Rattle.std.specs.Prelude.{◌≡◌, ◌<◌, ◌++◌, IfOk, OnOk, Some, length, slice_get};
+ghost use Rattle.std.specs.List.{flat_map};
+ghost use Rattle.std.specs.Option.{option_copied};
+ghost use Rattle.glsreply.specs.RefTexts as texts;
+ghost use Rattle.gtcp.specs.Listing.{ref_line, reply_lines, unborn_line};
+
 use gcmd::ProgramFault;
-use glsreply::{LsReply, RefText};
+use glsreply::{LsReply, RefLine, RefText};
 use gname::{NameFault, Prefix, RefName};
 use std::alloc::{AllocError, Allocator};
 
@@ -36,19 +42,34 @@ fn keep<A: Allocator + Copy>(
 pub(crate) fn text_of<A: Allocator + Copy>(
     alloc: A,
     reply: &LsReply<A>,
-) -> Result<Vec<u8, A>, AllocError> {
+) -> Result<Vec<u8, A>, AllocError>
+    ensures { IfOk result (λ text. text.items ≡ reply_lines reply.now) }
+{
     let mut text = Vec::new(alloc);
-    if let Some(target) = reply.unborn() {
-        put_unborn(&mut text, target)?;
-    }
+    put_unborn(&mut text, reply.unborn())?;
     put_refs(&mut text, reply)?;
     Ok(text)
 }
 
+// Where an unborn HEAD points.
 fn put_unborn<A: Allocator + Copy>(
     text: &mut Vec<u8, A>,
+    target: Option<&RefName<A>>,
+) -> Result<(), AllocError>
+    ensures { OnOk result (text.new.items ≡ text.old.items ++ unborn_line (option_copied target.entry)) }
+{
+    match target {
+        Some(target) => put_target(text, target),
+        None => Ok(()),
+    }
+}
+
+fn put_target<A: Allocator + Copy>(
+    text: &mut Vec<u8, A>,
     target: &RefName<A>,
-) -> Result<(), AllocError> {
+) -> Result<(), AllocError>
+    ensures { OnOk result (text.new.items ≡ text.old.items ++ unborn_line (Some target.now)) }
+{
     text.extend_from_slice(b"unborn HEAD symref-target:")?;
     text.extend_from_slice(target.as_bytes())?;
     text.extend_from_slice(b"\n")
@@ -58,7 +79,9 @@ fn put_unborn<A: Allocator + Copy>(
 fn put_refs<A: Allocator + Copy>(
     text: &mut Vec<u8, A>,
     reply: &LsReply<A>,
-) -> Result<(), AllocError> {
+) -> Result<(), AllocError>
+    ensures { OnOk result (text.new.items ≡ text.old.items ++ flat_map ref_line reply.now.lines) }
+{
     for place in 0..reply.len() {
         put_ref(text, reply, place)?;
     }
@@ -70,10 +93,20 @@ fn put_ref<A: Allocator + Copy>(
     text: &mut Vec<u8, A>,
     reply: &LsReply<A>,
     place: usize,
-) -> Result<(), AllocError> {
-    let Some(line) = reply.at(place) else {
-        return Ok(());
-    };
+) -> Result<(), AllocError>
+    requires { place < length reply.now.lines }
+    ensures { OnOk result ((line : texts.RefLine) × (slice_get reply.now.lines place ≡ Some line)
+        × (text.new.items ≡ text.old.items ++ ref_line line)) }
+{
+    match reply.at(place) {
+        Some(line) => put_line(text, line),
+        None => unreachable!(),
+    }
+}
+
+fn put_line<A: Allocator + Copy>(text: &mut Vec<u8, A>, line: &RefLine<A>) -> Result<(), AllocError>
+    ensures { OnOk result (text.new.items ≡ text.old.items ++ ref_line line.now) }
+{
     let mut shown = RefText::new();
     shown.set(&line.lend());
     text.extend_from_slice(shown.as_bytes())?;

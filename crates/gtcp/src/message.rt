@@ -1,55 +1,111 @@
 //! Messages held back until they are whole.
 
-ghost use Rattle.std.specs.Prelude.{◌≡◌, [], None, true, IsErr};
+ghost use Rattle.std.specs.Prelude.{◌≡◌, ◌≤◌, ◌<◌, ◌+◌, ◌++◌, ◌||◌, [], false, true, length, take, drop, nat_lt, IsErr, IsOk, OnErr, OnOk};
+ghost use Rattle.std.specs.Io.KnownBytes.{Appends, Keeps, append_known};
+ghost use Rattle.gtcp.specs.Messages.{max_message};
 
-use gpkt::{Down, Sink, write_all};
+use gpkt::{Down, Sink};
 use std::alloc::{Allocator, Global};
+use std::marker::Model;
 
 /// The most bytes of a message between both ends of a pair: so many find room in a connection that nobody reads
 /// meanwhile.
 pub const MAX_MESSAGE: usize = 32_768;
 
-/// A sink that holds a message back until it is passed on by a flush, and is down from a message on that is too long, of
-/// which nothing is written. The sink inside is well until it fails itself.
+/// A sink that holds a message back until a flush passes it on, and goes down at a message that is too long, of which
+/// nothing is written to the sink inside.
 #[derive(Drop)]
 pub struct MessageSink<W, A: Allocator + Copy = Global> {
     sink: W,
     held: Vec<u8, A>,
-    // How many bytes were passed on.
-    passed: usize,
+    // How many bytes were written to the sink inside.
+    written: usize,
     is_too_long: bool,
     is_down: bool,
 }
 
+impl<W, A: Allocator + Copy> Model for MessageSink<W, A> {
+    ghost use Rattle.std.specs.Prelude.{◌≤◌, length};
+    ghost use Rattle.gtcp.specs.Messages.{Holding, holding_code, max_message};
+
+    ghost Value = { Holding W };
+
+    ghost coded = { holding_code W.code };
+
+    ghost view = { λ s. record {
+      inner = s.sink;
+      held = s.held.items;
+      written = s.written;
+      too_long = s.is_too_long;
+      down = s.is_down;
+    } };
+
+    ghost invariant = { λ s. length s.held.items ≤ max_message };
+}
+
 impl<W, A: Allocator + Copy> MessageSink<W, A> {
-    /// A sink that holds nothing, over one that is not down. It takes no memory yet.
-    pub fn new(alloc: A, sink: W) -> MessageSink<W, A> {
+    /// A sink that holds nothing. It takes no memory yet.
+    pub fn new(alloc: A, sink: W) -> MessageSink<W, A>
+        ensures { result ≡ record { inner = sink; held = []; written = 0; too_long = false; down = false } }
+    {
         MessageSink {
             sink,
             held: Vec::new(alloc),
-            passed: 0,
+            written: 0,
             is_too_long: false,
             is_down: false,
         }
     }
 
-    /// How many bytes were passed on; at most as many as a `usize` can count.
-    pub fn passed(&self) -> usize {
-        self.passed
+    /// How many bytes were written to the sink inside; at most as many as a `usize` can count.
+    pub fn bytes_written(&self) -> usize
+        ensures { result ≡ self.now.written }
+    {
+        self.written
     }
 
     /// Whether a message was too long.
-    pub fn is_too_long(&self) -> bool {
+    pub fn is_too_long(&self) -> bool
+        ensures { result ≡ self.now.too_long }
+    {
         self.is_too_long
     }
 
     /// Whether it has failed.
-    pub fn has_failed(&self) -> bool {
+    pub fn has_failed(&self) -> bool
+        ensures { result ≡ self.now.down }
+    {
         self.is_down
     }
 
+    /// Holds more bytes of a message, and writes nothing.
+    ///
+    /// It fails where the message would have more than [`MAX_MESSAGE`] bytes with them, and where there is no memory; what
+    /// is held stays so then, and it is down.
+    pub fn hold(&mut self, bytes: &[u8]) -> Result<(), Down>
+        requires { self.old.down ≡ false }
+        ensures inner { self.new.inner ≡ self.old.inner }
+        ensures held { OnOk result (self.new.held ≡ self.old.held ++ bytes.now) }
+        ensures kept { OnErr result (self.new.held ≡ self.old.held) }
+        ensures fits { OnOk result (length (self.old.held ++ bytes.now) ≤ max_message) }
+        ensures too_long { self.new.too_long ≡ (nat_lt max_message (length self.old.held + length bytes.now) || self.old.too_long) }
+        ensures written { self.new.written ≡ self.old.written }
+        ensures down { OnErr result (self.new.down ≡ true) }
+        ensures up { OnOk result (self.new.down ≡ false) }
+    {
+        if bytes.len() > MAX_MESSAGE - self.held.len() {
+            self.is_too_long = true;
+            return self.fail();
+        }
+        match self.held.extend_from_slice(bytes) {
+            Ok(()) => Ok(()),
+            Err(_) => self.fail(),
+        }
+    }
+
+    // Notes that it has failed, and answers so.
     fn fail<T>(&mut self) -> Result<T, Down>
-        ensures down { self.new.is_down ≡ true }
+        ensures same { self.new ≡ record self.old { down = true } }
         ensures err { IsErr result }
     {
         self.is_down = true;
@@ -57,37 +113,74 @@ impl<W, A: Allocator + Copy> MessageSink<W, A> {
     }
 }
 
+impl<W: Sink, A: Allocator + Copy> MessageSink<W, A> {
+    // Writes what is held to the sink inside. At an error the rest is held still.
+    fn write_held(&mut self) -> Result<(), Down>
+        ensures bytes { Keeps (append_known (W.contents self.old.inner) self.old.held)
+            (append_known (W.contents self.new.inner) self.new.held) }
+        ensures passed_on { Keeps (W.passed_on self.old.inner) (W.passed_on self.new.inner) }
+        ensures all { OnOk result (self.new.held ≡ []) }
+        ensures down { self.new.down ≡ self.old.down }
+        ensures loans { W.loans self.new.inner ≡ W.loans self.old.inner }
+    {
+        let (count, sent) = write_front(self.held.as_slice(), &mut self.sink);
+        remove_front(&mut self.held, count);
+        self.written = self.written.saturating_add(count);
+        sent
+    }
+}
+
+// Writes bytes from the front, and answers how many: all of them, unless the sink failed.
+fn write_front<W: Sink>(bytes: &[u8], sink: &mut W) -> (usize, Result<(), Down>)
+    ensures bound { result.0 ≤ length bytes.now }
+    ensures all { OnOk result.1 (result.0 ≡ length bytes.now) }
+    ensures bytes { Appends (W.contents sink.old) (W.contents sink.new) (take result.0 bytes.now) }
+    ensures passed_on { Keeps (W.passed_on sink.old) (W.passed_on sink.new) }
+    ensures loans { W.loans sink.new ≡ W.loans sink.old }
+{
+    let mut count = 0;
+    while count < bytes.len() {
+        match sink.write(&bytes[count..]) {
+            Ok(more) => count += more,
+            Err(down) => return (count, Err(down)),
+        }
+    }
+    (count, Ok(()))
+}
+
+// Takes so many bytes from the front.
+fn remove_front<A: Allocator>(held: &mut Vec<u8, A>, count: usize)
+    requires { count ≤ length held.old.items }
+    ensures { held.new.items ≡ drop count held.old.items }
+{
+    let len = held.len();
+    held.as_mut_slice().copy_within(count..len, 0);
+    held.truncate(len - count);
+}
+
 impl<W: Sink, A: Allocator + Copy> Sink for MessageSink<W, A> {
-    ghost use Rattle.std.specs.Coded.{coded_bool};
+    ghost contents = { λ h. append_known (W.contents h.inner) h.held };
 
-    ghost contents = { λ _. None };
+    ghost passed_on = { λ h. W.passed_on h.inner };
 
-    ghost passed_on = { λ _. None };
+    ghost is_down = { λ h. h.down };
 
-    ghost is_down = { λ s. s.is_down };
-
-    ghost loans = { λ _. [] };
+    ghost loans = { λ h. W.loans h.inner };
 
     fn write(&mut self, buf: &[u8]) -> Result<usize, Down> {
         if self.is_down {
             return Err(Down);
         }
-        if buf.len() > MAX_MESSAGE.saturating_sub(self.held.len()) {
-            self.is_too_long = true;
-            return self.fail();
-        }
-        match self.held.extend_from_slice(buf) {
+        match self.hold(buf) {
             Ok(()) => Ok(buf.len()),
-            Err(_) => self.fail(),
+            Err(down) => Err(down),
         }
     }
 
     fn flush(&mut self) -> Result<(), Down> {
-        if self.is_down || write_all(&mut self.sink, self.held.as_slice()).is_err() {
+        if self.is_down || self.write_held().is_err() {
             return self.fail();
         }
-        self.passed = self.passed.saturating_add(self.held.len());
-        self.held.clear();
         match self.sink.flush() {
             Ok(()) => Ok(()),
             Err(_) => self.fail(),

@@ -1,6 +1,7 @@
 //! Both ends of a connection in one process, turn by turn.
 
 ghost use Rattle.std.specs.Prelude.{◌≡◌, [], None, true, IfOk, IsErr};
+ghost use Rattle.ghistory.specs.Reach.{Grows};
 ghost use Rattle.grepo.specs.Settling.{Settles};
 
 use crate::message::MessageSink;
@@ -76,9 +77,9 @@ impl<'a, N: Source, F: Source, W: Sink, A: Allocator + Copy> Answers<'a, N, F, W
         )
     }
 
-    // How many bytes the server has passed on that the client has not read.
+    // How many bytes the server has written that the client has not read.
     fn left(&self) -> usize {
-        self.far_sink.passed().saturating_sub(self.read)
+        self.far_sink.bytes_written().saturating_sub(self.read)
     }
 
     fn fail<T>(&mut self) -> Result<T, Down>
@@ -173,6 +174,7 @@ where
     N: Net<Stream = TcpStream, Listener = TcpListener>,
     ensures settled { IfOk result (λ fetched. Settles repo.new.graph.entries repo.old.refs fetched.settled.asks
         fetched.settled.updates.items repo.new.refs) }
+    ensures grows { Grows repo.old.graph.entries repo.new.graph.entries }
 {
     match connect(net) {
         Some(ends) => fetch_between(server, repo, specs, &ends.near, &ends.far),
@@ -190,6 +192,7 @@ fn fetch_between<A: Allocator + Copy>(
 ) -> Result<Fetched<A>, ProgramFault<A>>
     ensures settled { IfOk result (λ fetched. Settles repo.new.graph.entries repo.old.refs fetched.settled.asks
         fetched.settled.updates.items repo.new.refs) }
+    ensures grows { Grows repo.old.graph.entries repo.new.graph.entries }
 {
     let alloc = repo.graph().allocator();
     for stream in [near, far] {
@@ -231,6 +234,7 @@ where
     W: Sink + Drop,
     ensures settled { IfOk result (λ fetched. Settles repo.new.graph.entries repo.old.refs fetched.settled.asks
         fetched.settled.updates.items repo.new.refs) }
+    ensures grows { Grows repo.old.graph.entries repo.new.graph.entries }
 {
     let alloc = repo.graph().allocator();
     let (near, near_sink) = near_end;
@@ -266,6 +270,7 @@ fn fetch_as_client<A: Allocator + Copy, S: Source, W: Sink>(
 ) -> Result<Fetched<A>, FetchFault<A>>
     ensures settled { IfOk result (λ fetched. Settles repo.new.graph.entries repo.old.refs fetched.settled.asks
         fetched.settled.updates.items repo.new.refs) }
+    ensures grows { Grows repo.old.graph.entries repo.new.graph.entries }
 {
     let hello = match Hello::new(repo.graph().allocator(), PATH, HOST) {
         Ok(hello) => hello,

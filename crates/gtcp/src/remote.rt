@@ -1,11 +1,20 @@
 //! The programs that open sockets, as functions over the network, bytes and sinks.
 
+ghost use Rattle.std.specs.Prelude.{◌≡◌, ℕ, List, IfOk, option_map};
+ghost use Rattle.ghistory.specs.Reach.{Grows};
+ghost use Rattle.gpkt.specs.Sending.{output_of};
+ghost use Rattle.grepo.specs.Settling.{Settles};
+ghost use Rattle.gcmd.specs.Fetching.{NamesClient};
+ghost use Rattle.gcmd.specs.Programs.{Runs};
+ghost use Rattle.gtcp.specs.Remote.{FetchesRemote, ListsRemote, Meets, ShowsReply, ShowsText};
+
 use crate::fetching::{Wanted, fetch_from, ls_from, request_for};
 use crate::listing::text_of;
 use crate::pair::fetch_in_pair;
 use crate::place::Place;
 use crate::serving::serve_listener;
-use gclient::{FetchFault, Spec};
+use ganswer::Server;
+use gclient::{FetchFault, Fetched, Repo, Spec};
 use gcmd::{FetchRun, ProgramFault, conclude, finish, load_server, open_client, send, send_report};
 use gfetchreply::PackLimit;
 use ggrammar::Ends;
@@ -98,7 +107,10 @@ fn show_port<A: Allocator + Copy, W: Sink>(
     }
 }
 
-fn show<A: Allocator + Copy, W: Sink>(text: &[u8], output: &mut W) -> Result<(), ProgramFault<A>> {
+fn show<A: Allocator + Copy, W: Sink>(text: &[u8], output: &mut W) -> Result<(), ProgramFault<A>>
+    ensures shows { ShowsText {A = A} text.now (output_of W.contents W.passed_on W.is_down output.old output.new) result }
+    ensures loans { W.loans output.new ≡ W.loans output.old }
+{
     match send(text, output) {
         Ok(()) => Ok(()),
         Err(_) => Err(ProgramFault::WriteFailed),
@@ -139,6 +151,10 @@ pub fn cmd_ls_remote<A: Allocator + Copy, N, W: Sink, E: Sink>(
 ) -> u8
 where
     N: Net<Stream = TcpStream, Listener = TcpListener>,
+    ensures runs { Runs {A = A} (ListsRemote (output_of W.contents W.passed_on W.is_down output.old output.new))
+        (output_of E.contents E.passed_on E.is_down errors.old errors.new) result }
+    ensures output_loans { W.loans output.new ≡ W.loans output.old }
+    ensures errors_loans { E.loans errors.new ≡ E.loans errors.old }
 {
     finish(list_remote(net, alloc, listing, output), errors)
 }
@@ -151,9 +167,13 @@ fn list_remote<A: Allocator + Copy, N, W: Sink>(
 ) -> Result<(), ProgramFault<A>>
 where
     N: Net<Stream = TcpStream, Listener = TcpListener>,
+    ensures lists { ListsRemote {A = A} (output_of W.contents W.passed_on W.is_down output.old output.new) result }
+    ensures loans { W.loans output.new ≡ W.loans output.old }
 {
-    let reply = ask_remote(net, alloc, listing)?;
-    show_reply(alloc, &reply, output)
+    match ask_remote(net, alloc, listing) {
+        Ok(reply) => show_reply(alloc, &reply, output),
+        Err(fault) => Err(fault),
+    }
 }
 
 // Asks the server.
@@ -180,7 +200,10 @@ fn show_reply<A: Allocator + Copy, W: Sink>(
     alloc: A,
     reply: &LsReply<A>,
     output: &mut W,
-) -> Result<(), ProgramFault<A>> {
+) -> Result<(), ProgramFault<A>>
+    ensures shows { ShowsReply {A = A} (output_of W.contents W.passed_on W.is_down output.old output.new) result reply.now }
+    ensures loans { W.loans output.new ≡ W.loans output.old }
+{
     match text_of(alloc, reply) {
         Ok(text) => show(text.as_slice(), output),
         Err(_) => Err(ProgramFault::Memory),
@@ -215,6 +238,11 @@ pub fn cmd_fetch_remote<A: Allocator + Copy, N, R: Sink, E: Sink>(
 ) -> FetchRun<A>
 where
     N: Net<Stream = TcpStream, Listener = TcpListener>,
+    ensures runs { Runs {A = A} (FetchesRemote fetch.now.file.now
+        (output_of R.contents R.passed_on R.is_down report.old report.new) (option_map (λ text. text.items) result.file))
+        (output_of E.contents E.passed_on E.is_down errors.old errors.new) result.status }
+    ensures report_loans { R.loans report.new ≡ R.loans report.old }
+    ensures errors_loans { E.loans errors.new ≡ E.loans errors.old }
 {
     let (outcome, file) = fetch_remote(net, alloc, fetch, report);
     let status = finish(outcome, errors);
@@ -230,23 +258,60 @@ fn fetch_remote<A: Allocator + Copy, N, R: Sink>(
 ) -> (Result<(), ProgramFault<A>>, Option<Vec<u8, A>>)
 where
     N: Net<Stream = TcpStream, Listener = TcpListener>,
+    ensures fetches { FetchesRemote {A = A} fetch.now.file.now (output_of R.contents R.passed_on R.is_down report.old report.new)
+        (option_map (λ text. text.items) result.1) result.0 }
+    ensures loans { R.loans report.new ≡ R.loans report.old }
 {
-    let mut repo = match open_client(alloc, fetch.file) {
-        Ok(repo) => repo,
-        Err(fault) => return (Err(fault), None),
-    };
+    match open_client(alloc, fetch.file) {
+        Ok(mut repo) => fetch_for(net, alloc, &mut repo, fetch, report),
+        Err(fault) => (Err(fault), None),
+    }
+}
+
+// The same for the client's repository of the file.
+fn fetch_for<A: Allocator + Copy, N, R: Sink>(
+    net: &N,
+    alloc: A,
+    repo: &mut Repo<A>,
+    fetch: &RemoteFetch<'_, A>,
+    report: &mut R,
+) -> (Result<(), ProgramFault<A>>, Option<Vec<u8, A>>)
+where
+    N: Net<Stream = TcpStream, Listener = TcpListener>,
+    ensures fetches { (file : List ℕ) → NamesClient file repo.old → FetchesRemote {A = A} file
+        (output_of R.contents R.passed_on R.is_down report.old report.new) (option_map (λ text. text.items) result.1) result.0 }
+    ensures loans { R.loans report.new ≡ R.loans report.old }
+{
+    match fetch_at(net, repo, fetch) {
+        Ok(fetched) => conclude(alloc, repo, &fetched, report),
+        Err(fault) => (Err(fault), None),
+    }
+}
+
+// Fetches from the server at the place.
+fn fetch_at<A: Allocator + Copy, N>(
+    net: &N,
+    repo: &mut Repo<A>,
+    fetch: &RemoteFetch<'_, A>,
+) -> Result<Fetched<A>, ProgramFault<A>>
+where
+    N: Net<Stream = TcpStream, Listener = TcpListener>,
+    ensures settled { IfOk result (λ fetched. Settles repo.new.graph.entries repo.old.refs fetched.settled.asks
+        fetched.settled.updates.items repo.new.refs) }
+    ensures grows { Grows repo.old.graph.entries repo.new.graph.entries }
+{
     let stream = match connect(net, fetch.place) {
         Ok(stream) => stream,
-        Err(fault) => return (Err(fault), None),
+        Err(fault) => return Err(fault),
     };
     let wanted = Wanted {
         specs: fetch.specs,
         limit: fetch.limit,
         ends: fetch.ends,
     };
-    match fetch_from(&stream, fetch.place.hello(), &mut repo, &PlainPack, &wanted) {
-        Ok(fetched) => conclude(alloc, &repo, &fetched, report),
-        Err(fault) => (Err(ProgramFault::Fetch(fault)), None),
+    match fetch_from(&stream, fetch.place.hello(), repo, &PlainPack, &wanted) {
+        Ok(fetched) => Ok(fetched),
+        Err(fault) => Err(ProgramFault::Fetch(fault)),
     }
 }
 
@@ -275,6 +340,10 @@ pub fn cmd_pair<A: Allocator + Copy, N, W: Sink, E: Sink>(
 ) -> u8
 where
     N: Net<Stream = TcpStream, Listener = TcpListener>,
+    ensures runs { Runs {A = A} (Meets pair.now.client.now (output_of W.contents W.passed_on W.is_down output.old output.new))
+        (output_of E.contents E.passed_on E.is_down errors.old errors.new) result }
+    ensures output_loans { W.loans output.new ≡ W.loans output.old }
+    ensures errors_loans { E.loans errors.new ≡ E.loans errors.old }
 {
     finish(meet(net, alloc, pair, output), errors)
 }
@@ -287,9 +356,35 @@ fn meet<A: Allocator + Copy, N, W: Sink>(
 ) -> Result<(), ProgramFault<A>>
 where
     N: Net<Stream = TcpStream, Listener = TcpListener>,
+    ensures meets { Meets {A = A} pair.now.client.now (output_of W.contents W.passed_on W.is_down output.old output.new) result }
+    ensures loans { W.loans output.new ≡ W.loans output.old }
 {
-    let server = load_server(alloc, pair.server)?;
-    let mut repo = open_client(alloc, pair.client)?;
-    let fetched = fetch_in_pair(net, &server, &mut repo, pair.specs)?;
-    send_report(alloc, &fetched, output)
+    let server = match load_server(alloc, pair.server) {
+        Ok(server) => server,
+        Err(fault) => return Err(fault),
+    };
+    match open_client(alloc, pair.client) {
+        Ok(mut repo) => meet_client(net, &server, &mut repo, pair.specs, output),
+        Err(fault) => Err(fault),
+    }
+}
+
+// The same for the server and the client's repository of the files.
+fn meet_client<A: Allocator + Copy, N, W: Sink>(
+    net: &N,
+    server: &Server<A>,
+    repo: &mut Repo<A>,
+    specs: &[Spec<A>],
+    output: &mut W,
+) -> Result<(), ProgramFault<A>>
+where
+    N: Net<Stream = TcpStream, Listener = TcpListener>,
+    ensures meets { (file : List ℕ) → NamesClient file repo.old
+        → Meets {A = A} file (output_of W.contents W.passed_on W.is_down output.old output.new) result }
+    ensures loans { W.loans output.new ≡ W.loans output.old }
+{
+    match fetch_in_pair(net, server, repo, specs) {
+        Ok(fetched) => send_report(server.graph().allocator(), &fetched, output),
+        Err(fault) => Err(fault),
+    }
 }

@@ -1,8 +1,13 @@
 //! A repository served to those who connect.
 
+ghost use Rattle.std.specs.Prelude.{◌≡◌, IfErr};
+ghost use Rattle.gpkt.specs.Sending.{output_of};
+ghost use Rattle.gcmd.specs.declared.fault.ProgramFault.TheVariants.{Socket};
+ghost use Rattle.gtcp.specs.Telling.{PrintsFew, Tells};
+
 use crate::stream::{MESSAGE_BUFFER, drop_unread, limit_silence, send_at_once};
 use ganswer::Server;
-use gcmd::{ProgramFault, cmd_failed};
+use gcmd::{ProgramFault, print_fault};
 use gconnect::{GitEnd, serve_git};
 use ggrammar::Ends;
 use ggraph::Packer;
@@ -35,7 +40,11 @@ pub fn serve_listener<A: Allocator + Copy, K: Packer<A>, E: Sink>(
     connections: u32,
     ends: Ends,
     errors: &mut E,
-) -> Result<(), ProgramFault<A>> {
+) -> Result<(), ProgramFault<A>>
+    ensures told { PrintsFew A (output_of E.contents E.passed_on E.is_down errors.old errors.new) connections }
+    ensures fault { IfErr result (λ fault. fault ≡ Socket) }
+    ensures loans { E.loans errors.new ≡ E.loans errors.old }
+{
     let service = Service {
         server,
         packer,
@@ -51,20 +60,33 @@ fn serve_each<A: Allocator + Copy, K: Packer<A>, E: Sink>(
     listener: &TcpListener,
     connections: u32,
     errors: &mut E,
-) -> Result<(), ProgramFault<A>> {
+) -> Result<(), ProgramFault<A>>
+    ensures told { PrintsFew A (output_of E.contents E.passed_on E.is_down errors.old errors.new) connections }
+    ensures fault { IfErr result (λ fault. fault ≡ Socket) }
+    ensures loans { E.loans errors.new ≡ E.loans errors.old }
+{
+    let mut can_tell = true;
     for _ in 0..connections {
-        match listener.accept() {
-            Ok((stream, _)) => tell(serve_stream(service, &stream), errors),
-            Err(_) => return Err(ProgramFault::Socket),
-        }
+        let Ok((stream, _)) = listener.accept() else {
+            return Err(ProgramFault::Socket);
+        };
+        can_tell = tell(serve_stream(service, &stream), can_tell, errors);
     }
     Ok(())
 }
 
-// Prints the fault of a connection, if it had one.
-fn tell<A: Allocator + Copy, E: Sink>(outcome: Result<(), ProgramFault<A>>, errors: &mut E) {
-    if let Err(fault) = outcome {
-        let _ = cmd_failed(fault, errors);
+// Prints the fault of a connection, if it had one, where all before it could be printed. It answers whether they still can.
+fn tell<A: Allocator + Copy, E: Sink>(
+    outcome: Result<(), ProgramFault<A>>,
+    can_tell: bool,
+    errors: &mut E,
+) -> bool
+    ensures tells { Tells outcome can_tell result (output_of E.contents E.passed_on E.is_down errors.old errors.new) }
+    ensures loans { E.loans errors.new ≡ E.loans errors.old }
+{
+    match outcome {
+        Err(fault) if can_tell => print_fault(&fault, errors).is_ok(),
+        _ => can_tell,
     }
 }
 

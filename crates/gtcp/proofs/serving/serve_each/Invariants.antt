@@ -1,0 +1,10 @@
+use Rattle.std.proofs.Common.{◌≡◌}
+use Rattle.gpkt.specs.Sending.{output_of}
+use Rattle.gtcp.specs.Telling.{PrintsSoFar}
+use Rattle.gtcp.proofs.serving.serve_each.Given as goal
+
+abbrev pub invariant-loop : goal.invariant-loop
+invariant-loop g l = record {
+  told : PrintsSoFar g.A.A (output_of g.E.Sink.contents g.E.Sink.passed_on g.E.Sink.is_down l.initial.errors l.errors) l.can_tell l.index;
+  same_loans : g.E.Sink.loans l.errors ≡ g.E.Sink.loans l.initial.errors;
+}
