@@ -10,6 +10,8 @@ mod place;
 mod remote;
 mod serving;
 mod stream;
+#[cfg(test)]
+mod tests;
 
 pub use crate::fetching::{fetch_on, ls_on};
 pub use crate::listing::read_prefixes;
