@@ -1,0 +1,3 @@
+mod GitLemmas
+mod GreetingLemmas
+mod ListingLemmas

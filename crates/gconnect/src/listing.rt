@@ -1,10 +1,9 @@
 //! Listing the refs of a server, from the first line on.
 
-ghost use Rattle.std.specs.Prelude.{◌≡◌, false, MatchResult, None, Some};
-ghost use Rattle.gname.specs.declared.formats.Format.{Format};
+ghost use Rattle.std.specs.Prelude.{◌≡◌, false, OnOk};
 ghost use Rattle.gpkt.specs.Sending.{input_of, output_of};
-ghost use Rattle.ghello.specs.Offers.{check_fault};
 ghost use Rattle.gconnect.specs.Listings.{Lists, ListsGit};
+ghost use Rattle.gconnect.specs.Steps.{FitsFormat, HearsServer};
 
 use crate::greeting::greet;
 use crate::request_line::send_request;
@@ -13,7 +12,6 @@ use ggrammar::{Ends, MessageFault};
 use ghello::{Advert, Hello, read_advert};
 use glsreply::{LsReply, read_ls_reply_in};
 use gname::Format;
-use gpkt::laws::reads_join;
 use gpkt::{LineBuffer, LineReader, LineWriter, Sink, Source};
 use grequest::{LsRefsRequest, Request};
 use std::alloc::Allocator;
@@ -87,20 +85,45 @@ fn list<S: Source, W: Sink, A: Allocator + Copy>(
     ensures source_loans { S.loans reader.new.source ≡ S.loans reader.old.source }
     ensures sink_loans { W.loans writer.new.sink ≡ W.loans writer.old.sink }
 {
-    reads_join();
+    let heard = hear_server(reader, alloc)?;
+    asked.set_unborn(heard.tells_unborn);
+    send_request(&Request::Ls(asked), heard.format, writer)?;
+    let reply = read_ls_reply_in(reader, heard.format, Ends::Plain, alloc)?;
+    send_request(&Request::<A>::Empty, heard.format, writer)?;
+    Ok(reply)
+}
+
+// What the advertisement says that a listing needs.
+#[derive(Drop)]
+struct Heard {
+    // The format of the server's ids.
+    format: Format,
+    // Whether the server offers to tell of an unborn `HEAD`.
+    tells_unborn: bool,
+}
+
+// Reads the server's advertisement, where a client can go on with the server.
+fn hear_server<S: Source, A: Allocator + Copy>(
+    reader: &mut LineReader<S, A>,
+    alloc: A,
+) -> Result<Heard, MessageFault>
+    requires { reader.old.failed ≡ false }
+    ensures hears { HearsServer (input_of S.remaining S.is_down reader.old.source reader.new.source) result }
+    ensures goes_on { OnOk result (reader.new.failed ≡ false) }
+    ensures loans { S.loans reader.new.source ≡ S.loans reader.old.source }
+{
     let advert = read_advert(reader, alloc)?;
     let format = format_in(&advert)?;
-    asked.set_unborn(advert.has_feature(b"ls-refs", b"unborn"));
-    send_request(&Request::Ls(asked), format, writer)?;
-    let reply = read_ls_reply_in(reader, format, Ends::Plain, alloc)?;
-    send_request(&Request::<A>::Empty, format, writer)?;
-    Ok(reply)
+    let tells_unborn = advert.has_feature(b"ls-refs", b"unborn");
+    Ok(Heard {
+        format,
+        tells_unborn,
+    })
 }
 
 // The format of the server's ids, where a client can go on with the server.
 fn format_in<A: Allocator + Copy>(advert: &Advert<A>) -> Result<Format, MessageFault>
-    ensures { MatchResult result (λ format. check_fault format advert.now ≡ None)
-        (λ fault. ((format : Format) → check_fault format advert.now ≡ Some fault.why) × (fault.frame ≡ 0)) }
+    ensures { FitsFormat advert.now result }
 {
     let format = advert.format().unwrap_or(Format::Sha1);
     advert.check_in(format)?;
