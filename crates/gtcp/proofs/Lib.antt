@@ -1,2 +1,3 @@
 mod TellingLemmas
 mod ListingLemmas
+mod RemoteLemmas

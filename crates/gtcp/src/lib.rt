@@ -7,6 +7,7 @@ mod listing;
 mod message;
 mod pair;
 mod place;
+mod prefixes;
 mod remote;
 mod serving;
 mod stream;
@@ -14,9 +15,9 @@ mod stream;
 mod tests;
 
 pub use crate::fetching::{fetch_on, ls_on};
-pub use crate::listing::read_prefixes;
 pub use crate::message::{MAX_MESSAGE, MessageSink};
 pub use crate::place::Place;
+pub use crate::prefixes::read_prefixes;
 pub use crate::remote::{
     Listing, Pair, RemoteFetch, Service, cmd_fetch_remote, cmd_ls_remote, cmd_pair, cmd_serve,
 };

@@ -1,4 +1,4 @@
-//! Refs as they are listed, and prefixes of words.
+//! Refs as they are listed.
 
 ghost use Rattle.std.specs.Prelude.{◌≡◌, ◌<◌, ◌++◌, IfOk, OnOk, Some, length, slice_get};
 ghost use Rattle.std.specs.List.{flat_map};
@@ -6,36 +6,9 @@ ghost use Rattle.std.specs.Option.{option_copied};
 ghost use Rattle.glsreply.specs.RefTexts as texts;
 ghost use Rattle.gtcp.specs.Listing.{ref_line, reply_lines, unborn_line};
 
-use gcmd::ProgramFault;
 use glsreply::{LsReply, RefLine, RefText};
-use gname::{NameFault, Prefix, RefName};
+use gname::RefName;
 use std::alloc::{AllocError, Allocator};
-
-/// Reads words as prefixes of names of refs, each one.
-///
-/// It fails with `Name` at the first word that is none, and where there is no memory.
-pub fn read_prefixes<A: Allocator + Copy>(
-    alloc: A,
-    words: &[String<A>],
-) -> Result<Vec<Prefix<A>, A>, ProgramFault<A>> {
-    let mut prefixes = Vec::new(alloc);
-    for word in words {
-        let prefix = Prefix::new(alloc, word.as_bytes())?;
-        keep(&mut prefixes, prefix)?;
-    }
-    Ok(prefixes)
-}
-
-// Keeps one prefix more.
-fn keep<A: Allocator + Copy>(
-    prefixes: &mut Vec<Prefix<A>, A>,
-    prefix: Prefix<A>,
-) -> Result<(), NameFault> {
-    match prefixes.push(prefix) {
-        Ok(()) => Ok(()),
-        Err(_) => Err(NameFault::Memory),
-    }
-}
 
 /// The lines of a reply: the ref at which an unborn `HEAD` points first, and then each ref. It fails where there is no
 /// memory.

@@ -78,6 +78,17 @@ impl<W, A: Allocator + Copy> MessageSink<W, A> {
         self.is_down
     }
 
+    // Notes that it has failed, and answers so.
+    fn fail<T>(&mut self) -> Result<T, Down>
+        ensures same { self.new ≡ record self.old { down = true } }
+        ensures err { IsErr result }
+    {
+        self.is_down = true;
+        Err(Down)
+    }
+}
+
+impl<W: Sink, A: Allocator + Copy> MessageSink<W, A> {
     /// Holds more bytes of a message, and writes nothing.
     ///
     /// It fails where the message would have more than [`MAX_MESSAGE`] bytes with them, and where there is no memory; what
@@ -103,17 +114,6 @@ impl<W, A: Allocator + Copy> MessageSink<W, A> {
         }
     }
 
-    // Notes that it has failed, and answers so.
-    fn fail<T>(&mut self) -> Result<T, Down>
-        ensures same { self.new ≡ record self.old { down = true } }
-        ensures err { IsErr result }
-    {
-        self.is_down = true;
-        Err(Down)
-    }
-}
-
-impl<W: Sink, A: Allocator + Copy> MessageSink<W, A> {
     // Writes what is held to the sink inside. At an error the rest is held still.
     fn write_held(&mut self) -> Result<(), Down>
         ensures bytes { Keeps (append_known (W.contents self.old.inner) self.old.held)

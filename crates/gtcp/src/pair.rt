@@ -5,7 +5,7 @@ ghost use Rattle.ghistory.specs.Reach.{Grows};
 ghost use Rattle.grepo.specs.Settling.{Settles};
 
 use crate::message::MessageSink;
-use crate::stream::{limit_silence, send_at_once};
+use crate::stream::set_up;
 use ganswer::Server;
 use gclient::{FetchFault, Fetched, Repo, Spec};
 use gcmd::ProgramFault;
@@ -195,10 +195,8 @@ fn fetch_between<A: Allocator + Copy>(
     ensures grows { Grows repo.old.graph.entries repo.new.graph.entries }
 {
     let alloc = repo.graph().allocator();
-    for stream in [near, far] {
-        send_at_once(stream);
-        limit_silence(stream);
-    }
+    set_up(near);
+    set_up(far);
     let Ok(mut near_reader) = BufReader::new(alloc, near) else {
         return Err(ProgramFault::Memory);
     };

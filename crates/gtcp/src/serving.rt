@@ -5,7 +5,7 @@ ghost use Rattle.gpkt.specs.Sending.{output_of};
 ghost use Rattle.gcmd.specs.declared.fault.ProgramFault.TheVariants.{Socket};
 ghost use Rattle.gtcp.specs.Telling.{PrintsFew, Tells};
 
-use crate::stream::{MESSAGE_BUFFER, drop_unread, limit_silence, send_at_once};
+use crate::stream::{MESSAGE_BUFFER, drop_unread, set_up};
 use ganswer::Server;
 use gcmd::{ProgramFault, print_fault};
 use gconnect::{GitEnd, serve_git};
@@ -66,7 +66,7 @@ fn serve_each<A: Allocator + Copy, K: Packer<A>, E: Sink>(
     ensures loans { E.loans errors.new ≡ E.loans errors.old }
 {
     let mut can_tell = true;
-    for _ in 0..connections {
+    for _number in 0..connections {
         let Ok((stream, _)) = listener.accept() else {
             return Err(ProgramFault::Socket);
         };
@@ -95,8 +95,7 @@ fn serve_stream<A: Allocator + Copy, K: Packer<A>>(
     service: &Service<'_, K, A>,
     stream: &TcpStream,
 ) -> Result<(), ProgramFault<A>> {
-    send_at_once(stream);
-    limit_silence(stream);
+    set_up(stream);
     let ended = serve_buffered(service, stream);
     drop_unread(stream);
     outcome_of(ended)

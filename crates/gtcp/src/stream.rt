@@ -20,8 +20,10 @@ pub(crate) fn send_at_once(stream: &TcpStream) {
     let _ = stream.set_nodelay(true);
 }
 
-/// Lets a read and a write fail where the peer says nothing, or takes nothing, for so long.
-pub(crate) fn limit_silence(stream: &TcpStream) {
+/// Sends each message at once, and lets a read and a write fail where the peer says nothing, or takes nothing, for
+/// [`MAX_SILENCE`] seconds.
+pub(crate) fn set_up(stream: &TcpStream) {
+    send_at_once(stream);
     let limit = Duration::from_secs(MAX_SILENCE);
     let _ = stream.set_read_timeout(Some(limit));
     let _ = stream.set_write_timeout(Some(limit));

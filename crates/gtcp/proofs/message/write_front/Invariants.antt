@@ -2,13 +2,13 @@ use Rattle.std.proofs.Common.{◌≡◌, ◌≤◌, ◌-◌, length, take}
 use Rattle.std.specs.Io.KnownBytes.{Appends, Keeps}
 use Rattle.gtcp.proofs.message.write_front.Given as goal
 
-abbrev pub invariant-loop : goal.invariant-loop
-invariant-loop g l = record {
+abbrev pub invariant-loop-count : goal.invariant-loop-count
+invariant-loop-count g l = record {
   within : l.count ≤ length l.bytes;
   bytes : Appends (g.W.Sink.contents l.initial.sink) (g.W.Sink.contents l.sink) (take l.count l.bytes);
   passed_on : Keeps (g.W.Sink.passed_on l.initial.sink) (g.W.Sink.passed_on l.sink);
   same_loans : g.W.Sink.loans l.sink ≡ g.W.Sink.loans l.initial.sink;
 }
 
-abbrev pub decreases-loop : goal.decreases-loop
-decreases-loop g l = length l.bytes - l.count
+abbrev pub decreases-loop-count : goal.decreases-loop-count
+decreases-loop-count g l = length l.bytes - l.count
