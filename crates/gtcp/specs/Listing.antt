@@ -2,7 +2,7 @@
 use Rattle.std.specs.Prelude.{ℕ, List, [], ◌++◌, codes, Option, None, Some}
 use Rattle.std.specs.List.{flat_map}
 use Rattle.glsreply.specs.LsReplies.{LsReply}
-use Rattle.glsreply.specs.RefTexts.{RefLine, ref_text, unborn_text}
+use Rattle.glsreply.specs.RefTexts.{RefLine, ref_text}
 
 -- a ref
 abbrev pub ref_line : RefLine → List ℕ
@@ -11,7 +11,7 @@ ref_line line = ref_text line ++ codes "\n"
 -- where an unborn HEAD points
 abbrev pub unborn_line : Option (List ℕ) → List ℕ
 unborn_line None = []
-unborn_line (Some target) = unborn_text target ++ codes "\n"
+unborn_line (Some target) = codes "unborn HEAD symref-target:" ++ (target ++ codes "\n")
 
 -- the texts of a reply, a line each
 abbrev pub reply_lines : LsReply → List ℕ

@@ -43,9 +43,20 @@ fn put_target<A: Allocator + Copy>(
 ) -> Result<(), AllocError>
     ensures { OnOk result (text.new.items ≡ text.old.items ++ unborn_line (Some target.now)) }
 {
-    text.extend_from_slice(b"unborn HEAD symref-target:")?;
-    text.extend_from_slice(target.as_bytes())?;
+    put_named(text, b"unborn HEAD symref-target:", target)?;
     text.extend_from_slice(b"\n")
+}
+
+// A word, and the name of a ref.
+fn put_named<A: Allocator + Copy>(
+    text: &mut Vec<u8, A>,
+    word: &[u8],
+    name: &RefName<A>,
+) -> Result<(), AllocError>
+    ensures { OnOk result (text.new.items ≡ text.old.items ++ (word.now ++ name.now)) }
+{
+    text.extend_from_slice(word)?;
+    text.extend_from_slice(name.as_bytes())
 }
 
 // A line for each ref.

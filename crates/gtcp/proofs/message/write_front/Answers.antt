@@ -1,15 +1,23 @@
-use Rattle.std.proofs.Common.{sym, subst, rules}
+use Rattle.std.proofs.Common.{take, rules, sym, subst}
 use Rattle.std.proofs.KnownBytes.{Appends-trans, Keeps-trans}
 use Rattle.std.proofs.Math.Seq.{take-add}
+use Rattle.std.proofs.lemmas.List.{take_rest}
 use Rattle.std.specs.Io.KnownBytes.{Appends}
 use Rattle.gtcp.proofs.message.write_front.Goals as goal
 
 pub loop-count-preserved : goal.loop-count-preserved
-loop-count-preserved g c = record {
-  within = search rules;
-  bytes =
-      subst (Appends _ _) (sym (take-add c.loop-count.count c.in-Ok.more c.args.bytes.now))
-      (Appends-trans _ _ _ _ _ c.loop-count.invariant.bytes c.in-Ok.ensures.bytes);
-  passed_on = Keeps-trans _ _ _ c.loop-count.invariant.passed_on c.in-Ok.ensures.passed_on;
-  same_loans = search rules;
-}
+loop-count-preserved g c =
+    let bytes = c.args.bytes.now in
+    let count = c.loop-count.count in
+    let old = g.W.Sink.contents c.args.sink.now in
+    let mid = g.W.Sink.contents c.loop-count.sink in
+    let new = g.W.Sink.contents c.write.new.self in
+    record {
+      within = search rules;
+      bytes =
+          subst (Appends old new) (sym (take-add count c.in-Ok.more bytes))
+          (Appends-trans old mid new _ _ c.loop-count.invariant.bytes
+          (subst (λ rest. Appends mid new (take c.in-Ok.more rest)) (take_rest bytes count) c.in-Ok.ensures.bytes));
+      passed_on = Keeps-trans _ _ _ c.loop-count.invariant.passed_on c.in-Ok.ensures.passed_on;
+      same_loans = search rules;
+    }
