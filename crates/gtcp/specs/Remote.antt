@@ -34,7 +34,8 @@ ListsRemote output outcome = ((reply : LsReply) × ShowsReply output outcome rep
 
 -- the repository that the file names was fetched into: objects only came, the refs are settled, there is a new file, and
 -- that is reported
-pub record IsFetchedRemote {A : Type 0} (old : List ℕ) (report : Output) (file : Option (List ℕ)) (outcome : Outcome A) : Type 0 where
+pub record IsFetchedRemote {A : Type 0} (old : List ℕ) (report : Output) (file : Option (List ℕ))
+    (outcome : Outcome A) : Type 0 where
   pub repo : RepoState A
   pub names : NamesClient old repo
   pub new : RepoState A

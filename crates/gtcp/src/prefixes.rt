@@ -1,16 +1,23 @@
 //! Prefixes of names, from words.
 
+ghost use Rattle.std.specs.Prelude.{◌≡◌, ◌++◌, ◌∷◌, [], MatchResult, OnOk, map, string_bytes};
+ghost use Rattle.gname.specs.declared.faults.NameFault.{NameFault};
+ghost use Rattle.gcmd.specs.declared.fault.ProgramFault.TheVariants.{Name};
+
 use gcmd::ProgramFault;
 use gname::{NameFault, Prefix};
 use std::alloc::Allocator;
 
-/// Reads words as prefixes of names of refs, each one.
+/// Reads words as prefixes of names of refs (gitprotocol-v2(5), "ls-refs"), a prefix each.
 ///
 /// It fails with `Name` at the first word that is none, and where there is no memory.
 pub fn read_prefixes<A: Allocator + Copy>(
     alloc: A,
     words: &[String<A>],
-) -> Result<Vec<Prefix<A>, A>, ProgramFault<A>> {
+) -> Result<Vec<Prefix<A>, A>, ProgramFault<A>>
+    ensures { MatchResult result (λ prefixes. prefixes.items ≡ map string_bytes words.now)
+        (λ fault. (cause : NameFault) × (fault ≡ Name cause)) }
+{
     let mut prefixes = Vec::new(alloc);
     for word in words {
         let prefix = Prefix::new(alloc, word.as_bytes())?;
@@ -23,7 +30,9 @@ pub fn read_prefixes<A: Allocator + Copy>(
 fn keep<A: Allocator + Copy>(
     prefixes: &mut Vec<Prefix<A>, A>,
     prefix: Prefix<A>,
-) -> Result<(), NameFault> {
+) -> Result<(), NameFault>
+    ensures kept { OnOk result (prefixes.new.items ≡ prefixes.old.items ++ prefix ∷ []) }
+{
     match prefixes.push(prefix) {
         Ok(()) => Ok(()),
         Err(_) => Err(NameFault::Memory),
