@@ -167,7 +167,10 @@ pub fn send_report<A: Allocator + Copy, R: Sink>(
     }
 }
 
-fn send_text<A: Allocator + Copy, R: Sink>(
+/// Writes a text on a sink of reports, and passes it on.
+///
+/// It fails with `WriteFailed`; a beginning of the text stands then.
+pub fn send_text<A: Allocator + Copy, R: Sink>(
     text: &[u8],
     report: &mut R,
 ) -> Result<(), ProgramFault<A>>

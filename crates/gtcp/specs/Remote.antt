@@ -1,34 +1,29 @@
 -- The programs that open sockets: what each writes, and the new file, however the socket does.
-use Rattle.std.specs.Prelude.{◌≡◌, ◌⊎◌, List, ℕ, Option, None, Result, Ok, Err}
-use Rattle.gpkt.specs.Sending.{Output, IsUnwritten, Sends}
+use Rattle.std.specs.Prelude.{◌≡◌, ◌⊎◌, List, ℕ, Option, None, Err}
+use Rattle.gpkt.specs.Sending.{Output, IsUnwritten}
 use Rattle.glsreply.specs.LsReplies.{LsReply}
 use Rattle.grepo.specs.Repos.{RepoState}
 use Rattle.gclient.specs.declared.fetched.Fetched.{Fetched}
-use Rattle.gcmd.specs.Fetching.{Concludes, IsFetchedInto, NamesClient, Reports}
-use Rattle.gcmd.specs.Outputs.{BreaksOff}
+use Rattle.gcmd.specs.Fetching.{Concludes, IsFetchedInto, NamesClient, Reports, SendsReport}
 use Rattle.gcmd.specs.Programs.{Outcome}
 use Rattle.gcmd.specs.declared.fault.ProgramFault.{ProgramFault}
+use Rattle.gcmd.specs.declared.fault.ProgramFault.TheVariants as program
 use Rattle.gtcp.specs.Listing.{reply_lines}
 
 -- a fault was met, and nothing is written
 abbrev pub StopsBefore : {A : Type 0} → Output → Outcome A → Type 0
 StopsBefore {A} output outcome = (fault : ProgramFault A) × (outcome ≡ Err fault) × IsUnwritten output
 
--- a text is written and passed on; or the output failed, and a beginning of it stands
-abbrev pub ShowsText : {A : Type 0} → List ℕ → Output → Outcome A → Type 0
-ShowsText text output (Ok done) = Sends output text
-ShowsText text output (Err fault) = BreaksOff output text
-
 -- ---- listing
 
--- the lines of a reply are written and passed on; or the output failed at them
-abbrev pub ShowsReply : {A : Type 0} → Output → Outcome A → LsReply → Type 0
-ShowsReply output (Ok done) reply = Sends output (reply_lines reply)
-ShowsReply output (Err fault) reply = BreaksOff output (reply_lines reply) ⊎ IsUnwritten output
+-- the lines of a reply are written and passed on, or the output failed at them; or there is no memory for them
+abbrev pub ShowsReply : {A : Type 0} → LsReply → Output → Outcome A → Type 0
+ShowsReply reply output outcome =
+    SendsReport (reply_lines reply) output outcome ⊎ ((outcome ≡ Err program.Memory) × IsUnwritten output)
 
 -- what `ls --tcp` does: that, of a server's reply; or a fault was met before
 abbrev pub ListsRemote : {A : Type 0} → Output → Outcome A → Type 0
-ListsRemote output outcome = ((reply : LsReply) × ShowsReply output outcome reply) ⊎ StopsBefore output outcome
+ListsRemote output outcome = ((reply : LsReply) × ShowsReply reply output outcome) ⊎ StopsBefore output outcome
 
 -- ---- fetching
 

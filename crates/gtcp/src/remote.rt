@@ -6,7 +6,7 @@ ghost use Rattle.gpkt.specs.Sending.{output_of};
 ghost use Rattle.grepo.specs.Settling.{Settles};
 ghost use Rattle.gcmd.specs.Fetching.{NamesClient};
 ghost use Rattle.gcmd.specs.Programs.{Runs};
-ghost use Rattle.gtcp.specs.Remote.{FetchesRemote, ListsRemote, Meets, ShowsReply, ShowsText};
+ghost use Rattle.gtcp.specs.Remote.{FetchesRemote, ListsRemote, Meets, ShowsReply};
 
 use crate::fetching::{Wanted, fetch_from, ls_from, request_for};
 use crate::listing::text_of;
@@ -102,18 +102,8 @@ fn show_port<A: Allocator + Copy, W: Sink>(
     output: &mut W,
 ) -> Result<(), ProgramFault<A>> {
     match format!(in alloc; "listening {port}\n") {
-        Ok(line) => show(line.as_bytes(), output),
+        Ok(line) => send_text(line.as_bytes(), output),
         Err(_) => Err(ProgramFault::Memory),
-    }
-}
-
-fn show<A: Allocator + Copy, W: Sink>(text: &[u8], output: &mut W) -> Result<(), ProgramFault<A>>
-    ensures shows { ShowsText {A = A} text.now (output_of W.contents W.passed_on W.is_down output.old output.new) result }
-    ensures loans { W.loans output.new ≡ W.loans output.old }
-{
-    match send(text, output) {
-        Ok(()) => Ok(()),
-        Err(_) => Err(ProgramFault::WriteFailed),
     }
 }
 
@@ -201,11 +191,11 @@ fn show_reply<A: Allocator + Copy, W: Sink>(
     reply: &LsReply<A>,
     output: &mut W,
 ) -> Result<(), ProgramFault<A>>
-    ensures shows { ShowsReply {A = A} (output_of W.contents W.passed_on W.is_down output.old output.new) result reply.now }
+    ensures shows { ShowsReply {A = A} reply.now (output_of W.contents W.passed_on W.is_down output.old output.new) result }
     ensures loans { W.loans output.new ≡ W.loans output.old }
 {
     match text_of(alloc, reply) {
-        Ok(text) => show(text.as_slice(), output),
+        Ok(text) => send_text(text.as_slice(), output),
         Err(_) => Err(ProgramFault::Memory),
     }
 }

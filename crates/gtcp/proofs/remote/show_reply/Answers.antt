@@ -1,10 +1,12 @@
-use Rattle.std.proofs.Common.{inr, refl, ◌∙◌}
-use Rattle.gtcp.proofs.RemoteLemmas.{shows_reply}
+use Rattle.std.proofs.Common.{List, ℕ, inl, inr, refl, subst, ◌∙◌}
+use Rattle.gpkt.specs.Sending.{output_of}
+use Rattle.gcmd.specs.Fetching.{SendsReport}
 use Rattle.gtcp.proofs.remote.show_reply.Goals as goal
 
 pub returns-in-Ok-clause-shows : goal.returns-in-Ok-clause-shows
 returns-in-Ok-clause-shows g c =
-    shows_reply _ _ _ c.args.reply.now (c.as_slice.ensures.value ∙ c.in-Ok.ensures) c.show.ensures.shows
+    let output = output_of g.W.Sink.contents g.W.Sink.passed_on g.W.Sink.is_down c.args.output.now c.send_text.new.report in
+    inl (subst (λ (bytes : List ℕ). SendsReport bytes output c.send_text.result) (c.as_slice.ensures.value ∙ c.in-Ok.ensures) c.send_text.ensures.sends)
 
 pub returns-in-Err-clause-shows : goal.returns-in-Err-clause-shows
-returns-in-Err-clause-shows g c = inr (record { written = refl; passed_on = refl; down = refl })
+returns-in-Err-clause-shows g c = inr (refl, record { written = refl; passed_on = refl; down = refl })
