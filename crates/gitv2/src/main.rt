@@ -22,7 +22,7 @@
 
 mod words;
 
-use crate::words::{Command, Fetch};
+use crate::words::{Command, Fetch, Serve};
 use gcmd::{
     Ends, FetchRun, ProgramFault, Spec, cmd_check, cmd_failed, cmd_fetch, cmd_lines, cmd_ls,
     cmd_upload, read_specs,
@@ -83,20 +83,7 @@ where
             specs.as_slice(),
             errors,
         ),
-        Command::Serve {
-            place,
-            connections,
-            ends,
-            file,
-        } => {
-            let service = Service {
-                place: &place,
-                connections,
-                ends,
-                file: b"",
-            };
-            listen(rt, service, file.as_str(), errors)
-        }
+        Command::Serve(asked) => listen(rt, &asked, errors),
     }
 }
 
@@ -178,17 +165,19 @@ where
 }
 
 // Serves the repository of a file to those who connect.
-fn listen<R, E>(rt: &R, service: Service<'_, Global>, file: &str, errors: &mut E) -> u8
+fn listen<R, E>(rt: &R, asked: &Serve, errors: &mut E) -> u8
 where
     R: Files + Print + AllocGlobal + Net<Stream = TcpStream, Listener = TcpListener>,
     E: Sink,
 {
-    let Ok(text) = fs::read(rt, file) else {
+    let Ok(text) = fs::read(rt, asked.file.as_str()) else {
         return fail(ProgramFault::File, errors);
     };
     let service = Service {
+        place: &asked.place,
+        connections: asked.connections,
+        ends: asked.ends,
         file: text.as_slice(),
-        ..service
     };
     let mut stdout = io::writer(rt);
     let mut output = ToWrite::new(&mut stdout);
@@ -276,9 +265,8 @@ where
 {
     let mut report = VecSink::new(rt.alloc());
     let run = cmd_fetch_remote(rt, rt.alloc(), fetch, &mut report, errors);
-    match keep(rt, file, &run, errors) {
-        Kept::Yes => {}
-        Kept::No(status) => return status,
+    if let Err(status) = keep(rt, file, &run, errors) {
+        return status;
     }
     let mut stdout = io::writer(rt);
     let mut output = ToWrite::new(&mut stdout);
@@ -315,9 +303,8 @@ where
         &mut report,
         errors,
     );
-    match keep(rt, asked.file.as_str(), &run, errors) {
-        Kept::Yes => {}
-        Kept::No(status) => return status,
+    if let Err(status) = keep(rt, asked.file.as_str(), &run, errors) {
+        return status;
     }
     match show(report.written(), errors) {
         Ok(()) => 0,
@@ -325,30 +312,25 @@ where
     }
 }
 
-// Whether there is a report to be shown; else with which status the program ends.
-enum Kept {
-    Yes,
-    No(u8),
-}
-
-// Writes the file anew where it has a new text. Of two faults only the first is printed: where there was no memory for the
+// Writes the file anew where it has a new text. Where there is no report to be shown then, it fails with the status with
+// which the program ends. Of two faults only the first is printed: where there was no memory for the
 // report, that the file can't be written is not.
-fn keep<R, E>(rt: &R, file: &str, run: &FetchRun, errors: &mut E) -> Kept
+fn keep<R, E>(rt: &R, file: &str, run: &FetchRun, errors: &mut E) -> Result<(), u8>
 where
     R: Files,
     E: Sink,
 {
     let Some(text) = &run.file else {
-        return Kept::No(run.status);
+        return Err(run.status);
     };
     let is_written = fs::write(rt, file, text.as_slice()).is_ok();
     if run.status != 0 {
-        return Kept::No(run.status);
+        return Err(run.status);
     }
     if is_written {
-        Kept::Yes
+        Ok(())
     } else {
-        Kept::No(fail(ProgramFault::File, errors))
+        Err(fail(ProgramFault::File, errors))
     }
 }
 

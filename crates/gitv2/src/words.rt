@@ -16,6 +16,15 @@ pub(crate) struct Fetch {
     pub(crate) specs: Vec<String>,
 }
 
+/// What is served, where, to how many connections, and how replies end.
+#[derive(Debug, Drop)]
+pub(crate) struct Serve {
+    pub(crate) place: Place,
+    pub(crate) connections: u32,
+    pub(crate) ends: Ends,
+    pub(crate) file: String,
+}
+
 /// What the words ask for.
 #[derive(Debug, Drop)]
 pub(crate) enum Command {
@@ -43,12 +52,7 @@ pub(crate) enum Command {
         specs: Vec<String>,
     },
     /// `serve --listen ADDR --path PATH --connections N [--response-end] FILE`
-    Serve {
-        place: Place,
-        connections: u32,
-        ends: Ends,
-        file: String,
-    },
+    Serve(Serve),
     /// `upload [--response-end] FILE`
     Upload {
         ends: Ends,
@@ -248,25 +252,25 @@ fn pair_command(alloc: Global, matches: &ArgMatches<'_>) -> Option<Command> {
 }
 
 // The most connections that are served.
-const MAX_CONNECTIONS: usize = 1_000_000;
+const MAX_CONNECTIONS: u32 = 1_000_000;
 
 fn serve_command(alloc: Global, matches: &ArgMatches<'_>) -> Option<Command> {
     let place = place_in(alloc, matches, "listen")?;
     let connections = connections_in(matches.get_str("connections")?)?;
     let file = file_in(alloc, matches)?;
     let ends = ends_in(matches);
-    Some(Command::Serve {
+    Some(Command::Serve(Serve {
         place,
         connections,
         ends,
         file,
-    })
+    }))
 }
 
 fn connections_in(text: &str) -> Option<u32> {
-    let number = number_in(text)?;
+    let number = u32::try_from(number_in(text)?).ok()?;
     if (1..=MAX_CONNECTIONS).contains(&number) {
-        Some(number as u32)
+        Some(number)
     } else {
         None
     }
@@ -307,7 +311,7 @@ mod tests {
             Some(Command::Lines) => Ok(Some(("lines", String::new(alloc)))),
             Some(Command::Upload { ends, file }) => Ok(Some((upload_with(ends), file))),
             Some(Command::Fetch(fetch)) => Ok(Some(("fetch", fetch.file))),
-            Some(Command::Serve { file, .. }) => Ok(Some(("serve", file))),
+            Some(Command::Serve(serve)) => Ok(Some(("serve", serve.file))),
             Some(Command::Pair { server, .. }) => Ok(Some(("pair", server))),
             Some(Command::LsTcp { place, .. }) => {
                 Ok(Some(("ls --tcp", String::from_str(alloc, place.address())?)))
