@@ -15,7 +15,9 @@ use crate::place::Place;
 use crate::serving::serve_listener;
 use ganswer::Server;
 use gclient::{FetchFault, Fetched, Repo, Spec};
-use gcmd::{FetchRun, ProgramFault, conclude, finish, load_server, open_client, send, send_report};
+use gcmd::{
+    FetchRun, ProgramFault, conclude, finish, load_server, open_client, send_report, send_text,
+};
 use gfetchreply::PackLimit;
 use ggrammar::Ends;
 use ggraph::PlainPack;
