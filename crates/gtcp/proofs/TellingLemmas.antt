@@ -11,6 +11,18 @@ use Rattle.gcmd.specs.Programs.{Outcome}
 use Rattle.gcmd.specs.declared.fault.ProgramFault.{ProgramFault}
 use Rattle.gtcp.specs.Telling.{PrintsFaults, PrintsFew, PrintsNone, PrintsSoFar, Tells, fault_lines}
 
+module _ {W : Type 0} (contents passed_on : W → Option (List ℕ)) (is_down : W → Bool) where
+  -- a beginning stays so where nothing more is written
+  some_still : (a b c : W) (bytes : List ℕ) → SendsSome (output_of contents passed_on is_down a b) bytes
+      → IsUnwritten (output_of contents passed_on is_down b c) → SendsSome (output_of contents passed_on is_down a c) bytes
+  some_still a b c bytes some still = record {
+    front = some.front;
+    rest = some.rest;
+    parts = some.parts;
+    written = subst (λ (now : Option (List ℕ)). Appends (contents a) now some.front) (sym still.written) some.written;
+    down = still.down ∙ some.down;
+  }
+
 module _ {A W : Type 0} (contents passed_on : W → Option (List ℕ)) (is_down : W → Bool) where
   -- before the first
   pub tells_none : (a : W) → PrintsSoFar A (output_of contents passed_on is_down a a) true 0
@@ -34,21 +46,11 @@ module _ {A W : Type 0} (contents passed_on : W → Option (List ℕ)) (is_down 
     },
   )
 
-  some_still : (a b c : W) (bytes : List ℕ) → SendsSome (output_of contents passed_on is_down a b) bytes
-      → IsUnwritten (output_of contents passed_on is_down b c) → SendsSome (output_of contents passed_on is_down a c) bytes
-  some_still a b c bytes some still = record {
-    front = some.front;
-    rest = some.rest;
-    parts = some.parts;
-    written = subst (λ (now : Option (List ℕ)). Appends (contents a) now some.front) (sym still.written) some.written;
-    down = still.down ∙ some.down;
-  }
-
   prints_still : (a b c : W) (faults : List (ProgramFault A)) → PrintsFaults (output_of contents passed_on is_down a b) faults
       → IsUnwritten (output_of contents passed_on is_down b c) → PrintsFaults (output_of contents passed_on is_down a c) faults
   prints_still a b c faults (inl none) still = inl (none_still a b c faults none still)
   prints_still a b c faults (inr (inl all)) still = inr (inl (passes_still contents passed_on is_down a b c (fault_lines faults) all still))
-  prints_still a b c faults (inr (inr some)) still = inr (inr (some_still a b c (fault_lines faults) some still))
+  prints_still a b c faults (inr (inr some)) still = inr (inr (some_still contents passed_on is_down a b c (fault_lines faults) some still))
 
   up_still : (a b c : W) (faults : List (ProgramFault A))
       → PrintsNone (output_of contents passed_on is_down a b) faults ⊎ Passes (output_of contents passed_on is_down a b) (fault_lines faults)
