@@ -1,6 +1,6 @@
 //! The programs that open sockets, as functions over the network, bytes and sinks.
 
-ghost use Rattle.std.specs.Prelude.{◌≡◌, ℕ, List, IfOk, option_map};
+ghost use Rattle.std.specs.Prelude.{◌≡◌, ◌≤◌, ℕ, List, IfOk, option_map};
 ghost use Rattle.ghistory.specs.Reach.{Grows};
 ghost use Rattle.gpkt.specs.Sending.{output_of};
 ghost use Rattle.grepo.specs.Settling.{Settles};
@@ -53,6 +53,9 @@ pub fn cmd_serve<A: Allocator + Copy, N, W: Sink, E: Sink>(
 ) -> u8
 where
     N: Net<Stream = TcpStream, Listener = TcpListener>,
+    ensures status { result ≤ 1 }
+    ensures output_loans { W.loans output.new ≡ W.loans output.old }
+    ensures errors_loans { E.loans errors.new ≡ E.loans errors.old }
 {
     let outcome = serve_all(net, alloc, service, output, errors);
     finish(outcome, errors)
@@ -67,6 +70,8 @@ fn serve_all<A: Allocator + Copy, N, W: Sink, E: Sink>(
 ) -> Result<(), ProgramFault<A>>
 where
     N: Net<Stream = TcpStream, Listener = TcpListener>,
+    ensures output_loans { W.loans output.new ≡ W.loans output.old }
+    ensures errors_loans { E.loans errors.new ≡ E.loans errors.old }
 {
     let server = load_server(alloc, service.file)?;
     let Ok(listener) = TcpListener::bind(net, service.place.address()) else {
@@ -91,7 +96,9 @@ fn announce<A: Allocator + Copy, W: Sink>(
     alloc: A,
     listener: &TcpListener,
     output: &mut W,
-) -> Result<(), ProgramFault<A>> {
+) -> Result<(), ProgramFault<A>>
+    ensures loans { W.loans output.new ≡ W.loans output.old }
+{
     match listener.local_addr() {
         Ok(address) => show_port(alloc, address.port(), output),
         Err(_) => Err(ProgramFault::Socket),
@@ -102,7 +109,9 @@ fn show_port<A: Allocator + Copy, W: Sink>(
     alloc: A,
     port: u16,
     output: &mut W,
-) -> Result<(), ProgramFault<A>> {
+) -> Result<(), ProgramFault<A>>
+    ensures loans { W.loans output.new ≡ W.loans output.old }
+{
     match format!(in alloc; "listening {port}\n") {
         Ok(line) => send_text(line.as_bytes(), output),
         Err(_) => Err(ProgramFault::Memory),
