@@ -13,7 +13,7 @@ use Rattle.glsreply.specs.LsReplies as refs
 use Rattle.glsreply.specs.LsReplies.{LsReply}
 use Rattle.glsreply.specs.RefTexts.{RefLine}
 use Rattle.gfetchreply.specs.FetchReplies.{FetchReply, Reading, Acks, Ready, Pack}
-use Rattle.gfetchreply.specs.FetchHeads.{pack_of}
+use Rattle.gfetchreply.specs.FetchHeads.{acknowledged_by, pack_of}
 use Rattle.gfetchreply.specs.Values.{default_limit}
 use Rattle.gfetchreply.specs.WellFormed.{IsReplyIn}
 use Rattle.gobject.specs.declared.node.Entry.{Entry}
@@ -26,12 +26,12 @@ use Rattle.ghistory.specs.Reach.{Agree, Grows, IsFull, Keeps, Reaches}
 use Rattle.grequest.specs.Asked.{Asked, Empty, Ls, Fetches, FetchAsked, is_direct, max_haves}
 use Rattle.grepo.specs.Repos.{RepoState}
 use Rattle.ganswer.specs.Answers.{Answers, Reply, Nothing, Ls as Refs, Fetch as Objects}
-use Rattle.ganswer.specs.FetchAnswers.{FetchAnswer, RepliesWith, acks_of}
+use Rattle.ganswer.specs.FetchAnswers.{FetchAnswer, RepliesWith}
 use Rattle.ganswer.specs.Laws.{AcksAreCommon, FetchAnswersFit, IsEnough, LsAnswersAreHeld, LsAnswersFit, PacksAreEnough, ServesWhatIsHeld}
 use Rattle.ganswer.specs.Servers.{IsServer, Server}
 use Rattle.gsession.specs.Sessions.{SessionState}
 use Rattle.gsession.specs.TakingRefs.{ReadsRefs}
-use Rattle.gsession.specs.TakingReplies.{InsertsAll, ReadsFetch, acknowledged_by, reading_for}
+use Rattle.gsession.specs.TakingReplies.{InsertsAll, ReadsFetch, reading_for}
 use Rattle.gworld.specs.Sound.{IsUnforgedAndFaithful, IsSoundFetch, IsSoundKept, IsSoundRequest, IsSoundSession}
 use Rattle.gworld.specs.Worlds.{Kept, PackTools, WorldState, reply_bytes}
 use Rattle.gworld.proofs.Growth.{GrowthLaws, all_held, held_in}
@@ -49,12 +49,6 @@ pub record AnswerLaws {A : Type 0} (tools : PackTools A) : Type 0 where
   pub serves : ServesWhatIsHeld A tools.pack_fails
   pub has_all : KeepingHasAll A
   pub agreeing : AgreeingStays A
-
--- the acknowledged ids, as the client and as the server say it
-pub acks_same : (reply : FetchReply) → acknowledged_by reply ≡ acks_of reply
-acks_same (Acks ids) = refl
-acks_same (Ready ids pack) = refl
-acks_same (Pack pack) = refl
 
 -- how a reply to fetch is read by one who takes any pack
 abbrev pub any_reading : Format → FetchAsked → Reading
@@ -133,8 +127,7 @@ module _ {A : Type 0} (tools : PackTools A) where
       → All (Holds w.server.graph.entries) (acknowledged_by read)
   acks_told laws w server asked reply read grown is =
       let common = laws.acks server is.fetch read is.answers in
-      subst (λ (ids : List (List ℕ)). All (Holds w.server.graph.entries) ids) (sym (acks_same read))
-      (all_held laws.growth server.graph.entries w.server.graph.entries grown (acks_of read) common.held)
+      all_held laws.growth server.graph.entries w.server.graph.entries grown (acknowledged_by read) common.held
 
   -- so it tells what the server holds
   pub kept_tells : AnswerLaws tools → (w : WorldState A) (s : SessionState A) (kept : Kept) (count : ℕ)

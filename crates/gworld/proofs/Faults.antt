@@ -4,23 +4,25 @@ use Rattle.std.proofs.Common.{◌≡◌, ◌⊎◌, ℕ, ◌<◌, ◌≤◌, Boo
 use Rattle.std.proofs.Common.{Result, Ok, Err, inl, inr, refl, sym, ap, subst, ◌∙◌, arith, take, append-nil}
 use Rattle.std.proofs.lemmas.Bool.{false≢true}
 use Rattle.std.proofs.lemmas.Bool.Decides.{leb_tells}
-use Rattle.std.proofs.lemmas.Grind.{common_steps}
+use Rattle.std.proofs.lemmas.List.{take_all}
 use Rattle.std.proofs.lemmas.List.Elements.{All-contains, Contains-append_right, Contains-get_or}
 use Rattle.gname.specs.Limits.{max_pack}
 use Rattle.gname.specs.declared.formats.Format.{Format}
+use Rattle.gpkt.specs.Change.{Change}
 use Rattle.gpkt.specs.Packets.{Packet, canonical_all}
 use Rattle.gpkt.specs.declared.fault.LineFault.TheVariants as line
 use Rattle.ggrammar.specs.Faults.{why_row}
+use Rattle.ggrammar.specs.Grammar.{Judge}
 use Rattle.ggrammar.specs.Kinds.{ReadsExactly, SaysAtFront}
 use Rattle.ggrammar.specs.MessageBytes.{IsFront, IsOfBytes, known}
-use Rattle.ggrammar.specs.MessageReading.{IsReadFailure, ReadsRefused}
+use Rattle.ggrammar.specs.MessageReading.{IsReadFailure, IsReasonAfter, ReadsRefused}
 use Rattle.ggrammar.specs.declared.ends.Ends.{Ends}
 use Rattle.ggrammar.specs.declared.ends.Ends.TheVariants.{Plain}
 use Rattle.ggrammar.specs.declared.fault.MessageFault.{MessageFault}
 use Rattle.ggrammar.specs.declared.fault.Why.{Why}
 use Rattle.ggrammar.specs.declared.fault.Why.TheVariants as why
-use Rattle.gfetchreply.specs.FetchReplies.{FetchReply, Reading, Acks, Ready, Pack, Says, brings, canonical_reply, judge}
-use Rattle.gfetchreply.specs.FetchHeads.{pack_of}
+use Rattle.gfetchreply.specs.FetchReplies.{FetchReply, Reading, Acks, Ready, Pack, Says, brings, brings_into, canonical_reply, judge}
+use Rattle.gfetchreply.specs.FetchHeads.{acknowledged_by, pack_of}
 use Rattle.gfetchreply.specs.Laws.{IsInAnyLimit, IsRefusedOverLimit}
 use Rattle.gfetchreply.specs.Values.{default_limit}
 use Rattle.gobject.specs.declared.node.Entry.{Entry}
@@ -39,12 +41,12 @@ use Rattle.grepo.specs.Repos.{RepoState}
 use Rattle.grepo.specs.declared.fault.RepoFault.TheVariants as repo
 use Rattle.grequest.specs.Asked.{Asked, Empty, Ls, Fetches, FetchAsked, is_direct}
 use Rattle.ganswer.specs.Answers.{Answers, Reply, Nothing, Ls as Refs, Fetch as Objects}
-use Rattle.ganswer.specs.FetchAnswers.{FetchAnswer, acks_of}
+use Rattle.ganswer.specs.FetchAnswers.{FetchAnswer}
 use Rattle.ganswer.specs.Laws.{IsEnough}
 use Rattle.ganswer.specs.Servers.{IsServer, Server}
 use Rattle.gsession.specs.Sessions.{SessionState}
 use Rattle.gsession.specs.TakingReplies.{Awaits, DeclinesFetch, HasPack, IsFirstStrange, IsReplyFault, IsTakeFault, ReadsFetch, RefusesFetch, RefusesPack, TakesHead}
-use Rattle.gsession.specs.TakingReplies.{acknowledged_by, reading_for}
+use Rattle.gsession.specs.TakingReplies.{reading_for}
 use Rattle.gsession.specs.declared.fault.ClientFault.{ClientFault}
 use Rattle.gsession.specs.declared.fault.ClientFault.TheVariants as client
 use Rattle.gworld.specs.Promises.{IsTakenOrDeclined, MayDecline}
@@ -53,7 +55,7 @@ use Rattle.gworld.specs.Taking.{IsAtHand, TakesObjects, code_of}
 use Rattle.gworld.specs.Worlds.{Kept, PackTools, WorldState, reply_bytes}
 use Rattle.gworld.specs.declared.outcome.Outcome.{Outcome}
 use Rattle.gworld.specs.declared.outcome.Outcome.TheVariants.{Round, PackTaken, Fault}
-use Rattle.gworld.proofs.Delivering.{AnswerLaws, IsKeptFetch, acks_same, agree_before, any_reading, kept_fetch, largest, read_is_sent, reply_fits}
+use Rattle.gworld.proofs.Delivering.{AnswerLaws, IsKeptFetch, agree_before, any_reading, kept_fetch, largest, read_is_sent, reply_fits}
 use Rattle.gworld.proofs.Packs.{sends}
 use Rattle.gworld.proofs.Reading.{objects_bytes, objects_written}
 
@@ -95,8 +97,23 @@ why_cases (why.Line fault) at = inr tt
 why_cases why.Memory at = inl refl
 why_cases w at = inr tt
 
-take_all : (bytes : List ℕ) (count : ℕ) → length bytes ≤ count → take count bytes ≡ bytes
-take_all bytes count all = grind (arith, common_steps)
+-- what is refused for a reason in the bytes is so whatever packets take memory
+reason_of_bytes : (judge : Judge) (one other : List Packet → Packet → Bool) (front : List Packet) (change : Change) (w : Why) → IsOfBytes w
+    → IsReasonAfter judge one front change w → IsReasonAfter judge other front change w
+reason_of_bytes judge one other front change (why.Line fault) certain is = is
+reason_of_bytes judge one other front change why.Memory certain is = absurd certain
+reason_of_bytes judge one other front change w certain is = is
+
+refused_for_bytes : (judge : Judge) (one other : List Packet → Packet → Bool) (front : List Packet) (change : Change) (fault : MessageFault)
+    → IsOfBytes fault.why → ReadsRefused judge one front change fault → ReadsRefused judge other front change fault
+refused_for_bytes judge one other front change fault certain is = record {
+  between = is.between;
+  goes = is.goes;
+  unfinished = is.unfinished;
+  frame = is.frame;
+  before = is.before;
+  reason = reason_of_bytes judge one other front (record { old = is.between; new = change.new }) fault.why certain is.reason;
+}
 
 -- how the client reads the reply, and how one does who takes any pack
 reading_is : {A : Type 0} (s : SessionState A) (format : Format) (asked : FetchAsked) → s.format ≡ format → s.limit ≡ default_limit → s.ends ≡ Plain
@@ -122,16 +139,18 @@ module _ {A : Type 0} (tools : PackTools A)
   refused_told : (r : RepoState A) (format : Format) (asked : FetchAsked) (reply : FetchReply) (front : List Packet) (left : List ℕ) (fault : MessageFault) (number : ℕ)
       → Says (any_reading format asked) (canonical_reply Plain reply) reply
       → IsFront (canonical_reply Plain reply) (objects_bytes reply) []
-      → ReadsRefused (judge (record (any_reading format asked) { limit = default_limit })) (brings (record (any_reading format asked) { limit = default_limit })) front (known (objects_bytes reply) left) fault
+      → ReadsRefused (judge (record (any_reading format asked) { limit = default_limit })) (brings_into false (record (any_reading format asked) { limit = default_limit })) front (known (objects_bytes reply) left) fault
       → number ≡ (why_row fault.why).code → (fault.why ≡ why.Memory) ⊎ IsOfBytes fault.why → MayDecline tools r reply number
   refused_told r format asked reply front left fault number says spelt refused is (inl memory) =
       inr (inr (inl (is ∙ ap (λ (w : Why). (why_row w).code) memory)))
   refused_told r format asked reply front left fault number says spelt refused is (inr certain) =
       let reading = record (any_reading format asked) { limit = default_limit } in
+      let kept : ReadsRefused (judge reading) (brings reading) front (known (objects_bytes reply) left) fault =
+      refused_for_bytes (judge reading) (brings_into false reading) (brings reading) front (known (objects_bytes reply) left) fault certain refused in
       let over : fault.why ≡ why.Limit =
-      laws.over_limit reading max_pack (canonical_reply Plain reply) front reply (objects_bytes reply) left [] fault says spelt refused certain in
+      laws.over_limit reading max_pack (canonical_reply Plain reply) front reply (objects_bytes reply) left [] fault says spelt kept certain in
       elim (leb_tells (length (pack_of reply)) default_limit) [
-        | inl short ↦ absurd (within_limit format asked reply front left fault says spelt refused certain short.1)
+        | inl short ↦ absurd (within_limit format asked reply front left fault says spelt kept certain short.1)
         | inr long ↦ inl (is ∙ ap (λ (w : Why). (why_row w).code) over, long.1)
       ]
 
@@ -234,9 +253,9 @@ module _ {A : Type 0} (tools : PackTools A)
       let reading : reading_for s fault.0 ≡ record (any_reading server.graph.format asked) { limit = default_limit } =
       ap (λ (f : FetchAsked). reading_for s f) also
       ∙ reading_is s server.graph.format asked (is.session_format ∙ sym is.format) is.limit is.ends in
-      let bytes = take_all (objects_bytes reply) count all in
-      let refused = subst (λ (b : List ℕ). ReadsRefused (judge (reading_for s fault.0)) (brings (reading_for s fault.0)) fault.2.0 (known b left) cause) bytes fault.2.1 in
-      let refused_too = subst (λ (r : Reading). ReadsRefused (judge r) (brings r) fault.2.0 (known (objects_bytes reply) left) cause) reading refused in
+      let bytes = take_all count (objects_bytes reply) all in
+      let refused = subst (λ (b : List ℕ). ReadsRefused (judge (reading_for s fault.0)) (brings_into false (reading_for s fault.0)) fault.2.0 (known b left) cause) bytes fault.2.1 in
+      let refused_too = subst (λ (r : Reading). ReadsRefused (judge r) (brings_into false r) fault.2.0 (known (objects_bytes reply) left) cause) reading refused in
       let fits = reply_fits tools answers server asked reply is.is is.request.few is.is_answer in
       let written = objects_written answers.reading (any_reading server.graph.format asked) reply refl largest fits in
       refused_told w.repo server.graph.format asked reply fault.2.0 left cause number written.0
@@ -246,8 +265,7 @@ module _ {A : Type 0} (tools : PackTools A)
       let read : fault.2.0 ≡ reply = read_whole w s server asked reply fault.2.0 fault.0 count left is fault.2.1 in
       let strange = subst (λ (f : FetchAsked). IsFirstStrange f.haves (acknowledged_by fault.2.0) id) also fault.2.2 in
       let strange_too = subst (λ (r : FetchReply). IsFirstStrange asked.haves (acknowledged_by r) id) read strange in
-      let named = subst (λ (ids : List (List ℕ)). All (Contains asked.haves) ids) (sym (acks_same reply)) (answers.acks server asked reply is.is_answer).offered in
-      absurd (none_strange asked.haves (acknowledged_by reply) id named strange_too)
+      absurd (none_strange asked.haves (acknowledged_by reply) id (answers.acks server asked reply is.is_answer).offered strange_too)
   take_fault w s server asked reply count left (client.Index cause) number is all fault at same =
       let read : fault.2.0 ≡ reply = read_whole w s server asked reply fault.2.0 fault.0 count left is fault.2.1 in
       let has : HasPack reply = subst HasPack read fault.2.2.1 in

@@ -1,6 +1,6 @@
 -- What stays where objects only come.
 use Rattle.std.proofs.Common.{◌≡◌, ◌⊎◌, ℕ, Bool, true, false, List, [], ◌∷◌, ◌++◌, length, All, Contains, Option, Some, None}
-use Rattle.std.proofs.Common.{inl, inr, refl, sym, ap, subst, ◌∙◌, append_assoc, append-nil}
+use Rattle.std.proofs.Common.{inl, inr, refl, sym, ap, subst, ◌∙◌}
 use Rattle.std.specs.Prelude.{IfSome, IsSome, MatchOption}
 use Rattle.std.proofs.lemmas.Bool.{false≢true}
 use Rattle.std.proofs.lemmas.List.Elements.{All-weaker}
@@ -35,12 +35,6 @@ pub record GrowthLaws (A : Type 0) : Type 0 where
   pub reaches : KeepingReaches A
 
 module _ {A : Type 0} where
-  pub grows_none : (g : List (Entry A)) → Grows g g
-  grows_none g = ([], sym (append-nil g))
-
-  pub grows_to : (g h : List (Entry A)) → h ≡ g → Grows g h
-  grows_to g h same = ([], same ∙ sym (append-nil g))
-
   -- the session, if there is one, is sound
   abbrev pub IsSoundIn : WorldState A → Option (SessionState A) → Type 0
   IsSoundIn w session = IfSome session (IsSoundSession w)

@@ -16,7 +16,7 @@ use Rattle.ganswer.specs.FetchAnswers.{RepliesWith, SendsPack}
 use Rattle.ganswer.specs.Servers.{Server}
 use Rattle.gsession.specs.Laws.{OpenIsTheSessions}
 use Rattle.gsession.specs.Sessions.{IsSession, SessionState}
-use Rattle.gsession.specs.TakingReplies.{Awaits, HasPack, acknowledged_by, after_acks, reading_for}
+use Rattle.gsession.specs.TakingReplies.{Awaits, HasPack, after_acks, reading_for}
 use Rattle.gsession.specs.declared.stage.Stage.TheVariants.{Settling}
 use Rattle.gworld.specs.Sound.{IsUnforgedAndFaithful, IsSoundFetch, IsSoundKept, IsSoundRequest, IsSoundSession, IsWantedOrFull}
 use Rattle.gworld.specs.Taking.{IsFullAnswer, IsPackTaken, TakesBytes, TakesObjects}

@@ -9,6 +9,7 @@ use Rattle.gobject.specs.declared.fault.PackFault.TheVariants as pack
 use Rattle.gobject.specs.Faults.{pack_fault_row}
 use Rattle.gobject.specs.Packs.{AreEntries, Indexes, IndexFails, Packs, PackFails}
 use Rattle.gfetchreply.specs.FetchReplies.{FetchReply}
+use Rattle.ghistory.proofs.Growing.{all_standing}
 use Rattle.ghistory.specs.Graphs.{History, Holds}
 use Rattle.ghistory.specs.Laws.{HasAll}
 use Rattle.ghistory.specs.Reach.{IsFull, here}
@@ -53,7 +54,7 @@ use Rattle.gworld.proofs.Delivering.{agree_before}
 use Rattle.gworld.proofs.Faults.{FaultLaws, IsWhole, whole_taken}
 use Rattle.gworld.proofs.Growth.{IsAnsweredIn, IsSoundIn}
 use Rattle.gworld.proofs.Packs.{pack_came}
-use Rattle.gworld.proofs.Steps.{WorldLaws, all_at, step_sound}
+use Rattle.gworld.proofs.Steps.{WorldLaws, step_sound}
 
 module _ {A : Type 0} where
   -- ---- common ids
@@ -116,7 +117,7 @@ module _ {A : Type 0} (tools : PackTools A)
       → Delivers tools.indexes tools.index_fails w found count (waiting w.session) (PackTaken added) v → CompletesKept found v
   found_complete w v number count added None at sound honest delivers = tt
   found_complete w v number count added (Some kept) at sound honest delivers =
-      kept_complete w v kept count added w.session sound honest (all_at (IsSoundKept tools.packs w) w.kept number kept sound.kept at) sound.session delivers
+      kept_complete w v kept count added w.session sound honest (all_standing (IsSoundKept tools.packs w) w.kept number kept at sound.kept) sound.session delivers
 
   pub completes : (w v : WorldState A) (e : Event A) (outcome : Outcome) → IsSound tools w
       → IsUnforgedAndFaithful tools w → Step tools w e outcome v → CompletesWants w e outcome v
@@ -166,7 +167,7 @@ module _ {A : Type 0} (tools : PackTools A)
         subst (λ (o : Option Asked). Delivers tools.indexes tools.index_fails w (Some kept) count (waits_for s o) outcome v) brings.waits to in
         let bytes = comes.2 in
         let session : IsSoundSession w s = subst (λ (o : Option (SessionState A)). IsSoundIn w o) brings.goes_on sound.session in
-        let is : IsSoundKept tools.packs w kept = all_at (IsSoundKept tools.packs w) w.kept number kept sound.kept brings.at in
+        let is : IsSoundKept tools.packs w kept = all_standing (IsSoundKept tools.packs w) w.kept number kept brings.at sound.kept in
         whole_of w s bytes.after is.server kept.asked reply count outcome bytes.repo sound honest session brings.waits
         (subst (IsSoundKept tools.packs w) (kept_as kept reply brings.objects) is)
         (subst (λ (r : Reply). length (reply_bytes r) ≤ count) brings.objects brings.all)
@@ -208,7 +209,7 @@ module _ {A : Type 0} (tools : PackTools A)
   found_served w v number None outcome at ends sound honest serves = tt
   found_served w v number (Some asked) (Served count) at ends sound honest serves = tt
   found_served w v number (Some asked) (Fault code) at ends sound honest serves =
-      refusal_served w asked serves.0 code ends.server (all_at (IsSoundRequest w) w.sent number asked sound.sent at) honest serves.1 serves.2
+      refusal_served w asked serves.0 code ends.server (all_standing (IsSoundRequest w) w.sent number asked at sound.sent) honest serves.1 serves.2
   found_served w v number (Some asked) _ at ends sound honest serves = absurd serves
 
   pub serves_each : (w v : WorldState A) (e : Event A) (outcome : Outcome) → AreEndsWhole w → IsSound tools w → IsUnforgedAndFaithful tools w

@@ -1,8 +1,7 @@
 -- A run that goes on.
 use Rattle.std.proofs.Common.{Result, Ok, Err, is_err, OnOk, Bool, true, false, ◌≡◌, ◌∙◌, ℕ, ◌+◌, ◌<◌, List, [], ◌∷◌, ◌++◌, length, take, drop, get_or, refl, sym, ap, subst, arith, append_assoc}
 use Rattle.std.proofs.lemmas.Bool.{false≢true}
-use Rattle.std.proofs.lemmas.List.{take-append-drop, take_more}
-use Rattle.gobject.specs.Packs.{Indexes, IndexFails, Packs, PackFails}
+use Rattle.ghistory.proofs.Growing.{at_front}
 use Rattle.gworld.specs.Bringing.{RunsSoundly}
 use Rattle.gworld.specs.Promises.{Promises}
 use Rattle.gworld.specs.Sound.{IsSound}
@@ -17,11 +16,6 @@ room_left_by (Err e) P well room = absurd (false≢true (sym well))
 
 pub room_left : {T E : Type 0} (r : Result T E) (P : Type 0) → is_err r ≡ false → OnOk r P → P
 room_left r P well room = room_left_by r P well room
-
--- one element more at the front
-pub one_more_taken : {X : Type 0} (xs : List X) (i : ℕ) (x : X) → i < length xs → x ≡ get_or xs i x → take (i + 1) xs ≡ take i xs ++ x ∷ []
-one_more_taken xs i x inside is =
-    take_more xs i x inside ∙ ap (λ y. take i xs ++ y ∷ []) (sym is)
 
 module _ {A : Type 0} (R : WorldState A → Event A → Outcome → WorldState A → Type 0) where
   pub run_goes_on : (w v u : WorldState A) (events : List (Event A)) (outcomes : List Outcome) (event : Event A) (outcome : Outcome)
@@ -43,9 +37,7 @@ module _ {A : Type 0} (tools : PackTools A) where
     front = take count events;
     next = next;
     rest = drop (count + 1) events;
-    parts = sym (take-append-drop (count + 1) events)
-        ∙ ap (λ (l : List (Event A)). l ++ drop (count + 1) events) (one_more_taken events count next inside at)
-        ∙ append_assoc (take count events) (next ∷ []) (drop (count + 1) events);
+    parts = at_front events count next inside at;
     run = subst (λ (told : List Outcome). RunWith (Promises tools) w (take count events) told v) (sym is) runs.run;
   }
 

@@ -11,6 +11,7 @@ use Rattle.glsreply.specs.RefTexts.{RefLine}
 use Rattle.gname.specs.declared.formats.Format.{Format}
 use Rattle.gobject.specs.declared.node.Entry.{Entry}
 use Rattle.gobject.specs.Packs.{Indexes, IndexFails}
+use Rattle.ghistory.proofs.Growing.{grows_none}
 use Rattle.ghistory.specs.Graphs.{Holds}
 use Rattle.ghistory.specs.Reach.{IsFull}
 use Rattle.gspec.specs.Refspecs.{Refspec}
@@ -30,7 +31,6 @@ use Rattle.gsession.specs.declared.stage.Stage.{Stage}
 use Rattle.gsession.specs.declared.stage.Stage.TheVariants.{Listing, Fetching, Settling, Over}
 use Rattle.gsession.specs.declared.taken.LsTaken.{LsTaken}
 use Rattle.gworld.specs.Sound.{IsSoundFetch, IsSoundRequest, IsSoundSession, IsWantedOrFull}
-use Rattle.gworld.proofs.Growth.{grows_none}
 use Rattle.gworld.specs.Worlds.{WorldState}
 
 -- a session that has heard the advertisement of a server
@@ -198,7 +198,7 @@ module _ {A : Type 0} where
       subst (IsSoundSession w) (sym made.2)
       (waits_for_objects w s asked made.0
       (subst (BeganOn w.repo.graph.entries) made.2
-      (laws.stays w.repo.graph.entries w.repo.graph.entries s after (Fetches asked) (grows_none w.repo.graph.entries) sound.began made))
+      (laws.stays w.repo.graph.entries w.repo.graph.entries s after (Fetches asked) (grows_none w.repo.graph.entries w.repo.graph.entries refl) sound.began made))
       sound (made_fetch laws w s after asked sound session made))
 
   -- ---- the reply to ls-refs

@@ -1,11 +1,12 @@
 -- A world begins.
 use Rattle.std.proofs.Common.{◌≡◌, ◌∙◌, ℕ, ◌+◌, ◌<◌, ◌≤◌, List, [], ◌∷◌, ◌++◌, length, take, drop, get_or, All, Option, Some, None, refl, sym, ap, subst, arith, append_assoc, inl, inr, false}
 use Rattle.std.specs.Prelude.{slice_get}
-use Rattle.std.proofs.lemmas.List.{take-append-drop, take_all, take_more}
+use Rattle.std.proofs.lemmas.List.{take_all}
 use Rattle.std.proofs.lemmas.List.Elements.{All-nil, All-push}
 use Rattle.std.proofs.lemmas.Option.{get_or_from_slice_get, none-some, same_Some, slice_get_cases, slice_get_within}
 use Rattle.gobject.specs.declared.node.Entry.{Entry}
 use Rattle.gobject.specs.Objects.{IdsDiffer, entry_of}
+use Rattle.ghistory.proofs.Growing.{all_standing, at_front, take_one}
 use Rattle.ghistory.specs.Laws.{AgreesWith, PlacesAreNodes}
 use Rattle.ghistory.specs.Reach.{Agree}
 use Rattle.ganswer.specs.Servers.{Server}
@@ -16,14 +17,11 @@ use Rattle.gworld.specs.Starts.{CanStart, IsFirstDisagreement}
 use Rattle.gworld.specs.Steps.{Disagrees}
 use Rattle.grequest.specs.Asked.{Asked}
 use Rattle.gworld.specs.Worlds.{Kept, PackTools, WorldOf, WorldState, new_world}
-use Rattle.gworld.proofs.Steps.{all_at}
 use Rattle.std.proofs.lemmas.Bool.{false≢true}
 
 module _ {A : Type 0} where
-  front_more : (g : List (Entry A)) (p : ℕ) (entry : Entry A) → slice_get g p ≡ Some entry → take (p + 1) g ≡ take p g ++ entry ∷ []
-  front_more g p entry at =
-      take_more g p entry (slice_get_within g p entry at)
-      ∙ ap (λ (x : Entry A). take p g ++ x ∷ []) (get_or_from_slice_get g p entry entry at)
+  stands : (g : List (Entry A)) (p : ℕ) (entry : Entry A) → slice_get g p ≡ Some entry → entry ≡ get_or g p entry
+  stands g p entry at = sym (get_or_from_slice_get g p entry entry at)
 
   -- the client agrees with one more entry
   pub one_more_agrees : (g h : List (Entry A)) (p : ℕ) → p < length g → AgreesAt g h p → All (AgreesWith h) (take p g)
@@ -31,7 +29,7 @@ module _ {A : Type 0} where
   one_more_agrees g h p inside here before =
       elim (slice_get_cases g p).1 [
         | inl found ↦
-            subst (All (AgreesWith h)) (sym (front_more g p found.0 found.2))
+            subst (All (AgreesWith h)) (sym (take_one g p found.0 inside (stands g p found.0 found.2)))
             (All-push (AgreesWith h) (take p g) found.0 before (here found.0 found.2))
         | inr past ↦ (let over = past.0 in absurd (omega (arith, over, inside)))
       ]
@@ -43,9 +41,7 @@ module _ {A : Type 0} where
     front = take p g;
     entry = found.0;
     back = drop (p + 1) g;
-    parts = sym (take-append-drop (p + 1) g)
-        ∙ ap (λ (l : List (Entry A)). l ++ drop (p + 1) g) (front_more g p found.0 found.1)
-        ∙ append_assoc (take p g) (found.0 ∷ []) (drop (p + 1) g);
+    parts = at_front g p found.0 (slice_get_within g p found.0 found.1) (stands g p found.0 found.1);
     agree = before;
     disagrees = found.2;
     is = found.3;
@@ -57,7 +53,7 @@ module _ {A : Type 0} where
   graphs_agree law g h p past differ before a m n here there =
       let all : All (AgreesWith h) g = subst (All (AgreesWith h)) (take_all p g past) before in
       let place = ((law g differ).0 a m).0 here in
-      sym (all_at (AgreesWith h) g place.0 (entry_of a m) all place.1 n there)
+      sym (all_standing (AgreesWith h) g place.0 (entry_of a m) place.1 all n there)
 
   -- what the client holds under the id of the entry that the server has there
   pub agrees_here : (g h : List (Entry A)) (p : ℕ) (entry : Entry A) → slice_get g p ≡ Some entry → AgreesWith h entry → AgreesAt g h p

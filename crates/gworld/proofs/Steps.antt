@@ -4,11 +4,12 @@ use Rattle.std.proofs.Common.{Result, Ok, Err, if◌then◌else◌, inl, inr, re
 use Rattle.std.specs.Prelude.{IfSome, IsTrue, slice_get}
 use Rattle.std.proofs.lemmas.Bool.{false≢true}
 use Rattle.std.proofs.lemmas.List.Elements.{All-cons, All-nil, All-push}
-use Rattle.std.proofs.lemmas.Option.{get_or_from_slice_get, none-some, slice_get_cases}
 use Rattle.gname.specs.declared.formats.Format.{Format}
+use Rattle.gfetchreply.specs.FetchHeads.{acknowledged_by}
 use Rattle.gobject.specs.declared.node.Entry.{Entry}
 use Rattle.gobject.specs.declared.node.Node.{Node}
 use Rattle.gobject.specs.Packs.{Indexes, IndexFails, Packs, PackFails}
+use Rattle.ghistory.proofs.Growing.{all_standing, grows_none}
 use Rattle.ghistory.specs.Graphs.{History, Holds, IsNode}
 use Rattle.ghistory.specs.Insert.{ComesIn, Inserts}
 use Rattle.ghistory.specs.Laws.{AgreeingStays, AgreesWith, ComingGrows}
@@ -28,7 +29,7 @@ use Rattle.gsession.specs.Laws.{OnlyGrows}
 use Rattle.gsession.specs.Requesting.{MakesNext, Requests, is_due}
 use Rattle.gsession.specs.Sessions.{IsSession, SessionState, after_fault, ends_session, over}
 use Rattle.gsession.specs.SettlingRefs.{SettlesSession}
-use Rattle.gsession.specs.TakingReplies.{Awaits, acknowledged_by, after_acks}
+use Rattle.gsession.specs.TakingReplies.{Awaits, after_acks}
 use Rattle.gsession.specs.declared.fault.ClientFault.{ClientFault}
 use Rattle.gsession.specs.declared.fault.ClientFault.TheVariants as client
 use Rattle.gsession.specs.declared.stage.Stage.{Stage}
@@ -46,17 +47,10 @@ use Rattle.gscenario.specs.declared.event.Event.TheVariants as event
 use Rattle.gworld.specs.declared.outcome.Outcome.{Outcome}
 use Rattle.gworld.specs.declared.outcome.Outcome.TheVariants.{Done, Asked as Asks, Served, StrangerServed, LsTaken as RefsTold, Round, PackTaken, Settled, Fault}
 use Rattle.gworld.proofs.Delivering.{AnswerLaws, kept_tells}
-use Rattle.gworld.proofs.Growth.{Extends, GrowthLaws, grows_none, grows_to, honest_before, kept_grown, one_kept_grown, request_grown, sent_grown, session_grown, session_in_grown, IsAnsweredIn, IsSoundIn, answered_grown}
+use Rattle.gworld.proofs.Growth.{Extends, GrowthLaws, honest_before, kept_grown, one_kept_grown, request_grown, sent_grown, session_grown, session_in_grown, IsAnsweredIn, IsSoundIn, answered_grown}
 use Rattle.gworld.proofs.Packs.{PackCame, can_settle, pack_came}
 use Rattle.gworld.proofs.Sessions.{SessionLaws, hearing, asked_sound, begin_sound, made_request, over_sound, settled_sound}
 use Rattle.gworld.proofs.Taking.{TakingLaws, Tells, bytes_only, bytes_sound, client_extends, fault_sound, only_same}
-
-pub all_at : {X : Type 0} (P : X → Type 0) (xs : List X) (i : ℕ) (x : X) → All P xs → slice_get xs i ≡ Some x → P x
-all_at P xs i x all at =
-    elim (slice_get_cases xs i).1 [
-      | inl inside ↦ subst P (get_or_from_slice_get xs i x x at) (all i x inside.1)
-      | inr past ↦ absurd (none-some x (sym past.1 ∙ at))
-    ]
 
 -- no request is due when it is time to settle
 due_not_settling : (stage : Stage) (pending : Option Asked) → stage ≡ Settling → is_due stage pending ≡ true → ⊥
@@ -203,16 +197,16 @@ module _ {A : Type 0} (tools : PackTools A)
       let one : Kept = record { asked = asked; reply = serves.0 } in
       let new : WorldState A = record w { kept = w.kept ++ one ∷ [] } in
       let grown : Extends w new = record {
-        server = grows_none w.server.graph.entries; server_format = refl;
-        client = grows_none w.repo.graph.entries; client_format = refl; forged = λ unforged. unforged;
+        server = grows_none w.server.graph.entries w.server.graph.entries refl; server_format = refl;
+        client = grows_none w.repo.graph.entries w.repo.graph.entries refl; client_format = refl; forged = λ unforged. unforged;
       } in
       let is : IsSoundKept tools.packs w one = record {
         server = w.server;
         is = ends.server;
         format = refl;
-        grown = grows_none w.server.graph.entries;
+        grown = grows_none w.server.graph.entries w.server.graph.entries refl;
         answers = serves.1;
-        request = all_at (IsSoundRequest w) w.sent number asked sound.sent at;
+        request = all_standing (IsSoundRequest w) w.sent number asked at sound.sent;
       } in
       subst Sound (sym serves.3) (record {
         format = sound.format;
@@ -305,7 +299,7 @@ module _ {A : Type 0} (tools : PackTools A)
       → AreEndsWhole w → Sound w → Delivers tools.indexes tools.index_fails w found count (waiting w.session) outcome v → Sound v
   delivers_sound w v number count None outcome at ends sound delivers = same_sound w v delivers.1 sound
   delivers_sound w v number count (Some kept) outcome at ends sound delivers =
-      delivers_kept w v kept count w.session outcome sound (all_at (IsSoundKept tools.packs w) w.kept number kept sound.kept at) sound.session ends.session delivers
+      delivers_kept w v kept count w.session outcome sound (all_standing (IsSoundKept tools.packs w) w.kept number kept at sound.kept) sound.session ends.session delivers
 
   -- ---- forged bytes
 
@@ -365,9 +359,9 @@ module _ {A : Type 0} (tools : PackTools A)
   refs_extend : (w : WorldState A) (repo : RepoState A) (session : Option (SessionState A)) (answered : Bool) → repo.graph ≡ w.repo.graph
       → Extends w (changed w w.server repo session w.forged answered)
   refs_extend w repo session answered same = record {
-    server = grows_none w.server.graph.entries;
+    server = grows_none w.server.graph.entries w.server.graph.entries refl;
     server_format = refl;
-    client = grows_to w.repo.graph.entries repo.graph.entries (ap (λ (g : History A). g.entries) same);
+    client = grows_none w.repo.graph.entries repo.graph.entries (ap (λ (g : History A). g.entries) same);
     client_format = ap (λ (g : History A). g.format) same;
     forged = λ unforged. unforged;
   }
@@ -437,7 +431,7 @@ module _ {A : Type 0} (tools : PackTools A)
   server_extends w server grows format = record {
     server = grows;
     server_format = format;
-    client = grows_none w.repo.graph.entries;
+    client = grows_none w.repo.graph.entries w.repo.graph.entries refl;
     client_format = refl;
     forged = λ unforged. unforged;
   }
@@ -471,7 +465,7 @@ module _ {A : Type 0} (tools : PackTools A)
       let server = sets.0 in
       let same = laws.servers.setting w.server server name id (Ok tt) sets.1 in
       subst Sound (sym sets.2)
-      (server_sound w server (grows_to w.server.graph.entries server.graph.entries (ap (λ (g : History A). g.entries) same))
+      (server_sound w server (grows_none w.server.graph.entries server.graph.entries (ap (λ (g : History A). g.entries) same))
       (ap (λ (g : History A). g.format) same) sound
       (λ honest. subst (λ (g : History A). Agree g.entries w.repo.graph.entries) (sym same) (sound.agree honest)))
   sets_at_server w v name id (Fault number) sound sets = same_sound w v sets.3 sound
@@ -482,7 +476,7 @@ module _ {A : Type 0} (tools : PackTools A)
   client_sound w repo only sound agree =
       let u = changed w w.server repo w.session w.forged w.answered in
       let e : Extends w u = record {
-        server = grows_none w.server.graph.entries; server_format = refl;
+        server = grows_none w.server.graph.entries w.server.graph.entries refl; server_format = refl;
         client = only.grows; client_format = only.format; forged = λ unforged. unforged;
       } in
       changed_sound w w.server repo w.session w.forged w.answered e sound
@@ -509,7 +503,7 @@ module _ {A : Type 0} (tools : PackTools A)
       subst Sound (sym sets.2)
       (client_sound w repo
       (record {
-        grows = grows_to w.repo.graph.entries repo.graph.entries (ap (λ (g : History A). g.entries) same);
+        grows = grows_none w.repo.graph.entries repo.graph.entries (ap (λ (g : History A). g.entries) same);
         format = ap (λ (g : History A). g.format) same;
       }) sound
       (λ honest. subst (λ (g : History A). Agree w.server.graph.entries g.entries) (sym same) (sound.agree honest)))

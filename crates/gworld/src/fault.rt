@@ -1,13 +1,14 @@
 // Why there is no such world, and why a run stopped.
 #![tactic(auto)]
 
-ghost use Rattle.std.specs.Prelude.{◌≡◌};
-ghost use Rattle.gworld.specs.Faults.{run_fault_row, world_fault_row, disagreement, no_such, out_of_turn};
+ghost use Rattle.std.specs.Prelude.{◌≡◌, Some};
+ghost use Rattle.gworld.specs.Faults.{run_fault_row, run_fault_text, world_fault_row, world_fault_text};
 
 use crate::outcome::Outcome;
 use gname::Oid;
 use std::alloc::{Allocator, Global};
-use thiserror::Error;
+use std::error::Error;
+use std::fmt;
 
 /// The fault of an event that would have server and client hold one id with two objects.
 pub(crate) const DISAGREE: u32 = 90;
@@ -19,13 +20,12 @@ pub(crate) const NO_SUCH: u32 = 93;
 pub(crate) const NO_OPEN_REQUEST: u32 = 83;
 
 /// Why there is no such world.
-#[derive(Clone, Copy, Debug, PartialEq, Eq, Drop, Error)]
+#[derive(Clone, Copy, Debug, PartialEq, Eq, Drop)]
 pub enum WorldFault {
-    /// Server and client have ids of two object formats.
-    #[error("server and client have two object formats")]
+    /// 97: server and client have ids of two object formats.
     TwoFormats,
-    /// Server and client hold this id with two objects: it is the first such id in the order of the server's objects.
-    #[error("server and client hold an id with two objects")]
+    /// 90: server and client hold this id with two objects. It is the first such id in the order of the server's
+    /// objects.
     Disagree { id: Oid },
 }
 
@@ -55,12 +55,26 @@ impl WorldFault {
     }
 }
 
+impl fmt::Display for WorldFault {
+    ghost output = { λ fault. Some (world_fault_text fault) };
+
+    fn fmt<W: fmt::Write>(&self, f: &mut fmt::Formatter<W>) -> fmt::Result {
+        match self {
+            WorldFault::TwoFormats => f.write_str("server and client have two object formats"),
+            WorldFault::Disagree { .. } => f.write_str(
+                "server and client hold an id with two objects",
+            ),
+        }
+    }
+}
+
+impl Error for WorldFault {}
+
 /// Why a run stopped before it did all events.
-#[derive(Debug, Drop, Error)]
+#[derive(Debug, Drop)]
 pub enum RunFault<A: Allocator + Copy = Global> {
-    /// A list of the world, or a buffer, could not grow. These are the outcomes of the events that were done; the next
-    /// one has not begun.
-    #[error("out of memory")]
+    /// 91: a list of the world, or a buffer, could not grow. These are the outcomes of the events that were done; the
+    /// next one has not begun.
     Memory { outcomes: Vec<Outcome, A> },
 }
 
@@ -88,3 +102,15 @@ impl<A: Allocator + Copy> RunFault<A> {
         }
     }
 }
+
+impl<A: Allocator + Copy> fmt::Display for RunFault<A> {
+    ghost output = { λ fault. Some (run_fault_text fault) };
+
+    fn fmt<W: fmt::Write>(&self, f: &mut fmt::Formatter<W>) -> fmt::Result {
+        match self {
+            RunFault::Memory { .. } => f.write_str("out of memory"),
+        }
+    }
+}
+
+impl<A: Allocator + Copy + fmt::Debug> Error for RunFault<A> {}

@@ -4,7 +4,8 @@ use Rattle.gworld.specs.Promises.{Promises}
 use Rattle.gworld.specs.Runs.{RunsFront}
 use Rattle.gworld.specs.Worlds.{PackTools, WorldState, tools_of}
 use Rattle.gworld.specs.declared.outcome.Outcome.{Outcome}
-use Rattle.gworld.proofs.Runs.{front_runs, goes_on_soundly, one_more_taken, room_left}
+use Rattle.ghistory.proofs.Growing.{take_one}
+use Rattle.gworld.proofs.Runs.{front_runs, goes_on_soundly, room_left}
 use Rattle.gworld.proofs.parts.Parts.run.Goals as goal
 
 pub returns-then-is_err-clause-sound : goal.returns-then-is_err-clause-sound
@@ -40,5 +41,5 @@ loop-event-preserved g c =
     goes_on_soundly tools c.args.self.now c.loop-event.self c.step.new.self (take c.loop-event.event-index c.args.events.now)
     (take (c.loop-event.event-index + 1) c.args.events.now) c.event-item.result c.loop-event.outcomes.items c.push_reserved.new.self.items outcome
     c.loop-event.invariant c.in-Ok.ensures
-    (one_more_taken c.args.events.now c.loop-event.event-index c.event-item.result inside c.event-item.is)
+    (take_one c.args.events.now c.loop-event.event-index c.event-item.result inside c.event-item.is)
     (c.push_reserved.ensures.items ∙ ap (λ (l : List Outcome). l ++ outcome ∷ []) c.try_reserve.ensures.items)
