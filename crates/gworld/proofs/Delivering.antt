@@ -1,5 +1,6 @@
 -- What a kept reply tells and brings, where nothing was forged.
-use Rattle.std.proofs.Common.{◌≡◌, ◌⊎◌, ℕ, ◌<◌, ◌≤◌, Bool, true, false, List, [], ◌∷◌, ◌++◌, length, All, Contains, Option, Some, None}
+use Rattle.std.proofs.Common.{◌≡◌, ◌⊎◌, ℕ, ◌<◌, ◌≤◌, Bool, true, false, List, [], ◌∷◌, ◌++◌, length, All, Contains}
+use Rattle.std.proofs.Common.{Option, Some, None}
 use Rattle.std.proofs.Common.{Result, Ok, Err, inl, inr, refl, sym, ap, subst, ◌∙◌, arith, take}
 use Rattle.std.specs.Prelude.{slice_index_or}
 use Rattle.std.proofs.lemmas.List.Elements.{All-contains, All-weaker}
@@ -27,7 +28,8 @@ use Rattle.grequest.specs.Asked.{Asked, Empty, Ls, Fetches, FetchAsked, is_direc
 use Rattle.grepo.specs.Repos.{RepoState}
 use Rattle.ganswer.specs.Answers.{Answers, Reply, Nothing, Ls as Refs, Fetch as Objects}
 use Rattle.ganswer.specs.FetchAnswers.{FetchAnswer, RepliesWith}
-use Rattle.ganswer.specs.Laws.{AcksAreCommon, FetchAnswersFit, IsEnough, LsAnswersAreHeld, LsAnswersFit, PacksAreEnough, ServesWhatIsHeld}
+use Rattle.ganswer.specs.Laws.{AcksAreCommon, FetchAnswersFit, IsEnough, LsAnswersAreHeld, LsAnswersFit, PacksAreEnough}
+use Rattle.ganswer.specs.Laws.{ServesWhatIsHeld}
 use Rattle.ganswer.specs.Servers.{IsServer, Server}
 use Rattle.gsession.specs.Sessions.{SessionState}
 use Rattle.gsession.specs.TakingRefs.{ReadsRefs}
@@ -59,7 +61,8 @@ pub largest : max_pack ≤ max_pack
 largest = omega arith
 
 module _ {A : Type 0} (tools : PackTools A) where
-  pack_small : (server : Server A) (asked : FetchAsked) (reply : FetchReply) → RepliesWith server tools.packs asked reply
+  pack_small : (server : Server A) (asked : FetchAsked) (reply : FetchReply)
+      → RepliesWith server tools.packs asked reply
       → length (pack_of reply) ≤ max_pack
   pack_small server asked (Acks ids) replies = omega arith
   pack_small server asked (Ready ids pack) replies = replies.3.packed.few
@@ -75,21 +78,25 @@ module _ {A : Type 0} (tools : PackTools A) where
   -- ---- refs
 
   -- the server holds what is told of refs by the first bytes of a kept reply
-  lines_told : AnswerLaws tools → (w : WorldState A) (server : Server A) (asked : Asked) (reply : Reply) (told : LsReply) (count : ℕ)
+  lines_told : AnswerLaws tools → (w : WorldState A) (server : Server A) (asked : Asked) (reply : Reply)
+      (told : LsReply) (count : ℕ)
       (left : List ℕ) → IsServer server → Grows server.graph.entries w.server.graph.entries
       → Answers server tools.packs asked reply → IsSoundRequest w asked
-      → ReadsMessage (refs.judge server.graph.format Plain) (refs.Says server.graph.format Plain) (known (take count (reply_bytes reply)) left) told
+      → ReadsMessage (refs.judge server.graph.format Plain) (refs.Says server.graph.format Plain)
+      (known (take count (reply_bytes reply)) left) told
       → All (λ (line : RefLine). Holds w.server.graph.entries line.id) told.lines
   lines_told laws w server (Ls asked) (Refs reply) told count left is grown answers sound reads =
       let g = server.graph.entries in
-      let same = refs_read laws.reading server.graph.format reply told count left (laws.refs_fit server asked reply is answers) reads in
+      let same = refs_read laws.reading server.graph.format reply told count left
+      (laws.refs_fit server asked reply is answers) reads in
       let held = laws.refs_held server asked reply is answers in
       let all : All (λ (line : RefLine). Holds g line.id) told.lines =
       subst (λ (r : LsReply). All (λ (line : RefLine). Holds g line.id) r.lines) (sym same) held in
       All-weaker (λ (line : RefLine). Holds g line.id) (λ (line : RefLine). Holds w.server.graph.entries line.id)
       (λ (line : RefLine) there. held_in laws.growth g w.server.graph.entries grown line.id there) told.lines all
   lines_told laws w server (Fetches asked) (Objects reply) told count left is grown answers sound reads =
-      absurd (refs_unlike laws.reading server.graph.format (any_reading server.graph.format asked) reply told count left refl largest
+      absurd (refs_unlike laws.reading server.graph.format (any_reading server.graph.format asked) reply told count left
+      refl largest
       (reply_fits laws server asked reply is sound.few answers) reads)
   lines_told laws w server Empty reply told count left is grown answers sound reads = absurd sound
   lines_told laws w server asked reply told count left is grown answers sound reads = absurd answers
@@ -103,15 +110,19 @@ module _ {A : Type 0} (tools : PackTools A) where
     pub is_reply : reply ≡ Objects read
     pub answers : FetchAnswer server tools.packs fetch read
 
-  pub kept_fetch : AnswerLaws tools → (w : WorldState A) (server : Server A) (asked : Asked) (reply : Reply) (read : FetchReply) (count : ℕ)
-      (left : List ℕ) (reading : Reading) → IsServer server → server.graph.format ≡ reading.format → reading.ends ≡ Plain
+  pub kept_fetch : AnswerLaws tools → (w : WorldState A) (server : Server A) (asked : Asked) (reply : Reply)
+      (read : FetchReply) (count : ℕ)
+      (left : List ℕ) (reading : Reading) → IsServer server → server.graph.format ≡ reading.format
+      → reading.ends ≡ Plain
       → Answers server tools.packs asked reply → IsSoundRequest w asked
       → ReadsFetch reading (known (take count (reply_bytes reply)) left) read
       → IsKeptFetch server asked reply read
   kept_fetch laws w server (Ls asked) (Refs reply) read count left reading is format plain answers sound reads =
-      absurd (objects_unlike laws.reading server.graph.format reading reply read count left (laws.refs_fit server asked reply is answers) reads)
+      absurd (objects_unlike laws.reading server.graph.format reading reply read count left
+      (laws.refs_fit server asked reply is answers) reads)
   kept_fetch laws w server (Fetches asked) (Objects reply) read count left reading is format plain answers sound reads =
-      let same : read ≡ reply = objects_read laws.reading reading (any_reading server.graph.format asked) reply read count left format plain refl largest
+      let same : read ≡ reply = objects_read laws.reading reading (any_reading server.graph.format asked) reply read
+      count left format plain refl largest
       (reply_fits laws server asked reply is sound.few answers) reads in record {
         fetch = asked;
         is_asked = refl;
@@ -122,7 +133,8 @@ module _ {A : Type 0} (tools : PackTools A) where
   kept_fetch laws w server asked reply read count left reading is format plain answers sound reads = absurd answers
 
   -- the server holds what a kept reply acknowledges
-  acks_told : AnswerLaws tools → (w : WorldState A) (server : Server A) (asked : Asked) (reply : Reply) (read : FetchReply)
+  acks_told : AnswerLaws tools → (w : WorldState A) (server : Server A) (asked : Asked) (reply : Reply)
+      (read : FetchReply)
       → Grows server.graph.entries w.server.graph.entries → IsKeptFetch server asked reply read
       → All (Holds w.server.graph.entries) (acknowledged_by read)
   acks_told laws w server asked reply read grown is =
@@ -137,11 +149,14 @@ module _ {A : Type 0} (tools : PackTools A) where
       let same : s.format ≡ is.server.graph.format = format ∙ sym is.format in record {
         refs = λ unforged left reply reads.
             lines_told laws w is.server kept.asked kept.reply reply count left is.is is.grown is.answers is.request
-            (subst (λ (f : Format). ReadsMessage (refs.judge f Plain) (refs.Says f Plain) (known (take count (reply_bytes kept.reply)) left) reply) same
-            (subst (λ (e : Ends). ReadsMessage (refs.judge s.format e) (refs.Says s.format e) (known (take count (reply_bytes kept.reply)) left) reply) plain reads));
+            (subst (λ (f : Format). ReadsMessage (refs.judge f Plain) (refs.Says f Plain)
+            (known (take count (reply_bytes kept.reply)) left) reply) same
+            (subst (λ (e : Ends). ReadsMessage (refs.judge s.format e) (refs.Says s.format e)
+            (known (take count (reply_bytes kept.reply)) left) reply) plain reads));
         objects = λ unforged asked left reply reads.
             acks_told laws w is.server kept.asked kept.reply reply is.grown
-            (kept_fetch laws w is.server kept.asked kept.reply reply count left (reading_for s asked) is.is (sym same) plain is.answers is.request reads);
+            (kept_fetch laws w is.server kept.asked kept.reply reply count left (reading_for s asked) is.is (sym same)
+            plain is.answers is.request reads);
       }
 
   -- ---- packs
@@ -149,7 +164,8 @@ module _ {A : Type 0} (tools : PackTools A) where
   pub agree_before : (old new : List (Entry A)) (h : List (Entry A)) → Keeps old new → Agree new h → Agree old h
   agree_before old new h keeps agree a m n here there = agree a m n (keeps a m here) there
 
-  sent_agrees : (g new : List (Entry A)) (list : List (Entry A)) → Keeps g new → All (λ (entry : Entry A). IsNode g entry.id entry.node) list
+  sent_agrees : (g new : List (Entry A)) (list : List (Entry A)) → Keeps g new
+      → All (λ (entry : Entry A). IsNode g entry.id entry.node) list
       → All (AgreesWith new) list
   sent_agrees g new list keeps nodes =
       All-weaker (λ (entry : Entry A). IsNode g entry.id entry.node) (AgreesWith new)
@@ -161,8 +177,10 @@ module _ {A : Type 0} (tools : PackTools A) where
       → tools.indexes pack entries → entries ≡ enough.list
   read_is_sent w server asked pack entries honest enough read =
       let image = honest.image in
-      let same : pack ≡ image enough.list = honest.faithful.packs_image enough.list pack enough.entries enough.packed.packed in
-      honest.faithful.reads_image enough.list entries enough.entries (subst (λ (bytes : List ℕ). tools.indexes bytes entries) same read)
+      let same : pack ≡ image enough.list = honest.faithful.packs_image enough.list pack enough.entries
+      enough.packed.packed in
+      honest.faithful.reads_image enough.list entries enough.entries
+      (subst (λ (bytes : List ℕ). tools.indexes bytes entries) same read)
 
   -- a pack that came completes the wants of its request, and the graphs agree as before
   pub record IsCompleted (server : Server A) (wants : List (List ℕ)) (g : List (Entry A)) : Type 0 where
@@ -184,7 +202,8 @@ module _ {A : Type 0} (tools : PackTools A) where
       let comes = subst (λ (list : List (Entry A)). Inserts format g list repo.graph.entries) same inserts.adds.1 in
       let before = agree_before old.graph.entries w.server.graph.entries g keeps agree in
       let all = enough.enough g repo.graph.entries format before full comes in record {
-        all = laws.has_all old.graph.entries w.server.graph.entries repo.graph.entries asked.wants is.closed keeps held all;
+        all = laws.has_all old.graph.entries w.server.graph.entries repo.graph.entries asked.wants is.closed keeps held
+            all;
         agree = laws.agreeing w.server.graph.entries g enough.list repo.graph.entries format agree
             (sent_agrees old.graph.entries w.server.graph.entries enough.list keeps enough.nodes) comes;
       }

@@ -1,5 +1,6 @@
 -- What stays where objects only come.
-use Rattle.std.proofs.Common.{◌≡◌, ◌⊎◌, ℕ, Bool, true, false, List, [], ◌∷◌, ◌++◌, length, All, Contains, Option, Some, None}
+use Rattle.std.proofs.Common.{◌≡◌, ◌⊎◌, ℕ, Bool, true, false, List, [], ◌∷◌, ◌++◌, length, All, Contains, Option, Some}
+use Rattle.std.proofs.Common.{None}
 use Rattle.std.proofs.Common.{inl, inr, refl, sym, ap, subst, ◌∙◌}
 use Rattle.std.specs.Prelude.{IfSome, IsSome, MatchOption}
 use Rattle.std.proofs.lemmas.Bool.{false≢true}
@@ -16,7 +17,8 @@ use Rattle.grepo.specs.Asks.{asked_ids}
 use Rattle.gsession.specs.Bounds.{BeganOn}
 use Rattle.gsession.specs.Sessions.{SessionState}
 use Rattle.gsession.specs.TakingReplies.{Awaits}
-use Rattle.gworld.specs.Sound.{IsAnswered, IsUnforgedAndFaithful, IsSoundFetch, IsSoundKept, IsSoundRequest, IsSoundSession, IsWantedOrFull}
+use Rattle.gworld.specs.Sound.{IsAnswered, IsUnforgedAndFaithful, IsSoundFetch, IsSoundKept, IsSoundRequest}
+use Rattle.gworld.specs.Sound.{IsSoundSession, IsWantedOrFull}
 use Rattle.gworld.specs.Worlds.{Kept, PackTools, WorldState}
 
 -- what an event does to both graphs
@@ -58,7 +60,8 @@ module _ {A : Type 0} (laws : GrowthLaws A) where
 
   -- ---- what is sound stays so
 
-  pub fetch_grown : (w v : WorldState A) (asked : FetchAsked) → Extends w v → IsSoundFetch w asked → IsSoundFetch v asked
+  pub fetch_grown : (w v : WorldState A) (asked : FetchAsked) → Extends w v → IsSoundFetch w asked
+      → IsSoundFetch v asked
   fetch_grown w v asked e is = record {
     full = all_full w.repo.graph.entries v.repo.graph.entries e.client asked.haves is.full;
     few = is.few;
@@ -67,7 +70,8 @@ module _ {A : Type 0} (laws : GrowthLaws A) where
         all_held w.server.graph.entries v.server.graph.entries e.server asked.wants (is.held (e.forged unforged));
   }
 
-  pub request_grown : (w v : WorldState A) (asked : Asked) → Extends w v → IsSoundRequest w asked → IsSoundRequest v asked
+  pub request_grown : (w v : WorldState A) (asked : Asked) → Extends w v → IsSoundRequest w asked
+      → IsSoundRequest v asked
   request_grown w v Empty e is = absurd is
   request_grown w v (Ls asked) e is = tt
   request_grown w v (Fetches asked) e is = fetch_grown w v asked e is
@@ -88,7 +92,8 @@ module _ {A : Type 0} (laws : GrowthLaws A) where
     request = request_grown w v kept.asked e is.request;
   }
 
-  pub kept_grown : (packs : Packs A) (w v : WorldState A) (kept : List Kept) → Extends w v → All (IsSoundKept packs w) kept
+  pub kept_grown : (packs : Packs A) (w v : WorldState A) (kept : List Kept) → Extends w v
+      → All (IsSoundKept packs w) kept
       → All (IsSoundKept packs v) kept
   kept_grown packs w v kept e all =
       All-weaker (IsSoundKept packs w) (IsSoundKept packs v) (λ (one : Kept) is. one_kept_grown packs w v one e is) kept
@@ -99,7 +104,8 @@ module _ {A : Type 0} (laws : GrowthLaws A) where
   wanted_in g h s grows a (inl wanted) = inl wanted
   wanted_in g h s grows a (inr full) = inr (full_in g h grows a full)
 
-  offered_in : (g h : List (Entry A)) (tips : List (List ℕ)) → Grows g h → (a : List ℕ) → Holds g a × SomeReaches g tips a
+  offered_in : (g h : List (Entry A)) (tips : List (List ℕ)) → Grows g h → (a : List ℕ)
+      → Holds g a × SomeReaches g tips a
       → Holds h a × SomeReaches h tips a
   offered_in g h tips grows a both =
       (held_in g h grows a both.0, (both.1.0, both.1.1, laws.reaches g h both.1.0 a (laws.keeps g h grows) both.1.2))
@@ -107,7 +113,8 @@ module _ {A : Type 0} (laws : GrowthLaws A) where
   began_grown : (g h : List (Entry A)) (s : SessionState A) → Grows g h → BeganOn g s → BeganOn h s
   began_grown g h s grows is = record {
     full = all_full g h grows s.tips is.full;
-    sent = All-weaker (λ (a : List ℕ). Holds g a × SomeReaches g s.tips a) (λ (a : List ℕ). Holds h a × SomeReaches h s.tips a)
+    sent = All-weaker (λ (a : List ℕ). Holds g a × SomeReaches g s.tips a)
+        (λ (a : List ℕ). Holds h a × SomeReaches h s.tips a)
         (λ (a : List ℕ) both. offered_in g h s.tips grows a both) s.sent is.sent;
   }
 
@@ -139,11 +146,13 @@ module _ {A : Type 0} (laws : GrowthLaws A) where
         → IsUnforgedAndFaithful tools w
     honest_before w v e is = record { image = is.image; faithful = is.faithful; unforged = e.forged is.unforged }
 
-    pub answered_grown : (w v : WorldState A) (session : Option (SessionState A)) → Extends w v → IsAnsweredIn tools w session
+    pub answered_grown : (w v : WorldState A) (session : Option (SessionState A)) → Extends w v
+        → IsAnsweredIn tools w session
         → IsAnsweredIn tools v session
     answered_grown w v None e is = absurd is
     answered_grown w v (Some s) e is = record {
       stage = is.stage;
       full = λ honest.
-          all_full w.repo.graph.entries v.repo.graph.entries e.client (asked_ids s.asks) (is.full (honest_before w v e honest));
+          all_full w.repo.graph.entries v.repo.graph.entries e.client (asked_ids s.asks)
+          (is.full (honest_before w v e honest));
     }

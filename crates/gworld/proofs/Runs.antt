@@ -1,5 +1,6 @@
 -- A run that goes on.
-use Rattle.std.proofs.Common.{Result, Ok, Err, is_err, OnOk, Bool, true, false, ◌≡◌, ◌∙◌, ℕ, ◌+◌, ◌<◌, List, [], ◌∷◌, ◌++◌, length, take, drop, get_or, refl, sym, ap, subst, arith, append_assoc}
+use Rattle.std.proofs.Common.{Result, Ok, Err, is_err, OnOk, Bool, true, false, ◌≡◌, ◌∙◌, ℕ, ◌+◌, ◌<◌, List, [], ◌∷◌}
+use Rattle.std.proofs.Common.{◌++◌, length, take, drop, get_or, refl, sym, ap, subst, arith, append_assoc}
 use Rattle.std.proofs.lemmas.Bool.{false≢true}
 use Rattle.ghistory.proofs.Growing.{at_front}
 use Rattle.gworld.specs.Bringing.{RunsSoundly}
@@ -18,10 +19,12 @@ pub room_left : {T E : Type 0} (r : Result T E) (P : Type 0) → is_err r ≡ fa
 room_left r P well room = room_left_by r P well room
 
 module _ {A : Type 0} (R : WorldState A → Event A → Outcome → WorldState A → Type 0) where
-  pub run_goes_on : (w v u : WorldState A) (events : List (Event A)) (outcomes : List Outcome) (event : Event A) (outcome : Outcome)
+  pub run_goes_on : (w v u : WorldState A) (events : List (Event A)) (outcomes : List Outcome) (event : Event A)
+      (outcome : Outcome)
       → RunWith R w events outcomes v → R v event outcome u
       → RunWith R w (events ++ event ∷ []) (outcomes ++ outcome ∷ []) u
-  run_goes_on w v u [] [] event outcome same step = (u, subst (λ (x : WorldState A). R x event outcome u) same step, refl)
+  run_goes_on w v u [] [] event outcome same step =
+      (u, subst (λ (x : WorldState A). R x event outcome u) same step, refl)
   run_goes_on w v u (first ∷ events) (told ∷ outcomes) event outcome (next, here, rest) step =
       (next, here, run_goes_on next v u events outcomes event outcome rest step)
   run_goes_on w v u [] (told ∷ outcomes) event outcome run step = absurd run
@@ -29,7 +32,8 @@ module _ {A : Type 0} (R : WorldState A → Event A → Outcome → WorldState A
 
 module _ {A : Type 0} (tools : PackTools A) where
   -- the first events were done, and the next one is there
-  pub front_runs : (w v : WorldState A) (events : List (Event A)) (count : ℕ) (next : Event A) (outcomes same : List Outcome)
+  pub front_runs : (w v : WorldState A) (events : List (Event A)) (count : ℕ) (next : Event A)
+      (outcomes same : List Outcome)
       → count < length events → next ≡ get_or events count next
       → RunsSoundly tools w (take count events) outcomes v → same ≡ outcomes
       → RunsFront (Promises tools) w events same v
@@ -42,7 +46,8 @@ module _ {A : Type 0} (tools : PackTools A) where
   }
 
   -- one more event was done
-  pub goes_on_soundly : (w v u : WorldState A) (events more : List (Event A)) (event : Event A) (outcomes told : List Outcome) (outcome : Outcome)
+  pub goes_on_soundly : (w v u : WorldState A) (events more : List (Event A)) (event : Event A)
+      (outcomes told : List Outcome) (outcome : Outcome)
       → RunsSoundly tools w events outcomes v
       → IsSound tools u × Promises tools v event outcome u
       → more ≡ events ++ event ∷ [] → told ≡ outcomes ++ outcome ∷ []

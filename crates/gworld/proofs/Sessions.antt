@@ -1,5 +1,6 @@
 -- What each call of a session keeps sound.
-use Rattle.std.proofs.Common.{◌≡◌, ◌≢◌, ◌⊎◌, ℕ, ◌≤◌, Bool, true, false, List, [], ◌∷◌, ◌++◌, length, All, Contains, Option, Some, None}
+use Rattle.std.proofs.Common.{◌≡◌, ◌≢◌, ◌⊎◌, ℕ, ◌≤◌, Bool, true, false, List, [], ◌∷◌, ◌++◌, length, All, Contains}
+use Rattle.std.proofs.Common.{Option, Some, None}
 use Rattle.std.proofs.Common.{Result, Ok, Err, inl, inr, refl, sym, ap, subst, ◌∙◌, arith}
 use Rattle.std.proofs.lemmas.List.Elements.{All-contains, All-map, All-nil, All-weaker}
 use Rattle.std.proofs.lemmas.Option.{none-some}
@@ -22,9 +23,11 @@ use Rattle.ganswer.specs.Adverts.{advertised}
 use Rattle.grequest.specs.Asked.{Asked, Empty, Ls, Fetches, FetchAsked, LsRefsAsked, max_haves}
 use Rattle.gsession.specs.Asking.{AreWants, asked_of}
 use Rattle.gsession.specs.Bounds.{BeganBegins, BeganOn, BeganStays}
-use Rattle.gsession.specs.Laws.{AsksAreOfLines, AreCommonsAfter, HavesAreFull, IsAskOf, OpenIsTheSessions, WantsAreExact}
+use Rattle.gsession.specs.Laws.{AsksAreOfLines, AreCommonsAfter, HavesAreFull, IsAskOf, OpenIsTheSessions}
+use Rattle.gsession.specs.Laws.{WantsAreExact}
 use Rattle.gsession.specs.Requesting.{MakesNext, fetch_request, waiting_for}
-use Rattle.gsession.specs.Sessions.{Begins, FitsStage, IsOpenFetch, IsSession, SessionState, new_session, over, tells_unborn, tips_of}
+use Rattle.gsession.specs.Sessions.{Begins, FitsStage, IsOpenFetch, IsSession, SessionState, new_session, over}
+use Rattle.gsession.specs.Sessions.{tells_unborn, tips_of}
 use Rattle.gsession.specs.TakingRefs.{TakesLines, stage_for, with_refs}
 use Rattle.gsession.specs.TakingReplies.{Awaits, after_acks}
 use Rattle.gsession.specs.declared.stage.Stage.{Stage}
@@ -70,7 +73,8 @@ module _ {A : Type 0} where
   nothing_waits : (s : SessionState A) → s.pending ≡ None → (asked : FetchAsked) → Awaits s asked → ⊥
   nothing_waits s none asked waits = none-some (Fetches asked) (sym none ∙ waits)
 
-  refs_wait : (s : SessionState A) (ls : LsRefsAsked) → s.pending ≡ Some (Ls ls) → (asked : FetchAsked) → Awaits s asked → ⊥
+  refs_wait : (s : SessionState A) (ls : LsRefsAsked) → s.pending ≡ Some (Ls ls) → (asked : FetchAsked) → Awaits s asked
+      → ⊥
   refs_wait s ls is asked waits = let both : Some (Ls ls) ≡ Some (Fetches asked) = sym is ∙ waits in cc
 
   -- ---- a session that is over
@@ -112,7 +116,7 @@ module _ {A : Type 0} where
   began_sound w specs session is began =
       let new = new_session {A = A} w.repo.graph.format specs default_limit Plain (tips_of w.repo) in
       let P : SessionState A → Type 0 = λ (s : SessionState A). BeganOn w.repo.graph.entries s
-          → IsSoundSession w (hearing s w.server.graph.format) in
+      → IsSoundSession w (hearing s w.server.graph.format) in
       subst P (sym is) (λ on. record {
         format = refl;
         limit = refl;
@@ -126,7 +130,8 @@ module _ {A : Type 0} where
         wanted = λ unforged. All-nil (Holds w.server.graph.entries);
       }) began
 
-  pub begin_sound : SessionLaws A → (w : WorldState A) (specs : List Refspec) (session : SessionState A) → IsWhole w.repo
+  pub begin_sound : SessionLaws A → (w : WorldState A) (specs : List Refspec) (session : SessionState A)
+      → IsWhole w.repo
       → Begins w.repo specs default_limit Plain (Ok session) → IsSoundSession w (hearing session w.server.graph.format)
   begin_sound laws w specs session whole begins =
       began_sound w specs session begins.1 (laws.begins w.repo specs default_limit Plain session whole begins)
@@ -134,7 +139,8 @@ module _ {A : Type 0} where
   -- ---- the next request
 
   -- the request that waits is the one that was made
-  made_open : SessionLaws A → (s after : SessionState A) (g : List (Entry A)) (asked : FetchAsked) (batch : List (List ℕ))
+  made_open : SessionLaws A → (s after : SessionState A) (g : List (Entry A)) (asked : FetchAsked)
+      (batch : List (List ℕ))
       → s.stage ≡ Fetching → after ≡ waiting_for s (Fetches asked) batch → IsSession after → IsOpenFetch after asked
   made_open laws s after g asked batch stage is session =
       laws.waits after asked session (ap (λ (x : SessionState A). x.pending) is)
@@ -198,7 +204,8 @@ module _ {A : Type 0} where
       subst (IsSoundSession w) (sym made.2)
       (waits_for_objects w s asked made.0
       (subst (BeganOn w.repo.graph.entries) made.2
-      (laws.stays w.repo.graph.entries w.repo.graph.entries s after (Fetches asked) (grows_none w.repo.graph.entries w.repo.graph.entries refl) sound.began made))
+      (laws.stays w.repo.graph.entries w.repo.graph.entries s after (Fetches asked)
+      (grows_none w.repo.graph.entries w.repo.graph.entries refl) sound.began made))
       sound (made_fetch laws w s after asked sound session made))
 
   -- ---- the reply to ls-refs
@@ -213,16 +220,20 @@ module _ {A : Type 0} where
       → All (λ (line : RefLine). P line.id) lines → All (IsAskOf specs lines) asks → All P (asked_ids asks)
   ids_told P specs lines asks all are =
       All-map P (λ (ask : Ask A). ask.id) asks
-      (All-weaker (IsAskOf specs lines) (λ (ask : Ask A). P ask.id) (λ (ask : Ask A) is. ask_told P specs lines ask all is) asks are)
+      (All-weaker (IsAskOf specs lines) (λ (ask : Ask A). P ask.id)
+      (λ (ask : Ask A) is. ask_told P specs lines ask all is) asks are)
 
   -- what holds of the ids that were told holds of the wants
-  wants_told : SessionLaws A → (P : List ℕ → Type 0) (g : List (Entry A)) (specs : List Refspec) (reply : LsReply) (wants : List (List ℕ))
-      → AreWants {A = A} g (asked_of specs reply.lines) wants → All (λ (line : RefLine). P line.id) reply.lines → All P wants
+  wants_told : SessionLaws A → (P : List ℕ → Type 0) (g : List (Entry A)) (specs : List Refspec) (reply : LsReply)
+      (wants : List (List ℕ))
+      → AreWants {A = A} g (asked_of specs reply.lines) wants → All (λ (line : RefLine). P line.id) reply.lines
+      → All P wants
   wants_told laws P g specs reply wants are all =
       let asks : List (Ask A) = asked_of specs reply.lines in
       let ids = ids_told P specs reply.lines asks all (laws.asks specs reply.lines) in
       let exact = laws.wants g asks wants are in
-      All-weaker (Contains (asked_ids asks)) P (λ (a : List ℕ) there. All-contains P (asked_ids asks) a ids there) wants exact.asked
+      All-weaker (Contains (asked_ids asks)) P (λ (a : List ℕ) there. All-contains P (asked_ids asks) a ids there) wants
+      exact.asked
 
   pub refs_sound : SessionLaws A → (w : WorldState A) (s after : SessionState A) (reply : LsReply) (taken : LsTaken A)
       → IsSoundSession w s → TakesLines s w.repo.graph.entries reply after taken
@@ -244,18 +255,22 @@ module _ {A : Type 0} where
         asked = exact.others;
         some = λ stage. some_wants wants stage;
         wanted = λ unforged.
-            wants_told laws (Holds w.server.graph.entries) w.repo.graph.entries s.refspecs reply wants takes.wanted (told unforged);
+            wants_told laws (Holds w.server.graph.entries) w.repo.graph.entries s.refspecs reply wants takes.wanted
+            (told unforged);
       })
 
   -- ---- the reply to fetch
 
-  acks_full : (g : List (Entry A)) (haves acks old new : List (List ℕ)) → AreCommonsAfter haves acks old new → All (IsFull g) haves
+  acks_full : (g : List (Entry A)) (haves acks old new : List (List ℕ)) → AreCommonsAfter haves acks old new
+      → All (IsFull g) haves
       → All (IsFull g) acks
   acks_full g haves acks old new are full =
-      All-weaker (Contains haves) (IsFull g) (λ (a : List ℕ) there. All-contains (IsFull g) haves a full there) acks are.named
+      All-weaker (Contains haves) (IsFull g) (λ (a : List ℕ) there. All-contains (IsFull g) haves a full there) acks
+      are.named
 
   -- only acknowledgments and the stage change; objects may have come to the client before
-  pub acks_sound : OpenIsTheSessions A → (w : WorldState A) (s : SessionState A) (asked : FetchAsked) (stage : Stage) (acks : List (List ℕ))
+  pub acks_sound : OpenIsTheSessions A → (w : WorldState A) (s : SessionState A) (asked : FetchAsked) (stage : Stage)
+      (acks : List (List ℕ))
       → IsSoundSession w s → IsSession s → Awaits s asked
       → AreCommonsAfter asked.haves acks s.commons (after_acks s stage acks).commons
       → (w.forged ≡ false → All (Holds w.server.graph.entries) acks)
@@ -272,7 +287,8 @@ module _ {A : Type 0} where
         commons = commons_after (IsFull g) asked.haves acks s.commons new.commons are is.commons
             (acks_full g asked.haves acks s.commons new.commons are fetch.full);
         shared = λ unforged.
-            commons_after (Holds w.server.graph.entries) asked.haves acks s.commons new.commons are (is.shared unforged) (told unforged);
+            commons_after (Holds w.server.graph.entries) asked.haves acks s.commons new.commons are (is.shared unforged)
+            (told unforged);
         waits = λ other waits. absurd (nothing_waits new refl other waits);
         asked = is.asked;
         some = λ stage none. fetch.some (wants ∙ none);

@@ -1,5 +1,6 @@
 -- A world begins.
-use Rattle.std.proofs.Common.{◌≡◌, ◌∙◌, ℕ, ◌+◌, ◌<◌, ◌≤◌, List, [], ◌∷◌, ◌++◌, length, take, drop, get_or, All, Option, Some, None, refl, sym, ap, subst, arith, append_assoc, inl, inr, false}
+use Rattle.std.proofs.Common.{◌≡◌, ◌∙◌, ℕ, ◌+◌, ◌<◌, ◌≤◌, List, [], ◌∷◌, ◌++◌, length, take, drop, get_or, All, Option}
+use Rattle.std.proofs.Common.{Some, None, refl, sym, ap, subst, arith, append_assoc, inl, inr, false}
 use Rattle.std.specs.Prelude.{slice_get}
 use Rattle.std.proofs.lemmas.List.{take_all}
 use Rattle.std.proofs.lemmas.List.Elements.{All-nil, All-push}
@@ -48,7 +49,8 @@ module _ {A : Type 0} where
   }
 
   -- where it agrees with each entry, the graphs agree
-  pub graphs_agree : PlacesAreNodes A → (g h : List (Entry A)) (p : ℕ) → length g ≤ p → IdsDiffer g → All (AgreesWith h) (take p g)
+  pub graphs_agree : PlacesAreNodes A → (g h : List (Entry A)) (p : ℕ) → length g ≤ p → IdsDiffer g
+      → All (AgreesWith h) (take p g)
       → Agree g h
   graphs_agree law g h p past differ before a m n here there =
       let all : All (AgreesWith h) g = subst (All (AgreesWith h)) (take_all p g past) before in
@@ -56,14 +58,16 @@ module _ {A : Type 0} where
       sym (all_standing (AgreesWith h) g place.0 (entry_of a m) place.1 all n there)
 
   -- what the client holds under the id of the entry that the server has there
-  pub agrees_here : (g h : List (Entry A)) (p : ℕ) (entry : Entry A) → slice_get g p ≡ Some entry → AgreesWith h entry → AgreesAt g h p
+  pub agrees_here : (g h : List (Entry A)) (p : ℕ) (entry : Entry A) → slice_get g p ≡ Some entry → AgreesWith h entry
+      → AgreesAt g h p
   agrees_here g h p entry at agrees other there =
       subst (AgreesWith h) (same_Some entry other (sym at ∙ there)) agrees
 
   pub none_there : (g h : List (Entry A)) (p : ℕ) → p < length g → length g ≤ p → AgreesAt g h p
   none_there g h p inside past = absurd (omega (arith, inside, past))
 
-  pub begins_as : (server : Server A) (repo : RepoState A) (sent : List Asked) (kept : List Kept) → sent ≡ [] → kept ≡ []
+  pub begins_as : (server : Server A) (repo : RepoState A) (sent : List Asked) (kept : List Kept) → sent ≡ []
+      → kept ≡ []
       → record (new_world server repo) { sent = sent; kept = kept } ≡ new_world server repo
   begins_as server repo sent kept none also =
       ap (λ (l : List Asked). record (new_world server repo) { sent = l; kept = kept }) none

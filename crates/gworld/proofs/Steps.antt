@@ -1,5 +1,6 @@
 -- Each event keeps what is sound.
-use Rattle.std.proofs.Common.{◌≡◌, ◌⊎◌, ℕ, ◌≤◌, Bool, true, false, List, [], ◌∷◌, ◌++◌, length, All, Contains, Option, Some, None}
+use Rattle.std.proofs.Common.{◌≡◌, ◌⊎◌, ℕ, ◌≤◌, Bool, true, false, List, [], ◌∷◌, ◌++◌, length, All, Contains, Option}
+use Rattle.std.proofs.Common.{Some, None}
 use Rattle.std.proofs.Common.{Result, Ok, Err, if◌then◌else◌, inl, inr, refl, sym, ap, subst, ◌∙◌, arith, take}
 use Rattle.std.specs.Prelude.{IfSome, IsTrue, slice_get}
 use Rattle.std.proofs.lemmas.Bool.{false≢true}
@@ -37,19 +38,24 @@ use Rattle.gsession.specs.declared.stage.Stage.TheVariants.{Listing, Fetching, S
 use Rattle.ghistory.specs.declared.fault.GraphFault.TheVariants as graph
 use Rattle.grepo.specs.declared.fault.RepoFault.{RepoFault}
 use Rattle.grepo.specs.declared.fault.RepoFault.TheVariants as repo
-use Rattle.gworld.specs.Sound.{AreEndsWhole, IsAnswered, IsSound, IsSoundKept, IsSoundRequest, IsSoundSession, IsUnforgedAndFaithful}
-use Rattle.gworld.specs.Steps.{AddsAtClient, AddsAtServer, AsksNext, BeginsSession, BytesCome, Delivers, Forges, IsRefused, Restarts, ServesRequest}
+use Rattle.gworld.specs.Sound.{AreEndsWhole, IsAnswered, IsSound, IsSoundKept, IsSoundRequest, IsSoundSession}
+use Rattle.gworld.specs.Sound.{IsUnforgedAndFaithful}
+use Rattle.gworld.specs.Steps.{AddsAtClient, AddsAtServer, AsksNext, BeginsSession, BytesCome, Delivers, Forges}
+use Rattle.gworld.specs.Steps.{IsRefused, Restarts, ServesRequest}
 use Rattle.gworld.specs.Steps.{SetsAtClient, SetsAtServer, SettlesRefs, Step, mark_after, waiting, waits_for}
 use Rattle.gworld.specs.Taking.{IsFullAnswer, IsPackTaken, TakesBytes, TakesObjects}
 use Rattle.gworld.specs.Worlds.{Kept, PackTools, WorldState, reply_bytes}
 use Rattle.gscenario.specs.declared.event.Event.{Event}
 use Rattle.gscenario.specs.declared.event.Event.TheVariants as event
 use Rattle.gworld.specs.declared.outcome.Outcome.{Outcome}
-use Rattle.gworld.specs.declared.outcome.Outcome.TheVariants.{Done, Asked as Asks, Served, StrangerServed, LsTaken as RefsTold, Round, PackTaken, Settled, Fault}
+use Rattle.gworld.specs.declared.outcome.Outcome.TheVariants.{Done, Asked as Asks, Served, StrangerServed}
+use Rattle.gworld.specs.declared.outcome.Outcome.TheVariants.{LsTaken as RefsTold, Round, PackTaken, Settled, Fault}
 use Rattle.gworld.proofs.Delivering.{AnswerLaws, kept_tells}
-use Rattle.gworld.proofs.Growth.{Extends, GrowthLaws, honest_before, kept_grown, one_kept_grown, request_grown, sent_grown, session_grown, session_in_grown, IsAnsweredIn, IsSoundIn, answered_grown}
+use Rattle.gworld.proofs.Growth.{Extends, GrowthLaws, honest_before, kept_grown, one_kept_grown, request_grown}
+use Rattle.gworld.proofs.Growth.{sent_grown, session_grown, session_in_grown, IsAnsweredIn, IsSoundIn, answered_grown}
 use Rattle.gworld.proofs.Packs.{PackCame, can_settle, pack_came}
-use Rattle.gworld.proofs.Sessions.{SessionLaws, hearing, asked_sound, begin_sound, made_request, over_sound, settled_sound}
+use Rattle.gworld.proofs.Sessions.{SessionLaws, hearing, asked_sound, begin_sound, made_request, over_sound}
+use Rattle.gworld.proofs.Sessions.{settled_sound}
 use Rattle.gworld.proofs.Taking.{TakingLaws, Tells, bytes_only, bytes_sound, client_extends, fault_sound, only_same}
 
 -- no request is due when it is time to settle
@@ -85,7 +91,8 @@ module _ {A : Type 0} (tools : PackTools A)
   changed w server repo session forged answered =
       record w { server = server; repo = repo; session = session; forged = forged; answered = answered }
 
-  changed_sound : (w : WorldState A) (server : Server A) (repo : RepoState A) (session : Option (SessionState A)) (forged answered : Bool)
+  changed_sound : (w : WorldState A) (server : Server A) (repo : RepoState A) (session : Option (SessionState A))
+      (forged answered : Bool)
       → Extends w (changed w server repo session forged answered) → Sound w
       → (Honest (changed w server repo session forged answered) → Agree server.graph.entries repo.graph.entries)
       → IsSoundIn (changed w server repo session forged answered) session
@@ -105,12 +112,14 @@ module _ {A : Type 0} (tools : PackTools A)
   same_sound w v same sound = subst Sound (sym same) sound
 
   -- only the session, the forged mark and the answered mark change
-  session_extends : (w : WorldState A) (session : Option (SessionState A)) (forged answered : Bool) → (forged ≡ false → w.forged ≡ false)
+  session_extends : (w : WorldState A) (session : Option (SessionState A)) (forged answered : Bool)
+      → (forged ≡ false → w.forged ≡ false)
       → Extends w (changed w w.server w.repo session forged answered)
   session_extends w session forged answered unforged =
       client_extends w w.repo session forged answered (only_same w.repo w.repo refl) unforged
 
-  session_sound : (w : WorldState A) (session : Option (SessionState A)) (forged answered : Bool) → (forged ≡ false → w.forged ≡ false)
+  session_sound : (w : WorldState A) (session : Option (SessionState A)) (forged answered : Bool)
+      → (forged ≡ false → w.forged ≡ false)
       → Sound w → IsSoundIn (changed w w.server w.repo session forged answered) session
       → (answered ≡ true → IsAnsweredIn tools (changed w w.server w.repo session forged answered) session)
       → Sound (changed w w.server w.repo session forged answered)
@@ -125,7 +134,8 @@ module _ {A : Type 0} (tools : PackTools A)
 
   -- ---- the session
 
-  begins_sound : (w v : WorldState A) (specs : List Refspec) (outcome : Outcome) → AreEndsWhole w → Sound w → BeginsSession w specs outcome v → Sound v
+  begins_sound : (w v : WorldState A) (specs : List Refspec) (outcome : Outcome) → AreEndsWhole w → Sound w
+      → BeginsSession w specs outcome v → Sound v
   begins_sound w v specs Done ends sound begins =
       let session = begins.1 in
       let u = changed w w.server w.repo (Some session) w.forged false in
@@ -133,7 +143,8 @@ module _ {A : Type 0} (tools : PackTools A)
       (begin_sound laws.taking.sessions w specs begins.0 ends.repo begins.2) in
       subst Sound (sym begins.4)
       (session_sound w (Some session) w.forged false (λ same. same) sound
-      (session_grown laws.answers.growth w u session (session_extends w (Some session) w.forged false (λ same. same)) is)
+      (session_grown laws.answers.growth w u session (session_extends w (Some session) w.forged false (λ same. same))
+      is)
       (λ wrong. never wrong))
   begins_sound w v specs (Fault number) ends sound begins = same_sound w v begins.3 sound
   begins_sound w v specs _ ends sound begins = absurd begins
@@ -144,25 +155,34 @@ module _ {A : Type 0} (tools : PackTools A)
   mark_left v s after true mark is can wrong = never wrong
   mark_left v s after false mark is can same = subst (IsAnswered tools v) (sym is) (can same)
 
-  request_faults : (s after : SessionState A) (g : List (Entry A)) (fault : ClientFault A) → Requests s g after (Err fault) → after ≡ after_fault s fault
+  request_faults : (s after : SessionState A) (g : List (Entry A)) (fault : ClientFault A)
+      → Requests s g after (Err fault) → after ≡ after_fault s fault
   request_faults s after g client.NoOpenRequest is = is.1
   request_faults s after g (client.Repo (repo.Graph graph.Memory)) is = is.1
   request_faults s after g _ is = absurd is
 
-  asks_sound : (w v : WorldState A) (session : Option (SessionState A)) (outcome : Outcome) → w.session ≡ session → AreEndsWhole v → Sound w
-      → IsSoundIn w session → (w.answered ≡ true → IsAnsweredIn tools w session) → AsksNext w session outcome v → Sound v
+  asks_sound : (w v : WorldState A) (session : Option (SessionState A)) (outcome : Outcome) → w.session ≡ session
+      → AreEndsWhole v → Sound w
+      → IsSoundIn w session → (w.answered ≡ true → IsAnsweredIn tools w session) → AsksNext w session outcome v
+      → Sound v
   asks_sound w v None outcome same ends sound is settles asks = same_sound w v asks.1 sound
   asks_sound w v (Some s) (Asks number) same ends sound is settles asks =
       let after = asks.0 in
       let asked = asks.1 in
       let made = asks.2.1 in
       let new : WorldState A = record w { session = Some after; sent = w.sent ++ asked ∷ [] } in
-      let session : IsSession after = subst (λ (o : Option (SessionState A)). IfSome o IsSession) (ap (λ (x : WorldState A). x.session) asks.4) ends.session in
+      let session : IsSession after = subst (λ (o : Option (SessionState A)). IfSome o IsSession)
+      (ap (λ (x : WorldState A). x.session) asks.4) ends.session in
       let e = session_extends w (Some after) w.forged w.answered (λ unforged. unforged) in
       let request = made_request laws.taking.sessions w s after asked is session made in
       let kept = asked_sound laws.taking.sessions w s after asked is session made in
       let grown : Extends w new = record {
-        server = e.server; server_format = e.server_format; client = e.client; client_format = e.client_format; forged = e.forged;
+        server = e.server;
+        server_format = e.server_format;
+        client = e.client;
+        client_format = e.client_format;
+        forged =
+            e.forged;
       } in
       subst Sound (sym asks.4) (record {
         format = sound.format;
@@ -190,15 +210,20 @@ module _ {A : Type 0} (tools : PackTools A)
 
   -- ---- the server
 
-  serves_sound : (w v : WorldState A) (number : ℕ) (found : Option Asked) (outcome : Outcome) → slice_get w.sent number ≡ found → AreEndsWhole w
+  serves_sound : (w v : WorldState A) (number : ℕ) (found : Option Asked) (outcome : Outcome)
+      → slice_get w.sent number ≡ found → AreEndsWhole w
       → Sound w → ServesRequest tools.packs tools.pack_fails w found outcome v → Sound v
   serves_sound w v number None outcome at ends sound serves = same_sound w v serves.1 sound
   serves_sound w v number (Some asked) (Served count) at ends sound serves =
       let one : Kept = record { asked = asked; reply = serves.0 } in
       let new : WorldState A = record w { kept = w.kept ++ one ∷ [] } in
       let grown : Extends w new = record {
-        server = grows_none w.server.graph.entries w.server.graph.entries refl; server_format = refl;
-        client = grows_none w.repo.graph.entries w.repo.graph.entries refl; client_format = refl; forged = λ unforged. unforged;
+        server = grows_none w.server.graph.entries w.server.graph.entries refl;
+        server_format = refl;
+        client = grows_none w.repo.graph.entries w.repo.graph.entries refl;
+        client_format = refl;
+        forged =
+            λ unforged. unforged;
       } in
       let is : IsSoundKept tools.packs w one = record {
         server = w.server;
@@ -212,7 +237,8 @@ module _ {A : Type 0} (tools : PackTools A)
         format = sound.format;
         agree = λ honest. sound.agree (honest_before laws.answers.growth tools w new grown honest);
         sent = sent_grown laws.answers.growth w new w.sent grown sound.sent;
-        kept = All-push (IsSoundKept tools.packs new) w.kept one (kept_grown laws.answers.growth tools.packs w new w.kept grown sound.kept)
+        kept = All-push (IsSoundKept tools.packs new) w.kept one
+            (kept_grown laws.answers.growth tools.packs w new w.kept grown sound.kept)
             (one_kept_grown laws.answers.growth tools.packs w new one grown is);
         session = session_in_grown laws.answers.growth w new w.session grown sound.session;
         answered = λ mark. answered_grown laws.answers.growth tools w new w.session grown (sound.answered mark);
@@ -223,9 +249,11 @@ module _ {A : Type 0} (tools : PackTools A)
   -- ---- bytes come
 
   -- a pack, if it is one, keeps that the graphs agree
-  bytes_agree : (w : WorldState A) (asked : Asked) (s : SessionState A) (kept : Kept) (count : ℕ) (outcome : Outcome) (after : SessionState A)
+  bytes_agree : (w : WorldState A) (asked : Asked) (s : SessionState A) (kept : Kept) (count : ℕ) (outcome : Outcome)
+      (after : SessionState A)
       (repo : RepoState A) → Sound w → Honest w → IsSoundKept tools.packs w kept → IsSoundSession w s
-      → TakesBytes tools.indexes tools.index_fails asked s w.repo (take count (reply_bytes kept.reply)) outcome after repo
+      → TakesBytes tools.indexes tools.index_fails asked s w.repo (take count (reply_bytes kept.reply)) outcome after
+      repo
       → Agree w.server.graph.entries repo.graph.entries
   bytes_agree w Empty s kept count outcome after repo sound honest is session takes = absurd takes
   bytes_agree w (Ls asked) s kept count (RefsTold asks wants) after repo sound honest is session takes =
@@ -234,30 +262,42 @@ module _ {A : Type 0} (tools : PackTools A)
       subst (λ (r : RepoState A). Agree w.server.graph.entries r.graph.entries) (sym takes.5) (sound.agree honest)
   bytes_agree w (Ls asked) s kept count _ after repo sound honest is session takes = absurd takes
   bytes_agree w (Fetches asked) s kept count (Round common) after repo sound honest is session takes =
-      subst (λ (r : RepoState A). Agree w.server.graph.entries r.graph.entries) (sym takes.1.2.2.1.3) (sound.agree honest)
+      subst (λ (r : RepoState A). Agree w.server.graph.entries r.graph.entries) (sym takes.1.2.2.1.3)
+      (sound.agree honest)
   bytes_agree w (Fetches asked) s kept count (PackTaken added) after repo sound honest is session takes =
-      (pack_came tools laws.answers w s kept count added after repo honest (sound.agree honest) sound.format is session takes).completed.agree
+      (pack_came tools laws.answers w s kept count added after repo honest (sound.agree honest) sound.format is session
+      takes).completed.agree
   bytes_agree w (Fetches asked) s kept count (Fault number) after repo sound honest is session takes =
       subst (λ (r : RepoState A). Agree w.server.graph.entries r.graph.entries) (sym takes.2.2) (sound.agree honest)
   bytes_agree w (Fetches asked) s kept count _ after repo sound honest is session takes = absurd takes
 
   -- the session is answered that took the pack of a whole reply to the very request that waited
-  bytes_settle : (w v : WorldState A) (asked : Asked) (s : SessionState A) (kept : Kept) (count : ℕ) (outcome : Outcome) (after : SessionState A)
-      → Sound w → (Honest v → Honest w) → IsSoundKept tools.packs w kept → IsSoundSession w s → IsSession s → s.pending ≡ Some asked → IsSoundSession v s
-      → TakesBytes tools.indexes tools.index_fails asked s w.repo (take count (reply_bytes kept.reply)) outcome after v.repo
+  bytes_settle : (w v : WorldState A) (asked : Asked) (s : SessionState A) (kept : Kept) (count : ℕ) (outcome : Outcome)
+      (after : SessionState A)
+      → Sound w → (Honest v → Honest w) → IsSoundKept tools.packs w kept → IsSoundSession w s → IsSession s
+      → s.pending ≡ Some asked → IsSoundSession v s
+      → TakesBytes tools.indexes tools.index_fails asked s w.repo (take count (reply_bytes kept.reply)) outcome after
+      v.repo
       → IsFullAnswer kept asked count outcome → IsAnswered tools v after
-  bytes_settle w v (Fetches asked) s kept count (PackTaken added) after sound before is session types waits later takes full = record {
-    stage = ap (λ (x : SessionState A). x.stage) takes.1.2.2.1.1;
-    full = λ honest.
-        can_settle tools laws.taking.sessions.waits w v s after kept asked (acknowledged_by takes.1.2.0) types waits full.same
-        (pack_came tools laws.answers w s kept count added after v.repo (before honest) (sound.agree (before honest)) sound.format is session takes)
-        later takes.1.2.2.1.1;
-  }
-  bytes_settle w v (Ls asked) s kept count (PackTaken added) after sound before is session types waits later takes full = absurd takes
+  bytes_settle w v (Fetches asked) s kept count (PackTaken added) after sound before is session types waits later takes
+      full = record {
+        stage = ap (λ (x : SessionState A). x.stage) takes.1.2.2.1.1;
+        full = λ honest.
+            can_settle tools laws.taking.sessions.waits w v s after kept asked (acknowledged_by takes.1.2.0) types waits
+            full.same
+            (pack_came tools laws.answers w s kept count added after v.repo (before honest)
+            (sound.agree (before honest))
+            sound.format is session takes)
+            later takes.1.2.2.1.1;
+      }
+  bytes_settle w v (Ls asked) s kept count (PackTaken added) after sound before is session types waits later takes
+      full = absurd takes
   bytes_settle w v Empty s kept count outcome after sound before is session types waits later takes full = absurd takes
-  bytes_settle w v asked s kept count outcome after sound before is session types waits later takes full = absurd full.pack
+  bytes_settle w v asked s kept count outcome after sound before is session types waits later takes full =
+      absurd full.pack
 
-  brings_sound : (w v : WorldState A) (kept : Kept) (count : ℕ) (s : SessionState A) (asked : Asked) (outcome : Outcome) → Sound w
+  brings_sound : (w v : WorldState A) (kept : Kept) (count : ℕ) (s : SessionState A) (asked : Asked) (outcome : Outcome)
+      → Sound w
       → IsSoundKept tools.packs w kept → IsSoundSession w s → IsSession s → s.pending ≡ Some asked
       → Delivers tools.indexes tools.index_fails w (Some kept) count (Some (s, asked)) outcome v → Sound v
   brings_sound w v kept count s asked outcome sound is session types waits brings =
@@ -265,48 +305,58 @@ module _ {A : Type 0} (tools : PackTools A)
       let mark = brings.0 in
       let came = brings.2 in
       let u = changed w w.server came.repo (Some came.after) w.forged mark in
-      let only = bytes_only tools.indexes tools.index_fails laws.taking.grows asked s w.repo bytes outcome came.after came.repo came.takes in
+      let only = bytes_only tools.indexes tools.index_fails laws.taking.grows asked s w.repo bytes outcome came.after
+      came.repo came.takes in
       let e = client_extends w came.repo (Some came.after) w.forged mark only (λ unforged. unforged) in
       let later = session_grown laws.answers.growth w u s e session in
-      let tells = kept_tells tools laws.answers u s kept count (one_kept_grown laws.answers.growth tools.packs w u kept e is)
+      let tells = kept_tells tools laws.answers u s kept count
+      (one_kept_grown laws.answers.growth tools.packs w u kept e is)
       (session.format ∙ sound.format) session.ends in
       subst Sound (sym came.is)
       (changed_sound w w.server came.repo (Some came.after) w.forged mark e sound
       (λ honest.
       bytes_agree w asked s kept count outcome came.after came.repo sound
       (honest_before laws.answers.growth tools w u e honest) is session came.takes)
-      (bytes_sound tools.indexes tools.index_fails laws.taking u asked s w.repo bytes outcome came.after later types tells came.takes)
+      (bytes_sound tools.indexes tools.index_fails laws.taking u asked s w.repo bytes outcome came.after later types
+      tells came.takes)
       (λ marked.
       bytes_settle w u asked s kept count outcome came.after sound
       (λ honest. honest_before laws.answers.growth tools w u e honest) is session types waits later came.takes
       (brings.1.0 marked)))
 
-  delivers_to : (w v : WorldState A) (kept : Kept) (count : ℕ) (s : SessionState A) (pending : Option Asked) (outcome : Outcome) → Sound w
+  delivers_to : (w v : WorldState A) (kept : Kept) (count : ℕ) (s : SessionState A) (pending : Option Asked)
+      (outcome : Outcome) → Sound w
       → IsSoundKept tools.packs w kept → IsSoundSession w s → IsSession s → s.pending ≡ pending
       → Delivers tools.indexes tools.index_fails w (Some kept) count (waits_for s pending) outcome v → Sound v
   delivers_to w v kept count s None outcome sound is session types waits delivers = same_sound w v delivers.1 sound
   delivers_to w v kept count s (Some asked) outcome sound is session types waits delivers =
       brings_sound w v kept count s asked outcome sound is session types waits delivers
 
-  delivers_kept : (w v : WorldState A) (kept : Kept) (count : ℕ) (session : Option (SessionState A)) (outcome : Outcome) → Sound w
+  delivers_kept : (w v : WorldState A) (kept : Kept) (count : ℕ) (session : Option (SessionState A)) (outcome : Outcome)
+      → Sound w
       → IsSoundKept tools.packs w kept → IsSoundIn w session → IfSome session IsSession
       → Delivers tools.indexes tools.index_fails w (Some kept) count (waiting session) outcome v → Sound v
   delivers_kept w v kept count None outcome sound is session types delivers = same_sound w v delivers.1 sound
   delivers_kept w v kept count (Some s) outcome sound is session types delivers =
       delivers_to w v kept count s s.pending outcome sound is session types refl delivers
 
-  delivers_sound : (w v : WorldState A) (number count : ℕ) (found : Option Kept) (outcome : Outcome) → slice_get w.kept number ≡ found
-      → AreEndsWhole w → Sound w → Delivers tools.indexes tools.index_fails w found count (waiting w.session) outcome v → Sound v
+  delivers_sound : (w v : WorldState A) (number count : ℕ) (found : Option Kept) (outcome : Outcome)
+      → slice_get w.kept number ≡ found
+      → AreEndsWhole w → Sound w → Delivers tools.indexes tools.index_fails w found count (waiting w.session) outcome v
+      → Sound v
   delivers_sound w v number count None outcome at ends sound delivers = same_sound w v delivers.1 sound
   delivers_sound w v number count (Some kept) outcome at ends sound delivers =
-      delivers_kept w v kept count w.session outcome sound (all_standing (IsSoundKept tools.packs w) w.kept number kept at sound.kept) sound.session ends.session delivers
+      delivers_kept w v kept count w.session outcome sound
+      (all_standing (IsSoundKept tools.packs w) w.kept number kept at sound.kept) sound.session ends.session
+      delivers
 
   -- ---- forged bytes
 
   forged_mark : (w : WorldState A) → true ≡ false → w.forged ≡ false
   forged_mark w wrong = never (sym wrong)
 
-  forged_extends : (w : WorldState A) (repo : RepoState A) (session : Option (SessionState A)) (answered : Bool) → OnlyGrows w.repo repo
+  forged_extends : (w : WorldState A) (repo : RepoState A) (session : Option (SessionState A)) (answered : Bool)
+      → OnlyGrows w.repo repo
       → Extends w (changed w w.server repo session true answered)
   forged_extends w repo session answered only = client_extends w repo session true answered only (forged_mark w)
 
@@ -316,32 +366,44 @@ module _ {A : Type 0} (tools : PackTools A)
       let u = changed w w.server w.repo w.session true w.answered in
       let e = forged_extends w w.repo w.session w.answered (only_same w.repo w.repo refl) in
       subst Sound (sym is)
-      (session_sound w w.session true w.answered (forged_mark w) sound (session_in_grown laws.answers.growth w u w.session e sound.session)
+      (session_sound w w.session true w.answered (forged_mark w) sound
+      (session_in_grown laws.answers.growth w u w.session e sound.session)
       (λ mark. answered_grown laws.answers.growth tools w u w.session e (sound.answered mark)))
 
-  forges_to : (w v : WorldState A) (bytes : List ℕ) (s : SessionState A) (pending : Option Asked) (outcome : Outcome) → Sound w
-      → IsSoundSession w s → IsSession s → Forges tools.indexes tools.index_fails w bytes (waits_for s pending) outcome v → Sound v
+  forges_to : (w v : WorldState A) (bytes : List ℕ) (s : SessionState A) (pending : Option Asked) (outcome : Outcome)
+      → Sound w
+      → IsSoundSession w s → IsSession s → Forges tools.indexes tools.index_fails w bytes (waits_for s pending) outcome
+      v → Sound v
   forges_to w v bytes s None outcome sound session types forges = forged_in_vain w v sound forges.1
   forges_to w v bytes s (Some asked) outcome sound session types forges =
       let after = forges.after in
       let u = changed w w.server forges.repo (Some after) true false in
-      let only = bytes_only tools.indexes tools.index_fails laws.taking.grows asked s w.repo bytes outcome after forges.repo forges.takes in
+      let only = bytes_only tools.indexes tools.index_fails laws.taking.grows asked s w.repo bytes outcome after
+      forges.repo forges.takes in
       let e = forged_extends w forges.repo (Some after) false only in
       let later = session_grown laws.answers.growth w u s e session in
-      let tells : Tells u s bytes = record { refs = λ unforged. never (sym unforged); objects = λ unforged. never (sym unforged) } in
+      let tells : Tells u s bytes = record {
+        refs = λ unforged. never (sym unforged);
+        objects =
+            λ unforged. never (sym unforged);
+      } in
       subst Sound (sym forges.is)
       (changed_sound w w.server forges.repo (Some after) true false e sound (λ honest. never (sym honest.unforged))
-      (bytes_sound tools.indexes tools.index_fails laws.taking u asked s w.repo bytes outcome after later types tells forges.takes)
+      (bytes_sound tools.indexes tools.index_fails laws.taking u asked s w.repo bytes outcome after later types tells
+      forges.takes)
       (λ wrong. never wrong))
 
   forges_sound : (w v : WorldState A) (bytes : List ℕ) (session : Option (SessionState A)) (outcome : Outcome) → Sound w
-      → IsSoundIn w session → IfSome session IsSession → Forges tools.indexes tools.index_fails w bytes (waiting session) outcome v → Sound v
+      → IsSoundIn w session → IfSome session IsSession
+      → Forges tools.indexes tools.index_fails w bytes (waiting session) outcome v → Sound v
   forges_sound w v bytes None outcome sound is types forges = forged_in_vain w v sound forges.1
-  forges_sound w v bytes (Some s) outcome sound is types forges = forges_to w v bytes s s.pending outcome sound is types forges
+  forges_sound w v bytes (Some s) outcome sound is types forges =
+      forges_to w v bytes s s.pending outcome sound is types forges
 
   -- ---- settling
 
-  settling_only : (s after : SessionState A) (before new : RepoState A) (result : Result (List (Ask A) × List RefUpdate) (ClientFault A))
+  settling_only : (s after : SessionState A) (before new : RepoState A)
+      (result : Result (List (Ask A) × List RefUpdate) (ClientFault A))
       → SettlesSession s before after new result → new.graph ≡ before.graph
   settling_only s after before new (Ok settled) settles = settles.3.0.graph
   settling_only s after before new (Err (client.Repo fault)) settles =
@@ -356,7 +418,8 @@ module _ {A : Type 0} (tools : PackTools A)
   settling_faults s after before new _ settles = absurd settles
 
   -- the refs change, and the graph stays
-  refs_extend : (w : WorldState A) (repo : RepoState A) (session : Option (SessionState A)) (answered : Bool) → repo.graph ≡ w.repo.graph
+  refs_extend : (w : WorldState A) (repo : RepoState A) (session : Option (SessionState A)) (answered : Bool)
+      → repo.graph ≡ w.repo.graph
       → Extends w (changed w w.server repo session w.forged answered)
   refs_extend w repo session answered same = record {
     server = grows_none w.server.graph.entries w.server.graph.entries refl;
@@ -366,7 +429,8 @@ module _ {A : Type 0} (tools : PackTools A)
     forged = λ unforged. unforged;
   }
 
-  refs_sound : (w : WorldState A) (repo : RepoState A) (session : Option (SessionState A)) (answered : Bool) → repo.graph ≡ w.repo.graph
+  refs_sound : (w : WorldState A) (repo : RepoState A) (session : Option (SessionState A)) (answered : Bool)
+      → repo.graph ≡ w.repo.graph
       → Sound w → IsSoundIn (changed w w.server repo session w.forged answered) session
       → (answered ≡ true → IsAnsweredIn tools (changed w w.server repo session w.forged answered) session)
       → Sound (changed w w.server repo session w.forged answered)
@@ -378,7 +442,8 @@ module _ {A : Type 0} (tools : PackTools A)
       subst (λ (g : History A). Agree w.server.graph.entries g.entries) (sym same)
       (sound.agree (honest_before laws.answers.growth tools w u e honest))) is settles
 
-  settles_sound : (w v : WorldState A) (session : Option (SessionState A)) (outcome : Outcome) → Sound w → IsSoundIn w session
+  settles_sound : (w v : WorldState A) (session : Option (SessionState A)) (outcome : Outcome) → Sound w
+      → IsSoundIn w session
       → (w.answered ≡ true → IsAnsweredIn tools w session) → SettlesRefs w session outcome v → Sound v
   settles_sound w v None outcome sound is can settles = same_sound w v settles.1 sound
   settles_sound w v (Some s) (Settled moved same left) sound is can settles =
@@ -389,7 +454,8 @@ module _ {A : Type 0} (tools : PackTools A)
       let e = refs_extend w repo (Some after) false only in
       subst Sound (sym settles.6)
       (refs_sound w repo (Some after) false only sound
-      (subst (IsSoundSession u) (sym settles.4.2) (settled_sound u s (session_grown laws.answers.growth w u s e is))) (λ wrong. never wrong))
+      (subst (IsSoundSession u) (sym settles.4.2) (settled_sound u s (session_grown laws.answers.growth w u s e is)))
+      (λ wrong. never wrong))
   settles_sound w v (Some s) (Fault number) sound is can settles =
       let after = settles.0 in
       let repo = settles.1 in
@@ -409,21 +475,25 @@ module _ {A : Type 0} (tools : PackTools A)
 
   restarts_sound : (w v : WorldState A) (outcome : Outcome) → Sound w → Restarts w outcome v → Sound v
   restarts_sound w v outcome sound restarts =
-      subst Sound (sym restarts.1) (session_sound w None w.forged false (λ unforged. unforged) sound tt (λ wrong. never wrong))
+      subst Sound (sym restarts.1) (session_sound w None w.forged false (λ unforged. unforged) sound tt
+      (λ wrong. never wrong))
 
   -- ---- changes of the ends
 
-  came_inserts : (format : Format) (old new : List (Entry A)) (entry : Entry A) → ComesIn format old entry new → Inserts format old (entry ∷ []) new
+  came_inserts : (format : Format) (old new : List (Entry A)) (entry : Entry A) → ComesIn format old entry new
+      → Inserts format old (entry ∷ []) new
   came_inserts format old new entry comes = (new, comes, refl)
 
   agree_other_way : (g h : List (Entry A)) → Agree g h → Agree h g
   agree_other_way g h agree a m n here there = sym (agree a n m there here)
 
   -- an end that grew by an entry with which the other agrees still agrees with it
-  agrees_after : (format : Format) (g old new : List (Entry A)) (entry : Entry A) → Agree g old → AgreesWith g entry → ComesIn format old entry new
+  agrees_after : (format : Format) (g old new : List (Entry A)) (entry : Entry A) → Agree g old → AgreesWith g entry
+      → ComesIn format old entry new
       → Agree g new
   agrees_after format g old new entry agree same comes =
-      laws.answers.agreeing g old (entry ∷ []) new format agree (All-cons (AgreesWith g) entry [] same (All-nil (AgreesWith g)))
+      laws.answers.agreeing g old (entry ∷ []) new format agree
+      (All-cons (AgreesWith g) entry [] same (All-nil (AgreesWith g)))
       (came_inserts format old new entry comes)
 
   server_extends : (w : WorldState A) (server : Server A) → Grows w.server.graph.entries server.graph.entries
@@ -437,7 +507,8 @@ module _ {A : Type 0} (tools : PackTools A)
   }
 
   server_sound : (w : WorldState A) (server : Server A) → Grows w.server.graph.entries server.graph.entries
-      → server.graph.format ≡ w.server.graph.format → Sound w → (Honest w → Agree server.graph.entries w.repo.graph.entries)
+      → server.graph.format ≡ w.server.graph.format → Sound w
+      → (Honest w → Agree server.graph.entries w.repo.graph.entries)
       → Sound (changed w server w.repo w.session w.forged w.answered)
   server_sound w server grows format sound agree =
       let u = changed w server w.repo w.session w.forged w.answered in
@@ -447,7 +518,8 @@ module _ {A : Type 0} (tools : PackTools A)
       (session_in_grown laws.answers.growth w u w.session e sound.session)
       (λ mark. answered_grown laws.answers.growth tools w u w.session e (sound.answered mark))
 
-  adds_at_server : (w v : WorldState A) (entry : Entry A) (outcome : Outcome) → Sound w → AddsAtServer w entry outcome v → Sound v
+  adds_at_server : (w v : WorldState A) (entry : Entry A) (outcome : Outcome) → Sound w → AddsAtServer w entry outcome v
+      → Sound v
   adds_at_server w v entry Done sound adds =
       let server = adds.1.0 in
       let grown = laws.servers.adding w.server server entry (Ok tt) adds.1.1 in
@@ -460,43 +532,56 @@ module _ {A : Type 0} (tools : PackTools A)
   adds_at_server w v entry (Fault number) sound adds = same_sound w v adds.0 sound
   adds_at_server w v entry _ sound adds = absurd adds
 
-  sets_at_server : (w v : WorldState A) (name id : List ℕ) (outcome : Outcome) → Sound w → SetsAtServer w name id outcome v → Sound v
+  sets_at_server : (w v : WorldState A) (name id : List ℕ) (outcome : Outcome) → Sound w
+      → SetsAtServer w name id outcome v → Sound v
   sets_at_server w v name id Done sound sets =
       let server = sets.0 in
       let same = laws.servers.setting w.server server name id (Ok tt) sets.1 in
       subst Sound (sym sets.2)
-      (server_sound w server (grows_none w.server.graph.entries server.graph.entries (ap (λ (g : History A). g.entries) same))
+      (server_sound w server (grows_none w.server.graph.entries server.graph.entries
+      (ap (λ (g : History A). g.entries) same))
       (ap (λ (g : History A). g.format) same) sound
       (λ honest. subst (λ (g : History A). Agree g.entries w.repo.graph.entries) (sym same) (sound.agree honest)))
   sets_at_server w v name id (Fault number) sound sets = same_sound w v sets.3 sound
   sets_at_server w v name id _ sound sets = absurd sets
 
-  client_sound : (w : WorldState A) (repo : RepoState A) → OnlyGraph w.repo repo → Sound w → (Honest w → Agree w.server.graph.entries repo.graph.entries)
+  client_sound : (w : WorldState A) (repo : RepoState A) → OnlyGraph w.repo repo → Sound w
+      → (Honest w → Agree w.server.graph.entries repo.graph.entries)
       → Sound (changed w w.server repo w.session w.forged w.answered)
   client_sound w repo only sound agree =
       let u = changed w w.server repo w.session w.forged w.answered in
       let e : Extends w u = record {
-        server = grows_none w.server.graph.entries w.server.graph.entries refl; server_format = refl;
-        client = only.grows; client_format = only.format; forged = λ unforged. unforged;
+        server = grows_none w.server.graph.entries w.server.graph.entries refl;
+        server_format = refl;
+        client = only.grows;
+        client_format = only.format;
+        forged = λ unforged. unforged;
       } in
       changed_sound w w.server repo w.session w.forged w.answered e sound
       (λ honest. agree (honest_before laws.answers.growth tools w u e honest))
       (session_in_grown laws.answers.growth w u w.session e sound.session)
       (λ mark. answered_grown laws.answers.growth tools w u w.session e (sound.answered mark))
 
-  adds_at_client : (w v : WorldState A) (entry : Entry A) (outcome : Outcome) → Sound w → AddsAtClient w entry outcome v → Sound v
+  adds_at_client : (w v : WorldState A) (entry : Entry A) (outcome : Outcome) → Sound w → AddsAtClient w entry outcome v
+      → Sound v
   adds_at_client w v entry Done sound adds =
       let repo = adds.1.0 in
       let one = adds.1.2.1 in
       subst Sound (sym adds.1.3)
       (client_sound w repo
-      (record { grows = laws.coming w.repo.graph.format w.repo.graph.entries entry repo.graph.entries one.1; format = one.0 }) sound
+      (record {
+        grows = laws.coming w.repo.graph.format w.repo.graph.entries entry repo.graph.entries one.1;
+        format =
+            one.0;
+      }) sound
       (λ honest.
-      agrees_after w.repo.graph.format w.server.graph.entries w.repo.graph.entries repo.graph.entries entry (sound.agree honest) adds.0 one.1))
+      agrees_after w.repo.graph.format w.server.graph.entries w.repo.graph.entries repo.graph.entries entry
+      (sound.agree honest) adds.0 one.1))
   adds_at_client w v entry (Fault number) sound adds = same_sound w v adds.0 sound
   adds_at_client w v entry _ sound adds = absurd adds
 
-  sets_at_client : (w v : WorldState A) (name id : List ℕ) (outcome : Outcome) → Sound w → SetsAtClient w name id outcome v → Sound v
+  sets_at_client : (w v : WorldState A) (name id : List ℕ) (outcome : Outcome) → Sound w
+      → SetsAtClient w name id outcome v → Sound v
   sets_at_client w v name id Done sound sets =
       let repo = sets.0 in
       let same = sets.1.0.graph in
@@ -514,8 +599,10 @@ module _ {A : Type 0} (tools : PackTools A)
 
   pub step_sound : (w v : WorldState A) (e : Event A) (outcome : Outcome) → AreEndsWhole w → AreEndsWhole v → Sound w
       → Step tools w e outcome v → Sound v
-  step_sound w v (event.Begin specs) outcome ends later sound step = begins_sound w v specs.items outcome ends sound step
-  step_sound w v event.Ask outcome ends later sound step = asks_sound w v w.session outcome refl later sound sound.session sound.answered step
+  step_sound w v (event.Begin specs) outcome ends later sound step =
+      begins_sound w v specs.items outcome ends sound step
+  step_sound w v event.Ask outcome ends later sound step =
+      asks_sound w v w.session outcome refl later sound sound.session sound.answered step
   step_sound w v (event.Serve number) outcome ends later sound step =
       serves_sound w v number (slice_get w.sent number) outcome refl ends sound step
   step_sound w v (event.Deliver number count) outcome ends later sound step =
@@ -523,7 +610,8 @@ module _ {A : Type 0} (tools : PackTools A)
   step_sound w v (event.Forge bytes) outcome ends later sound step =
       forges_sound w v bytes.items w.session outcome sound sound.session ends.session step
   step_sound w v (event.StrangeRequest bytes) outcome ends later sound step = same_sound w v step.0 sound
-  step_sound w v event.Settle outcome ends later sound step = settles_sound w v w.session outcome sound sound.session sound.answered step
+  step_sound w v event.Settle outcome ends later sound step =
+      settles_sound w v w.session outcome sound sound.session sound.answered step
   step_sound w v event.RestartClient outcome ends later sound step = restarts_sound w v outcome sound step
   step_sound w v event.RestartServer outcome ends later sound step = same_sound w v step.1 sound
   step_sound w v (event.ServerAdd entry) outcome ends later sound step = adds_at_server w v entry outcome sound step

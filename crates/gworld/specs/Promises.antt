@@ -94,8 +94,9 @@ module _ {A : Type 0} where
 module _ {A : Type 0} (tools : PackTools A) where
   -- ---- a whole reply to the request that waits is taken
 
-  -- why a whole reply to the request that waits is not taken: its pack has more bytes than a client takes (48); the client's graph has no room for
-  -- the pack's objects (61); there is no memory to read the reply (53), for what it brings (64), or for the indexer (66)
+  -- Why a whole reply to the request that waits is not taken: its pack has more bytes than a client takes (48); the
+  -- client's graph has no room for the pack's objects (61); or there is no memory to read the reply (53), for what it
+  -- brings (64), or for the indexer (66).
   abbrev pub MayDecline : RepoState A → FetchReply → ℕ → Type 0
   MayDecline repo reply number =
       ((number ≡ 48) × (default_limit < length (pack_of reply)))

@@ -1,5 +1,6 @@
 -- What stays true of a world, whatever events come.
-use Rattle.std.specs.Prelude.{◌≡◌, ◌≢◌, ◌⊎◌, ⊤, ℕ, ◌≤◌, true, false, List, [], length, All, Contains, IfSome, MatchOption}
+use Rattle.std.specs.Prelude.{◌≡◌, ◌≢◌, ◌⊎◌, ⊤, ℕ, ◌≤◌, true, false, List, [], length, All, Contains}
+use Rattle.std.specs.Prelude.{IfSome, MatchOption}
 use Rattle.gobject.specs.Packs.{LosesNothing, Packs}
 use Rattle.gobject.specs.declared.node.Entry.{Entry}
 use Rattle.ggrammar.specs.declared.ends.Ends.TheVariants.{Plain}

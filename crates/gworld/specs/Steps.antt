@@ -117,7 +117,7 @@ module _ {A : Type 0} where
     pub held : IsNode g entry.id node
     pub differs : node ≢ entry.node
 
-  -- `ServerAdd`: an object comes to the server; or the client holds its id with another object; or the server refuses it
+  -- `ServerAdd`: an object comes to the server; or the client has another object under its id; or the server refuses it
   abbrev pub AddsAtServer : WorldState A → Entry A → Outcome → WorldState A → Type 0
   AddsAtServer w entry outcomes.Done new =
       AgreesWith w.repo.graph.entries entry
@@ -138,7 +138,7 @@ module _ {A : Type 0} where
       × (new ≡ w)
   SetsAtServer w name id _ new = ⊥
 
-  -- `ClientAdd`: an object comes to the client; or the server holds its id with another object; or the client refuses it
+  -- `ClientAdd`: an object comes to the client; or the server has another object under its id; or the client refuses it
   abbrev pub AddsAtClient : WorldState A → Entry A → Outcome → WorldState A → Type 0
   AddsAtClient w entry outcomes.Done new =
       AgreesWith w.server.graph.entries entry

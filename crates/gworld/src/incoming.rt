@@ -82,7 +82,10 @@ fn refs_outcome<A: Allocator + Copy>(taking: Result<LsTaken<A>, ClientFault<A>>)
     ensures { result ≡ refs_outcome taking }
 {
     match taking {
-        Ok(taken) => Outcome::LsTaken { asks: taken.asks, wants: taken.wants },
+        Ok(taken) => Outcome::LsTaken {
+            asks: taken.asks,
+            wants: taken.wants,
+        },
         Err(fault) => Outcome::Fault { code: fault.code() },
     }
 }

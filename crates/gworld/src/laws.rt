@@ -19,8 +19,8 @@ use gmsg::laws::replies_differ;
 use gpkt::laws::{canonical_spells, one_begins};
 use grepo::laws::{held_is_not_missing, refusals_change_nothing};
 use gsession::laws::{
-    asks_are_of_lines, began_begins, began_stays, commons_are_haves, haves_are_held, open_is_the_sessions, rounds_are_few, taking_only_grows,
-    wants_are_exact,
+    asks_are_of_lines, began_begins, began_stays, commons_are_haves, haves_are_held,
+    open_is_the_sessions, rounds_are_few, taking_only_grows, wants_are_exact,
 };
 use std::alloc::Allocator;
 
@@ -70,7 +70,8 @@ pub fn steps_keep<A: Allocator + Copy, K: Packer<A> + Indexer<A>>()
 /// that is promised of such worlds.
 pub fn faithful_lose_nothing<A: Allocator + Copy, K: Faithful<A>>(tools: &K)
     ensures { ((w : WorldState A) → w.forged ≡ false
-        → IsUnforgedAndFaithful (tools_of (K.packs tools.now) (K.pack_fails tools.now) (K.indexes tools.now) (K.index_fails tools.now)) w) }
+        → IsUnforgedAndFaithful (tools_of (K.packs tools.now) (K.pack_fails tools.now)
+        (K.indexes tools.now) (K.index_fails tools.now)) w) }
 {
     tools.loses_nothing();
 }

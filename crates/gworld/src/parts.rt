@@ -106,10 +106,7 @@ fn sent_at<A: Allocator + Copy>(sent: &Vec<Sent<A>, A>, number: usize) -> Option
 }
 
 // The kept reply of this number.
-fn kept_at<A: Allocator + Copy>(
-    kept: &Vec<KeptReply<A>, A>,
-    number: usize,
-) -> Option<&KeptReply<A>>
+fn kept_at<A: Allocator + Copy>(kept: &Vec<KeptReply<A>, A>, number: usize) -> Option<&KeptReply<A>>
     ensures { option_copied result ≡ slice_get kept.now.items number }
 {
     kept.get(number)

@@ -8,8 +8,8 @@ ghost use Rattle.gworld.specs.Steps.{Delivers, Forges, waiting};
 ghost use Rattle.gworld.specs.Worlds.{reply_bytes};
 
 use super::{KeptReply, Parts, kept_at};
-use crate::incoming::{front, take_bytes};
 use crate::fault::{NO_OPEN_REQUEST, NO_SUCH};
+use crate::incoming::{front, take_bytes};
 use crate::outcome::Outcome;
 use ggrammar::Ends;
 use ggraph::Indexer;
@@ -61,7 +61,9 @@ impl<A: Allocator + Copy> Parts<A> {
         match kept_at(&self.kept, number) {
             None => Ok(Outcome::Fault { code: NO_SUCH }),
             Some(kept) => match &mut self.session {
-                None => Ok(Outcome::Fault { code: NO_OPEN_REQUEST }),
+                None => Ok(Outcome::Fault {
+                    code: NO_OPEN_REQUEST,
+                }),
                 Some(session) => bring(
                     kept,
                     count,
@@ -88,12 +90,16 @@ impl<A: Allocator + Copy> Parts<A> {
         match &mut self.session {
             None => {
                 self.forged = true;
-                Ok(Outcome::Fault { code: NO_OPEN_REQUEST })
+                Ok(Outcome::Fault {
+                    code: NO_OPEN_REQUEST,
+                })
             }
             Some(session) => match take_bytes(session, &mut self.repo, bytes, indexer)? {
                 None => {
                     self.forged = true;
-                    Ok(Outcome::Fault { code: NO_OPEN_REQUEST })
+                    Ok(Outcome::Fault {
+                        code: NO_OPEN_REQUEST,
+                    })
                 }
                 Some(outcome) => {
                     self.forged = true;
@@ -127,7 +133,9 @@ fn bring<A: Allocator + Copy, K: Indexer<A>>(
             *mark = same && all && is_pack_taken(outcome);
             Ok(outcome)
         }
-        None => Ok(Outcome::Fault { code: NO_OPEN_REQUEST }),
+        None => Ok(Outcome::Fault {
+            code: NO_OPEN_REQUEST,
+        }),
     }
 }
 

@@ -24,7 +24,8 @@ impl<A: Allocator + Copy> Parts<A> {
         tools: &K,
     ) -> Result<Outcome, AllocError>
         ensures { MatchResult result
-            (λ outcome. Step (tools_of (K.packs tools.now) (K.pack_fails tools.now) (K.indexes tools.now) (K.index_fails tools.now))
+            (λ outcome. Step (tools_of (K.packs tools.now) (K.pack_fails tools.now)
+            (K.indexes tools.now) (K.index_fails tools.now))
             self.old event.now outcome self.new)
             (λ _. self.new ≡ self.old) }
     {
@@ -62,11 +63,14 @@ impl<A: Allocator + Copy> Parts<A> {
         event: &Event<A>,
         tools: &K,
     ) -> Result<Outcome, AllocError>
-        requires { IsSound (tools_of (K.packs tools.now) (K.pack_fails tools.now) (K.indexes tools.now) (K.index_fails tools.now)) self.old }
+        requires { IsSound (tools_of (K.packs tools.now) (K.pack_fails tools.now)
+            (K.indexes tools.now) (K.index_fails tools.now)) self.old }
         ensures { MatchResult result
             (λ outcome.
-            IsSound (tools_of (K.packs tools.now) (K.pack_fails tools.now) (K.indexes tools.now) (K.index_fails tools.now)) self.new
-            × Promises (tools_of (K.packs tools.now) (K.pack_fails tools.now) (K.indexes tools.now) (K.index_fails tools.now))
+            IsSound (tools_of (K.packs tools.now) (K.pack_fails tools.now)
+            (K.indexes tools.now) (K.index_fails tools.now)) self.new
+            × Promises (tools_of (K.packs tools.now) (K.pack_fails tools.now)
+            (K.indexes tools.now) (K.index_fails tools.now))
             self.old event.now outcome self.new)
             (λ _. self.new ≡ self.old) }
     {
@@ -83,12 +87,16 @@ impl<A: Allocator + Copy> Parts<A> {
         events: &[Event<A>],
         tools: &K,
     ) -> Result<Vec<Outcome, A>, RunFault<A>>
-        requires { IsSound (tools_of (K.packs tools.now) (K.pack_fails tools.now) (K.indexes tools.now) (K.index_fails tools.now)) self.old }
-        ensures sound { IsSound (tools_of (K.packs tools.now) (K.pack_fails tools.now) (K.indexes tools.now) (K.index_fails tools.now)) self.new }
+        requires { IsSound (tools_of (K.packs tools.now) (K.pack_fails tools.now)
+            (K.indexes tools.now) (K.index_fails tools.now)) self.old }
+        ensures sound { IsSound (tools_of (K.packs tools.now) (K.pack_fails tools.now)
+            (K.indexes tools.now) (K.index_fails tools.now)) self.new }
         ensures runs { MatchResult result
-            (λ outcomes. RunWith (Promises (tools_of (K.packs tools.now) (K.pack_fails tools.now) (K.indexes tools.now) (K.index_fails tools.now)))
+            (λ outcomes. RunWith (Promises (tools_of (K.packs tools.now) (K.pack_fails tools.now)
+            (K.indexes tools.now) (K.index_fails tools.now)))
             self.old events.now outcomes.items self.new)
-            (λ fault. RunsFront (Promises (tools_of (K.packs tools.now) (K.pack_fails tools.now) (K.indexes tools.now) (K.index_fails tools.now)))
+            (λ fault. RunsFront (Promises (tools_of (K.packs tools.now) (K.pack_fails tools.now)
+            (K.indexes tools.now) (K.index_fails tools.now)))
             self.old events.now (outcomes_before fault) self.new) }
     {
         let mut outcomes = Vec::new(self.repo.graph().allocator());

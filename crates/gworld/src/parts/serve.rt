@@ -24,7 +24,8 @@ impl<A: Allocator + Copy> Parts<A> {
         bytes: &[u8],
         packer: &K,
     ) -> Result<Outcome, AllocError>
-        ensures told { IfOk result (λ outcome. HearsStranger (K.packs packer.now) (K.pack_fails packer.now) self.old bytes.now outcome self.new) }
+        ensures told { IfOk result (λ outcome. HearsStranger (K.packs packer.now) (K.pack_fails packer.now)
+            self.old bytes.now outcome self.new) }
         ensures same { self.new ≡ self.old }
     {
         talk(&self.server, packer, bytes, self.repo.graph().allocator())
@@ -95,16 +96,22 @@ fn talk<A: Allocator + Copy, K: Packer<A>>(
 
 // How a conversation ended, and how much was written in it; where it could not be written there was no memory.
 fn stranger_outcome(written: usize, ended: End) -> Result<Outcome, AllocError>
-    ensures { MatchResult result (λ told. (told ≡ stranger_outcome written ended) × (ended ≢ End.WriteFailed)) (λ _. ended ≡ End.WriteFailed) }
+    ensures { MatchResult result
+        (λ told. (told ≡ stranger_outcome written ended) × (ended ≢ End.WriteFailed))
+        (λ _. ended ≡ End.WriteFailed) }
 {
     match ended {
         End::WriteFailed => Err(AllocError),
-        End::Closed | End::Ended => Ok(Outcome::StrangerServed { written: written as u128 }),
+        End::Closed | End::Ended => Ok(Outcome::StrangerServed {
+            written: written as u128,
+        }),
         End::Refused(fault) => {
             if fault.is_memory() {
                 Ok(Outcome::Fault { code: fault.code() })
             } else {
-                Ok(Outcome::StrangerServed { written: written as u128 })
+                Ok(Outcome::StrangerServed {
+                    written: written as u128,
+                })
             }
         }
     }

@@ -6,7 +6,8 @@ ghost use Rattle.gfetchreply.specs.Values.{default_limit};
 ghost use Rattle.ggrammar.specs.declared.ends.Ends.TheVariants.{Plain};
 ghost use Rattle.ganswer.specs.Adverts.{advertised};
 ghost use Rattle.gsession.specs.Sessions.{Begins, Hears, SessionState};
-ghost use Rattle.gworld.specs.Steps.{AsksNext, BeginsSession, Restarts, SettlesRefs, settled_outcome, is_moved, is_same, is_not_forward};
+ghost use Rattle.gworld.specs.Steps.{AsksNext, BeginsSession, Restarts, SettlesRefs};
+ghost use Rattle.gworld.specs.Steps.{settled_outcome, is_moved, is_same, is_not_forward};
 
 use super::{Parts, Sent, refuse};
 use crate::fault::NO_OPEN_REQUEST;
@@ -41,8 +42,13 @@ impl<A: Allocator + Copy> Parts<A> {
             (λ fault. Begins self.now.repo specs.now default_limit Plain (Err fault)) }
     {
         let alloc = self.repo.graph().allocator();
-        let mut session =
-            Session::begin(alloc, &self.repo, specs, PackLimit::default(), Ends::Plain)?;
+        let mut session = Session::begin(
+            alloc,
+            &self.repo,
+            specs,
+            PackLimit::default(),
+            Ends::Plain,
+        )?;
         let advert = match self.server.advert() {
             Ok(advert) => advert,
             Err(_) => return Err(ClientFault::from(AllocError)),
@@ -60,7 +66,9 @@ impl<A: Allocator + Copy> Parts<A> {
         self.sent.try_reserve(1)?;
         let number = self.sent.len();
         match &mut self.session {
-            None => Ok(Outcome::Fault { code: NO_OPEN_REQUEST }),
+            None => Ok(Outcome::Fault {
+                code: NO_OPEN_REQUEST,
+            }),
             Some(session) => match session.request(&self.repo) {
                 Ok(request) => {
                     self.sent.push_reserved(Sent { request });
@@ -76,7 +84,9 @@ impl<A: Allocator + Copy> Parts<A> {
         ensures { SettlesRefs self.old self.old.session result self.new }
     {
         match &mut self.session {
-            None => Outcome::Fault { code: NO_OPEN_REQUEST },
+            None => Outcome::Fault {
+                code: NO_OPEN_REQUEST,
+            },
             Some(session) => match session.settle(&mut self.repo) {
                 Ok(settled) => {
                     self.answered = false;
@@ -111,5 +121,9 @@ fn settled_outcome<A: Allocator + Copy>(settled: &Settled<A>) -> Outcome
             RefUpdate::NotForward => not_forward += 1,
         }
     }
-    Outcome::Settled { moved, same, not_forward }
+    Outcome::Settled {
+        moved,
+        same,
+        not_forward,
+    }
 }

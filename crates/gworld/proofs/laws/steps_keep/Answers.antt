@@ -5,8 +5,17 @@ use Rattle.gworld.proofs.laws.steps_keep.Goals as goal
 
 pub returns : goal.returns
 returns g c = λ k.
-    let growth : GrowthLaws g.row.A.Denot = record { keeps = c.growing_keeps.ensures; goes_on = c.growing_goes_on.ensures; holds = c.keeping_holds.ensures; full = c.full_stays_full.ensures; reaches = c.keeping_reaches.ensures } in
-    promised (tools_of (g.K.Packer.packs k) (g.K.Packer.pack_fails k) (g.K.Indexer.indexes k) (g.K.Indexer.index_fails k))
+    let growth : GrowthLaws g.row.A.Denot = record {
+      keeps = c.growing_keeps.ensures;
+      goes_on =
+          c.growing_goes_on.ensures;
+      holds = c.keeping_holds.ensures;
+      full = c.full_stays_full.ensures;
+      reaches =
+          c.keeping_reaches.ensures;
+    } in
+    promised (tools_of (g.K.Packer.packs k) (g.K.Packer.pack_fails k) (g.K.Indexer.indexes k)
+    (g.K.Indexer.index_fails k))
     (record {
       answers = record {
         growth = growth;
