@@ -7,13 +7,15 @@ use Rattle.gscenario.proofs.words.parse.Goals as goal
 
 pub returns-in-Ok-parse : goal.returns-in-Ok-parse
 returns-in-Ok-parse c = λ number below is.
-    let told = parse-decimal 64 number c.in-Ok.digits.now c.parse.result below below (c.in-Ok.ensures.cases.0 ∙ is) c.parse.ensures.value.0 in
+    let told = parse-decimal 64 number c.in-Ok.digits.now c.parse.result below below (c.in-Ok.ensures.cases.0 ∙ is)
+    c.parse.ensures.value.0 in
     let found = c.in-Ok-parse.is in
     cc
 
 pub returns-in-Err-parse : goal.returns-in-Err-parse
 returns-in-Err-parse c = λ number below is.
-    let told = parse-decimal 64 number c.in-Ok.digits.now c.parse.result below below (c.in-Ok.ensures.cases.0 ∙ is) c.parse.ensures.value.0 in
+    let told = parse-decimal 64 number c.in-Ok.digits.now c.parse.result below below (c.in-Ok.ensures.cases.0 ∙ is)
+    c.parse.ensures.value.0 in
     let found = c.in-Err-parse.is in
     cc
 
