@@ -1,5 +1,5 @@
 -- The words after the first of a line.
-use Rattle.std.proofs.Common.{◌≡◌, ◌≢◌, ◌∙◌, ℕ, Bool, List, [], ◌∷◌, ◌++◌, Option, None, Some, Result, Ok, Err}
+use Rattle.std.proofs.Common.{◌≡◌, ◌≢◌, ◌∙◌, ℕ, List, [], ◌∷◌, ◌++◌, Option, None, Some, Result, Ok, Err}
 use Rattle.std.proofs.Common.{MatchOption, MatchResult, refl, sym, ap, subst, append_assoc, append-nil}
 use Rattle.std.specs.Prelude.{⊤, Vec}
 use Rattle.std.specs.List.{AllZip}
@@ -11,13 +11,10 @@ use Rattle.gobject.specs.PlainPackText.{ids_of, letter}
 use Rattle.gspec.specs.Refspecs.{IsSpec, Reads, Refspec}
 use Rattle.gspec.specs.declared.fault.SpecFault.{SpecFault}
 use Rattle.gspec.specs.declared.fault.SpecFault.TheVariants.{BadSpec}
-use Rattle.gscenario.specs.ScenarioText.{AreArguments, AreBytes, AreNumberAndCount, AreOneBytes, AreSpecs, IsCount}
+use Rattle.gscenario.specs.ScenarioText.{AreBytes, AreNumberAndCount, AreOneBytes, AreSpecs, IsCount}
 use Rattle.gscenario.specs.ScenarioText.{IsEntry, IsNumber, IsOneNumber, IsRef}
-use Rattle.gscenario.specs.ScenarioText.{IsLineOf, IsNoLine, command_of, command_text, words_of}
-use Rattle.gscenario.specs.Reading.{HasArguments, IsOf, NoArguments, ReadsArguments}
-use Rattle.gscenario.specs.declared.event.Event.{Event}
+use Rattle.gscenario.specs.Reading.{NoArguments}
 use Rattle.gscenario.specs.declared.event.Event.TheVariants as event
-use Rattle.gscenario.specs.declared.command.Command.{Command}
 use Rattle.gscenario.specs.declared.command.Command.TheVariants as command
 
 -- ---- no event of a command has these arguments

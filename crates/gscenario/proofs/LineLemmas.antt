@@ -1,8 +1,8 @@
 -- The lines of a scenario.
-use Rattle.std.proofs.Common.{◌≡◌, ◌≢◌, ◌∙◌, ◌⊎◌, inl, inr, ℕ, zero, suc, ◌+◌, ◌<◌, ◌≤◌, ◌==◌, Bool, true, List, []}
+use Rattle.std.proofs.Common.{◌≡◌, ◌≢◌, ◌∙◌, inl, inr, ℕ, suc, ◌+◌, ◌≤◌, List, []}
 use Rattle.std.proofs.Common.{◌∷◌, ◌++◌, length, Option, None, Some, Result, Ok, Err, MatchOption, MatchResult, refl}
 use Rattle.std.proofs.Common.{sym, ap, subst, arith, append_assoc, append-nil}
-use Rattle.std.specs.Prelude.{⊤, slice_index}
+use Rattle.std.specs.Prelude.{⊤}
 use Rattle.gobject.specs.PlainPackText.{IsInLine, line}
 use Rattle.gscenario.specs.ScenarioText.{AreArguments, BeginsWrong, IsLineOf, IsNoLine, IsScenario, IsWrongLine}
 use Rattle.gscenario.specs.ScenarioText.{command_of, command_text, words_of}
