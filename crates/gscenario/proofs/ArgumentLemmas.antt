@@ -1,5 +1,6 @@
 -- The words after the first of a line.
-use Rattle.std.proofs.Common.{◌≡◌, ◌≢◌, ◌∙◌, ℕ, Bool, List, [], ◌∷◌, ◌++◌, Option, None, Some, Result, Ok, Err, MatchOption, MatchResult, refl, sym, ap, subst, append_assoc, append-nil}
+use Rattle.std.proofs.Common.{◌≡◌, ◌≢◌, ◌∙◌, ℕ, List, [], ◌∷◌, ◌++◌, Option, None, Some, Result, Ok, Err}
+use Rattle.std.proofs.Common.{MatchOption, MatchResult, refl, sym, ap, subst, append_assoc, append-nil}
 use Rattle.std.specs.Prelude.{⊤, Vec}
 use Rattle.std.specs.List.{AllZip}
 use Rattle.gname.specs.Ids.{IsIdText}
@@ -10,12 +11,10 @@ use Rattle.gobject.specs.PlainPackText.{ids_of, letter}
 use Rattle.gspec.specs.Refspecs.{IsSpec, Reads, Refspec}
 use Rattle.gspec.specs.declared.fault.SpecFault.{SpecFault}
 use Rattle.gspec.specs.declared.fault.SpecFault.TheVariants.{BadSpec}
-use Rattle.gscenario.specs.ScenarioText.{AreArguments, AreBytes, AreNumberAndCount, AreOneBytes, AreSpecs, IsCount, IsEntry, IsNumber, IsOneNumber, IsRef}
-use Rattle.gscenario.specs.ScenarioText.{IsLineOf, IsNoLine, command_of, command_text, words_of}
-use Rattle.gscenario.specs.Reading.{HasArguments, IsOf, NoArguments, ReadsArguments}
-use Rattle.gscenario.specs.declared.event.Event.{Event}
+use Rattle.gscenario.specs.ScenarioText.{AreBytes, AreNumberAndCount, AreOneBytes, AreSpecs, IsCount}
+use Rattle.gscenario.specs.ScenarioText.{IsEntry, IsNumber, IsOneNumber, IsRef}
+use Rattle.gscenario.specs.Reading.{NoArguments}
 use Rattle.gscenario.specs.declared.event.Event.TheVariants as event
-use Rattle.gscenario.specs.declared.command.Command.{Command}
 use Rattle.gscenario.specs.declared.command.Command.TheVariants as command
 
 -- ---- no event of a command has these arguments
@@ -74,7 +73,8 @@ module _ {A : Type 0} (words : List (List ℕ)) where
   no_client_ref none _ of are = absurd of
 
 -- a text that is refused as a refspec is none
-pub bad_spec : (text : List ℕ) (fault : SpecFault) → Reads (IsSpec text) (Err fault) → fault ≡ BadSpec → (spec : Refspec) → ¬ (IsSpec text spec)
+pub bad_spec : (text : List ℕ) (fault : SpecFault) → Reads (IsSpec text) (Err fault) → fault ≡ BadSpec
+    → (spec : Refspec) → ¬ (IsSpec text spec)
 bad_spec text fault reads is = subst (λ (f : SpecFault). Reads (IsSpec text) (Err f)) is reads
 
 -- what there is where nothing was found
@@ -110,15 +110,24 @@ number_reads words text None at none =
     λ number is. none number (subst (λ (t : List ℕ). IsNumber t number) (one_same is.0 text words is.1 at) is.2)
 number_reads words text (Some number) at is = (text, at, is)
 
-pub no_one_number : (words : List (List ℕ)) → ((word : List ℕ) → words ≡ word ∷ [] → ⊥) → (number : ℕ) → ¬ (IsOneNumber words number)
+pub no_one_number : (words : List (List ℕ)) → ((word : List ℕ) → words ≡ word ∷ [] → ⊥) → (number : ℕ)
+    → ¬ (IsOneNumber words number)
 no_one_number words none number is = none is.0 is.1
 
-pub no_one_bytes : (words : List (List ℕ)) → ((word : List ℕ) → words ≡ word ∷ [] → ⊥) → (bytes : List ℕ) → ¬ (AreOneBytes words bytes)
+pub no_one_bytes : (words : List (List ℕ)) → ((word : List ℕ) → words ≡ word ∷ [] → ⊥) → (bytes : List ℕ)
+    → ¬ (AreOneBytes words bytes)
 no_one_bytes words none bytes is = none is.0 is.1
 
-pub bytes_reads : {Z E : Type 0} (words : List (List ℕ)) (text : List ℕ) (r : Result (Option (Vec ℕ Z)) E) → words ≡ text ∷ []
-    → MatchResult r (λ (found : Option (Vec ℕ Z)). MatchOption found ((bytes : List ℕ) → AreBytes text bytes → ⊥) (λ (v : Vec ℕ Z). AreBytes text v.items)) (λ (e : E). ⊤)
-    → MatchResult r (λ (found : Option (Vec ℕ Z)). MatchOption found ((bytes : List ℕ) → AreOneBytes words bytes → ⊥) (λ (v : Vec ℕ Z). AreOneBytes words v.items)) (λ (e : E). ⊤)
+pub bytes_reads : {Z E : Type 0} (words : List (List ℕ)) (text : List ℕ) (r : Result (Option (Vec ℕ Z)) E)
+    → words ≡ text ∷ []
+    → MatchResult r
+    (λ (found : Option (Vec ℕ Z)).
+    MatchOption found ((bytes : List ℕ) → AreBytes text bytes → ⊥) (λ (v : Vec ℕ Z). AreBytes text v.items))
+    (λ (e : E). ⊤)
+    → MatchResult r
+    (λ (found : Option (Vec ℕ Z)).
+    MatchOption found ((bytes : List ℕ) → AreOneBytes words bytes → ⊥) (λ (v : Vec ℕ Z). AreOneBytes words v.items))
+    (λ (e : E). ⊤)
 bytes_reads words text (Ok None) at none =
     λ bytes is. none bytes (subst (λ (t : List ℕ). AreBytes t bytes) (one_same is.0 text words is.1 at) is.2)
 bytes_reads words text (Ok (Some v)) at is = (text, at, is)
@@ -128,23 +137,27 @@ pub no_two : (words : List (List ℕ)) → ((first second : List ℕ) → words 
     → ¬ (AreNumberAndCount words number count)
 no_two words none number count are = none are.0 are.1 are.2
 
-pub no_first_number : (words : List (List ℕ)) (text bytes : List ℕ) → words ≡ text ∷ bytes ∷ [] → ((number : ℕ) → IsNumber text number → ⊥)
+pub no_first_number : (words : List (List ℕ)) (text bytes : List ℕ) → words ≡ text ∷ bytes ∷ []
+    → ((number : ℕ) → IsNumber text number → ⊥)
     → (number count : ℕ) → ¬ (AreNumberAndCount words number count)
 no_first_number words text bytes at none number count are =
     none number (subst (λ (t : List ℕ). IsNumber t number) (two_same are.0 are.1 text bytes words are.2 at).0 are.3)
 
-pub no_second_count : (words : List (List ℕ)) (text bytes : List ℕ) → words ≡ text ∷ bytes ∷ [] → ((count : ℕ) → IsCount bytes count → ⊥)
+pub no_second_count : (words : List (List ℕ)) (text bytes : List ℕ) → words ≡ text ∷ bytes ∷ []
+    → ((count : ℕ) → IsCount bytes count → ⊥)
     → (number count : ℕ) → ¬ (AreNumberAndCount words number count)
 no_second_count words text bytes at none number count are =
     none count (subst (λ (t : List ℕ). IsCount t count) (two_same are.0 are.1 text bytes words are.2 at).1 are.4)
 
 -- ---- an id and the name of a ref
 
-pub no_two_ref : (words : List (List ℕ)) → ((first second : List ℕ) → words ≡ first ∷ second ∷ [] → ⊥) → (name id : List ℕ)
+pub no_two_ref : (words : List (List ℕ)) → ((first second : List ℕ) → words ≡ first ∷ second ∷ [] → ⊥)
+    → (name id : List ℕ)
     → ¬ (IsRef words name id)
 no_two_ref words none name id is = none is.0 name is.1
 
-pub no_ref_id : (words : List (List ℕ)) (digits text : List ℕ) → words ≡ digits ∷ text ∷ [] → ((id : List ℕ) → IsIdText digits id → ⊥)
+pub no_ref_id : (words : List (List ℕ)) (digits text : List ℕ) → words ≡ digits ∷ text ∷ []
+    → ((id : List ℕ) → IsIdText digits id → ⊥)
     → (name id : List ℕ) → ¬ (IsRef words name id)
 no_ref_id words digits text at none name id is =
     none id (subst (λ (t : List ℕ). IsIdText t id) (two_same is.0 name digits text words is.1 at).0 is.2)
@@ -165,40 +178,53 @@ module _ {A : Type 0} where
   pub no_word_entry : (words : List (List ℕ)) → words ≡ [] → (entry : Entry A) → ¬ (IsEntry words entry)
   no_word_entry words none entry is = none_one (letter entry.node.kind ∷ []) is.0 words none is.1
 
-  pub no_kind_entry : (words more : List (List ℕ)) (word : List ℕ) → words ≡ word ∷ more → ((kind : Kind) → word ≡ letter kind ∷ [] → ⊥)
+  pub no_kind_entry : (words more : List (List ℕ)) (word : List ℕ) → words ≡ word ∷ more
+      → ((kind : Kind) → word ≡ letter kind ∷ [] → ⊥)
       → (entry : Entry A) → ¬ (IsEntry words entry)
   no_kind_entry words more word at none entry is =
       none entry.node.kind (sym (first_same (letter entry.node.kind ∷ []) word is.0 more words is.1 at).0)
 
-  pub entry_reads : {E : Type 0} (words more : List (List ℕ)) (word : List ℕ) (kind : Kind) (r : Result (Option (Entry A)) E) → words ≡ word ∷ more
-      → word ≡ letter kind ∷ []
-      → MatchResult r (λ (found : Option (Entry A)). MatchOption found ((id : List ℕ) (ids : List (List ℕ)) → AllZip IsIdText more (id ∷ ids) → ⊥)
-      (λ (entry : Entry A). (entry.node.kind ≡ kind) × AllZip IsIdText more (ids_of entry))) (λ (e : E). ⊤)
-      → MatchResult r (λ (found : Option (Entry A)). MatchOption found ((entry : Entry A) → IsEntry words entry → ⊥) (IsEntry words)) (λ (e : E). ⊤)
+  pub entry_reads : {E : Type 0} (words more : List (List ℕ)) (word : List ℕ) (kind : Kind)
+      (r : Result (Option (Entry A)) E) → words ≡ word ∷ more → word ≡ letter kind ∷ []
+      → MatchResult r
+      (λ (found : Option (Entry A)).
+      MatchOption found ((id : List ℕ) (ids : List (List ℕ)) → AllZip IsIdText more (id ∷ ids) → ⊥)
+      (λ (entry : Entry A). (entry.node.kind ≡ kind) × AllZip IsIdText more (ids_of entry)))
+      (λ (e : E). ⊤)
+      → MatchResult r
+      (λ (found : Option (Entry A)).
+      MatchOption found ((entry : Entry A) → IsEntry words entry → ⊥) (IsEntry words))
+      (λ (e : E). ⊤)
   entry_reads words more word kind (Ok None) at spelt none =
       λ entry is.
       none entry.id entry.node.parents
-      (subst (λ (ids : List (List ℕ)). AllZip IsIdText ids (ids_of entry)) (first_same (letter entry.node.kind ∷ []) word is.0 more words is.1 at).1 is.2)
+      (subst (λ (ids : List (List ℕ)). AllZip IsIdText ids (ids_of entry))
+      (first_same (letter entry.node.kind ∷ []) word is.0 more words is.1 at).1 is.2)
   entry_reads words more word kind (Ok (Some entry)) at spelt is =
       (more, at ∙ ap (λ (w : List ℕ). w ∷ more) (spelt ∙ ap (λ (k : Kind). letter k ∷ []) (sym is.0)), is.1)
   entry_reads words more word kind (Err e) at spelt is = tt
 
-pub no_ids : (words : List (List ℕ)) → words ≡ [] → (id : List ℕ) (ids : List (List ℕ)) → ¬ (AllZip IsIdText words (id ∷ ids))
+pub no_ids : (words : List (List ℕ)) → words ≡ [] → (id : List ℕ) (ids : List (List ℕ))
+    → ¬ (AllZip IsIdText words (id ∷ ids))
 no_ids words none id ids are = subst (λ (ws : List (List ℕ)). AllZip IsIdText ws (id ∷ ids)) none are
 
-pub no_first_id : (words more : List (List ℕ)) (word : List ℕ) → words ≡ word ∷ more → ((id : List ℕ) → IsIdText word id → ⊥)
+pub no_first_id : (words more : List (List ℕ)) (word : List ℕ) → words ≡ word ∷ more
+    → ((id : List ℕ) → IsIdText word id → ⊥)
     → (id : List ℕ) (ids : List (List ℕ)) → ¬ (AllZip IsIdText words (id ∷ ids))
 no_first_id words more word at none id ids are =
     none id (subst (λ (ws : List (List ℕ)). AllZip IsIdText ws (id ∷ ids)) at are).0
 
-pub no_other_ids : (words more : List (List ℕ)) (word : List ℕ) → words ≡ word ∷ more → ((ids : List (List ℕ)) → AllZip IsIdText more ids → ⊥)
+pub no_other_ids : (words more : List (List ℕ)) (word : List ℕ) → words ≡ word ∷ more
+    → ((ids : List (List ℕ)) → AllZip IsIdText more ids → ⊥)
     → (id : List ℕ) (ids : List (List ℕ)) → ¬ (AllZip IsIdText words (id ∷ ids))
 no_other_ids words more word at none id ids are =
     none ids (subst (λ (ws : List (List ℕ)). AllZip IsIdText ws (id ∷ ids)) at are).1
 
-pub ids_read : (words more ids : List (List ℕ)) (word id : List ℕ) → words ≡ word ∷ more → IsIdText word id → AllZip IsIdText more ids
+pub ids_read : (words more ids : List (List ℕ)) (word id : List ℕ) → words ≡ word ∷ more → IsIdText word id
+    → AllZip IsIdText more ids
     → AllZip IsIdText words (id ∷ ids)
-ids_read words more ids word id at is are = subst (λ (ws : List (List ℕ)). AllZip IsIdText ws (id ∷ ids)) (sym at) (is, are)
+ids_read words more ids word id at is are =
+    subst (λ (ws : List (List ℕ)). AllZip IsIdText ws (id ∷ ids)) (sym at) (is, are)
 
 -- ---- words that are read one after the other
 
@@ -209,13 +235,15 @@ pub record ReadsEach {Y : Type 0} (R : List ℕ → Y → Type 0) (words left : 
   pub each : AllZip R done read
 
 module _ {Y : Type 0} (R : List ℕ → Y → Type 0) where
-  zip_push : (xs : List (List ℕ)) (ys : List Y) (x : List ℕ) (y : Y) → AllZip R xs ys → R x y → AllZip R (xs ++ x ∷ []) (ys ++ y ∷ [])
+  zip_push : (xs : List (List ℕ)) (ys : List Y) (x : List ℕ) (y : Y) → AllZip R xs ys → R x y
+      → AllZip R (xs ++ x ∷ []) (ys ++ y ∷ [])
   zip_push [] [] x y all is = (is, tt)
   zip_push [] (v ∷ ys) x y all is = absurd all
   zip_push (u ∷ xs) [] x y all is = absurd all
   zip_push (u ∷ xs) (v ∷ ys) x y all is = (all.0, zip_push xs ys x y all.1 is)
 
-  zip_at : (xs : List (List ℕ)) (x : List ℕ) (more : List (List ℕ)) (ys : List Y) → AllZip R (xs ++ x ∷ more) ys → (y : Y) × R x y
+  zip_at : (xs : List (List ℕ)) (x : List ℕ) (more : List (List ℕ)) (ys : List Y) → AllZip R (xs ++ x ∷ more) ys
+      → (y : Y) × R x y
   zip_at [] x more [] all = absurd all
   zip_at [] x more (y ∷ ys) all = (y, all.0)
   zip_at (u ∷ xs) x more [] all = absurd all
@@ -224,22 +252,27 @@ module _ {Y : Type 0} (R : List ℕ → Y → Type 0) where
   pub reads_none : (words : List (List ℕ)) → ReadsEach R words words []
   reads_none words = record { done = []; parts = refl; each = tt }
 
-  pub reads_more : (words left more : List (List ℕ)) (read now : List Y) (word : List ℕ) (y : Y) → ReadsEach R words left read
+  pub reads_more : (words left more : List (List ℕ)) (read now : List Y) (word : List ℕ) (y : Y)
+      → ReadsEach R words left read
       → left ≡ word ∷ more → R word y → now ≡ read ++ y ∷ [] → ReadsEach R words more now
   reads_more words left more read now word y reads at is grown = record {
     done = reads.done ++ word ∷ [];
-    parts = reads.parts ∙ ap (λ (ws : List (List ℕ)). reads.done ++ ws) at ∙ sym (append_assoc reads.done (word ∷ []) more);
+    parts =
+        reads.parts ∙ ap (λ (ws : List (List ℕ)). reads.done ++ ws) at ∙ sym (append_assoc reads.done (word ∷ []) more);
     each = subst (AllZip R (reads.done ++ word ∷ [])) (sym grown) (zip_push reads.done read word y reads.each is);
   }
 
-  pub reads_all : (words left : List (List ℕ)) (read : List Y) → ReadsEach R words left read → left ≡ [] → AllZip R words read
+  pub reads_all : (words left : List (List ℕ)) (read : List Y) → ReadsEach R words left read → left ≡ []
+      → AllZip R words read
   reads_all words left read reads none =
       subst (λ (ws : List (List ℕ)). AllZip R ws read)
       (sym (reads.parts ∙ ap (λ (ws : List (List ℕ)). reads.done ++ ws) none ∙ append-nil reads.done)) reads.each
 
-  pub reads_wrong : (words left more : List (List ℕ)) (read : List Y) (word : List ℕ) → ReadsEach R words left read → left ≡ word ∷ more
+  pub reads_wrong : (words left more : List (List ℕ)) (read : List Y) (word : List ℕ) → ReadsEach R words left read
+      → left ≡ word ∷ more
       → ((y : Y) → ¬ (R word y)) → (ys : List Y) → ¬ (AllZip R words ys)
   reads_wrong words left more read word reads at none ys all =
       let here = zip_at reads.done word more ys
-      (subst (λ (ws : List (List ℕ)). AllZip R ws ys) (reads.parts ∙ ap (λ (ws : List (List ℕ)). reads.done ++ ws) at) all) in
+      (subst (λ (ws : List (List ℕ)). AllZip R ws ys) (reads.parts ∙ ap (λ (ws : List (List ℕ)). reads.done ++ ws) at)
+      all) in
       none here.0 here.1

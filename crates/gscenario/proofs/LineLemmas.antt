@@ -1,8 +1,11 @@
 -- The lines of a scenario.
-use Rattle.std.proofs.Common.{◌≡◌, ◌≢◌, ◌∙◌, ◌⊎◌, inl, inr, ℕ, zero, suc, ◌+◌, ◌<◌, ◌≤◌, ◌==◌, Bool, true, List, [], ◌∷◌, ◌++◌, length, Option, None, Some, Result, Ok, Err, MatchOption, MatchResult, refl, sym, ap, subst, arith, append_assoc, append-nil}
-use Rattle.std.specs.Prelude.{⊤, slice_index}
+use Rattle.std.proofs.Common.{◌≡◌, ◌≢◌, ◌∙◌, inl, inr, ℕ, suc, ◌+◌, ◌≤◌, List, []}
+use Rattle.std.proofs.Common.{◌∷◌, ◌++◌, length, Option, None, Some, Result, Ok, Err, MatchOption, MatchResult, refl}
+use Rattle.std.proofs.Common.{sym, ap, subst, arith, append_assoc, append-nil}
+use Rattle.std.specs.Prelude.{⊤}
 use Rattle.gobject.specs.PlainPackText.{IsInLine, line}
-use Rattle.gscenario.specs.ScenarioText.{AreArguments, BeginsWrong, IsLineOf, IsNoLine, IsScenario, IsWrongLine, command_of, command_text, words_of}
+use Rattle.gscenario.specs.ScenarioText.{AreArguments, BeginsWrong, IsLineOf, IsNoLine, IsScenario, IsWrongLine}
+use Rattle.gscenario.specs.ScenarioText.{command_of, command_text, words_of}
 use Rattle.gscenario.specs.Reading.{HasArguments, IsOf, NoArguments, ReadsArguments}
 use Rattle.gscenario.specs.declared.event.Event.{Event}
 use Rattle.gscenario.specs.declared.event.Event.TheVariants as event
@@ -54,15 +57,12 @@ heads_same x y xs ys same =
     let rest : xs ≡ ys = cc in
     (first, rest)
 
-
 longer_line : (here after : List ℕ) → length after + 1 ≤ length (line here ++ after)
 longer_line [] after = omega arith
 longer_line (byte ∷ here) after = let rest = longer_line here after in omega (arith, rest)
 
-
 line_parts : (here after : List ℕ) → line here ++ after ≡ here ++ 10 ∷ after
 line_parts here after = append_assoc here (10 ∷ []) after
-
 
 cons_head : (x y : ℕ) (xs ys : List ℕ) → x ∷ xs ≡ y ∷ ys → x ≡ y
 cons_head x y xs ys same = cc
@@ -74,14 +74,18 @@ nil_cons : (x : ℕ) (xs : List ℕ) → [] ≡ x ∷ xs → ⊥
 nil_cons x xs same = cc
 
 -- of two texts that begin with lines, which are followed by the same, the lines are the same
-same_lines : (one other rest more : List ℕ) → IsInLine one → IsInLine other → one ++ 10 ∷ rest ≡ other ++ 10 ∷ more → (one ≡ other) × (rest ≡ more)
+same_lines : (one other rest more : List ℕ) → IsInLine one → IsInLine other → one ++ 10 ∷ rest ≡ other ++ 10 ∷ more
+    → (one ≡ other) × (rest ≡ more)
 same_lines [] [] rest more h k same = (refl, cons_tail 10 10 rest more same)
 same_lines [] (b ∷ other) rest more h k same = absurd (k 0 (sym (cons_head 10 b rest (other ++ 10 ∷ more) same)))
 same_lines (b ∷ one) [] rest more h k same = absurd (h 0 (cons_head b 10 (one ++ 10 ∷ rest) more same))
 same_lines (b ∷ one) (c ∷ other) rest more h k same =
     let both = same_lines one other rest more (λ at. h (suc at)) (λ at. k (suc at))
-    (cons_tail b c (one ++ 10 ∷ rest) (other ++ 10 ∷ more) same) in
-    (ap (λ (x : ℕ). x ∷ one) (cons_head b c (one ++ 10 ∷ rest) (other ++ 10 ∷ more) same) ∙ ap (λ (l : List ℕ). c ∷ l) both.0, both.1)
+    (cons_tail b c (one ++ 10 ∷ rest) (other ++ 10 ∷ more) same) in (
+      ap (λ (x : ℕ). x ∷ one) (cons_head b c (one ++ 10 ∷ rest) (other ++ 10 ∷ more) same) ∙ ap (λ (l : List ℕ). c ∷ l)
+          both.0,
+      both.1,
+    )
 
 unended : (text other rest : List ℕ) → IsInLine text → text ≡ other ++ 10 ∷ rest → ⊥
 unended [] [] rest inside same = nil_cons 10 rest same
@@ -89,10 +93,6 @@ unended [] (b ∷ other) rest inside same = nil_cons b (other ++ 10 ∷ rest) sa
 unended (b ∷ text) [] rest inside same = inside 0 (cons_head b 10 text rest same)
 unended (b ∷ text) (c ∷ other) rest inside same =
     unended text other rest (λ at. inside (suc at)) (cons_tail b c text (other ++ 10 ∷ rest) same)
-
-pub empty_list : (text : List ℕ) → true ≡ (length text == 0) → text ≡ []
-empty_list [] empty = refl
-empty_list (byte ∷ text) empty = cc
 
 module _ {A : Type 0} where
   is_of_own : (e : Event A) → IsOf (command_of e) e
@@ -127,22 +127,27 @@ module _ {A : Type 0} where
   own_command _ _ of = absurd of
 
   -- the first word is no command
-  pub no_command_line : (text word : List ℕ) (words : List (List ℕ)) → words_of text ≡ word ∷ words → ((c : Command) → word ≢ command_text c)
+  pub no_command_line : (text word : List ℕ) (words : List (List ℕ)) → words_of text ≡ word ∷ words
+      → ((c : Command) → word ≢ command_text c)
       → IsNoLine A text
   no_command_line text word words at none event is =
       none (command_of event) (heads_same word (command_text (command_of event)) words is.0 (sym at ∙ is.1)).0
 
-  line_reads : (c : Command) (text word : List ℕ) (words : List (List ℕ)) (r : Option (Event A)) → words_of text ≡ word ∷ words
+  line_reads : (c : Command) (text word : List ℕ) (words : List (List ℕ)) (r : Option (Event A))
+      → words_of text ≡ word ∷ words
       → word ≡ command_text c → MatchOption r (NoArguments A c words) (HasArguments c words)
       → MatchOption r (IsNoLine A text) (IsLineOf text)
   line_reads c text word words None at spelt none = λ event is.
       let same = heads_same word (command_text (command_of event)) words is.0 (sym at ∙ is.1) in
-      let of : IsOf c event = subst (λ (d : Command). IsOf d event) (same_command c (command_of event) (sym spelt ∙ same.0)) (is_of_own event) in
+      let of : IsOf c event = subst (λ (d : Command). IsOf d event)
+      (same_command c (command_of event) (sym spelt ∙ same.0)) (is_of_own event) in
       none event of (subst (AreArguments event) (sym same.1) is.2)
   line_reads c text word words (Some event) at spelt has =
       (words, at ∙ ap (λ (w : List ℕ). w ∷ words) (spelt ∙ ap command_text (own_command c event has.0)), has.1)
 
-  pub line_result : {E : Type 0} (c : Command) (text word : List ℕ) (words : List (List ℕ)) (r : Result (Option (Event A)) E) → words_of text ≡ word ∷ words
+  pub line_result : {E : Type 0} (c : Command) (text word : List ℕ) (words : List (List ℕ))
+      (r : Result (Option (Event A)) E)
+      → words_of text ≡ word ∷ words
       → word ≡ command_text c → ReadsArguments c words r
       → MatchResult r (λ (found : Option (Event A)). MatchOption found (IsNoLine A text) (IsLineOf text)) (λ (e : E). ⊤)
   line_result c text word words (Ok found) at spelt reads = line_reads c text word words found at spelt reads
@@ -162,41 +167,55 @@ module _ {A : Type 0} where
   reads_no_line text = record { front = []; parts = refl; before = refl; at = refl; few = omega arith }
 
   pub begins_lines : (text : List ℕ) (events : List (Event A)) → events ≡ [] → ReadsLines text text events 1
-  begins_lines text events none = subst (λ (l : List (Event A)). ReadsLines text text l 1) (sym none) (reads_no_line text)
+  begins_lines text events none =
+      subst (λ (l : List (Event A)). ReadsLines text text l 1) (sym none) (reads_no_line text)
 
-  scenario_push : (front here : List ℕ) (events : List (Event A)) (event : Event A) → IsScenario front events → IsInLine here → IsLineOf here event
+  scenario_push : (front here : List ℕ) (events : List (Event A)) (event : Event A) → IsScenario front events
+      → IsInLine here → IsLineOf here event
       → IsScenario (front ++ line here) (events ++ event ∷ [])
   scenario_push front here [] event none inside is =
       (here, [], ap (λ (f : List ℕ). f ++ line here) none, inside, is, refl)
-  scenario_push front here (first ∷ events) event all inside is =
-      (all.0, all.1 ++ line here,
-      ap (λ (f : List ℕ). f ++ line here) all.2 ∙ append_assoc all.0 (10 ∷ all.1) (line here), all.3, all.4,
-      scenario_push all.1 here events event all.5 inside is)
+  scenario_push front here (first ∷ events) event all inside is = (
+    all.0,
+    all.1 ++ line here,
+    ap (λ (f : List ℕ). f ++ line here) all.2 ∙ append_assoc all.0 (10 ∷ all.1) (line here),
+    all.3,
+    all.4,
+    scenario_push all.1 here events event all.5 inside is,
+  )
 
   length_push : (events : List (Event A)) (event : Event A) → length (events ++ event ∷ []) ≡ length events + 1
   length_push [] event = refl
   length_push (first ∷ events) event = let rest = length_push events event in omega (arith, rest)
 
-  pub reads_line : (text left here after : List ℕ) (events now : List (Event A)) (event : Event A) (number : ℕ) → ReadsLines text left events number
+  pub reads_line : (text left here after : List ℕ) (events now : List (Event A)) (event : Event A) (number : ℕ)
+      → ReadsLines text left events number
       → left ≡ line here ++ after → IsInLine here → IsLineOf here event → now ≡ events ++ event ∷ []
       → ReadsLines text after now (number + 1)
   reads_line text left here after events now event number reads at inside is grown =
-      let long : length after + 1 ≤ length left = subst (λ (l : List ℕ). length after + 1 ≤ length l) (sym at) (longer_line here after) in
-      let many : length now ≡ length events + 1 = ap (λ (l : List (Event A)). length l) grown ∙ length_push events event in record {
+      let long : length after + 1 ≤ length left = subst (λ (l : List ℕ). length after + 1 ≤ length l) (sym at)
+      (longer_line here after) in
+      let many : length now ≡ length events + 1 = ap (λ (l : List (Event A)). length l) grown ∙ length_push events
+      event in record {
         front = reads.front ++ line here;
-        parts = reads.parts ∙ ap (λ (l : List ℕ). reads.front ++ l) at ∙ sym (append_assoc reads.front (line here) after);
-        before = subst (IsScenario (reads.front ++ line here)) (sym grown) (scenario_push reads.front here events event reads.before inside is);
+        parts =
+            reads.parts ∙ ap (λ (l : List ℕ). reads.front ++ l) at ∙ sym (append_assoc reads.front (line here) after);
+        before =
+            subst (IsScenario (reads.front ++ line here)) (sym grown)
+            (scenario_push reads.front here events event reads.before inside is);
         at = ap (λ (n : ℕ). n + 1) reads.at ∙ ap (λ (n : ℕ). n + 1) (sym many);
         few = (let few = reads.few in omega (arith, few, long));
       }
 
-  pub all_read : (text left : List ℕ) (events : List (Event A)) (number : ℕ) → ReadsLines text left events number → left ≡ []
+  pub all_read : (text left : List ℕ) (events : List (Event A)) (number : ℕ) → ReadsLines text left events number
+      → left ≡ []
       → IsScenario text events
   all_read text left events number reads none =
       subst (λ (t : List ℕ). IsScenario t events)
       (sym (reads.parts ∙ ap (λ (l : List ℕ). reads.front ++ l) none ∙ append-nil reads.front)) reads.before
 
-  pub wrong_line : (text left : List ℕ) (events : List (Event A)) (number : ℕ) → ReadsLines text left events number → BeginsWrong A left
+  pub wrong_line : (text left : List ℕ) (events : List (Event A)) (number : ℕ) → ReadsLines text left events number
+      → BeginsWrong A left
       → IsWrongLine A text number
   wrong_line text left events number reads wrong = record {
     front = reads.front;
@@ -208,21 +227,26 @@ module _ {A : Type 0} where
     at = reads.at;
   }
 
-  pub begins_wrong : (left here after : List ℕ) → left ≡ line here ++ after → IsInLine here → IsNoLine A here → BeginsWrong A left
+  pub begins_wrong : (left here after : List ℕ) → left ≡ line here ++ after → IsInLine here → IsNoLine A here
+      → BeginsWrong A left
   begins_wrong left here after at inside none = inl (here, after, at ∙ line_parts here after, inside, none)
 
   -- the next line is that of no event
-  pub stops_at : (text left here after : List ℕ) (events : List (Event A)) (number : ℕ) (found : Option (Event A)) → ReadsLines text left events number
+  pub stops_at : (text left here after : List ℕ) (events : List (Event A)) (number : ℕ) (found : Option (Event A))
+      → ReadsLines text left events number
       → (left ≡ line here ++ after) × IsInLine here → found ≡ None → MatchOption found (IsNoLine A here) (IsLineOf here)
       → IsWrongLine A text number
   stops_at text left here after events number found reads split none is =
       wrong_line text left events number reads
-      (begins_wrong left here after split.0 split.1 (subst (λ (o : Option (Event A)). MatchOption o (IsNoLine A here) (IsLineOf here)) none is))
+      (begins_wrong left here after split.0 split.1
+      (subst (λ (o : Option (Event A)). MatchOption o (IsNoLine A here) (IsLineOf here)) none is))
 
   -- the next line is that of an event
-  pub goes_on : (text left here after : List ℕ) (events now : List (Event A)) (event : Event A) (number : ℕ) (found : Option (Event A))
+  pub goes_on : (text left here after : List ℕ) (events now : List (Event A)) (event : Event A) (number : ℕ)
+      (found : Option (Event A))
       → ReadsLines text left events number → (left ≡ line here ++ after) × IsInLine here → found ≡ Some event
-      → MatchOption found (IsNoLine A here) (IsLineOf here) → now ≡ events ++ event ∷ [] → ReadsLines text after now (number + 1)
+      → MatchOption found (IsNoLine A here) (IsLineOf here) → now ≡ events ++ event ∷ []
+      → ReadsLines text after now (number + 1)
   goes_on text left here after events now event number found reads split some is grown =
       reads_line text left here after events now event number reads split.0 split.1
       (subst (λ (o : Option (Event A)). MatchOption o (IsNoLine A here) (IsLineOf here)) some is) grown
@@ -234,7 +258,8 @@ module _ {A : Type 0} where
 
   begins_no_scenario : (rest : List ℕ) (events : List (Event A)) → BeginsWrong A rest → ¬ (IsScenario rest events)
   begins_no_scenario rest [] (inl wrong) is =
-      let same : [] ≡ wrong.0 ++ 10 ∷ wrong.1 = sym is ∙ wrong.2 in unended [] wrong.0 wrong.1 (λ at. (λ bad. absurd (omega (arith, bad)))) same
+      let same : [] ≡ wrong.0 ++ 10 ∷ wrong.1 = sym is ∙ wrong.2 in unended [] wrong.0 wrong.1
+      (λ at. (λ bad. absurd (omega (arith, bad)))) same
   begins_no_scenario rest (event ∷ events) (inl wrong) is =
       let same = same_lines wrong.0 is.0 wrong.1 is.1 wrong.3 is.3 (sym wrong.2 ∙ is.2) in
       wrong.4 event (subst (λ (l : List ℕ). IsLineOf l event) (sym same.0) is.4)
@@ -255,6 +280,8 @@ module _ {A : Type 0} where
       let same = same_lines all.0 is.0 (all.1 ++ rest) is.1 all.3 is.3 (sym shape ∙ is.2) in
       wrong_after all.1 rest before events all.5 wrong (subst (λ (t : List ℕ). IsScenario t events) (sym same.1) is.5)
 
-  pub wrong_is_none : (text : List ℕ) (number : ℕ) (events : List (Event A)) → IsWrongLine A text number → ¬ (IsScenario text events)
+  pub wrong_is_none : (text : List ℕ) (number : ℕ) (events : List (Event A)) → IsWrongLine A text number
+      → ¬ (IsScenario text events)
   wrong_is_none text number events wrong is =
-      wrong_after wrong.front wrong.rest wrong.events events wrong.before wrong.wrong (subst (λ (t : List ℕ). IsScenario t events) wrong.parts is)
+      wrong_after wrong.front wrong.rest wrong.events events wrong.before wrong.wrong
+      (subst (λ (t : List ℕ). IsScenario t events) wrong.parts is)

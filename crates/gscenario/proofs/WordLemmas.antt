@@ -1,6 +1,6 @@
 -- The words of a line.
-use Rattle.std.proofs.Common.{◌≡◌, ◌≢◌, ◌∙◌, ℕ, zero, suc, ◌+◌, ◌-◌, ◌<◌, ◌≤◌, ◌==◌, Bool, true, false, if◌then◌else◌, List, [], ◌∷◌, length, take, drop, refl, sym, ap, arith}
-use Rattle.std.specs.Prelude.{slice_index}
+use Rattle.std.proofs.Common.{◌≡◌, ◌∙◌, ℕ, zero, suc, ◌-◌, ◌<◌, ◌==◌, Bool, true, false, if◌then◌else◌}
+use Rattle.std.proofs.Common.{List, [], ◌∷◌, length, take, drop, refl, sym, ap, arith}
 use Rattle.std.proofs.lemmas.List.{length-drop}
 use Rattle.std.proofs.Math.Seq.{take-length}
 use Rattle.std.specs.Str.TwoWay.{Nowhere}
@@ -15,7 +15,8 @@ off false other = refl
 abbrev choice : ℕ → List (List ℕ) → Bool → List (List ℕ)
 choice byte words b = if b then [] ∷ words else with_byte byte words
 
-no_space : (byte : ℕ) (text : List ℕ) → ¬ ((byte == 32) ≡ true) → words_of (byte ∷ text) ≡ with_byte byte (words_of text)
+no_space : (byte : ℕ) (text : List ℕ) → ¬ ((byte == 32) ≡ true)
+    → words_of (byte ∷ text) ≡ with_byte byte (words_of text)
 no_space byte text other = ap (choice byte (words_of text)) (off (byte == 32) other)
 
 -- without a space a line is one word
@@ -39,4 +40,6 @@ pub rest_of : (n : ℕ) (text : List ℕ) → take (length text - n) (drop n tex
 rest_of n text = ap (λ k. take k (drop n text)) (sym (length-drop n text)) ∙ take-length (drop n text)
 
 pub none_after : (text : List ℕ) → words_after (take (length text - length text) (drop (length text) text)) ≡ []
-none_after text = ap (λ (k : ℕ). words_after (take k (drop (length text) text))) (let none : length text - length text ≡ 0 = omega arith in none)
+none_after text =
+    ap (λ (k : ℕ). words_after (take k (drop (length text) text)))
+    (let none : length text - length text ≡ 0 = omega arith in none)

@@ -1,7 +1,7 @@
 -- The text of a scenario: a line for each event, each line ended by a line feed, its words separated by single spaces.
 -- The format is our own.
-use Rattle.std.specs.Prelude.{◌≡◌, ◌≢◌, ◌⊎◌, ⊤, ℕ, ◌+◌, ◌-◌, ◌^◌, ◌<◌, ◌==◌, if◌then◌else◌, List, [], ◌∷◌, ◌++◌, length, codes}
-use Rattle.std.specs.Prelude.{decimal, Ok}
+use Rattle.std.specs.Prelude.{◌≡◌, ◌≢◌, ◌⊎◌, ℕ, ◌+◌, ◌-◌, ◌^◌, ◌<◌, ◌==◌, if◌then◌else◌}
+use Rattle.std.specs.Prelude.{List, [], ◌∷◌, ◌++◌, length, codes, decimal, Ok}
 use Rattle.std.specs.List.{AllZip}
 use Rattle.hex.specs.Hex.{decode_of}
 use Rattle.gname.specs.Ids.{IsIdText}

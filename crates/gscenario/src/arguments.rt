@@ -104,10 +104,7 @@ fn strange_request<A: Allocator + Copy>(
     }
 }
 
-fn server_add<A: Allocator + Copy>(
-    alloc: A,
-    tail: &[u8],
-) -> Result<Option<Event<A>>, AllocError>
+fn server_add<A: Allocator + Copy>(alloc: A, tail: &[u8]) -> Result<Option<Event<A>>, AllocError>
     ensures { ReadsArguments Command.ServerAdd (words_after tail.now) result }
 {
     match entry_of(alloc, tail)? {
@@ -116,10 +113,7 @@ fn server_add<A: Allocator + Copy>(
     }
 }
 
-fn client_add<A: Allocator + Copy>(
-    alloc: A,
-    tail: &[u8],
-) -> Result<Option<Event<A>>, AllocError>
+fn client_add<A: Allocator + Copy>(alloc: A, tail: &[u8]) -> Result<Option<Event<A>>, AllocError>
     ensures { ReadsArguments Command.ClientAdd (words_after tail.now) result }
 {
     match entry_of(alloc, tail)? {
@@ -128,10 +122,7 @@ fn client_add<A: Allocator + Copy>(
     }
 }
 
-fn server_ref<A: Allocator + Copy>(
-    alloc: A,
-    tail: &[u8],
-) -> Result<Option<Event<A>>, AllocError>
+fn server_ref<A: Allocator + Copy>(alloc: A, tail: &[u8]) -> Result<Option<Event<A>>, AllocError>
     ensures { ReadsArguments Command.ServerRef (words_after tail.now) result }
 {
     match ref_of(alloc, tail)? {
@@ -140,10 +131,7 @@ fn server_ref<A: Allocator + Copy>(
     }
 }
 
-fn client_ref<A: Allocator + Copy>(
-    alloc: A,
-    tail: &[u8],
-) -> Result<Option<Event<A>>, AllocError>
+fn client_ref<A: Allocator + Copy>(alloc: A, tail: &[u8]) -> Result<Option<Event<A>>, AllocError>
     ensures { ReadsArguments Command.ClientRef (words_after tail.now) result }
 {
     match ref_of(alloc, tail)? {
@@ -184,10 +172,7 @@ fn number_and_count(tail: &[u8]) -> Option<(usize, usize)>
 }
 
 // The bytes that come, alone.
-fn bytes_alone<A: Allocator + Copy>(
-    alloc: A,
-    tail: &[u8],
-) -> Result<Option<Vec<u8, A>>, AllocError>
+fn bytes_alone<A: Allocator + Copy>(alloc: A, tail: &[u8]) -> Result<Option<Vec<u8, A>>, AllocError>
     ensures { MatchResult result
         (λ found. MatchOption found (((bytes : List ℕ) → AreOneBytes (words_after tail.now) bytes → ⊥))
         (λ bytes. AreOneBytes (words_after tail.now) bytes.items))
@@ -226,10 +211,7 @@ fn specs_of<A: Allocator + Copy>(
 }
 
 // The object that comes.
-fn entry_of<A: Allocator + Copy>(
-    alloc: A,
-    tail: &[u8],
-) -> Result<Option<Entry<A>>, AllocError>
+fn entry_of<A: Allocator + Copy>(alloc: A, tail: &[u8]) -> Result<Option<Entry<A>>, AllocError>
     ensures { MatchResult result
         (λ found. MatchOption found (((entry : Entry A) → IsEntry (words_after tail.now) entry → ⊥))
         (IsEntry (words_after tail.now)))
@@ -251,7 +233,8 @@ fn entry_of_kind<A: Allocator + Copy>(
     tail: &[u8],
 ) -> Result<Option<Entry<A>>, AllocError>
     ensures { MatchResult result
-        (λ found. MatchOption found (((id : List ℕ) (ids : List (List ℕ)) → AllZip IsIdText (words_after tail.now) (id ∷ ids) → ⊥))
+        (λ found. MatchOption found
+        (((id : List ℕ) (ids : List (List ℕ)) → AllZip IsIdText (words_after tail.now) (id ∷ ids) → ⊥))
         (λ entry. (entry.node.kind ≡ kind) × AllZip IsIdText (words_after tail.now) (ids_of entry)))
         (λ _. ⊤) }
 {
@@ -271,10 +254,7 @@ fn entry_of_kind<A: Allocator + Copy>(
 }
 
 // The ids that come.
-fn parents_of<A: Allocator + Copy>(
-    alloc: A,
-    tail: &[u8],
-) -> Result<Option<Parents<A>>, AllocError>
+fn parents_of<A: Allocator + Copy>(alloc: A, tail: &[u8]) -> Result<Option<Parents<A>>, AllocError>
     ensures { MatchResult result
         (λ found. MatchOption found (((ids : List (List ℕ)) → AllZip IsIdText (words_after tail.now) ids → ⊥))
         (AllZip IsIdText (words_after tail.now)))

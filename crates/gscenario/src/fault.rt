@@ -1,20 +1,20 @@
 // Why a text is no scenario.
 #![tactic(auto)]
 
-ghost use Rattle.std.specs.Prelude.{◌≡◌};
-ghost use Rattle.gscenario.specs.Faults.{scenario_fault_row};
+ghost use Rattle.std.specs.Prelude.{◌≡◌, Some};
+ghost use Rattle.gscenario.specs.Faults.{scenario_fault_row, scenario_fault_text};
+ghost use Rattle.gscenario.specs.declared.fault.ScenarioFault.TheVariants as faults;
 
 use std::alloc::AllocError;
-use thiserror::Error;
+use std::error::Error;
+use std::fmt;
 
 /// Why a text was not read as a scenario.
-#[derive(Clone, Copy, Debug, PartialEq, Eq, Drop, Error)]
+#[derive(Clone, Copy, Debug, PartialEq, Eq, Drop)]
 pub enum ScenarioFault {
     /// This line, counted from 1, is that of no event, or it does not end.
-    #[error("line {line} of the scenario is that of no event")]
     Scenario { line: usize },
     /// There is no memory for the events.
-    #[error("out of memory")]
     Memory,
 }
 
@@ -44,9 +44,23 @@ impl ScenarioFault {
     }
 }
 
-impl From<AllocError> for ScenarioFault {
-    ghost use Rattle.gscenario.specs.declared.fault.ScenarioFault.TheVariants as faults;
+impl fmt::Display for ScenarioFault {
+    ghost output = { λ fault. Some (scenario_fault_text fault) };
 
+    fn fmt<W: fmt::Write>(&self, f: &mut fmt::Formatter<W>) -> fmt::Result {
+        match self {
+            ScenarioFault::Scenario { line } => write!(
+                f,
+                "line {line} of the scenario is that of no event, or does not end"
+            ),
+            ScenarioFault::Memory => f.write_str("out of memory"),
+        }
+    }
+}
+
+impl Error for ScenarioFault {}
+
+impl From<AllocError> for ScenarioFault {
     ghost from_gives = { λ _ fault. fault ≡ faults.Memory };
 
     fn from(_refused: AllocError) -> ScenarioFault {

@@ -60,7 +60,10 @@ impl Scenario {
 }
 
 // Adds an event.
-fn keep<A: Allocator + Copy>(events: &mut Vec<Event<A>, A>, event: Event<A>) -> Result<(), AllocError>
+fn keep<A: Allocator + Copy>(
+    events: &mut Vec<Event<A>, A>,
+    event: Event<A>,
+) -> Result<(), AllocError>
     ensures { IfOk result (λ _. events.new.items ≡ events.old.items ++ event ∷ []) }
 {
     events.push(event)?;

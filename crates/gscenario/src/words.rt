@@ -1,7 +1,8 @@
 // The words of a line, and what single words say.
 #![tactic(auto)]
 
-ghost use Rattle.std.specs.Prelude.{◌≡◌, ◌∷◌, ◌<◌, ◌^◌, [], ℕ, List, Some, decimal, codes, ◌≢◌, MatchBool, MatchOption, MatchResult, ⊤};
+ghost use Rattle.std.specs.Prelude.{◌≡◌, ◌≢◌, ◌∷◌, ◌<◌, ◌^◌, [], ℕ, List, Some, decimal, codes, ⊤};
+ghost use Rattle.std.specs.Prelude.{MatchBool, MatchOption, MatchResult};
 ghost use Rattle.gname.specs.Ids.{IsIdText};
 ghost use Rattle.gname.specs.Names.{IsRefName};
 ghost use Rattle.gobject.specs.PlainPackReading.{NoId};
@@ -56,13 +57,7 @@ pub(crate) fn one_word(tail: &[u8]) -> Option<&[u8]>
         (λ word. words_after tail.now ≡ word.now ∷ []) }
 {
     match next_word(tail) {
-        Some((word, rest)) => {
-            if no_word(rest) {
-                Some(word)
-            } else {
-                None
-            }
-        }
+        Some((word, rest)) => { if no_word(rest) { Some(word) } else { None } }
         None => None,
     }
 }
@@ -129,7 +124,8 @@ pub(crate) fn bytes_of<A: Allocator + Copy>(
     text: &[u8],
 ) -> Result<Option<Vec<u8, A>>, AllocError>
     ensures { MatchResult result
-        (λ found. MatchOption found (((bytes : List ℕ) → AreBytes text.now bytes → ⊥)) (λ bytes. AreBytes text.now bytes.items))
+        (λ found. MatchOption found (((bytes : List ℕ) → AreBytes text.now bytes → ⊥))
+        (λ bytes. AreBytes text.now bytes.items))
         (λ _. ⊤) }
 {
     if text == b"-".as_slice() {
@@ -181,7 +177,8 @@ pub(crate) fn name_of<A: Allocator + Copy>(
 
 /// The kind that a word is the letter of.
 pub(crate) fn kind_of(text: &[u8]) -> Option<Kind>
-    ensures { MatchOption result (((kind : Kind) → text.now ≡ letter kind ∷ [] → ⊥)) (λ kind. text.now ≡ letter kind ∷ []) }
+    ensures { MatchOption result (((kind : Kind) → text.now ≡ letter kind ∷ [] → ⊥))
+        (λ kind. text.now ≡ letter kind ∷ []) }
 {
     if text == b"c".as_slice() {
         Some(Kind::Commit)

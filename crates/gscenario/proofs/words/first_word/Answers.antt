@@ -1,4 +1,4 @@
-use Rattle.std.proofs.Common.{◌≡◌, ◌∙◌, ◌∷◌, [], ap, sym, length, take, drop, List, ℕ}
+use Rattle.std.proofs.Common.{◌∙◌, ◌∷◌, ap, sym, take, List, ℕ}
 use Rattle.gscenario.specs.Reading.{words_after}
 use Rattle.gscenario.proofs.WordLemmas.{none_after, rest_of, words_at, words_whole}
 use Rattle.gscenario.proofs.words.first_word.Goals as goal

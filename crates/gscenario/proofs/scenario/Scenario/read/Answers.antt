@@ -1,5 +1,6 @@
-use Rattle.std.proofs.Common.{◌≡◌, [], List, ℕ, length, rules}
-use Rattle.gscenario.proofs.LineLemmas.{all_read, begins_lines, empty_list, goes_on, stops_at}
+use Rattle.std.proofs.Common.{sym}
+use Rattle.gobject.proofs.PlainPackFeed.{nil-of_empty}
+use Rattle.gscenario.proofs.LineLemmas.{all_read, begins_lines, goes_on, stops_at}
 use Rattle.gscenario.proofs.scenario.Scenario.read.Goals as goal
 
 pub loop-pair-init : goal.loop-pair-init
@@ -7,16 +8,19 @@ loop-pair-init g c = begins_lines c.args.text.now c.new-events.result.items c.ne
 
 pub returns-in-None : goal.returns-in-None
 returns-in-None g c =
-    stops_at c.args.text.now c.loop-pair.rest.now c.in-Some.pair.0.now c.in-Some.pair.1.now c.loop-pair.events.items c.loop-pair.number
+    stops_at c.args.text.now c.loop-pair.rest.now c.in-Some.pair.0.now c.in-Some.pair.1.now c.loop-pair.events.items
+    c.loop-pair.number
     c.in_ok-event.field-0 c.loop-pair.invariant c.in-Some.ensures c.in-None.is c.in_ok-event.ensures
 
 pub loop-pair-preserved : goal.loop-pair-preserved
 loop-pair-preserved g c =
-    goes_on c.args.text.now c.loop-pair.rest.now c.in-Some.pair.0.now c.in-Some.pair.1.now c.loop-pair.events.items c.keep.new.events.items
-    c.in-Some-2.event c.loop-pair.number c.in_ok-event.field-0 c.loop-pair.invariant c.in-Some.ensures c.in-Some-2.is c.in_ok-event.ensures
+    goes_on c.args.text.now c.loop-pair.rest.now c.in-Some.pair.0.now c.in-Some.pair.1.now c.loop-pair.events.items
+    c.keep.new.events.items
+    c.in-Some-2.event c.loop-pair.number c.in_ok-event.field-0 c.loop-pair.invariant c.in-Some.ensures c.in-Some-2.is
+    c.in_ok-event.ensures
     c.in_ok-keep-in-Some-2.ensures
 
 pub returns-then-is_empty : goal.returns-then-is_empty
 returns-then-is_empty g c =
     all_read c.args.text.now c.loop-pair.rest.now c.loop-pair.events.items c.loop-pair.number c.loop-pair.invariant
-    (empty_list c.loop-pair.rest.now c.if-is_empty.ensures)
+    (nil-of_empty c.loop-pair.rest.now (sym c.if-is_empty.ensures))
