@@ -131,7 +131,6 @@ module _ {A : Type 0} (laws : GrowthLaws A) where
     asked = All-weaker (IsWantedOrFull w.repo.graph.entries s) (IsWantedOrFull v.repo.graph.entries s)
         (λ (a : List ℕ) either. wanted_in w.repo.graph.entries v.repo.graph.entries s e.client a either)
         (asked_ids s.asks) is.asked;
-    some = is.some;
     wanted = λ unforged.
         all_held w.server.graph.entries v.server.graph.entries e.server s.wants (is.wanted (e.forged unforged));
   }

@@ -28,10 +28,10 @@ use Rattle.gsession.specs.Laws.{WantsAreExact}
 use Rattle.gsession.specs.Requesting.{MakesNext, fetch_request, waiting_for}
 use Rattle.gsession.specs.Sessions.{Begins, FitsStage, IsOpenFetch, IsSession, SessionState, new_session, over}
 use Rattle.gsession.specs.Sessions.{tells_unborn, tips_of}
-use Rattle.gsession.specs.TakingRefs.{TakesLines, stage_for, with_refs}
+use Rattle.gsession.specs.TakingRefs.{TakesLines, with_refs}
 use Rattle.gsession.specs.TakingReplies.{Awaits, after_acks}
 use Rattle.gsession.specs.declared.stage.Stage.{Stage}
-use Rattle.gsession.specs.declared.stage.Stage.TheVariants.{Listing, Fetching, Settling, Over}
+use Rattle.gsession.specs.declared.stage.Stage.TheVariants.{Fetching}
 use Rattle.gsession.specs.declared.taken.LsTaken.{LsTaken}
 use Rattle.gworld.specs.Sound.{IsSoundFetch, IsSoundRequest, IsSoundSession, IsWantedOrFull}
 use Rattle.gworld.specs.Worlds.{WorldState}
@@ -50,10 +50,6 @@ pub record SessionLaws (A : Type 0) : Type 0 where
 
 same_fetch : (one other : FetchAsked) → Some (Fetches one) ≡ Some (Fetches other) → one ≡ other
 same_fetch one other same = cc
-
-some_wants : (wants : List (List ℕ)) → stage_for wants ≡ Fetching → wants ≢ []
-some_wants [] stage none = let wrong : Settling ≡ Fetching = stage in cc
-some_wants (want ∷ wants) stage none = cc
 
 either_common : (P : List ℕ → Type 0) (old acks : List (List ℕ)) → All P old → All P acks → (a : List ℕ)
     → Contains old a ⊎ Contains acks a → P a
@@ -89,7 +85,6 @@ module _ {A : Type 0} where
     shared = is.shared;
     waits = λ asked waits. absurd (nothing_waits (over s) refl asked waits);
     asked = is.asked;
-    some = λ stage. absurd (let wrong : Over ≡ Fetching = stage in cc);
     wanted = is.wanted;
   }
 
@@ -104,7 +99,6 @@ module _ {A : Type 0} where
     shared = is.shared;
     waits = λ asked waits. absurd (nothing_waits (over s) refl asked waits);
     asked = All-nil (IsWantedOrFull w.repo.graph.entries s);
-    some = λ stage. absurd (let wrong : Over ≡ Fetching = stage in cc);
     wanted = is.wanted;
   }
 
@@ -126,7 +120,6 @@ module _ {A : Type 0} where
         shared = λ unforged. All-nil (Holds w.server.graph.entries);
         waits = λ asked waits. absurd (nothing_waits new refl asked waits);
         asked = All-nil (IsWantedOrFull w.repo.graph.entries new);
-        some = λ stage. absurd (let wrong : Listing ≡ Fetching = stage in cc);
         wanted = λ unforged. All-nil (Holds w.server.graph.entries);
       }) began
 
@@ -153,7 +146,9 @@ module _ {A : Type 0} where
       let wants : asked.wants ≡ s.wants = ap (λ (x : FetchAsked). x.wants) next.1 in record {
         full = laws.haves w.repo.graph.entries s after asked sound.began.full sound.commons made;
         few = (made_open laws s after w.repo.graph.entries asked batch next.0 made.2 session).few;
-        some = λ none. sound.some next.0 (sym wants ∙ none);
+        some = λ none.
+            session.some (ap (λ (x : SessionState A). x.stage) made.2 ∙ next.0)
+            (ap (λ (x : SessionState A). x.wants) made.2 ∙ sym wants ∙ none);
         held = λ unforged.
             subst (λ (ids : List (List ℕ)). All (Holds w.server.graph.entries) ids) (sym wants) (sound.wanted unforged);
       }
@@ -175,7 +170,6 @@ module _ {A : Type 0} where
     shared = is.shared;
     waits = λ asked waits. absurd (refs_wait (record s { pending = Some (Ls ls) }) ls refl asked waits);
     asked = is.asked;
-    some = is.some;
     wanted = is.wanted;
   }
 
@@ -191,7 +185,6 @@ module _ {A : Type 0} where
     shared = is.shared;
     waits = λ asked waits. subst (IsSoundFetch w) (same_fetch fetch asked waits) sound;
     asked = is.asked;
-    some = is.some;
     wanted = is.wanted;
   }
 
@@ -253,7 +246,6 @@ module _ {A : Type 0} where
         shared = is.shared;
         waits = λ asked waits. absurd (nothing_waits new refl asked waits);
         asked = exact.others;
-        some = λ stage. some_wants wants stage;
         wanted = λ unforged.
             wants_told laws (Holds w.server.graph.entries) w.repo.graph.entries s.refspecs reply wants takes.wanted
             (told unforged);
@@ -269,17 +261,15 @@ module _ {A : Type 0} where
       are.named
 
   -- only acknowledgments and the stage change; objects may have come to the client before
-  pub acks_sound : OpenIsTheSessions A → (w : WorldState A) (s : SessionState A) (asked : FetchAsked) (stage : Stage)
-      (acks : List (List ℕ))
-      → IsSoundSession w s → IsSession s → Awaits s asked
+  pub acks_sound : (w : WorldState A) (s : SessionState A) (asked : FetchAsked) (stage : Stage) (acks : List (List ℕ))
+      → IsSoundSession w s → Awaits s asked
       → AreCommonsAfter asked.haves acks s.commons (after_acks s stage acks).commons
       → (w.forged ≡ false → All (Holds w.server.graph.entries) acks)
       → IsSoundSession w (after_acks s stage acks)
-  acks_sound law w s asked stage acks is session waits are told =
+  acks_sound w s asked stage acks is waits are told =
       let g = w.repo.graph.entries in
       let new = after_acks s stage acks in
-      let fetch = is.waits asked waits in
-      let wants : asked.wants ≡ s.wants = (law s asked session waits).wants in record {
+      let fetch = is.waits asked waits in record {
         format = is.format;
         limit = is.limit;
         ends = is.ends;
@@ -291,6 +281,5 @@ module _ {A : Type 0} where
             (told unforged);
         waits = λ other waits. absurd (nothing_waits new refl other waits);
         asked = is.asked;
-        some = λ stage none. fetch.some (wants ∙ none);
         wanted = is.wanted;
       }

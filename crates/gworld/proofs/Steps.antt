@@ -317,7 +317,7 @@ module _ {A : Type 0} (tools : PackTools A)
       (λ honest.
       bytes_agree w asked s kept count outcome came.after came.repo sound
       (honest_before laws.answers.growth tools w u e honest) is session came.takes)
-      (bytes_sound tools.indexes tools.index_fails laws.taking u asked s w.repo bytes outcome came.after later types
+      (bytes_sound tools.indexes tools.index_fails laws.taking u asked s w.repo bytes outcome came.after later
       tells came.takes)
       (λ marked.
       bytes_settle w u asked s kept count outcome came.after sound
@@ -371,11 +371,10 @@ module _ {A : Type 0} (tools : PackTools A)
       (λ mark. answered_grown laws.answers.growth tools w u w.session e (sound.answered mark)))
 
   forges_to : (w v : WorldState A) (bytes : List ℕ) (s : SessionState A) (pending : Option Asked) (outcome : Outcome)
-      → Sound w
-      → IsSoundSession w s → IsSession s → Forges tools.indexes tools.index_fails w bytes (waits_for s pending) outcome
-      v → Sound v
-  forges_to w v bytes s None outcome sound session types forges = forged_in_vain w v sound forges.1
-  forges_to w v bytes s (Some asked) outcome sound session types forges =
+      → Sound w → IsSoundSession w s
+      → Forges tools.indexes tools.index_fails w bytes (waits_for s pending) outcome v → Sound v
+  forges_to w v bytes s None outcome sound session forges = forged_in_vain w v sound forges.1
+  forges_to w v bytes s (Some asked) outcome sound session forges =
       let after = forges.after in
       let u = changed w w.server forges.repo (Some after) true false in
       let only = bytes_only tools.indexes tools.index_fails laws.taking.grows asked s w.repo bytes outcome after
@@ -389,16 +388,16 @@ module _ {A : Type 0} (tools : PackTools A)
       } in
       subst Sound (sym forges.is)
       (changed_sound w w.server forges.repo (Some after) true false e sound (λ honest. never (sym honest.unforged))
-      (bytes_sound tools.indexes tools.index_fails laws.taking u asked s w.repo bytes outcome after later types tells
+      (bytes_sound tools.indexes tools.index_fails laws.taking u asked s w.repo bytes outcome after later tells
       forges.takes)
       (λ wrong. never wrong))
 
   forges_sound : (w v : WorldState A) (bytes : List ℕ) (session : Option (SessionState A)) (outcome : Outcome) → Sound w
-      → IsSoundIn w session → IfSome session IsSession
+      → IsSoundIn w session
       → Forges tools.indexes tools.index_fails w bytes (waiting session) outcome v → Sound v
-  forges_sound w v bytes None outcome sound is types forges = forged_in_vain w v sound forges.1
-  forges_sound w v bytes (Some s) outcome sound is types forges =
-      forges_to w v bytes s s.pending outcome sound is types forges
+  forges_sound w v bytes None outcome sound is forges = forged_in_vain w v sound forges.1
+  forges_sound w v bytes (Some s) outcome sound is forges =
+      forges_to w v bytes s s.pending outcome sound is forges
 
   -- ---- settling
 
@@ -608,7 +607,7 @@ module _ {A : Type 0} (tools : PackTools A)
   step_sound w v (event.Deliver number count) outcome ends later sound step =
       delivers_sound w v number count (slice_get w.kept number) outcome refl ends sound step
   step_sound w v (event.Forge bytes) outcome ends later sound step =
-      forges_sound w v bytes.items w.session outcome sound sound.session ends.session step
+      forges_sound w v bytes.items w.session outcome sound sound.session step
   step_sound w v (event.StrangeRequest bytes) outcome ends later sound step = same_sound w v step.0 sound
   step_sound w v event.Settle outcome ends later sound step =
       settles_sound w v w.session outcome sound sound.session sound.answered step

@@ -16,7 +16,7 @@ use Rattle.ganswer.specs.Servers.{IsServer, Server}
 use Rattle.gsession.specs.Bounds.{BeganOn}
 use Rattle.gsession.specs.Sessions.{IsSession, SessionState}
 use Rattle.gsession.specs.TakingReplies.{Awaits}
-use Rattle.gsession.specs.declared.stage.Stage.TheVariants.{Fetching, Settling}
+use Rattle.gsession.specs.declared.stage.Stage.TheVariants.{Settling}
 use Rattle.gworld.specs.Worlds.{Kept, PackTools, WorldState}
 
 module _ {A : Type 0} where
@@ -70,7 +70,6 @@ module _ {A : Type 0} where
     pub shared : w.forged ≡ false → All (Holds w.server.graph.entries) s.commons
     pub waits : (asked : FetchAsked) → Awaits s asked → IsSoundFetch w asked
     pub asked : All (IsWantedOrFull w.repo.graph.entries s) (asked_ids s.asks)
-    pub some : s.stage ≡ Fetching → s.wants ≢ []
     pub wanted : w.forged ≡ false → All (Holds w.server.graph.entries) s.wants
 
 module _ {A : Type 0} (tools : PackTools A) where
