@@ -2,7 +2,6 @@
 use Rattle.std.proofs.Common.{◌≡◌, ◌≢◌, ◌∙◌, inl, inr, ℕ, suc, ◌+◌, ◌≤◌, List, []}
 use Rattle.std.proofs.Common.{◌∷◌, ◌++◌, length, Option, None, Some, Result, Ok, Err, MatchOption, MatchResult, refl}
 use Rattle.std.proofs.Common.{sym, ap, subst, arith, append_assoc, append-nil}
-use Rattle.std.specs.Prelude.{⊤}
 use Rattle.gobject.specs.PlainPackText.{IsInLine, line}
 use Rattle.gscenario.specs.ScenarioText.{AreArguments, BeginsWithCommand, BeginsWrong, IsLineOf, IsNoLine, IsScenario}
 use Rattle.gscenario.specs.ScenarioText.{IsWrongLine}

@@ -1,12 +1,11 @@
 -- A text is that of one list of events.
-use Rattle.std.proofs.Common.{◌≡◌, ◌∙◌, ◌⊎◌, inl, inr, ℕ, ◌<◌, ◌^◌, List, [], ◌∷◌, Result, Ok, Err, refl, sym, ap₂}
+use Rattle.std.proofs.Common.{◌≡◌, ◌∙◌, inl, inr, ℕ, ◌<◌, ◌^◌, List, [], ◌∷◌, Result, Ok, Err, refl, sym, ap₂}
 use Rattle.std.proofs.Common.{subst, arith}
 use Rattle.std.specs.Prelude.{codes, decimal}
 use Rattle.std.specs.List.{AllZip}
 use Rattle.std.specs.Str.Parse.{IsNumeral}
 use Rattle.std.proofs.lemmas.Fmt.{decimal_injective, decimal_is_IsNumeral}
 use Rattle.hex.specs.Hex.{decode_of}
-use Rattle.hex.specs.declared.error.FromHexError.{FromHexError}
 use Rattle.hex.specs.declared.error.FromHexError.TheVariants.{OddLength}
 use Rattle.gname.specs.Ids.{IsIdText}
 use Rattle.gname.specs.Laws.{TextsSpellOneId}
