@@ -83,17 +83,17 @@ at_none {X} P Q o is found = subst (λ (x : Option X). MatchOption x P Q) is fou
 
 -- ---- single words
 
-one_same : (x y : List ℕ) (words : List (List ℕ)) → words ≡ x ∷ [] → words ≡ y ∷ [] → x ≡ y
+pub one_same : (x y : List ℕ) (words : List (List ℕ)) → words ≡ x ∷ [] → words ≡ y ∷ [] → x ≡ y
 one_same x y words here there = let both : x ∷ [] ≡ y ∷ [] = sym here ∙ there in cc
 
-two_same : (x y u v : List ℕ) (words : List (List ℕ)) → words ≡ x ∷ y ∷ [] → words ≡ u ∷ v ∷ [] → (x ≡ u) × (y ≡ v)
+pub two_same : (x y u v : List ℕ) (words : List (List ℕ)) → words ≡ x ∷ y ∷ [] → words ≡ u ∷ v ∷ [] → (x ≡ u) × (y ≡ v)
 two_same x y u v words here there =
     let both : x ∷ y ∷ [] ≡ u ∷ v ∷ [] = sym here ∙ there in
     let first : x ≡ u = cc in
     let second : y ≡ v = cc in
     (first, second)
 
-first_same : (x y : List ℕ) (xs ys words : List (List ℕ)) → words ≡ x ∷ xs → words ≡ y ∷ ys → (x ≡ y) × (xs ≡ ys)
+pub first_same : (x y : List ℕ) (xs ys words : List (List ℕ)) → words ≡ x ∷ xs → words ≡ y ∷ ys → (x ≡ y) × (xs ≡ ys)
 first_same x y xs ys words here there =
     let both : x ∷ xs ≡ y ∷ ys = sym here ∙ there in
     let first : x ≡ y = cc in

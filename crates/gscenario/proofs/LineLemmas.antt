@@ -2,11 +2,13 @@
 use Rattle.std.proofs.Common.{◌≡◌, ◌≢◌, ◌∙◌, inl, inr, ℕ, suc, ◌+◌, ◌≤◌, List, []}
 use Rattle.std.proofs.Common.{◌∷◌, ◌++◌, length, Option, None, Some, Result, Ok, Err, MatchOption, MatchResult, refl}
 use Rattle.std.proofs.Common.{sym, ap, subst, arith, append_assoc, append-nil}
-use Rattle.std.specs.Prelude.{⊤}
 use Rattle.gobject.specs.PlainPackText.{IsInLine, line}
-use Rattle.gscenario.specs.ScenarioText.{AreArguments, BeginsWrong, IsLineOf, IsNoLine, IsScenario, IsWrongLine}
-use Rattle.gscenario.specs.ScenarioText.{command_of, command_text, words_of}
-use Rattle.gscenario.specs.Reading.{HasArguments, IsOf, NoArguments, ReadsArguments}
+use Rattle.gscenario.specs.ScenarioText.{AreArguments, BeginsWithCommand, BeginsWrong, IsLineOf, IsNoLine, IsScenario}
+use Rattle.gscenario.specs.ScenarioText.{IsWrongLine}
+use Rattle.gscenario.specs.ScenarioText.{TakesMemory, command_of, command_text, words_of}
+use Rattle.gscenario.specs.Reading.{HasArguments, IsOf, NoArguments, ReadsArguments, Refuses}
+use Rattle.gscenario.specs.declared.fault.ScenarioFault.{ScenarioFault}
+use Rattle.gscenario.specs.declared.fault.ScenarioFault.TheVariants.{Memory}
 use Rattle.gscenario.specs.declared.event.Event.{Event}
 use Rattle.gscenario.specs.declared.event.Event.TheVariants as event
 use Rattle.gscenario.specs.declared.command.Command.{Command}
@@ -48,10 +50,10 @@ named_back command.ServerRef = refl
 named_back command.ClientAdd = refl
 named_back command.ClientRef = refl
 
-same_command : (c d : Command) → command_text c ≡ command_text d → d ≡ c
+pub same_command : (c d : Command) → command_text c ≡ command_text d → d ≡ c
 same_command c d same = sym (named_back d) ∙ ap named (sym same) ∙ named_back c
 
-heads_same : (x y : List ℕ) (xs ys : List (List ℕ)) → x ∷ xs ≡ y ∷ ys → (x ≡ y) × (xs ≡ ys)
+pub heads_same : (x y : List ℕ) (xs ys : List (List ℕ)) → x ∷ xs ≡ y ∷ ys → (x ≡ y) × (xs ≡ ys)
 heads_same x y xs ys same =
     let first : x ≡ y = cc in
     let rest : xs ≡ ys = cc in
@@ -64,7 +66,7 @@ longer_line (byte ∷ here) after = let rest = longer_line here after in omega (
 line_parts : (here after : List ℕ) → line here ++ after ≡ here ++ 10 ∷ after
 line_parts here after = append_assoc here (10 ∷ []) after
 
-cons_head : (x y : ℕ) (xs ys : List ℕ) → x ∷ xs ≡ y ∷ ys → x ≡ y
+pub cons_head : (x y : ℕ) (xs ys : List ℕ) → x ∷ xs ≡ y ∷ ys → x ≡ y
 cons_head x y xs ys same = cc
 
 cons_tail : (x y : ℕ) (xs ys : List ℕ) → x ∷ xs ≡ y ∷ ys → xs ≡ ys
@@ -74,7 +76,7 @@ nil_cons : (x : ℕ) (xs : List ℕ) → [] ≡ x ∷ xs → ⊥
 nil_cons x xs same = cc
 
 -- of two texts that begin with lines, which are followed by the same, the lines are the same
-same_lines : (one other rest more : List ℕ) → IsInLine one → IsInLine other → one ++ 10 ∷ rest ≡ other ++ 10 ∷ more
+pub same_lines : (one other rest more : List ℕ) → IsInLine one → IsInLine other → one ++ 10 ∷ rest ≡ other ++ 10 ∷ more
     → (one ≡ other) × (rest ≡ more)
 same_lines [] [] rest more h k same = (refl, cons_tail 10 10 rest more same)
 same_lines [] (b ∷ other) rest more h k same = absurd (k 0 (sym (cons_head 10 b rest (other ++ 10 ∷ more) same)))
@@ -94,8 +96,11 @@ unended (b ∷ text) [] rest inside same = inside 0 (cons_head b 10 text rest sa
 unended (b ∷ text) (c ∷ other) rest inside same =
     unended text other rest (λ at. inside (suc at)) (cons_tail b c text (other ++ 10 ∷ rest) same)
 
+pub unended_none : (other rest : List ℕ) → [] ≡ other ++ 10 ∷ rest → ⊥
+unended_none other rest same = unended [] other rest (λ at. (λ bad. absurd (omega (arith, bad)))) same
+
 module _ {A : Type 0} where
-  is_of_own : (e : Event A) → IsOf (command_of e) e
+  pub is_of_own : (e : Event A) → IsOf (command_of e) e
   is_of_own (event.Begin specs) = tt
   is_of_own event.Ask = tt
   is_of_own (event.Serve request) = tt
@@ -149,9 +154,10 @@ module _ {A : Type 0} where
       (r : Result (Option (Event A)) E)
       → words_of text ≡ word ∷ words
       → word ≡ command_text c → ReadsArguments c words r
-      → MatchResult r (λ (found : Option (Event A)). MatchOption found (IsNoLine A text) (IsLineOf text)) (λ (e : E). ⊤)
+      → MatchResult r (λ (found : Option (Event A)). MatchOption found (IsNoLine A text) (IsLineOf text))
+      (λ (e : E). BeginsWithCommand text)
   line_result c text word words (Ok found) at spelt reads = line_reads c text word words found at spelt reads
-  line_result c text word words (Err e) at spelt reads = tt
+  line_result c text word words (Err e) at spelt reads = (c, words, at ∙ ap (λ (w : List ℕ). w ∷ words) spelt)
 
   -- ---- the lines
 
@@ -251,20 +257,54 @@ module _ {A : Type 0} where
       reads_line text left here after events now event number reads split.0 split.1
       (subst (λ (o : Option (Event A)). MatchOption o (IsNoLine A here) (IsLineOf here)) some is) grown
 
+  -- ---- there is no memory
+
+  pub command_line : (text : List ℕ) (event : Event A) → IsLineOf text event → BeginsWithCommand text
+  command_line text event is = (command_of event, is.0, is.1)
+
+  pub takes_memory : (text left here after : List ℕ) (events : List (Event A)) (number : ℕ)
+      → ReadsLines text left events number → (left ≡ line here ++ after) × IsInLine here → BeginsWithCommand here
+      → TakesMemory A text
+  takes_memory text left here after events number reads split begins = record {
+    front = reads.front;
+    line = here;
+    rest = after;
+    events = events;
+    parts = reads.parts ∙ ap (λ (l : List ℕ). reads.front ++ l) (split.0 ∙ line_parts here after);
+    before = reads.before;
+    inside = split.1;
+    begins = begins;
+  }
+
+  pub no_memory : (text : List ℕ) (fault : ScenarioFault) → fault ≡ Memory → TakesMemory A text → Refuses A text fault
+  no_memory text fault is takes = subst (Refuses A text) (sym is) takes
+
+  -- the next line is that of an event, for which there is no memory
+  pub no_room : (text left here after : List ℕ) (events : List (Event A)) (event : Event A) (number : ℕ)
+      (found : Option (Event A)) → ReadsLines text left events number → (left ≡ line here ++ after) × IsInLine here
+      → found ≡ Some event → MatchOption found (IsNoLine A here) (IsLineOf here) → TakesMemory A text
+  no_room text left here after events event number found reads split some is =
+      takes_memory text left here after events number reads split
+      (command_line here event
+      (subst (λ (o : Option (Event A)). MatchOption o (IsNoLine A here) (IsLineOf here)) some is))
+
   pub never_ends : (left : List ℕ) → left ≢ [] → IsInLine left → BeginsWrong A left
   never_ends left some inside = inr (some, inside)
 
   -- ---- what is wrong is no scenario
 
+  begins_no_event : (left here after : List ℕ) (event : Event A) → BeginsWrong A left → left ≡ here ++ 10 ∷ after
+      → IsInLine here → IsLineOf here event → ⊥
+  begins_no_event left here after event (inl wrong) at inside is =
+      let same = same_lines wrong.0 here wrong.1 after wrong.3 inside (sym wrong.2 ∙ at) in
+      wrong.4 event (subst (λ (l : List ℕ). IsLineOf l event) (sym same.0) is)
+  begins_no_event left here after event (inr wrong) at inside is = unended left here after wrong.1 at
+
   begins_no_scenario : (rest : List ℕ) (events : List (Event A)) → BeginsWrong A rest → ¬ (IsScenario rest events)
-  begins_no_scenario rest [] (inl wrong) is =
-      let same : [] ≡ wrong.0 ++ 10 ∷ wrong.1 = sym is ∙ wrong.2 in unended [] wrong.0 wrong.1
-      (λ at. (λ bad. absurd (omega (arith, bad)))) same
-  begins_no_scenario rest (event ∷ events) (inl wrong) is =
-      let same = same_lines wrong.0 is.0 wrong.1 is.1 wrong.3 is.3 (sym wrong.2 ∙ is.2) in
-      wrong.4 event (subst (λ (l : List ℕ). IsLineOf l event) (sym same.0) is.4)
+  begins_no_scenario rest [] (inl wrong) is = unended_none wrong.0 wrong.1 (sym is ∙ wrong.2)
   begins_no_scenario rest [] (inr wrong) is = wrong.0 is
-  begins_no_scenario rest (event ∷ events) (inr wrong) is = unended rest is.0 is.1 wrong.1 is.2
+  begins_no_scenario rest (event ∷ events) wrong is =
+      begins_no_event rest is.0 is.1 event wrong is.2 is.3 is.4
 
   wrong_after : (front rest : List ℕ) (before events : List (Event A)) → IsScenario front before → BeginsWrong A rest
       → IsScenario (front ++ rest) events → ⊥
@@ -273,7 +313,7 @@ module _ {A : Type 0} where
   wrong_after front rest (first ∷ before) [] all wrong is =
       let none : (all.0 ++ 10 ∷ all.1) ++ rest ≡ [] = ap (λ (f : List ℕ). f ++ rest) (sym all.2) ∙ is in
       let shape = append_assoc all.0 (10 ∷ all.1) rest in
-      unended [] all.0 (all.1 ++ rest) (λ at. (λ bad. absurd (omega (arith, bad)))) (sym none ∙ shape)
+      unended_none all.0 (all.1 ++ rest) (sym none ∙ shape)
   wrong_after front rest (first ∷ before) (event ∷ events) all wrong is =
       let shape : front ++ rest ≡ all.0 ++ 10 ∷ (all.1 ++ rest) =
       ap (λ (f : List ℕ). f ++ rest) all.2 ∙ append_assoc all.0 (10 ∷ all.1) rest in
@@ -285,3 +325,35 @@ module _ {A : Type 0} where
   wrong_is_none text number events wrong is =
       wrong_after wrong.front wrong.rest wrong.events events wrong.before wrong.wrong
       (subst (λ (t : List ℕ). IsScenario t events) wrong.parts is)
+
+  -- ---- one line is the first that is wrong
+
+  same_count : (front left other rest : List ℕ) (events others : List (Event A)) → IsScenario front events
+      → BeginsWrong A left → IsScenario other others → BeginsWrong A rest → front ++ left ≡ other ++ rest
+      → length events ≡ length others
+  same_count front left other rest [] [] h wrong k bad same = refl
+  same_count front left other rest [] (event ∷ others) h wrong k bad same =
+      let at : left ≡ k.0 ++ 10 ∷ (k.1 ++ rest) =
+      ap (λ (f : List ℕ). f ++ left) (sym h) ∙ same ∙ ap (λ (f : List ℕ). f ++ rest) k.2
+      ∙ append_assoc k.0 (10 ∷ k.1) rest in
+      absurd (begins_no_event left k.0 (k.1 ++ rest) event wrong at k.3 k.4)
+  same_count front left other rest (event ∷ events) [] h wrong k bad same =
+      let at : rest ≡ h.0 ++ 10 ∷ (h.1 ++ left) =
+      ap (λ (f : List ℕ). f ++ rest) (sym k) ∙ sym same ∙ ap (λ (f : List ℕ). f ++ left) h.2
+      ∙ append_assoc h.0 (10 ∷ h.1) left in
+      absurd (begins_no_event rest h.0 (h.1 ++ left) event bad at h.3 h.4)
+  same_count front left other rest (event ∷ events) (first ∷ others) h wrong k bad same =
+      let at : front ++ left ≡ h.0 ++ 10 ∷ (h.1 ++ left) =
+      ap (λ (f : List ℕ). f ++ left) h.2 ∙ append_assoc h.0 (10 ∷ h.1) left in
+      let there : other ++ rest ≡ k.0 ++ 10 ∷ (k.1 ++ rest) =
+      ap (λ (f : List ℕ). f ++ rest) k.2 ∙ append_assoc k.0 (10 ∷ k.1) rest in
+      let both = same_lines h.0 k.0 (h.1 ++ left) (k.1 ++ rest) h.3 k.3 (sym at ∙ same ∙ there) in
+      let further = same_count h.1 left k.1 rest events others h.5 wrong k.5 bad both.1 in
+      omega (arith, further)
+
+  pub one_place : (text : List ℕ) (a b : ℕ) → IsWrongLine A text a → IsWrongLine A text b → a ≡ b
+  one_place text a b h k =
+      let count =
+      same_count h.front h.rest k.front k.rest h.events k.events h.before h.wrong k.before k.wrong
+      (sym h.parts ∙ k.parts) in
+      h.at ∙ ap (λ (n : ℕ). n + 1) count ∙ sym k.at

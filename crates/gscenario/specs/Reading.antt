@@ -1,6 +1,6 @@
 -- Reading a scenario word by word, for its own proofs.
 use Rattle.std.specs.Prelude.{⊤, ℕ, List, [], ◌∷◌, Option, Result, MatchOption, MatchResult}
-use Rattle.gscenario.specs.ScenarioText.{AreArguments, IsWrongLine, words_of}
+use Rattle.gscenario.specs.ScenarioText.{AreArguments, IsWrongLine, TakesMemory, words_of}
 use Rattle.gscenario.specs.declared.fault.ScenarioFault.{ScenarioFault}
 use Rattle.gscenario.specs.declared.fault.ScenarioFault.TheVariants as fault
 use Rattle.gscenario.specs.declared.event.Event.{Event}
@@ -45,7 +45,7 @@ ReadsArguments {A} command words result =
     (λ found. MatchOption found (NoArguments A command words) (HasArguments command words))
     (λ _. ⊤)
 
--- why a text is not read: a line is wrong; or there is no memory
+-- why a text is not read: a line is wrong; or there is no memory for what a line says
 abbrev pub Refuses : Type 0 → List ℕ → ScenarioFault → Type 0
 Refuses A text (fault.Scenario number) = IsWrongLine A text number
-Refuses A text fault.Memory = ⊤
+Refuses A text fault.Memory = TakesMemory A text

@@ -122,6 +122,11 @@ IsLineOf line event =
 abbrev pub IsNoLine : Type 0 → List ℕ → Type 0
 IsNoLine A line = (event : Event A) → ¬ (IsLineOf line event)
 
+-- a line whose first word is a command
+abbrev pub BeginsWithCommand : List ℕ → Type 0
+BeginsWithCommand line =
+    (command : Command) × (arguments : List (List ℕ)) × (words_of line ≡ command_text command ∷ arguments)
+
 -- the text of some events
 abbrev pub IsScenario : {A : Type 0} → List ℕ → List (Event A) → Type 0
 IsScenario text [] = text ≡ []
@@ -143,3 +148,14 @@ pub record IsWrongLine (A : Type 0) (text : List ℕ) (number : ℕ) : Type 0 wh
   pub before : IsScenario front events
   pub wrong : BeginsWrong A rest
   pub at : number ≡ length events + 1
+
+-- lines of events are followed by a line that begins with a command: there may be something to keep
+pub record TakesMemory (A : Type 0) (text : List ℕ) : Type 0 where
+  pub front : List ℕ
+  pub line : List ℕ
+  pub rest : List ℕ
+  pub events : List (Event A)
+  pub parts : text ≡ front ++ (line ++ 10 ∷ rest)
+  pub before : IsScenario front events
+  pub inside : IsInLine line
+  pub begins : BeginsWithCommand line

@@ -1,9 +1,9 @@
 // Reading a scenario.
 #![tactic(auto)]
 
-ghost use Rattle.std.specs.Prelude.{◌≡◌, ◌++◌, ◌∷◌, [], IfOk, MatchOption, MatchResult, ⊤};
+ghost use Rattle.std.specs.Prelude.{◌≡◌, ◌++◌, ◌∷◌, [], IfOk, MatchOption, MatchResult};
 ghost use Rattle.gobject.specs.PlainPackText.{IsInLine, line};
-ghost use Rattle.gscenario.specs.ScenarioText.{IsLineOf, IsNoLine, IsScenario};
+ghost use Rattle.gscenario.specs.ScenarioText.{BeginsWithCommand, IsLineOf, IsNoLine, IsScenario};
 ghost use Rattle.gscenario.specs.Reading.{Refuses};
 
 use crate::arguments::event_of;
@@ -33,7 +33,8 @@ pub struct Scenario;
 impl Scenario {
     /// Reads the text of some events.
     ///
-    /// It fails with `Scenario` at the first line that is that of no event, or does not end.
+    /// It fails with `Scenario` at the first line that is that of no event, or does not end; with `Memory` where there is
+    /// no memory for what a line says, which is reported only after lines of events, at one that begins with a command.
     pub fn read<A: Allocator + Copy>(
         alloc: A,
         text: &[u8],
@@ -72,7 +73,8 @@ fn keep<A: Allocator + Copy>(
 
 // The event of a line.
 fn read_line<A: Allocator + Copy>(alloc: A, line: &[u8]) -> Result<Option<Event<A>>, AllocError>
-    ensures { MatchResult result (λ found. MatchOption found (IsNoLine A line.now) (IsLineOf line.now)) (λ _. ⊤) }
+    ensures { MatchResult result (λ found. MatchOption found (IsNoLine A line.now) (IsLineOf line.now))
+        (λ _. BeginsWithCommand line.now) }
 {
     let (word, tail) = first_word(line);
     match Command::of(word) {
