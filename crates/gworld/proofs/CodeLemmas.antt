@@ -1,6 +1,6 @@
 -- What the code did is a step.
-use Rattle.std.specs.Prelude.{slice_get, take, IsTrue, ◌↔◌, Result, MatchResult}
-use Rattle.std.proofs.Common.{inl, inr, true}
+use Rattle.std.specs.Prelude.{slice_get, Result, MatchResult}
+use Rattle.std.proofs.Common.{inr, true}
 use Rattle.std.proofs.Common.{◌∙◌, ◌≡◌, ℕ, Bool, false, List, [], ◌∷◌, ◌++◌, length, Option, Some, None, Ok, Err, refl}
 use Rattle.std.proofs.Common.{sym, ap, subst}
 use Rattle.grepo.specs.Repos.{RepoState}
@@ -36,9 +36,9 @@ use Rattle.gworld.specs.Bringing.{BringsTo, TakesIfOpen, refs_outcome}
 use Rattle.gworld.specs.Steps.{AddsAtClient, AddsAtServer, AsksNext, Delivers, Forges, ServesRequest, SettlesRefs}
 use Rattle.gworld.specs.Steps.{mark_after, settled_outcome, waiting, waits_for}
 use Rattle.gworld.specs.Taking.{TakesRefs, code_of}
-use Rattle.gworld.specs.Worlds.{Kept, WorldState, reply_bytes}
+use Rattle.gworld.specs.Worlds.{Kept, WorldState}
 use Rattle.gworld.specs.declared.outcome.Outcome.{Outcome}
-use Rattle.gworld.specs.declared.outcome.Outcome.TheVariants.{Done, Asked as Asks, Served, Settled, Fault}
+use Rattle.gworld.specs.declared.outcome.Outcome.TheVariants.{Done, Asked as Asks, Served, Fault}
 
 module _ {A : Type 0} where
   pub asked_step : {w now : WorldState A} → w ≡ now

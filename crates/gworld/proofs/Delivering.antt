@@ -1,9 +1,7 @@
 -- What a kept reply tells and brings, where nothing was forged.
-use Rattle.std.proofs.Common.{◌≡◌, ◌⊎◌, ℕ, ◌<◌, ◌≤◌, Bool, true, false, List, [], ◌∷◌, ◌++◌, length, All, Contains}
-use Rattle.std.proofs.Common.{Option, Some, None}
-use Rattle.std.proofs.Common.{Result, Ok, Err, inl, inr, refl, sym, ap, subst, ◌∙◌, arith, take}
-use Rattle.std.specs.Prelude.{slice_index_or}
-use Rattle.std.proofs.lemmas.List.Elements.{All-contains, All-weaker}
+use Rattle.std.proofs.Common.{◌≡◌, ℕ, ◌≤◌, List, length, All}
+use Rattle.std.proofs.Common.{refl, sym, ap, subst, ◌∙◌, arith, take}
+use Rattle.std.proofs.lemmas.List.Elements.{All-weaker}
 use Rattle.gname.specs.Limits.{max_pack}
 use Rattle.gname.specs.declared.formats.Format.{Format}
 use Rattle.ggrammar.specs.Kinds.{ReadsMessage}
@@ -15,26 +13,22 @@ use Rattle.glsreply.specs.LsReplies.{LsReply}
 use Rattle.glsreply.specs.RefTexts.{RefLine}
 use Rattle.gfetchreply.specs.FetchReplies.{FetchReply, Reading, Acks, Ready, Pack}
 use Rattle.gfetchreply.specs.FetchHeads.{acknowledged_by, pack_of}
-use Rattle.gfetchreply.specs.Values.{default_limit}
 use Rattle.gfetchreply.specs.WellFormed.{IsReplyIn}
 use Rattle.gobject.specs.declared.node.Entry.{Entry}
-use Rattle.gobject.specs.declared.node.Node.{Node}
-use Rattle.gobject.specs.Packs.{Indexes, IndexFails, LosesNothing, Packs, PackFails}
 use Rattle.ghistory.specs.Graphs.{Holds, IsNode}
 use Rattle.ghistory.specs.Insert.{Inserts}
 use Rattle.ghistory.specs.Laws.{AgreeingStays, AgreesWith, HasAll, KeepingHasAll}
-use Rattle.ghistory.specs.Reach.{Agree, Grows, IsFull, Keeps, Reaches}
+use Rattle.ghistory.specs.Reach.{Agree, Grows, IsFull, Keeps}
 use Rattle.grequest.specs.Asked.{Asked, Empty, Ls, Fetches, FetchAsked, is_direct, max_haves}
 use Rattle.grepo.specs.Repos.{RepoState}
-use Rattle.ganswer.specs.Answers.{Answers, Reply, Nothing, Ls as Refs, Fetch as Objects}
+use Rattle.ganswer.specs.Answers.{Answers, Reply, Ls as Refs, Fetch as Objects}
 use Rattle.ganswer.specs.FetchAnswers.{FetchAnswer, RepliesWith}
 use Rattle.ganswer.specs.Laws.{AcksAreCommon, FetchAnswersFit, IsEnough, LsAnswersAreHeld, LsAnswersFit, PacksAreEnough}
 use Rattle.ganswer.specs.Laws.{ServesWhatIsHeld}
 use Rattle.ganswer.specs.Servers.{IsServer, Server}
 use Rattle.gsession.specs.Sessions.{SessionState}
-use Rattle.gsession.specs.TakingRefs.{ReadsRefs}
 use Rattle.gsession.specs.TakingReplies.{InsertsAll, ReadsFetch, reading_for}
-use Rattle.gworld.specs.Sound.{IsUnforgedAndFaithful, IsSoundFetch, IsSoundKept, IsSoundRequest, IsSoundSession}
+use Rattle.gworld.specs.Sound.{IsUnforgedAndFaithful, IsSoundKept, IsSoundRequest}
 use Rattle.gworld.specs.Worlds.{Kept, PackTools, WorldState, reply_bytes}
 use Rattle.gworld.proofs.Growth.{GrowthLaws, all_held, held_in}
 use Rattle.gworld.proofs.Reading.{ReadingLaws, objects_read, objects_unlike, refs_read, refs_unlike}

@@ -1,8 +1,8 @@
 -- Why a whole reply to the very request that waits is not taken, where nothing was forged and packer and indexer lose
 -- nothing.
-use Rattle.std.proofs.Common.{◌≡◌, ◌⊎◌, ℕ, ◌<◌, ◌≤◌, Bool, true, false, List, [], ◌∷◌, ◌++◌, length, All, Contains}
-use Rattle.std.proofs.Common.{Option, Some, None}
-use Rattle.std.proofs.Common.{Result, Ok, Err, inl, inr, refl, sym, ap, subst, ◌∙◌, arith, take, append-nil}
+use Rattle.std.proofs.Common.{◌≡◌, ◌⊎◌, ℕ, ◌≤◌, Bool, false, List, [], ◌∷◌, length, All, Contains}
+use Rattle.std.proofs.Common.{Some}
+use Rattle.std.proofs.Common.{Ok, Err, inl, inr, refl, sym, ap, subst, ◌∙◌, arith, take, append-nil}
 use Rattle.std.proofs.lemmas.Bool.{false≢true}
 use Rattle.std.proofs.lemmas.Bool.Decides.{leb_tells}
 use Rattle.std.proofs.lemmas.List.{take_all}
@@ -10,14 +10,13 @@ use Rattle.std.proofs.lemmas.List.Elements.{All-contains, Contains-append_right,
 use Rattle.gname.specs.Limits.{max_pack}
 use Rattle.gname.specs.declared.formats.Format.{Format}
 use Rattle.gpkt.specs.Change.{Change}
-use Rattle.gpkt.specs.Packets.{Packet, canonical_all}
+use Rattle.gpkt.specs.Packets.{Packet}
 use Rattle.gpkt.specs.declared.fault.LineFault.TheVariants as line
 use Rattle.ggrammar.specs.Faults.{why_row}
 use Rattle.ggrammar.specs.Grammar.{Judge}
 use Rattle.ggrammar.specs.Kinds.{ReadsExactly, SaysAtFront}
 use Rattle.ggrammar.specs.MessageBytes.{IsFront, IsOfBytes, known}
 use Rattle.ggrammar.specs.MessageReading.{IsReadFailure, IsReasonAfter, ReadsRefused}
-use Rattle.ggrammar.specs.declared.ends.Ends.{Ends}
 use Rattle.ggrammar.specs.declared.ends.Ends.TheVariants.{Plain}
 use Rattle.ggrammar.specs.declared.fault.MessageFault.{MessageFault}
 use Rattle.ggrammar.specs.declared.fault.Why.{Why}
@@ -31,7 +30,6 @@ use Rattle.gobject.specs.declared.node.Entry.{Entry}
 use Rattle.gobject.specs.declared.fault.IndexFault.{IndexFault}
 use Rattle.gobject.specs.declared.fault.IndexFault.TheVariants as index
 use Rattle.gobject.specs.Faults.{index_fault_row}
-use Rattle.gobject.specs.Packs.{Indexes, IndexFails, Packs, PackFails}
 use Rattle.ghistory.specs.Faults.{graph_fault_row}
 use Rattle.ghistory.specs.Graphs.{IsGraph}
 use Rattle.ghistory.specs.Insert.{IsRefused}
@@ -41,24 +39,24 @@ use Rattle.ghistory.specs.declared.fault.GraphFault.{GraphFault}
 use Rattle.ghistory.specs.declared.fault.GraphFault.TheVariants as graph
 use Rattle.grepo.specs.Repos.{RepoState}
 use Rattle.grepo.specs.declared.fault.RepoFault.TheVariants as repo
-use Rattle.grequest.specs.Asked.{Asked, Empty, Ls, Fetches, FetchAsked, is_direct}
-use Rattle.ganswer.specs.Answers.{Answers, Reply, Nothing, Ls as Refs, Fetch as Objects}
+use Rattle.grequest.specs.Asked.{Fetches, FetchAsked}
+use Rattle.ganswer.specs.Answers.{Fetch as Objects}
 use Rattle.ganswer.specs.FetchAnswers.{FetchAnswer}
 use Rattle.ganswer.specs.Laws.{IsEnough}
 use Rattle.ganswer.specs.Servers.{IsServer, Server}
 use Rattle.gsession.specs.Sessions.{SessionState}
-use Rattle.gsession.specs.TakingReplies.{Awaits, DeclinesFetch, HasPack, IsFirstStrange, IsReplyFault, IsTakeFault}
-use Rattle.gsession.specs.TakingReplies.{ReadsFetch, RefusesFetch, RefusesPack, TakesHead}
+use Rattle.gsession.specs.TakingReplies.{Awaits, HasPack, IsFirstStrange, IsReplyFault, IsTakeFault}
+use Rattle.gsession.specs.TakingReplies.{ReadsFetch, RefusesPack}
 use Rattle.gsession.specs.TakingReplies.{reading_for}
 use Rattle.gsession.specs.declared.fault.ClientFault.{ClientFault}
 use Rattle.gsession.specs.declared.fault.ClientFault.TheVariants as client
 use Rattle.gworld.specs.Promises.{IsTakenOrDeclined, MayDecline}
-use Rattle.gworld.specs.Sound.{IsUnforgedAndFaithful, IsSoundFetch, IsSoundKept, IsSoundSession}
+use Rattle.gworld.specs.Sound.{IsUnforgedAndFaithful, IsSoundFetch}
 use Rattle.gworld.specs.Taking.{IsAtHand, TakesObjects, code_of}
-use Rattle.gworld.specs.Worlds.{Kept, PackTools, WorldState, reply_bytes}
+use Rattle.gworld.specs.Worlds.{PackTools, WorldState, reply_bytes}
 use Rattle.gworld.specs.declared.outcome.Outcome.{Outcome}
 use Rattle.gworld.specs.declared.outcome.Outcome.TheVariants.{Round, PackTaken, Fault}
-use Rattle.gworld.proofs.Delivering.{AnswerLaws, IsKeptFetch, agree_before, any_reading, kept_fetch, largest}
+use Rattle.gworld.proofs.Delivering.{AnswerLaws, any_reading, kept_fetch, largest}
 use Rattle.gworld.proofs.Delivering.{read_is_sent, reply_fits}
 use Rattle.gworld.proofs.Packs.{sends}
 use Rattle.gworld.proofs.Reading.{objects_bytes, objects_written}

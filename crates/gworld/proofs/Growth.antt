@@ -1,22 +1,18 @@
 -- What stays where objects only come.
-use Rattle.std.proofs.Common.{◌≡◌, ◌⊎◌, ℕ, Bool, true, false, List, [], ◌∷◌, ◌++◌, length, All, Contains, Option, Some}
+use Rattle.std.proofs.Common.{◌≡◌, ℕ, false, List, All, Option, Some}
 use Rattle.std.proofs.Common.{None}
-use Rattle.std.proofs.Common.{inl, inr, refl, sym, ap, subst, ◌∙◌}
-use Rattle.std.specs.Prelude.{IfSome, IsSome, MatchOption}
-use Rattle.std.proofs.lemmas.Bool.{false≢true}
+use Rattle.std.proofs.Common.{inl, inr, sym, ◌∙◌}
+use Rattle.std.specs.Prelude.{IfSome, MatchOption}
 use Rattle.std.proofs.lemmas.List.Elements.{All-weaker}
 use Rattle.gobject.specs.declared.node.Entry.{Entry}
-use Rattle.gobject.specs.declared.node.Node.{Node}
-use Rattle.gobject.specs.Objects.{node_at}
-use Rattle.gobject.specs.Packs.{Indexes, IndexFails, Packs, PackFails}
-use Rattle.ghistory.specs.Graphs.{Holds, IsNode}
+use Rattle.gobject.specs.Packs.{Packs}
+use Rattle.ghistory.specs.Graphs.{Holds}
 use Rattle.ghistory.specs.Laws.{FullStaysFull, GrowingGoesOn, GrowingKeeps, KeepingHolds, KeepingReaches}
-use Rattle.ghistory.specs.Reach.{Grows, IsFull, Keeps, SomeReaches}
+use Rattle.ghistory.specs.Reach.{Grows, IsFull, SomeReaches}
 use Rattle.grequest.specs.Asked.{Asked, Empty, Ls, Fetches, FetchAsked}
 use Rattle.grepo.specs.Asks.{asked_ids}
 use Rattle.gsession.specs.Bounds.{BeganOn}
 use Rattle.gsession.specs.Sessions.{SessionState}
-use Rattle.gsession.specs.TakingReplies.{Awaits}
 use Rattle.gworld.specs.Sound.{IsAnswered, IsUnforgedAndFaithful, IsSoundFetch, IsSoundKept, IsSoundRequest}
 use Rattle.gworld.specs.Sound.{IsSoundSession, IsWantedOrFull}
 use Rattle.gworld.specs.Worlds.{Kept, PackTools, WorldState}

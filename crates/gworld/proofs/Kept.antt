@@ -1,5 +1,4 @@
 -- From a sound world a step leads to a sound world, and keeps its promises.
-use Rattle.std.proofs.Common.{◌≡◌, ℕ, Bool, true, false, List, [], ◌∷◌, Option, Some, None}
 use Rattle.gsession.specs.Bounds.{RoundsAreFew}
 use Rattle.grepo.specs.Laws.{HeldIsNotMissing}
 use Rattle.gworld.specs.Promises.{Promises, TakesAnswers}

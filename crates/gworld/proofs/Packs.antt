@@ -1,16 +1,14 @@
 -- A pack of a kept reply came, where nothing was forged and packer and indexer lose nothing.
-use Rattle.std.proofs.Common.{◌≡◌, ◌⊎◌, ℕ, ◌≤◌, Bool, true, false, List, [], ◌∷◌, ◌++◌, length, All, Contains, Option}
-use Rattle.std.proofs.Common.{Some, None}
-use Rattle.std.proofs.Common.{Result, Ok, Err, inl, inr, refl, sym, ap, subst, ◌∙◌, arith, take}
+use Rattle.std.proofs.Common.{◌≡◌, ℕ, List, All}
+use Rattle.std.proofs.Common.{inl, inr, sym, ap, subst, ◌∙◌, take}
 use Rattle.std.proofs.lemmas.List.Elements.{All-contains, All-weaker}
 use Rattle.gfetchreply.specs.FetchReplies.{FetchReply, Acks, Ready, Pack}
 use Rattle.gfetchreply.specs.FetchHeads.{pack_of}
 use Rattle.gobject.specs.declared.node.Entry.{Entry}
-use Rattle.gobject.specs.Packs.{Indexes, IndexFails, Packs, PackFails}
 use Rattle.ghistory.specs.Graphs.{Holds}
 use Rattle.ghistory.specs.Laws.{HasAll}
 use Rattle.ghistory.specs.Reach.{Agree, IsFull, Reaches}
-use Rattle.grequest.specs.Asked.{Asked, Empty, Ls, Fetches, FetchAsked}
+use Rattle.grequest.specs.Asked.{Asked, Fetches, FetchAsked}
 use Rattle.grepo.specs.Asks.{asked_ids}
 use Rattle.grepo.specs.Repos.{RepoState}
 use Rattle.ganswer.specs.FetchAnswers.{RepliesWith, SendsPack}
@@ -21,13 +19,10 @@ use Rattle.gsession.specs.TakingReplies.{Awaits, HasPack, after_acks, reading_fo
 use Rattle.gsession.specs.declared.stage.Stage.TheVariants.{Settling}
 use Rattle.gworld.specs.Sound.{IsUnforgedAndFaithful, IsSoundFetch, IsSoundKept, IsSoundRequest, IsSoundSession}
 use Rattle.gworld.specs.Sound.{IsWantedOrFull}
-use Rattle.gworld.specs.Taking.{IsFullAnswer, IsPackTaken, TakesBytes, TakesObjects}
+use Rattle.gworld.specs.Taking.{TakesObjects}
 use Rattle.gworld.specs.Worlds.{Kept, PackTools, WorldState, reply_bytes}
-use Rattle.gworld.specs.declared.outcome.Outcome.{Outcome}
-use Rattle.gworld.specs.declared.outcome.Outcome.TheVariants.{Done, Asked as Asks, Served, StrangerServed}
-use Rattle.gworld.specs.declared.outcome.Outcome.TheVariants.{LsTaken as RefsTold, Round, PackTaken, Settled, Fault}
-use Rattle.gworld.proofs.Delivering.{AnswerLaws, IsCompleted, IsKeptFetch, kept_fetch, pack_completes}
-use Rattle.gworld.proofs.Growth.{Extends, session_grown}
+use Rattle.gworld.specs.declared.outcome.Outcome.TheVariants.{PackTaken}
+use Rattle.gworld.proofs.Delivering.{AnswerLaws, IsCompleted, kept_fetch, pack_completes}
 
 module _ {A : Type 0} (tools : PackTools A) where
   pub sends : (server : Server A) (asked : FetchAsked) (reply : FetchReply) → HasPack reply

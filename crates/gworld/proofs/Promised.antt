@@ -1,14 +1,12 @@
 -- What each step promises follows from what is sound.
-use Rattle.std.proofs.Common.{◌≡◌, ◌⊎◌, ℕ, ◌<◌, ◌≤◌, Bool, true, false, List, [], ◌∷◌, ◌++◌, length, All, Contains}
+use Rattle.std.proofs.Common.{◌≡◌, ◌⊎◌, ℕ, ◌≤◌, false, List, length, All}
 use Rattle.std.proofs.Common.{Option, Some, None}
-use Rattle.std.proofs.Common.{Result, Ok, Err, inl, inr, refl, sym, ap, subst, ◌∙◌, arith, take}
+use Rattle.std.proofs.Common.{Ok, Err, inl, inr, refl, sym, ap, subst, ◌∙◌, take}
 use Rattle.std.specs.Prelude.{IfSome, slice_get, slice_index_or}
-use Rattle.std.proofs.lemmas.Option.{none-some}
 use Rattle.gobject.specs.declared.node.Entry.{Entry}
 use Rattle.gobject.specs.declared.fault.PackFault.{PackFault}
 use Rattle.gobject.specs.declared.fault.PackFault.TheVariants as pack
-use Rattle.gobject.specs.Faults.{pack_fault_row}
-use Rattle.gobject.specs.Packs.{AreEntries, Indexes, IndexFails, Packs, PackFails}
+use Rattle.gobject.specs.Packs.{AreEntries}
 use Rattle.gfetchreply.specs.FetchReplies.{FetchReply}
 use Rattle.ghistory.proofs.Growing.{all_standing}
 use Rattle.ghistory.specs.Graphs.{History, Holds}
@@ -24,13 +22,10 @@ use Rattle.grepo.specs.Repos.{RepoState}
 use Rattle.grepo.specs.Settling.{CannotSettle}
 use Rattle.grepo.specs.declared.ask.Ask.{Ask}
 use Rattle.grepo.specs.declared.ask.RefUpdate.{RefUpdate}
-use Rattle.grepo.specs.declared.fault.RepoFault.{RepoFault}
 use Rattle.grepo.specs.declared.fault.RepoFault.TheVariants as repo
-use Rattle.grepo.specs.Faults.{repo_fault_row}
-use Rattle.ganswer.specs.Answers.{Answers, Refuses, Reply, Nothing, Ls as Refs, Fetch as Objects}
+use Rattle.ganswer.specs.Answers.{Refuses, Reply, Fetch as Objects}
 use Rattle.ganswer.specs.FetchAnswers.{FailsToPack}
 use Rattle.ganswer.specs.Faults.{serve_fault_row}
-use Rattle.ganswer.specs.Laws.{ServesWhatIsHeld}
 use Rattle.ganswer.specs.Servers.{IsServer, Server}
 use Rattle.ganswer.specs.declared.fault.ServeFault.{ServeFault}
 use Rattle.ganswer.specs.declared.fault.ServeFault.TheVariants as serve
@@ -40,26 +35,26 @@ use Rattle.gsession.specs.SettlingRefs.{SettlesSession}
 use Rattle.gsession.specs.declared.fault.ClientFault.{ClientFault}
 use Rattle.gsession.specs.declared.fault.ClientFault.TheVariants as client
 use Rattle.gsession.specs.declared.stage.Stage.TheVariants.{Settling}
-use Rattle.gworld.specs.Promises.{AreCommonsShared, AreRequestsFew, AreWantsComplete, AsksSeldom, BringsAnswer}
+use Rattle.gworld.specs.Promises.{AreWantsComplete, AsksSeldom, BringsAnswer}
 use Rattle.gworld.specs.Promises.{CompletesKept, CompletesWants, HasSettled}
-use Rattle.gworld.specs.Promises.{IsHeldByBoth, IsServedOrRefused, IsSettledOrRefused, IsTakenOrDeclined, MayRefuse}
-use Rattle.gworld.specs.Promises.{MovesAsked, ServesSent, SettlesAnswered, SharesCommons, TakesAnswers}
-use Rattle.gworld.specs.Sound.{AreEndsWhole, IsAnswered, IsUnforgedAndFaithful, IsSound, IsSoundFetch, IsSoundKept}
+use Rattle.gworld.specs.Promises.{IsServedOrRefused, IsSettledOrRefused, IsTakenOrDeclined, MayRefuse}
+use Rattle.gworld.specs.Promises.{ServesSent, SettlesAnswered, SharesCommons}
+use Rattle.gworld.specs.Sound.{AreEndsWhole, IsUnforgedAndFaithful, IsSound, IsSoundKept}
 use Rattle.gworld.specs.Sound.{IsSoundRequest, IsSoundSession}
-use Rattle.gworld.specs.Steps.{BytesCome, Delivers, ServesRequest, SettlesRefs, Step, waiting, waits_for}
-use Rattle.gworld.specs.Faults.{no_such, out_of_turn}
+use Rattle.gworld.specs.Steps.{Delivers, ServesRequest, SettlesRefs, Step, waiting, waits_for}
+use Rattle.gworld.specs.Faults.{out_of_turn}
 use Rattle.gworld.specs.Taking.{TakesBytes, code_of}
 use Rattle.gworld.specs.Worlds.{Kept, PackTools, WorldState, reply_bytes}
 use Rattle.gscenario.specs.declared.event.Event.{Event}
 use Rattle.gscenario.specs.declared.event.Event.TheVariants as event
 use Rattle.gworld.specs.declared.outcome.Outcome.{Outcome}
-use Rattle.gworld.specs.declared.outcome.Outcome.TheVariants.{Done, Asked as Asks, Served, StrangerServed}
-use Rattle.gworld.specs.declared.outcome.Outcome.TheVariants.{LsTaken as RefsTold, Round, PackTaken, Settled, Fault}
+use Rattle.gworld.specs.declared.outcome.Outcome.TheVariants.{Served}
+use Rattle.gworld.specs.declared.outcome.Outcome.TheVariants.{PackTaken, Settled, Fault}
 use Rattle.gworld.proofs.Delivering.{agree_before}
-use Rattle.gworld.proofs.Faults.{FaultLaws, IsWhole, whole_taken}
+use Rattle.gworld.proofs.Faults.{FaultLaws, whole_taken}
 use Rattle.gworld.proofs.Growth.{IsAnsweredIn, IsSoundIn}
 use Rattle.gworld.proofs.Packs.{pack_came}
-use Rattle.gworld.proofs.Steps.{WorldLaws, step_sound}
+use Rattle.gworld.proofs.Steps.{WorldLaws}
 
 module _ {A : Type 0} where
   -- ---- common ids

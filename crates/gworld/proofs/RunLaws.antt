@@ -1,5 +1,5 @@
 -- What holds after any run.
-use Rattle.std.proofs.Common.{◌≡◌, ℕ, Bool, false, List, [], ◌∷◌, All, Option, Some, None, refl, sym, ap, subst, ◌∙◌}
+use Rattle.std.proofs.Common.{◌≡◌, ℕ, Bool, List, [], ◌∷◌, All, Option, Some, None, sym, ap, subst, ◌∙◌}
 use Rattle.std.specs.Prelude.{slice_get}
 use Rattle.std.proofs.lemmas.List.Elements.{All-head, All-tail}
 use Rattle.gobject.specs.declared.node.Entry.{Entry}
@@ -9,7 +9,7 @@ use Rattle.gsession.specs.Sessions.{SessionState}
 use Rattle.gscenario.specs.declared.event.Event.{Event}
 use Rattle.gscenario.specs.declared.event.Event.TheVariants as event
 use Rattle.gworld.specs.Laws.{IsNoForge}
-use Rattle.gworld.specs.Promises.{AreCommonsShared, AreRefsWhole, AreRequestsFew, Promises}
+use Rattle.gworld.specs.Promises.{Promises}
 use Rattle.gworld.specs.Runs.{Run, RunWith}
 use Rattle.gworld.specs.Steps.{AddsAtClient, AddsAtServer, AsksNext, BeginsSession, Delivers, ServesRequest}
 use Rattle.gworld.specs.Steps.{SetsAtClient, SetsAtServer, SettlesRefs, Step, waiting}

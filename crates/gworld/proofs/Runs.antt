@@ -1,6 +1,6 @@
 -- A run that goes on.
-use Rattle.std.proofs.Common.{Result, Ok, Err, is_err, OnOk, Bool, true, false, ◌≡◌, ◌∙◌, ℕ, ◌+◌, ◌<◌, List, [], ◌∷◌}
-use Rattle.std.proofs.Common.{◌++◌, length, take, drop, get_or, refl, sym, ap, subst, arith, append_assoc}
+use Rattle.std.proofs.Common.{Result, Ok, Err, is_err, OnOk, false, ◌≡◌, ℕ, ◌+◌, ◌<◌, List, [], ◌∷◌}
+use Rattle.std.proofs.Common.{◌++◌, length, take, drop, get_or, refl, sym, subst}
 use Rattle.std.proofs.lemmas.Bool.{false≢true}
 use Rattle.ghistory.proofs.Growing.{at_front}
 use Rattle.gworld.specs.Bringing.{RunsSoundly}

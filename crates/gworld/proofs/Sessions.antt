@@ -1,32 +1,30 @@
 -- What each call of a session keeps sound.
-use Rattle.std.proofs.Common.{◌≡◌, ◌≢◌, ◌⊎◌, ℕ, ◌≤◌, Bool, true, false, List, [], ◌∷◌, ◌++◌, length, All, Contains}
-use Rattle.std.proofs.Common.{Option, Some, None}
-use Rattle.std.proofs.Common.{Result, Ok, Err, inl, inr, refl, sym, ap, subst, ◌∙◌, arith}
+use Rattle.std.proofs.Common.{◌≡◌, ◌⊎◌, ℕ, false, List, [], All, Contains}
+use Rattle.std.proofs.Common.{Some, None}
+use Rattle.std.proofs.Common.{Ok, inl, inr, refl, sym, ap, subst, ◌∙◌}
 use Rattle.std.proofs.lemmas.List.Elements.{All-contains, All-map, All-nil, All-weaker}
 use Rattle.std.proofs.lemmas.Option.{none-some}
 use Rattle.ggrammar.specs.declared.ends.Ends.TheVariants.{Plain}
-use Rattle.gfetchreply.specs.FetchReplies.{FetchReply}
 use Rattle.gfetchreply.specs.Values.{default_limit}
 use Rattle.glsreply.specs.LsReplies.{LsReply}
 use Rattle.glsreply.specs.RefTexts.{RefLine}
 use Rattle.gname.specs.declared.formats.Format.{Format}
 use Rattle.gobject.specs.declared.node.Entry.{Entry}
-use Rattle.gobject.specs.Packs.{Indexes, IndexFails}
 use Rattle.ghistory.proofs.Growing.{grows_none}
 use Rattle.ghistory.specs.Graphs.{Holds}
 use Rattle.ghistory.specs.Reach.{IsFull}
 use Rattle.gspec.specs.Refspecs.{Refspec}
 use Rattle.grepo.specs.Asks.{asked_ids}
-use Rattle.grepo.specs.Repos.{IsWhole, RepoState}
+use Rattle.grepo.specs.Repos.{IsWhole}
 use Rattle.grepo.specs.declared.ask.Ask.{Ask}
 use Rattle.ganswer.specs.Adverts.{advertised}
-use Rattle.grequest.specs.Asked.{Asked, Empty, Ls, Fetches, FetchAsked, LsRefsAsked, max_haves}
+use Rattle.grequest.specs.Asked.{Asked, Empty, Ls, Fetches, FetchAsked, LsRefsAsked}
 use Rattle.gsession.specs.Asking.{AreWants, asked_of}
 use Rattle.gsession.specs.Bounds.{BeganBegins, BeganOn, BeganStays}
 use Rattle.gsession.specs.Laws.{AsksAreOfLines, AreCommonsAfter, HavesAreFull, IsAskOf, OpenIsTheSessions}
 use Rattle.gsession.specs.Laws.{WantsAreExact}
-use Rattle.gsession.specs.Requesting.{MakesNext, fetch_request, waiting_for}
-use Rattle.gsession.specs.Sessions.{Begins, FitsStage, IsOpenFetch, IsSession, SessionState, new_session, over}
+use Rattle.gsession.specs.Requesting.{MakesNext, waiting_for}
+use Rattle.gsession.specs.Sessions.{Begins, IsOpenFetch, IsSession, SessionState, new_session, over}
 use Rattle.gsession.specs.Sessions.{tells_unborn, tips_of}
 use Rattle.gsession.specs.TakingRefs.{TakesLines, with_refs}
 use Rattle.gsession.specs.TakingReplies.{Awaits, after_acks}

@@ -1,10 +1,10 @@
 -- A world begins.
-use Rattle.std.proofs.Common.{◌≡◌, ◌∙◌, ℕ, ◌+◌, ◌<◌, ◌≤◌, List, [], ◌∷◌, ◌++◌, length, take, drop, get_or, All, Option}
-use Rattle.std.proofs.Common.{Some, None, refl, sym, ap, subst, arith, append_assoc, inl, inr, false}
+use Rattle.std.proofs.Common.{◌≡◌, ◌∙◌, ℕ, ◌+◌, ◌<◌, ◌≤◌, List, [], length, take, drop, get_or, All}
+use Rattle.std.proofs.Common.{Some, sym, ap, subst, arith, inl, inr}
 use Rattle.std.specs.Prelude.{slice_get}
 use Rattle.std.proofs.lemmas.List.{take_all}
 use Rattle.std.proofs.lemmas.List.Elements.{All-nil, All-push}
-use Rattle.std.proofs.lemmas.Option.{get_or_from_slice_get, none-some, same_Some, slice_get_cases, slice_get_within}
+use Rattle.std.proofs.lemmas.Option.{get_or_from_slice_get, same_Some, slice_get_cases, slice_get_within}
 use Rattle.gobject.specs.declared.node.Entry.{Entry}
 use Rattle.gobject.specs.Objects.{IdsDiffer, entry_of}
 use Rattle.ghistory.proofs.Growing.{all_standing, at_front, take_one}
@@ -13,9 +13,8 @@ use Rattle.ghistory.specs.Reach.{Agree}
 use Rattle.ganswer.specs.Servers.{Server}
 use Rattle.grepo.specs.Repos.{RepoState}
 use Rattle.gworld.specs.Bringing.{AgreesAt, DisagreesAt}
-use Rattle.gworld.specs.Sound.{IsSound, IsSoundKept, IsSoundRequest, IsUnforgedAndFaithful}
+use Rattle.gworld.specs.Sound.{IsSound, IsSoundKept, IsSoundRequest}
 use Rattle.gworld.specs.Starts.{CanStart, IsFirstDisagreement}
-use Rattle.gworld.specs.Steps.{Disagrees}
 use Rattle.grequest.specs.Asked.{Asked}
 use Rattle.gworld.specs.Worlds.{Kept, PackTools, WorldOf, WorldState, new_world}
 use Rattle.std.proofs.lemmas.Bool.{false≢true}

@@ -1,60 +1,53 @@
 -- Each event keeps what is sound.
-use Rattle.std.proofs.Common.{◌≡◌, ◌⊎◌, ℕ, ◌≤◌, Bool, true, false, List, [], ◌∷◌, ◌++◌, length, All, Contains, Option}
+use Rattle.std.proofs.Common.{◌≡◌, ℕ, Bool, true, false, List, [], ◌∷◌, ◌++◌, Option}
 use Rattle.std.proofs.Common.{Some, None}
-use Rattle.std.proofs.Common.{Result, Ok, Err, if◌then◌else◌, inl, inr, refl, sym, ap, subst, ◌∙◌, arith, take}
-use Rattle.std.specs.Prelude.{IfSome, IsTrue, slice_get}
+use Rattle.std.proofs.Common.{Result, Ok, Err, if◌then◌else◌, refl, sym, ap, subst, ◌∙◌, take}
+use Rattle.std.specs.Prelude.{IfSome, slice_get}
 use Rattle.std.proofs.lemmas.Bool.{false≢true}
 use Rattle.std.proofs.lemmas.List.Elements.{All-cons, All-nil, All-push}
 use Rattle.gname.specs.declared.formats.Format.{Format}
 use Rattle.gfetchreply.specs.FetchHeads.{acknowledged_by}
 use Rattle.gobject.specs.declared.node.Entry.{Entry}
-use Rattle.gobject.specs.declared.node.Node.{Node}
-use Rattle.gobject.specs.Packs.{Indexes, IndexFails, Packs, PackFails}
 use Rattle.ghistory.proofs.Growing.{all_standing, grows_none}
-use Rattle.ghistory.specs.Graphs.{History, Holds, IsNode}
+use Rattle.ghistory.specs.Graphs.{History}
 use Rattle.ghistory.specs.Insert.{ComesIn, Inserts}
-use Rattle.ghistory.specs.Laws.{AgreeingStays, AgreesWith, ComingGrows}
+use Rattle.ghistory.specs.Laws.{AgreesWith, ComingGrows}
 use Rattle.ghistory.specs.Reach.{Agree, Grows}
 use Rattle.gspec.specs.Refspecs.{Refspec}
-use Rattle.grepo.specs.Repos.{IsWhole, RepoState}
-use Rattle.grepo.specs.Changes.{AddsLocal, SettlesAsks, SetsLocal}
+use Rattle.grepo.specs.Repos.{RepoState}
 use Rattle.grepo.specs.Laws.{RefusalsChangeNothing}
 use Rattle.grepo.specs.declared.ask.Ask.{Ask}
 use Rattle.grepo.specs.declared.ask.RefUpdate.{RefUpdate}
-use Rattle.grequest.specs.Asked.{Asked, Empty, Ls, Fetches, FetchAsked}
-use Rattle.ganswer.specs.Answers.{Answers, Reply}
-use Rattle.ganswer.specs.Changes.{Adds, Sets}
+use Rattle.grequest.specs.Asked.{Asked, Empty, Ls, Fetches}
 use Rattle.ganswer.specs.Laws.{ServersGrow}
-use Rattle.ganswer.specs.Servers.{IsServer, Server}
+use Rattle.ganswer.specs.Servers.{Server}
 use Rattle.gsession.specs.Laws.{OnlyGrows}
-use Rattle.gsession.specs.Requesting.{MakesNext, Requests, is_due}
+use Rattle.gsession.specs.Requesting.{Requests, is_due}
 use Rattle.gsession.specs.Sessions.{IsSession, SessionState, after_fault, ends_session, over}
 use Rattle.gsession.specs.SettlingRefs.{SettlesSession}
-use Rattle.gsession.specs.TakingReplies.{Awaits, after_acks}
 use Rattle.gsession.specs.declared.fault.ClientFault.{ClientFault}
 use Rattle.gsession.specs.declared.fault.ClientFault.TheVariants as client
 use Rattle.gsession.specs.declared.stage.Stage.{Stage}
 use Rattle.gsession.specs.declared.stage.Stage.TheVariants.{Listing, Fetching, Settling, Over}
 use Rattle.ghistory.specs.declared.fault.GraphFault.TheVariants as graph
-use Rattle.grepo.specs.declared.fault.RepoFault.{RepoFault}
 use Rattle.grepo.specs.declared.fault.RepoFault.TheVariants as repo
 use Rattle.gworld.specs.Sound.{AreEndsWhole, IsAnswered, IsSound, IsSoundKept, IsSoundRequest, IsSoundSession}
 use Rattle.gworld.specs.Sound.{IsUnforgedAndFaithful}
-use Rattle.gworld.specs.Steps.{AddsAtClient, AddsAtServer, AsksNext, BeginsSession, BytesCome, Delivers, Forges}
-use Rattle.gworld.specs.Steps.{IsRefused, Restarts, ServesRequest}
+use Rattle.gworld.specs.Steps.{AddsAtClient, AddsAtServer, AsksNext, BeginsSession, Delivers, Forges}
+use Rattle.gworld.specs.Steps.{Restarts, ServesRequest}
 use Rattle.gworld.specs.Steps.{SetsAtClient, SetsAtServer, SettlesRefs, Step, mark_after, waiting, waits_for}
-use Rattle.gworld.specs.Taking.{IsFullAnswer, IsPackTaken, TakesBytes, TakesObjects}
+use Rattle.gworld.specs.Taking.{IsFullAnswer, TakesBytes}
 use Rattle.gworld.specs.Worlds.{Kept, PackTools, WorldState, reply_bytes}
 use Rattle.gscenario.specs.declared.event.Event.{Event}
 use Rattle.gscenario.specs.declared.event.Event.TheVariants as event
 use Rattle.gworld.specs.declared.outcome.Outcome.{Outcome}
-use Rattle.gworld.specs.declared.outcome.Outcome.TheVariants.{Done, Asked as Asks, Served, StrangerServed}
+use Rattle.gworld.specs.declared.outcome.Outcome.TheVariants.{Done, Asked as Asks, Served}
 use Rattle.gworld.specs.declared.outcome.Outcome.TheVariants.{LsTaken as RefsTold, Round, PackTaken, Settled, Fault}
 use Rattle.gworld.proofs.Delivering.{AnswerLaws, kept_tells}
-use Rattle.gworld.proofs.Growth.{Extends, GrowthLaws, honest_before, kept_grown, one_kept_grown, request_grown}
+use Rattle.gworld.proofs.Growth.{Extends, honest_before, kept_grown, one_kept_grown, request_grown}
 use Rattle.gworld.proofs.Growth.{sent_grown, session_grown, session_in_grown, IsAnsweredIn, IsSoundIn, answered_grown}
-use Rattle.gworld.proofs.Packs.{PackCame, can_settle, pack_came}
-use Rattle.gworld.proofs.Sessions.{SessionLaws, hearing, asked_sound, begin_sound, made_request, over_sound}
+use Rattle.gworld.proofs.Packs.{can_settle, pack_came}
+use Rattle.gworld.proofs.Sessions.{asked_sound, begin_sound, made_request}
 use Rattle.gworld.proofs.Sessions.{settled_sound}
 use Rattle.gworld.proofs.Taking.{TakingLaws, Tells, bytes_only, bytes_sound, client_extends, fault_sound, only_same}
 

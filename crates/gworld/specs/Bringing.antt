@@ -4,7 +4,7 @@ use Rattle.gobject.specs.Packs.{Indexes, IndexFails}
 use Rattle.gobject.specs.declared.node.Entry.{Entry}
 use Rattle.ghistory.specs.Laws.{AgreesWith}
 use Rattle.grepo.specs.Repos.{RepoState}
-use Rattle.grequest.specs.Asked.{Asked, Empty, Ls, Fetches}
+use Rattle.grequest.specs.Asked.{Asked, Ls, Fetches}
 use Rattle.gsession.specs.Sessions.{SessionState}
 use Rattle.gsession.specs.declared.fault.ClientFault.{ClientFault}
 use Rattle.gsession.specs.declared.taken.LsTaken.{LsTaken}

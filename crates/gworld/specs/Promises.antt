@@ -13,7 +13,7 @@ use Rattle.ghistory.specs.Reach.{IsFull}
 use Rattle.ghistory.specs.Walks.{CountsReached}
 use Rattle.ghistory.specs.declared.fault.GraphFault.TheVariants as graph
 use Rattle.grefs.specs.RefLists.{ref_at}
-use Rattle.grequest.specs.Asked.{Asked, Empty, Ls, Fetches}
+use Rattle.grequest.specs.Asked.{Asked, Fetches}
 use Rattle.grepo.specs.Repos.{RepoState}
 use Rattle.grepo.specs.Settling.{CannotSettle, MayMove, asked_ids}
 use Rattle.grepo.specs.declared.ask.Ask.{Ask}

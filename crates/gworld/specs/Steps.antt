@@ -1,6 +1,6 @@
 -- What an event does to a world, and its outcome. What a step does not name stays as it was.
 use Rattle.std.specs.Prelude.{◌≡◌, ◌≢◌, ◌⊎◌, ◌↔◌, ℕ, Bool, true, false, List, [], ◌∷◌, ◌++◌, length, take, count_by}
-use Rattle.std.specs.Prelude.{slice_get, if◌then◌else◌, IsTrue, Option, None, Some, Result, Ok, Err}
+use Rattle.std.specs.Prelude.{slice_get, if◌then◌else◌, IsTrue, Option, None, Some, Ok, Err}
 use Rattle.gfetchreply.specs.Values.{default_limit}
 use Rattle.ggrammar.specs.declared.ends.Ends.TheVariants.{Plain}
 use Rattle.gobject.specs.declared.node.Entry.{Entry}

@@ -1,4 +1,4 @@
-use Rattle.std.proofs.Common.{◌≡◌, ◌∙◌}
+use Rattle.std.proofs.Common.{◌∙◌}
 use Rattle.gworld.specs.Worlds.{tools_of}
 use Rattle.gworld.specs.Promises.{AreCommonsShared}
 use Rattle.gworld.proofs.RunLaws.{kept_on, unforged_on}

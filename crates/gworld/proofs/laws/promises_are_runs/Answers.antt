@@ -1,4 +1,3 @@
-use Rattle.std.proofs.Common.{◌≡◌, ◌∙◌}
 use Rattle.gworld.specs.Worlds.{tools_of}
 use Rattle.gworld.proofs.RunLaws.{is_run}
 use Rattle.gworld.proofs.laws.promises_are_runs.Goals as goal

@@ -1,4 +1,3 @@
-use Rattle.std.proofs.Common.{◌≡◌, ◌∙◌}
 use Rattle.gworld.specs.Worlds.{tools_of}
 use Rattle.gworld.specs.Promises.{AreRequestsFew}
 use Rattle.gworld.proofs.RunLaws.{kept_on}

@@ -1,9 +1,9 @@
-use Rattle.std.proofs.Common.{◌≡◌, ◌∙◌, ◌+◌, ◌<◌, ◌≤◌, ◌++◌, ◌∷◌, [], List, take, length, get_or, refl, sym, ap, subst}
+use Rattle.std.proofs.Common.{◌∙◌, ◌+◌, ◌<◌, ◌≤◌, ◌++◌, ◌∷◌, [], List, take, length, sym, ap, subst}
 use Rattle.std.proofs.Common.{arith, rules}
 use Rattle.std.specs.Vec.{vec_len, vec_capacity}
 use Rattle.gworld.specs.Promises.{Promises}
 use Rattle.gworld.specs.Runs.{RunsFront}
-use Rattle.gworld.specs.Worlds.{PackTools, WorldState, tools_of}
+use Rattle.gworld.specs.Worlds.{WorldState, tools_of}
 use Rattle.gworld.specs.declared.outcome.Outcome.{Outcome}
 use Rattle.ghistory.proofs.Growing.{take_one}
 use Rattle.gworld.proofs.Runs.{front_runs, goes_on_soundly, room_left}

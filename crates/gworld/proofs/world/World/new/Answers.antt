@@ -1,4 +1,4 @@
-use Rattle.std.proofs.Common.{◌≡◌, subst, sym}
+use Rattle.std.proofs.Common.{subst, sym}
 use Rattle.gworld.specs.Sound.{IsSound}
 use Rattle.gworld.specs.Worlds.{WorldState, new_world, tools_of}
 use Rattle.gworld.proofs.Starting.{made_same, starts_soundly}
