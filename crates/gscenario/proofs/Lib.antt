@@ -1,0 +1,4 @@
+pub mod WordLemmas
+pub mod ArgumentLemmas
+pub mod LineLemmas
+pub mod SameEvents

@@ -1,0 +1,16 @@
+-- The table of faults: the number, the name and the text of each.
+use Rattle.std.specs.Prelude.{ℕ, List, ◌++◌, codes}
+use Rattle.std.specs.Fmt.{decimal}
+use Rattle.gname.specs.Faults.{FaultRow}
+use Rattle.gscenario.specs.declared.fault.ScenarioFault.{ScenarioFault}
+use Rattle.gscenario.specs.declared.fault.ScenarioFault.TheVariants as fault
+
+-- why a text was not read as a scenario
+abbrev pub scenario_fault_row : ScenarioFault → FaultRow
+scenario_fault_row (fault.Scenario line) = (92, codes "Scenario")
+scenario_fault_row fault.Memory = (91, codes "Memory")
+
+abbrev pub scenario_fault_text : ScenarioFault → List ℕ
+scenario_fault_text (fault.Scenario line) =
+    codes "line " ++ decimal line ++ codes " of the scenario is that of no event, or does not end"
+scenario_fault_text fault.Memory = codes "out of memory"

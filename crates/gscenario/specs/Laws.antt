@@ -1,0 +1,37 @@
+-- What follows from the definition of a scenario's text.
+use Rattle.std.specs.Prelude.{◌≡◌, ⊤, ℕ, List}
+use Rattle.std.specs.List.{AllZip}
+use Rattle.gscenario.specs.ScenarioText.{IsScenario, IsWrongLine}
+use Rattle.gscenario.specs.declared.event.Event.{Event}
+use Rattle.gscenario.specs.declared.event.Event.TheVariants as event
+
+-- a text with a wrong line is the text of no events
+abbrev pub WrongIsNone : Type 0 → Type 0
+WrongIsNone A =
+    (text : List ℕ) (number : ℕ) (events : List (Event A)) → IsWrongLine A text number → ¬ (IsScenario text events)
+
+-- a text has one wrong line at most
+abbrev pub WrongLinesHaveOnePlace : Type 0 → Type 0
+WrongLinesHaveOnePlace A = (text : List ℕ) (a b : ℕ) → IsWrongLine A text a → IsWrongLine A text b → a ≡ b
+
+-- the events are of one kind, and the same comes with them
+abbrev pub IsSame : {A : Type 0} → Event A → Event A → Type 0
+IsSame (event.Begin specs) (event.Begin others) = specs.items ≡ others.items
+IsSame event.Ask event.Ask = ⊤
+IsSame (event.Serve request) (event.Serve other) = request ≡ other
+IsSame (event.Deliver reply count) (event.Deliver other most) = (reply ≡ other) × (count ≡ most)
+IsSame (event.Forge bytes) (event.Forge others) = bytes.items ≡ others.items
+IsSame (event.StrangeRequest bytes) (event.StrangeRequest others) = bytes.items ≡ others.items
+IsSame event.Settle event.Settle = ⊤
+IsSame event.RestartClient event.RestartClient = ⊤
+IsSame event.RestartServer event.RestartServer = ⊤
+IsSame (event.ServerAdd entry) (event.ServerAdd other) = entry ≡ other
+IsSame (event.ServerRef name id) (event.ServerRef other at) = (name ≡ other) × (id ≡ at)
+IsSame (event.ClientAdd entry) (event.ClientAdd other) = entry ≡ other
+IsSame (event.ClientRef name id) (event.ClientRef other at) = (name ≡ other) × (id ≡ at)
+IsSame _ _ = ⊥
+
+-- a text is that of one list of events
+abbrev pub TextsHaveOneReading : Type 0 → Type 0
+TextsHaveOneReading A =
+    (text : List ℕ) (a b : List (Event A)) → IsScenario text a → IsScenario text b → AllZip IsSame a b

@@ -1,0 +1,4 @@
+pub mod ScenarioText
+pub mod Faults
+pub mod Laws
+pub mod Reading

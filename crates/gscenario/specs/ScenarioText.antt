@@ -1,0 +1,161 @@
+-- The text of a scenario: a line for each event, each line ended by a line feed, its words separated by single spaces.
+-- The format is our own.
+use Rattle.std.specs.Prelude.{◌≡◌, ◌≢◌, ◌⊎◌, ℕ, ◌+◌, ◌-◌, ◌^◌, ◌<◌, ◌==◌, if◌then◌else◌}
+use Rattle.std.specs.Prelude.{List, [], ◌∷◌, ◌++◌, length, codes, decimal, Ok}
+use Rattle.std.specs.List.{AllZip}
+use Rattle.hex.specs.Hex.{decode_of}
+use Rattle.gname.specs.Ids.{IsIdText}
+use Rattle.gname.specs.Names.{IsRefName}
+use Rattle.gobject.specs.declared.node.Entry.{Entry}
+use Rattle.gobject.specs.PlainPackText.{IsInLine, ids_of, letter}
+use Rattle.gspec.specs.Refspecs.{IsSpec, Refspec}
+use Rattle.gscenario.specs.declared.event.Event.{Event}
+use Rattle.gscenario.specs.declared.event.Event.TheVariants as event
+use Rattle.gscenario.specs.declared.command.Command.{Command}
+use Rattle.gscenario.specs.declared.command.Command.TheVariants as command
+
+-- ---- words
+
+-- the byte comes before the first of the words
+abbrev pub with_byte : ℕ → List (List ℕ) → List (List ℕ)
+with_byte byte [] = (byte ∷ []) ∷ []
+with_byte byte (word ∷ words) = (byte ∷ word) ∷ words
+
+-- the words of a line: what stands between its spaces
+abbrev pub words_of : List ℕ → List (List ℕ)
+words_of [] = [] ∷ []
+words_of (byte ∷ text) = if byte == 32 then [] ∷ words_of text else with_byte byte (words_of text)
+
+-- ---- the parts of a line
+
+-- the first word of an event's line
+abbrev pub command_text : Command → List ℕ
+command_text command.Begin = codes "begin"
+command_text command.Ask = codes "ask"
+command_text command.Serve = codes "serve"
+command_text command.Deliver = codes "deliver"
+command_text command.Forge = codes "forge"
+command_text command.StrangeRequest = codes "stranger"
+command_text command.Settle = codes "settle"
+command_text command.RestartClient = codes "restart-client"
+command_text command.RestartServer = codes "restart-server"
+command_text command.ServerAdd = codes "server-add"
+command_text command.ServerRef = codes "server-ref"
+command_text command.ClientAdd = codes "client-add"
+command_text command.ClientRef = codes "client-ref"
+
+abbrev pub command_of : {A : Type 0} → Event A → Command
+command_of (event.Begin specs) = command.Begin
+command_of event.Ask = command.Ask
+command_of (event.Serve request) = command.Serve
+command_of (event.Deliver reply count) = command.Deliver
+command_of (event.Forge bytes) = command.Forge
+command_of (event.StrangeRequest bytes) = command.StrangeRequest
+command_of event.Settle = command.Settle
+command_of event.RestartClient = command.RestartClient
+command_of event.RestartServer = command.RestartServer
+command_of (event.ServerAdd entry) = command.ServerAdd
+command_of (event.ServerRef name id) = command.ServerRef
+command_of (event.ClientAdd entry) = command.ClientAdd
+command_of (event.ClientRef name id) = command.ClientRef
+
+-- a number below 2 ^ 63, in decimal digits without leading zeros
+abbrev pub IsNumber : List ℕ → ℕ → Type 0
+IsNumber text number = (text ≡ decimal number) × (number < 2 ^ 63)
+
+-- how many bytes come: a number; or `all`, which stands for the largest
+abbrev pub IsCount : List ℕ → ℕ → Type 0
+IsCount text count = IsNumber text count ⊎ ((text ≡ codes "all") × (count ≡ 2 ^ 64 - 1))
+
+-- bytes, each as two hexadecimal digits in either case; or `-` for none
+abbrev pub AreBytes : List ℕ → List ℕ → Type 0
+AreBytes text bytes = ((text ≡ codes "-") × (bytes ≡ [])) ⊎ ((text ≢ []) × (decode_of text ≡ Ok bytes))
+
+-- one word, which is a number
+abbrev pub IsOneNumber : List (List ℕ) → ℕ → Type 0
+IsOneNumber words number = (text : List ℕ) × (words ≡ text ∷ []) × IsNumber text number
+
+-- two words: a number, and how many bytes come
+abbrev pub AreNumberAndCount : List (List ℕ) → ℕ → ℕ → Type 0
+AreNumberAndCount words number count =
+    (text bytes : List ℕ) × (words ≡ text ∷ bytes ∷ []) × IsNumber text number × IsCount bytes count
+
+-- one word, which spells bytes
+abbrev pub AreOneBytes : List (List ℕ) → List ℕ → Type 0
+AreOneBytes words bytes = (text : List ℕ) × (words ≡ text ∷ []) × AreBytes text bytes
+
+-- refspecs, at least one
+abbrev pub AreSpecs : List (List ℕ) → List Refspec → Type 0
+AreSpecs words specs = (words ≢ []) × AllZip IsSpec words specs
+
+-- an object: the letter of its kind, its id and its parents' ids, with digits in either case
+abbrev pub IsEntry : {A : Type 0} → List (List ℕ) → Entry A → Type 0
+IsEntry words entry =
+    (ids : List (List ℕ)) × (words ≡ (letter entry.node.kind ∷ []) ∷ ids) × AllZip IsIdText ids (ids_of entry)
+
+-- an id, with digits in either case, and the name of a ref
+abbrev pub IsRef : List (List ℕ) → List ℕ → List ℕ → Type 0
+IsRef words name id = (digits : List ℕ) × (words ≡ digits ∷ name ∷ []) × IsIdText digits id × IsRefName name
+
+-- the words after the first
+abbrev pub AreArguments : {A : Type 0} → Event A → List (List ℕ) → Type 0
+AreArguments (event.Begin specs) words = AreSpecs words specs.items
+AreArguments (event.Serve request) words = IsOneNumber words request
+AreArguments (event.Deliver reply count) words = AreNumberAndCount words reply count
+AreArguments (event.Forge bytes) words = AreOneBytes words bytes.items
+AreArguments (event.StrangeRequest bytes) words = AreOneBytes words bytes.items
+AreArguments (event.ServerAdd entry) words = IsEntry words entry
+AreArguments (event.ServerRef name id) words = IsRef words name id
+AreArguments (event.ClientAdd entry) words = IsEntry words entry
+AreArguments (event.ClientRef name id) words = IsRef words name id
+AreArguments event words = words ≡ []
+
+-- ---- lines
+
+-- a line of the event
+abbrev pub IsLineOf : {A : Type 0} → List ℕ → Event A → Type 0
+IsLineOf line event =
+    (arguments : List (List ℕ)) × (words_of line ≡ command_text (command_of event) ∷ arguments)
+    × AreArguments event arguments
+
+-- a line of no event
+abbrev pub IsNoLine : Type 0 → List ℕ → Type 0
+IsNoLine A line = (event : Event A) → ¬ (IsLineOf line event)
+
+-- a line whose first word is a command
+abbrev pub BeginsWithCommand : List ℕ → Type 0
+BeginsWithCommand line =
+    (command : Command) × (arguments : List (List ℕ)) × (words_of line ≡ command_text command ∷ arguments)
+
+-- the text of some events
+abbrev pub IsScenario : {A : Type 0} → List ℕ → List (Event A) → Type 0
+IsScenario text [] = text ≡ []
+IsScenario text (event ∷ events) =
+    (line rest : List ℕ) × (text ≡ line ++ 10 ∷ rest) × IsInLine line × IsLineOf line event × IsScenario rest events
+
+-- the text begins with a line of no event, or is a line that does not end
+abbrev pub BeginsWrong : Type 0 → List ℕ → Type 0
+BeginsWrong A text =
+    ((line rest : List ℕ) × (text ≡ line ++ 10 ∷ rest) × IsInLine line × IsNoLine A line)
+    ⊎ ((text ≢ []) × IsInLine text)
+
+-- the number, counted from 1, of the first line that is wrong: those before it are lines of events
+pub record IsWrongLine (A : Type 0) (text : List ℕ) (number : ℕ) : Type 0 where
+  pub front : List ℕ
+  pub rest : List ℕ
+  pub events : List (Event A)
+  pub parts : text ≡ front ++ rest
+  pub before : IsScenario front events
+  pub wrong : BeginsWrong A rest
+  pub at : number ≡ length events + 1
+
+-- lines of events are followed by a line that begins with a command: there may be something to keep
+pub record TakesMemory (A : Type 0) (text : List ℕ) : Type 0 where
+  pub front : List ℕ
+  pub line : List ℕ
+  pub rest : List ℕ
+  pub events : List (Event A)
+  pub parts : text ≡ front ++ (line ++ 10 ∷ rest)
+  pub before : IsScenario front events
+  pub inside : IsInLine line
+  pub begins : BeginsWithCommand line

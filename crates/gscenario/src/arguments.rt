@@ -1,0 +1,295 @@
+// The words after the first of a line.
+#![tactic(auto)]
+
+ghost use Rattle.std.specs.Prelude.{◌≡◌, ◌≢◌, ◌∷◌, [], ℕ, List, MatchOption, MatchResult, ⊤};
+ghost use Rattle.gobject.specs.PlainPackText.{ids_of};
+ghost use Rattle.gobject.specs.declared.node.Entry.{Entry};
+ghost use Rattle.gspec.specs.Refspecs.{Refspec};
+ghost use Rattle.gscenario.specs.ScenarioText.{AreNumberAndCount, AreOneBytes, AreSpecs, IsEntry, IsOneNumber, IsRef};
+ghost use Rattle.gname.specs.Ids.{IsIdText};
+ghost use Rattle.std.specs.List.{AllZip};
+ghost use Rattle.gscenario.specs.Reading.{HasArguments, NoArguments, ReadsArguments, words_after};
+
+use crate::command::Command;
+use crate::event::Event;
+use crate::words::{
+    bytes_of, count_of, id_of, kind_of, name_of, next_word, no_word, number_of, one_word, two_words,
+};
+use gname::{Oid, RefName};
+use gobject::{Entry, Kind, Node, Parents};
+use gspec::{Spec, SpecFault};
+use std::alloc::{AllocError, Allocator};
+
+/// The event of a line with this command and these words after it.
+pub(crate) fn event_of<A: Allocator + Copy>(
+    alloc: A,
+    command: Command,
+    tail: &[u8],
+) -> Result<Option<Event<A>>, AllocError>
+    ensures { ReadsArguments command (words_after tail.now) result }
+{
+    match command {
+        Command::Begin => begin(alloc, tail),
+        Command::Ask => Ok(alone(tail, Event::Ask)),
+        Command::Serve => Ok(serve(tail)),
+        Command::Deliver => Ok(deliver(tail)),
+        Command::Forge => forge(alloc, tail),
+        Command::StrangeRequest => strange_request(alloc, tail),
+        Command::Settle => Ok(alone(tail, Event::Settle)),
+        Command::RestartClient => Ok(alone(tail, Event::RestartClient)),
+        Command::RestartServer => Ok(alone(tail, Event::RestartServer)),
+        Command::ServerAdd => server_add(alloc, tail),
+        Command::ServerRef => server_ref(alloc, tail),
+        Command::ClientAdd => client_add(alloc, tail),
+        Command::ClientRef => client_ref(alloc, tail),
+    }
+}
+
+// The event whose command has no words after it.
+fn alone<A: Allocator + Copy>(tail: &[u8], event: Event<A>) -> Option<Event<A>>
+    ensures { MatchOption result (words_after tail.now ≢ []) (λ found. (found ≡ event) × (words_after tail.now ≡ [])) }
+{
+    if no_word(tail) { Some(event) } else { None }
+}
+
+// ---- one event each
+
+fn begin<A: Allocator + Copy>(alloc: A, tail: &[u8]) -> Result<Option<Event<A>>, AllocError>
+    ensures { ReadsArguments Command.Begin (words_after tail.now) result }
+{
+    match specs_of(alloc, tail)? {
+        Some(specs) => Ok(Some(Event::Begin(specs))),
+        None => Ok(None),
+    }
+}
+
+fn serve<A: Allocator + Copy>(tail: &[u8]) -> Option<Event<A>>
+    ensures { MatchOption result (NoArguments A Command.Serve (words_after tail.now))
+        (HasArguments Command.Serve (words_after tail.now)) }
+{
+    match number_alone(tail) {
+        Some(request) => Some(Event::Serve(request)),
+        None => None,
+    }
+}
+
+fn deliver<A: Allocator + Copy>(tail: &[u8]) -> Option<Event<A>>
+    ensures { MatchOption result (NoArguments A Command.Deliver (words_after tail.now))
+        (HasArguments Command.Deliver (words_after tail.now)) }
+{
+    match number_and_count(tail) {
+        Some((reply, count)) => Some(Event::Deliver { reply, count }),
+        None => None,
+    }
+}
+
+fn forge<A: Allocator + Copy>(alloc: A, tail: &[u8]) -> Result<Option<Event<A>>, AllocError>
+    ensures { ReadsArguments Command.Forge (words_after tail.now) result }
+{
+    match bytes_alone(alloc, tail)? {
+        Some(bytes) => Ok(Some(Event::Forge(bytes))),
+        None => Ok(None),
+    }
+}
+
+fn strange_request<A: Allocator + Copy>(
+    alloc: A,
+    tail: &[u8],
+) -> Result<Option<Event<A>>, AllocError>
+    ensures { ReadsArguments Command.StrangeRequest (words_after tail.now) result }
+{
+    match bytes_alone(alloc, tail)? {
+        Some(bytes) => Ok(Some(Event::StrangeRequest(bytes))),
+        None => Ok(None),
+    }
+}
+
+fn server_add<A: Allocator + Copy>(alloc: A, tail: &[u8]) -> Result<Option<Event<A>>, AllocError>
+    ensures { ReadsArguments Command.ServerAdd (words_after tail.now) result }
+{
+    match entry_of(alloc, tail)? {
+        Some(entry) => Ok(Some(Event::ServerAdd(entry))),
+        None => Ok(None),
+    }
+}
+
+fn client_add<A: Allocator + Copy>(alloc: A, tail: &[u8]) -> Result<Option<Event<A>>, AllocError>
+    ensures { ReadsArguments Command.ClientAdd (words_after tail.now) result }
+{
+    match entry_of(alloc, tail)? {
+        Some(entry) => Ok(Some(Event::ClientAdd(entry))),
+        None => Ok(None),
+    }
+}
+
+fn server_ref<A: Allocator + Copy>(alloc: A, tail: &[u8]) -> Result<Option<Event<A>>, AllocError>
+    ensures { ReadsArguments Command.ServerRef (words_after tail.now) result }
+{
+    match ref_of(alloc, tail)? {
+        Some((name, id)) => Ok(Some(Event::ServerRef(name, id))),
+        None => Ok(None),
+    }
+}
+
+fn client_ref<A: Allocator + Copy>(alloc: A, tail: &[u8]) -> Result<Option<Event<A>>, AllocError>
+    ensures { ReadsArguments Command.ClientRef (words_after tail.now) result }
+{
+    match ref_of(alloc, tail)? {
+        Some((name, id)) => Ok(Some(Event::ClientRef(name, id))),
+        None => Ok(None),
+    }
+}
+
+// ---- what several events have
+
+// The number that comes, alone.
+fn number_alone(tail: &[u8]) -> Option<usize>
+    ensures { MatchOption result (((number : ℕ) → IsOneNumber (words_after tail.now) number → ⊥))
+        (IsOneNumber (words_after tail.now)) }
+{
+    match one_word(tail) {
+        Some(text) => number_of(text),
+        None => None,
+    }
+}
+
+// The number, and how many bytes come.
+fn number_and_count(tail: &[u8]) -> Option<(usize, usize)>
+    ensures { MatchOption result
+        (((number count : ℕ) → AreNumberAndCount (words_after tail.now) number count → ⊥))
+        (λ pair. AreNumberAndCount (words_after tail.now) pair.0 pair.1) }
+{
+    match two_words(tail) {
+        Some((text, bytes)) => match number_of(text) {
+            Some(number) => match count_of(bytes) {
+                Some(count) => Some((number, count)),
+                None => None,
+            },
+            None => None,
+        },
+        None => None,
+    }
+}
+
+// The bytes that come, alone.
+fn bytes_alone<A: Allocator + Copy>(alloc: A, tail: &[u8]) -> Result<Option<Vec<u8, A>>, AllocError>
+    ensures { MatchResult result
+        (λ found. MatchOption found (((bytes : List ℕ) → AreOneBytes (words_after tail.now) bytes → ⊥))
+        (λ bytes. AreOneBytes (words_after tail.now) bytes.items))
+        (λ _. ⊤) }
+{
+    match one_word(tail) {
+        Some(text) => bytes_of(alloc, text),
+        None => Ok(None),
+    }
+}
+
+// The refspecs that come.
+fn specs_of<A: Allocator + Copy>(
+    alloc: A,
+    tail: &[u8],
+) -> Result<Option<Vec<Spec<A>, A>>, AllocError>
+    ensures { MatchResult result
+        (λ found. MatchOption found (((specs : List Refspec) → AreSpecs (words_after tail.now) specs → ⊥))
+        (λ specs. AreSpecs (words_after tail.now) specs.items))
+        (λ _. ⊤) }
+{
+    if no_word(tail) {
+        return Ok(None);
+    }
+    let mut specs = Vec::new(alloc);
+    let mut rest = tail;
+    while let Some(next) = next_word(rest) {
+        match Spec::parse(alloc, next.0) {
+            Ok(spec) => specs.push(spec)?,
+            Err(SpecFault::BadSpec) => return Ok(None),
+            Err(SpecFault::Memory) => return Err(AllocError),
+        }
+        rest = next.1;
+    }
+    Ok(Some(specs))
+}
+
+// The object that comes.
+fn entry_of<A: Allocator + Copy>(alloc: A, tail: &[u8]) -> Result<Option<Entry<A>>, AllocError>
+    ensures { MatchResult result
+        (λ found. MatchOption found (((entry : Entry A) → IsEntry (words_after tail.now) entry → ⊥))
+        (IsEntry (words_after tail.now)))
+        (λ _. ⊤) }
+{
+    match next_word(tail) {
+        Some((word, rest)) => match kind_of(word) {
+            Some(kind) => entry_of_kind(alloc, kind, rest),
+            None => Ok(None),
+        },
+        None => Ok(None),
+    }
+}
+
+// The object of this kind, whose ids come.
+fn entry_of_kind<A: Allocator + Copy>(
+    alloc: A,
+    kind: Kind,
+    tail: &[u8],
+) -> Result<Option<Entry<A>>, AllocError>
+    ensures { MatchResult result
+        (λ found. MatchOption found
+        (((id : List ℕ) (ids : List (List ℕ)) → AllZip IsIdText (words_after tail.now) (id ∷ ids) → ⊥))
+        (λ entry. (entry.node.kind ≡ kind) × AllZip IsIdText (words_after tail.now) (ids_of entry)))
+        (λ _. ⊤) }
+{
+    match next_word(tail) {
+        Some((word, rest)) => match id_of(word) {
+            Some(id) => match parents_of(alloc, rest)? {
+                Some(parents) => Ok(Some(Entry {
+                    id,
+                    node: Node { kind, parents },
+                })),
+                None => Ok(None),
+            },
+            None => Ok(None),
+        },
+        None => Ok(None),
+    }
+}
+
+// The ids that come.
+fn parents_of<A: Allocator + Copy>(alloc: A, tail: &[u8]) -> Result<Option<Parents<A>>, AllocError>
+    ensures { MatchResult result
+        (λ found. MatchOption found (((ids : List (List ℕ)) → AllZip IsIdText (words_after tail.now) ids → ⊥))
+        (AllZip IsIdText (words_after tail.now)))
+        (λ _. ⊤) }
+{
+    let mut parents = Parents::new(alloc);
+    let mut rest = tail;
+    while let Some(next) = next_word(rest) {
+        match id_of(next.0) {
+            Some(id) => parents.push(id)?,
+            None => return Ok(None),
+        }
+        rest = next.1;
+    }
+    Ok(Some(parents))
+}
+
+// The ref that comes, and where it is to stand.
+fn ref_of<A: Allocator + Copy>(
+    alloc: A,
+    tail: &[u8],
+) -> Result<Option<(RefName<A>, Oid)>, AllocError>
+    ensures { MatchResult result
+        (λ found. MatchOption found (((name id : List ℕ) → IsRef (words_after tail.now) name id → ⊥))
+        (λ pair. IsRef (words_after tail.now) pair.0 pair.1))
+        (λ _. ⊤) }
+{
+    let Some((digits, text)) = two_words(tail) else {
+        return Ok(None);
+    };
+    let Some(id) = id_of(digits) else {
+        return Ok(None);
+    };
+    match name_of(alloc, text)? {
+        Some(name) => Ok(Some((name, id))),
+        None => Ok(None),
+    }
+}

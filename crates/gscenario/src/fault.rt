@@ -1,0 +1,69 @@
+// Why a text is no scenario.
+#![tactic(auto)]
+
+ghost use Rattle.std.specs.Prelude.{◌≡◌, Some};
+ghost use Rattle.gscenario.specs.Faults.{scenario_fault_row, scenario_fault_text};
+ghost use Rattle.gscenario.specs.declared.fault.ScenarioFault.TheVariants as faults;
+
+use std::alloc::AllocError;
+use std::error::Error;
+use std::fmt;
+
+/// Why a text was not read as a scenario.
+#[derive(Clone, Copy, Debug, PartialEq, Eq, Drop)]
+pub enum ScenarioFault {
+    /// This line, counted from 1, is that of no event, or it does not end.
+    Scenario { line: usize },
+    /// There is no memory for the events.
+    Memory,
+}
+
+impl ScenarioFault {
+    /// The number of the fault.
+    pub fn code(&self) -> u32
+        ensures { result ≡ (scenario_fault_row self.now).0 }
+    {
+        self.row().0
+    }
+
+    /// The name of the fault.
+    pub fn name(&self) -> &'static str
+        ensures { result.now ≡ (scenario_fault_row self.now).1 }
+    {
+        self.row().1
+    }
+
+    // The table: the number and the name of each fault.
+    fn row(&self) -> (u32, &'static str)
+        ensures { (result.0, result.1.now) ≡ scenario_fault_row self.now }
+    {
+        match self {
+            ScenarioFault::Scenario { .. } => (92, "Scenario"),
+            ScenarioFault::Memory => (91, "Memory"),
+        }
+    }
+}
+
+impl fmt::Display for ScenarioFault {
+    ghost output = { λ fault. Some (scenario_fault_text fault) };
+
+    fn fmt<W: fmt::Write>(&self, f: &mut fmt::Formatter<W>) -> fmt::Result {
+        match self {
+            ScenarioFault::Scenario { line } => write!(
+                f,
+                "line {line} of the scenario is that of no event, or does not end"
+            ),
+            ScenarioFault::Memory => f.write_str("out of memory"),
+        }
+    }
+}
+
+impl Error for ScenarioFault {}
+
+impl From<AllocError> for ScenarioFault {
+    ghost from_gives = { λ _ fault. fault ≡ faults.Memory };
+
+    fn from(_refused: AllocError) -> ScenarioFault {
+        ScenarioFault::Memory
+    }
+}

@@ -1,0 +1,26 @@
+//! Laws of scenarios. A call does nothing, and gives its caller's proof the law.
+#![tactic(auto)]
+
+ghost use Rattle.gscenario.specs.Laws.{TextsHaveOneReading, WrongIsNone, WrongLinesHaveOnePlace};
+
+use gname::laws::texts_spell_one_id;
+use gspec::laws::one_reading;
+use std::alloc::Allocator;
+
+/// A text is that of one list of events: what it names is settled.
+pub fn texts_have_one_reading<A: Allocator + Copy>()
+    ensures { TextsHaveOneReading A }
+{
+    one_reading();
+    texts_spell_one_id();
+}
+
+/// A text with a wrong line is the text of no events: what is refused is no scenario.
+pub fn wrong_is_none<A: Allocator + Copy>()
+    ensures { WrongIsNone A }
+{}
+
+/// A text has one wrong line at most: no other could have been reported.
+pub fn wrong_lines_have_one_place<A: Allocator + Copy>()
+    ensures { WrongLinesHaveOnePlace A }
+{}

@@ -1,0 +1,91 @@
+-- A world begins.
+use Rattle.std.proofs.Common.{◌≡◌, ◌∙◌, ℕ, ◌+◌, ◌<◌, ◌≤◌, List, [], length, take, drop, get_or, All}
+use Rattle.std.proofs.Common.{Some, sym, ap, subst, arith, inl, inr}
+use Rattle.std.specs.Prelude.{slice_get}
+use Rattle.std.proofs.lemmas.List.{take_all}
+use Rattle.std.proofs.lemmas.List.Elements.{All-nil, All-push}
+use Rattle.std.proofs.lemmas.Option.{get_or_from_slice_get, same_Some, slice_get_cases, slice_get_within}
+use Rattle.gobject.specs.declared.node.Entry.{Entry}
+use Rattle.gobject.specs.Objects.{IdsDiffer, entry_of}
+use Rattle.ghistory.proofs.Growing.{all_standing, at_front, take_one}
+use Rattle.ghistory.specs.Laws.{AgreesWith, PlacesAreNodes}
+use Rattle.ghistory.specs.Reach.{Agree}
+use Rattle.ganswer.specs.Servers.{Server}
+use Rattle.grepo.specs.Repos.{RepoState}
+use Rattle.gworld.specs.Bringing.{AgreesAt, DisagreesAt}
+use Rattle.gworld.specs.Sound.{IsSound, IsSoundKept, IsSoundRequest}
+use Rattle.gworld.specs.Starts.{CanStart, IsFirstDisagreement}
+use Rattle.grequest.specs.Asked.{Asked}
+use Rattle.gworld.specs.Worlds.{Kept, PackTools, WorldOf, WorldState, new_world}
+use Rattle.std.proofs.lemmas.Bool.{false≢true}
+
+module _ {A : Type 0} where
+  stands : (g : List (Entry A)) (p : ℕ) (entry : Entry A) → slice_get g p ≡ Some entry → entry ≡ get_or g p entry
+  stands g p entry at = sym (get_or_from_slice_get g p entry entry at)
+
+  -- the client agrees with one more entry
+  pub one_more_agrees : (g h : List (Entry A)) (p : ℕ) → p < length g → AgreesAt g h p → All (AgreesWith h) (take p g)
+      → All (AgreesWith h) (take (p + 1) g)
+  one_more_agrees g h p inside here before =
+      elim (slice_get_cases g p).1 [
+        | inl found ↦
+            subst (All (AgreesWith h)) (sym (take_one g p found.0 inside (stands g p found.0 found.2)))
+            (All-push (AgreesWith h) (take p g) found.0 before (here found.0 found.2))
+        | inr past ↦ (let over = past.0 in absurd (omega (arith, over, inside)))
+      ]
+
+  -- the first entry with which it disagrees
+  pub first_found : (g h : List (Entry A)) (p : ℕ) (id : List ℕ) → All (AgreesWith h) (take p g) → DisagreesAt g h p id
+      → IsFirstDisagreement g h id
+  first_found g h p id before found = record {
+    front = take p g;
+    entry = found.0;
+    back = drop (p + 1) g;
+    parts = at_front g p found.0 (slice_get_within g p found.0 found.1) (stands g p found.0 found.1);
+    agree = before;
+    disagrees = found.2;
+    is = found.3;
+  }
+
+  -- where it agrees with each entry, the graphs agree
+  pub graphs_agree : PlacesAreNodes A → (g h : List (Entry A)) (p : ℕ) → length g ≤ p → IdsDiffer g
+      → All (AgreesWith h) (take p g)
+      → Agree g h
+  graphs_agree law g h p past differ before a m n here there =
+      let all : All (AgreesWith h) g = subst (All (AgreesWith h)) (take_all p g past) before in
+      let place = ((law g differ).0 a m).0 here in
+      sym (all_standing (AgreesWith h) g place.0 (entry_of a m) place.1 all n there)
+
+  -- what the client holds under the id of the entry that the server has there
+  pub agrees_here : (g h : List (Entry A)) (p : ℕ) (entry : Entry A) → slice_get g p ≡ Some entry → AgreesWith h entry
+      → AgreesAt g h p
+  agrees_here g h p entry at agrees other there =
+      subst (AgreesWith h) (same_Some entry other (sym at ∙ there)) agrees
+
+  pub none_there : (g h : List (Entry A)) (p : ℕ) → p < length g → length g ≤ p → AgreesAt g h p
+  none_there g h p inside past = absurd (omega (arith, inside, past))
+
+  pub begins_as : (server : Server A) (repo : RepoState A) (sent : List Asked) (kept : List Kept) → sent ≡ []
+      → kept ≡ []
+      → record (new_world server repo) { sent = sent; kept = kept } ≡ new_world server repo
+  begins_as server repo sent kept none also =
+      ap (λ (l : List Asked). record (new_world server repo) { sent = l; kept = kept }) none
+      ∙ ap (λ (l : List Kept). record (new_world server repo) { kept = l }) also
+
+  -- a world that begins is sound
+  pub starts_soundly : (tools : PackTools A) (server : Server A) (repo : RepoState A) → CanStart server repo
+      → IsSound tools (new_world server repo)
+  starts_soundly tools server repo can = record {
+    format = can.format;
+    agree = λ honest. can.agree;
+    sent = All-nil (IsSoundRequest (new_world server repo));
+    kept = All-nil (IsSoundKept tools.packs (new_world server repo));
+    session = tt;
+    answered = λ wrong. absurd (false≢true wrong);
+  }
+
+abbrev pub made : {A K : Type 0} → K → WorldState A → WorldOf A K
+made tools world = record { tools = tools; world = world }
+
+pub made_same : {A K : Type 0} (tools : K) (w v : WorldState A) → w ≡ v → made tools w ≡ made tools v
+made_same tools w v same = ap (made tools) same

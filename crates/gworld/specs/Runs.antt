@@ -1,0 +1,34 @@
+-- Runs: events one after the other, with the outcome of each.
+use Rattle.std.specs.Prelude.{◌≡◌, List, [], ◌∷◌, ◌++◌}
+use Rattle.gworld.specs.Steps.{Step}
+use Rattle.gworld.specs.Worlds.{PackTools, WorldState}
+use Rattle.gscenario.specs.declared.event.Event.{Event}
+use Rattle.gworld.specs.declared.fault.RunFault.{RunFault}
+use Rattle.gworld.specs.declared.fault.RunFault.TheVariants as run
+use Rattle.gworld.specs.declared.outcome.Outcome.{Outcome}
+
+-- the events were done one after the other, each with its outcome, and each step has this property
+abbrev pub RunWith : {A : Type 0} → (WorldState A → Event A → Outcome → WorldState A → Type 0)
+    → WorldState A → List (Event A) → List Outcome → WorldState A → Type 0
+RunWith P w [] [] new = new ≡ w
+RunWith {A} P w (event ∷ events) (outcome ∷ outcomes) new =
+    (next : WorldState A) × P w event outcome next × RunWith P next events outcomes new
+RunWith P w [] (outcome ∷ outcomes) new = ⊥
+RunWith P w (event ∷ events) [] new = ⊥
+
+-- the events were done one after the other, each with its outcome
+abbrev pub Run : {A : Type 0} → PackTools A → WorldState A → List (Event A) → List Outcome → WorldState A → Type 0
+Run tools w events outcomes new = RunWith (Step tools) w events outcomes new
+
+-- the first of the events were done, as many as there are outcomes; there is a next one, which did not begin
+pub record RunsFront {A : Type 0} (P : WorldState A → Event A → Outcome → WorldState A → Type 0) (w : WorldState A)
+    (events : List (Event A)) (outcomes : List Outcome) (new : WorldState A) : Type 0 where
+  pub front : List (Event A)
+  pub next : Event A
+  pub rest : List (Event A)
+  pub parts : events ≡ front ++ next ∷ rest
+  pub run : RunWith P w front outcomes new
+
+-- the outcomes of the events that were done before a run stopped
+abbrev pub outcomes_before : {A : Type 0} → RunFault A → List Outcome
+outcomes_before (run.Memory outcomes) = outcomes.items

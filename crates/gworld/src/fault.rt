@@ -1,0 +1,116 @@
+// Why there is no such world, and why a run stopped.
+#![tactic(auto)]
+
+ghost use Rattle.std.specs.Prelude.{◌≡◌, Some};
+ghost use Rattle.gworld.specs.Faults.{run_fault_row, run_fault_text, world_fault_row, world_fault_text};
+
+use crate::outcome::Outcome;
+use gname::Oid;
+use std::alloc::{Allocator, Global};
+use std::error::Error;
+use std::fmt;
+
+/// The fault of an event that would have server and client hold one id with two objects.
+pub(crate) const DISAGREE: u32 = 90;
+
+/// The fault of an event that names a request that was not sent, or a reply that is not kept.
+pub(crate) const NO_SUCH: u32 = 93;
+
+/// The fault of an event for which the client's session does not wait: there is none, or another call is due.
+pub(crate) const NO_OPEN_REQUEST: u32 = 83;
+
+/// Why there is no such world.
+#[derive(Clone, Copy, Debug, PartialEq, Eq, Drop)]
+pub enum WorldFault {
+    /// 97: server and client have ids of two object formats.
+    TwoFormats,
+    /// 90: server and client hold this id with two objects. It is the first such id in the order of the server's
+    /// objects.
+    Disagree { id: Oid },
+}
+
+impl WorldFault {
+    /// The number of the fault.
+    pub fn code(&self) -> u32
+        ensures { result ≡ (world_fault_row self.now).0 }
+    {
+        self.row().0
+    }
+
+    /// The name of the fault.
+    pub fn name(&self) -> &'static str
+        ensures { result.now ≡ (world_fault_row self.now).1 }
+    {
+        self.row().1
+    }
+
+    // The table: the number and the name of each fault.
+    fn row(&self) -> (u32, &'static str)
+        ensures { (result.0, result.1.now) ≡ world_fault_row self.now }
+    {
+        match self {
+            WorldFault::TwoFormats => (97, "TwoFormats"),
+            WorldFault::Disagree { .. } => (90, "Disagree"),
+        }
+    }
+}
+
+impl fmt::Display for WorldFault {
+    ghost output = { λ fault. Some (world_fault_text fault) };
+
+    fn fmt<W: fmt::Write>(&self, f: &mut fmt::Formatter<W>) -> fmt::Result {
+        match self {
+            WorldFault::TwoFormats => f.write_str("server and client have two object formats"),
+            WorldFault::Disagree { .. } => f.write_str(
+                "server and client hold an id with two objects",
+            ),
+        }
+    }
+}
+
+impl Error for WorldFault {}
+
+/// Why a run stopped before it did all events.
+#[derive(Debug, Drop)]
+pub enum RunFault<A: Allocator + Copy = Global> {
+    /// 91: a list of the world, or a buffer, could not grow. These are the outcomes of the events that were done; the
+    /// next one has not begun.
+    Memory { outcomes: Vec<Outcome, A> },
+}
+
+impl<A: Allocator + Copy> RunFault<A> {
+    /// The number of the fault.
+    pub fn code(&self) -> u32
+        ensures { result ≡ (run_fault_row self.now).0 }
+    {
+        self.row().0
+    }
+
+    /// The name of the fault.
+    pub fn name(&self) -> &'static str
+        ensures { result.now ≡ (run_fault_row self.now).1 }
+    {
+        self.row().1
+    }
+
+    // The table: the number and the name of each fault.
+    fn row(&self) -> (u32, &'static str)
+        ensures { (result.0, result.1.now) ≡ run_fault_row self.now }
+    {
+        match self {
+            RunFault::Memory { .. } => (91, "Memory"),
+        }
+    }
+}
+
+impl<A: Allocator + Copy> fmt::Display for RunFault<A> {
+    ghost output = { λ fault. Some (run_fault_text fault) };
+
+    fn fmt<W: fmt::Write>(&self, f: &mut fmt::Formatter<W>) -> fmt::Result {
+        match self {
+            RunFault::Memory { .. } => f.write_str("out of memory"),
+        }
+    }
+}
+
+impl<A: Allocator + Copy + fmt::Debug> Error for RunFault<A> {}

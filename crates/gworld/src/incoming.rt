@@ -1,0 +1,131 @@
+// Bytes come as the reply to the request that waits.
+#![tactic(auto)]
+
+ghost use Rattle.std.specs.Prelude.{◌≡◌, MatchResult, take, Some};
+ghost use Rattle.gworld.specs.Bringing.{IsAwaited, TakesIfOpen, refs_outcome};
+ghost use Rattle.gworld.specs.Taking.{TakesObjects, TakesRefs};
+
+use crate::outcome::Outcome;
+use ggraph::Indexer;
+use gpkt::memory::SliceSource;
+use gpkt::{LineBuffer, LineReader};
+use grepo::Repo;
+use grequest::Request;
+use gsession::{ClientFault, LsTaken, Session, Taken};
+use std::alloc::{AllocError, Allocator};
+
+/// What a session waits for.
+#[derive(Clone, Copy, Drop)]
+pub(crate) enum Due {
+    /// No reply.
+    Nothing,
+    /// The reply to a request for refs.
+    Refs,
+    /// The reply to a request for objects.
+    Objects,
+}
+
+// What the session waits for.
+fn awaited<A: Allocator + Copy>(session: &Session<A>) -> Due
+    ensures { IsAwaited session.now.pending result }
+{
+    match session.pending() {
+        Some(Request::Ls(_)) => Due::Refs,
+        Some(Request::Fetch(_)) => Due::Objects,
+        Some(Request::Empty) | None => Due::Nothing,
+    }
+}
+
+/// What the request that waits makes of some bytes; nothing, where none waits.
+pub(crate) fn take_bytes<A: Allocator + Copy, K: Indexer<A>>(
+    session: &mut Session<A>,
+    repo: &mut Repo<A>,
+    bytes: &[u8],
+    indexer: &K,
+) -> Result<Option<Outcome>, AllocError>
+    ensures { MatchResult result
+        (λ took. TakesIfOpen (K.indexes indexer.now) (K.index_fails indexer.now) session.old.pending session.old
+        repo.old bytes.now took session.new repo.new)
+        (λ _. (session.new ≡ session.old) × (repo.new ≡ repo.old)) }
+{
+    match awaited(session) {
+        Due::Nothing => Ok(None),
+        Due::Refs => {
+            let outcome = take_refs(session, repo, bytes)?;
+            Ok(Some(outcome))
+        }
+        Due::Objects => {
+            let outcome = take_objects(session, repo, bytes, indexer)?;
+            Ok(Some(outcome))
+        }
+    }
+}
+
+// Bytes come as the reply to ls-refs.
+fn take_refs<A: Allocator + Copy>(
+    session: &mut Session<A>,
+    repo: &Repo<A>,
+    bytes: &[u8],
+) -> Result<Outcome, AllocError>
+    ensures { MatchResult result
+        (λ outcome. TakesRefs session.old repo.now bytes.now outcome session.new repo.now)
+        (λ _. session.new ≡ session.old) }
+{
+    let buffer = line_buffer(repo.graph().allocator())?;
+    let mut reader = LineReader::with_buffer(buffer, SliceSource::new(bytes));
+    let result = session.take_ls(repo, &mut reader);
+    Ok(refs_outcome(result))
+}
+
+// The outcome of a reply to ls-refs.
+fn refs_outcome<A: Allocator + Copy>(taking: Result<LsTaken<A>, ClientFault<A>>) -> Outcome
+    ensures { result ≡ refs_outcome taking }
+{
+    match taking {
+        Ok(taken) => Outcome::LsTaken {
+            asks: taken.asks,
+            wants: taken.wants,
+        },
+        Err(fault) => Outcome::Fault { code: fault.code() },
+    }
+}
+
+// Bytes come as the reply to fetch.
+fn take_objects<A: Allocator + Copy, K: Indexer<A>>(
+    session: &mut Session<A>,
+    repo: &mut Repo<A>,
+    bytes: &[u8],
+    indexer: &K,
+) -> Result<Outcome, AllocError>
+    ensures { MatchResult result
+        (λ outcome. TakesObjects (K.indexes indexer.now) (K.index_fails indexer.now) session.old repo.old bytes.now
+        outcome session.new repo.new)
+        (λ _. (session.new ≡ session.old) × (repo.new ≡ repo.old)) }
+{
+    let buffer = line_buffer(repo.graph().allocator())?;
+    let mut reader = LineReader::with_buffer(buffer, SliceSource::new(bytes));
+    match session.take_reply(repo, &mut reader, indexer) {
+        Ok(Taken::Round { common }) => Ok(Outcome::Round { common }),
+        Ok(Taken::PackTaken { added }) => Ok(Outcome::PackTaken { added }),
+        Err(fault) => Ok(Outcome::Fault { code: fault.code() }),
+    }
+}
+
+// A buffer for packet lines.
+fn line_buffer<A: Allocator + Copy>(alloc: A) -> Result<LineBuffer<A>, AllocError> {
+    match LineBuffer::new(alloc) {
+        Ok(buffer) => Ok(buffer),
+        Err(_) => Err(AllocError),
+    }
+}
+
+/// The first so many bytes; all, where there are fewer.
+pub(crate) fn front(bytes: &[u8], count: usize) -> &[u8]
+    ensures { result.now ≡ take count bytes.now }
+{
+    if count < bytes.len() {
+        &bytes[..count]
+    } else {
+        bytes
+    }
+}

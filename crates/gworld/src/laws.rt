@@ -1,0 +1,97 @@
+//! Laws of worlds. A call does nothing, and gives its caller's proof the law.
+#![tactic(auto)]
+
+ghost use Rattle.std.specs.Prelude.{◌≡◌, false};
+ghost use Rattle.gworld.specs.Laws.{CommonsStayShared, PromisesAreRuns, RefsStayWhole, RequestsStayFew, StepsKeep};
+ghost use Rattle.gworld.specs.Sound.{IsUnforgedAndFaithful};
+ghost use Rattle.gworld.specs.Worlds.{WorldState, tools_of};
+
+use ganswer::laws::{
+    acks_are_common, fetch_answers_fit, held_wants_are_served, ls_answers_are_held, ls_answers_fit,
+    packs_are_enough, servers_grow,
+};
+use ggraph::graph_laws::{
+    agreeing_entries_fit, agreeing_stays, coming_grows, full_stays_full, growing_goes_on,
+    growing_keeps, keeping_has_all, keeping_holds, keeping_reaches,
+};
+use ggraph::{Faithful, Indexer, Packer};
+use gmsg::laws::replies_differ;
+use gpkt::laws::{canonical_spells, one_begins};
+use grepo::laws::{held_is_not_missing, refusals_change_nothing};
+use gsession::laws::{
+    asks_are_of_lines, began_begins, began_stays, commons_are_haves, haves_are_held,
+    open_is_the_sessions, rounds_are_few, taking_only_grows, wants_are_exact,
+};
+use std::alloc::Allocator;
+
+/// From a sound world each step leads to a sound world, and keeps its promises.
+pub fn steps_keep<A: Allocator + Copy, K: Packer<A> + Indexer<A>>()
+    ensures { (k : K) → StepsKeep (tools_of (K.packs k) (K.pack_fails k) (K.indexes k) (K.index_fails k)) }
+{
+    growing_keeps::<A>();
+    growing_goes_on::<A>();
+    coming_grows::<A>();
+    keeping_holds::<A>();
+    keeping_reaches::<A>();
+    full_stays_full::<A>();
+    keeping_has_all::<A>();
+    agreeing_stays::<A>();
+    agreeing_entries_fit::<A>();
+    canonical_spells();
+    one_begins();
+    gfetchreply::laws::canonical_says();
+    gfetchreply::laws::reads_exactly();
+    gfetchreply::laws::other_readings();
+    glsreply::laws::canonical_says();
+    glsreply::laws::one_meaning();
+    glsreply::laws::prefix_free();
+    replies_differ();
+    fetch_answers_fit::<A, K>();
+    ls_answers_fit::<A>();
+    ls_answers_are_held::<A>();
+    acks_are_common::<A, K>();
+    packs_are_enough::<A, K>();
+    held_wants_are_served::<A, K>();
+    servers_grow::<A>();
+    refusals_change_nothing::<A>();
+    held_is_not_missing::<A>();
+    began_begins::<A>();
+    began_stays::<A>();
+    rounds_are_few::<A>();
+    haves_are_held::<A>();
+    open_is_the_sessions::<A>();
+    wants_are_exact::<A>();
+    asks_are_of_lines::<A>();
+    commons_are_haves::<A, K>();
+    taking_only_grows::<A, K>();
+}
+
+/// A packer and indexer that are faithful lose nothing: a world that has them, in which no bytes were forged, keeps all
+/// that is promised of such worlds.
+pub fn faithful_lose_nothing<A: Allocator + Copy, K: Faithful<A>>(tools: &K)
+    ensures { ((w : WorldState A) → w.forged ≡ false
+        → IsUnforgedAndFaithful (tools_of (K.packs tools.now) (K.pack_fails tools.now)
+        (K.indexes tools.now) (K.index_fails tools.now)) w) }
+{
+    tools.loses_nothing();
+}
+
+/// A run whose steps keep their promises is a run.
+pub fn promises_are_runs<A: Allocator + Copy, K: Packer<A> + Indexer<A>>()
+    ensures { (k : K) → PromisesAreRuns (tools_of (K.packs k) (K.pack_fails k) (K.indexes k) (K.index_fails k)) }
+{}
+
+/// After any run each ref of the client names an id whose whole ancestry the client holds.
+pub fn refs_stay_whole<A: Allocator + Copy, K: Packer<A> + Indexer<A>>()
+    ensures { (k : K) → RefsStayWhole (tools_of (K.packs k) (K.pack_fails k) (K.indexes k) (K.index_fails k)) }
+{}
+
+/// After any run the client's session asked for objects at most once more than there are ids that its tips reach.
+pub fn requests_stay_few<A: Allocator + Copy, K: Packer<A> + Indexer<A>>()
+    ensures { (k : K) → RequestsStayFew (tools_of (K.packs k) (K.pack_fails k) (K.indexes k) (K.index_fails k)) }
+{}
+
+/// After any run in which no bytes are forged, server and client hold each common id.
+pub fn commons_stay_shared<A: Allocator + Copy, K: Packer<A> + Indexer<A>>()
+    ensures { (k : K) → CommonsStayShared (tools_of (K.packs k) (K.pack_fails k) (K.indexes k) (K.index_fails k)) }
+{}

@@ -1,0 +1,45 @@
+// What came of an event.
+#![tactic(auto)]
+
+/// What came of an event.
+#[derive(Clone, Copy, Debug, PartialEq, Eq, Drop)]
+pub enum Outcome {
+    /// It was done.
+    Done,
+    /// The client sent a request, with this number.
+    Asked {
+        request: usize,
+    },
+    /// The server made a reply, which is kept with this number.
+    Served {
+        reply: usize,
+    },
+    /// The server wrote so many bytes to the stranger.
+    StrangerServed {
+        written: u128,
+    },
+    /// The reply to ls-refs was taken: so many refs are asked for, and so many objects wanted for them.
+    LsTaken {
+        asks: usize,
+        wants: usize,
+    },
+    /// Acknowledgments were taken: so many ids are common to client and server now.
+    Round {
+        common: usize,
+    },
+    /// A pack was taken: so many of its objects were not held before.
+    PackTaken {
+        added: usize,
+    },
+    /// The refs were settled: so many moved, so many stood at their ids already, and so many stayed because they would
+    /// not go forward.
+    Settled {
+        moved: usize,
+        same: usize,
+        not_forward: usize,
+    },
+    /// It was refused, with the fault of this number.
+    Fault {
+        code: u32,
+    },
+}

@@ -1,0 +1,147 @@
+// Replies that come.
+#![tactic(auto)]
+
+ghost use Rattle.std.specs.Prelude.{◌≡◌, ◌↔◌, MatchResult, slice_get, IsTrue, IfOk, Some};
+ghost use Rattle.gworld.specs.Taking.{IsPackTaken};
+ghost use Rattle.gworld.specs.Bringing.{BringsTo};
+ghost use Rattle.gworld.specs.Steps.{Delivers, Forges, waiting};
+ghost use Rattle.gworld.specs.Worlds.{reply_bytes};
+
+use super::{KeptReply, Parts, kept_at};
+use crate::fault::{NO_OPEN_REQUEST, NO_SUCH};
+use crate::incoming::{front, take_bytes};
+use crate::outcome::Outcome;
+use ggrammar::Ends;
+use ggraph::Indexer;
+use gpkt::LineWriter;
+use gpkt::memory::VecSink;
+use grepo::Repo;
+use gserve::write_reply;
+use gsession::Session;
+use std::alloc::{AllocError, Allocator};
+
+impl<A: Allocator + Copy> KeptReply<A> {
+    // The bytes of the reply.
+    fn bytes(&self, alloc: A) -> Result<Vec<u8, A>, AllocError>
+        ensures { IfOk result (λ bytes. bytes.items ≡ reply_bytes self.now.reply) }
+    {
+        let mut writer = LineWriter::new(VecSink::new(alloc));
+        let written = write_reply(&self.reply, Ends::Plain, &mut writer);
+        let sink = writer.into_inner();
+        match written {
+            Ok(()) => Ok(sink.into_written()),
+            Err(_) => Err(AllocError),
+        }
+    }
+
+    // Whether the reply answers the very request for which the session waits.
+    fn answers_open(&self, session: &Session<A>) -> bool
+        ensures { IsTrue result ↔ (session.now.pending ≡ Some self.now.asked) }
+    {
+        match session.pending() {
+            Some(request) => self.request.asks_as(request),
+            None => false,
+        }
+    }
+}
+
+impl<A: Allocator + Copy> Parts<A> {
+    /// So many bytes of a kept reply come as the reply to the request that waits: all, where there are fewer.
+    pub(crate) fn deliver<K: Indexer<A>>(
+        &mut self,
+        number: usize,
+        count: usize,
+        indexer: &K,
+    ) -> Result<Outcome, AllocError>
+        ensures { MatchResult result
+            (λ outcome. Delivers (K.indexes indexer.now) (K.index_fails indexer.now) self.old
+            (slice_get self.old.kept number) count (waiting self.old.session) outcome self.new)
+            (λ _. self.new ≡ self.old) }
+    {
+        match kept_at(&self.kept, number) {
+            None => Ok(Outcome::Fault { code: NO_SUCH }),
+            Some(kept) => match &mut self.session {
+                None => Ok(Outcome::Fault {
+                    code: NO_OPEN_REQUEST,
+                }),
+                Some(session) => bring(
+                    kept,
+                    count,
+                    session,
+                    &mut self.repo,
+                    &mut self.answered,
+                    indexer,
+                ),
+            },
+        }
+    }
+
+    /// Forged bytes come.
+    pub(crate) fn forge<K: Indexer<A>>(
+        &mut self,
+        bytes: &[u8],
+        indexer: &K,
+    ) -> Result<Outcome, AllocError>
+        ensures { MatchResult result
+            (λ outcome. Forges (K.indexes indexer.now) (K.index_fails indexer.now) self.old bytes.now
+            (waiting self.old.session) outcome self.new)
+            (λ _. self.new ≡ self.old) }
+    {
+        match &mut self.session {
+            None => {
+                self.forged = true;
+                Ok(Outcome::Fault {
+                    code: NO_OPEN_REQUEST,
+                })
+            }
+            Some(session) => match take_bytes(session, &mut self.repo, bytes, indexer)? {
+                None => {
+                    self.forged = true;
+                    Ok(Outcome::Fault {
+                        code: NO_OPEN_REQUEST,
+                    })
+                }
+                Some(outcome) => {
+                    self.forged = true;
+                    self.answered = false;
+                    Ok(outcome)
+                }
+            },
+        }
+    }
+}
+
+// A kept reply comes to the session.
+fn bring<A: Allocator + Copy, K: Indexer<A>>(
+    kept: &KeptReply<A>,
+    count: usize,
+    session: &mut Session<A>,
+    repo: &mut Repo<A>,
+    mark: &mut bool,
+    indexer: &K,
+) -> Result<Outcome, AllocError>
+    ensures { MatchResult result
+        (λ outcome. BringsTo (K.indexes indexer.now) (K.index_fails indexer.now) kept.now count session.old.pending
+        session.old repo.old mark.old outcome session.new repo.new mark.new)
+        (λ _. (session.new ≡ session.old) × (repo.new ≡ repo.old) × (mark.new ≡ mark.old)) }
+{
+    let bytes = kept.bytes(repo.graph().allocator())?;
+    let same = kept.answers_open(session);
+    let all = bytes.len() <= count;
+    match take_bytes(session, repo, front(bytes.as_slice(), count), indexer)? {
+        Some(outcome) => {
+            *mark = same && all && is_pack_taken(outcome);
+            Ok(outcome)
+        }
+        None => Ok(Outcome::Fault {
+            code: NO_OPEN_REQUEST,
+        }),
+    }
+}
+
+// Whether a pack was taken.
+fn is_pack_taken(outcome: Outcome) -> bool
+    ensures { IsTrue result ↔ IsPackTaken outcome }
+{
+    matches!(outcome, Outcome::PackTaken { .. })
+}

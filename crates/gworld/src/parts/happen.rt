@@ -1,0 +1,114 @@
+// What an event does.
+#![tactic(auto)]
+
+ghost use Rattle.std.specs.Prelude.{◌≡◌, MatchResult};
+ghost use Rattle.gworld.specs.Promises.{Promises};
+ghost use Rattle.gworld.specs.Runs.{RunWith, RunsFront, outcomes_before};
+ghost use Rattle.gworld.specs.Sound.{AreEndsWhole, IsSound};
+ghost use Rattle.gworld.specs.Steps.{Step};
+ghost use Rattle.gworld.specs.Worlds.{tools_of};
+
+use super::Parts;
+use crate::fault::RunFault;
+use crate::laws::steps_keep;
+use crate::outcome::Outcome;
+use ggraph::{Indexer, Packer};
+use gscenario::Event;
+use std::alloc::{AllocError, Allocator};
+
+impl<A: Allocator + Copy> Parts<A> {
+    /// Does what the event does.
+    pub(crate) fn happen<K: Packer<A> + Indexer<A>>(
+        &mut self,
+        event: &Event<A>,
+        tools: &K,
+    ) -> Result<Outcome, AllocError>
+        ensures { MatchResult result
+            (λ outcome. Step (tools_of (K.packs tools.now) (K.pack_fails tools.now)
+            (K.indexes tools.now) (K.index_fails tools.now))
+            self.old event.now outcome self.new)
+            (λ _. self.new ≡ self.old) }
+    {
+        match event {
+            Event::Begin(specs) => Ok(self.begin(specs.as_slice())),
+            Event::Ask => self.ask(),
+            Event::Serve(number) => self.serve(*number, tools),
+            Event::Deliver { reply, count } => self.deliver(*reply, *count, tools),
+            Event::Forge(bytes) => self.forge(bytes.as_slice(), tools),
+            Event::StrangeRequest(bytes) => self.hear_stranger(bytes.as_slice(), tools),
+            Event::Settle => Ok(self.settle()),
+            Event::RestartClient => Ok(self.restart_client()),
+            Event::RestartServer => Ok(Outcome::Done),
+            Event::ServerAdd(entry) => self.add_at_server(entry),
+            Event::ServerRef(name, id) => self.set_at_server(name, *id),
+            Event::ClientAdd(entry) => self.add_at_client(entry),
+            Event::ClientRef(name, id) => self.set_at_client(name, *id),
+        }
+    }
+
+    /// What the types of server, repository and session keep. The call has no effect.
+    pub(crate) fn ends_are_whole(&self)
+        ensures { AreEndsWhole self.now }
+    {
+        let _objects = self.server.graph();
+        let _format = self.repo.format();
+        if let Some(session) = &self.session {
+            let _pending = session.pending();
+        }
+    }
+
+    /// Does one event: from a sound world it leads to a sound world, and keeps the promises of its step.
+    pub(crate) fn step<K: Packer<A> + Indexer<A>>(
+        &mut self,
+        event: &Event<A>,
+        tools: &K,
+    ) -> Result<Outcome, AllocError>
+        requires { IsSound (tools_of (K.packs tools.now) (K.pack_fails tools.now)
+            (K.indexes tools.now) (K.index_fails tools.now)) self.old }
+        ensures { MatchResult result
+            (λ outcome.
+            IsSound (tools_of (K.packs tools.now) (K.pack_fails tools.now)
+            (K.indexes tools.now) (K.index_fails tools.now)) self.new
+            × Promises (tools_of (K.packs tools.now) (K.pack_fails tools.now)
+            (K.indexes tools.now) (K.index_fails tools.now))
+            self.old event.now outcome self.new)
+            (λ _. self.new ≡ self.old) }
+    {
+        steps_keep::<A, K>();
+        self.ends_are_whole();
+        let outcome = self.happen(event, tools)?;
+        self.ends_are_whole();
+        Ok(outcome)
+    }
+
+    /// Does events, one after the other.
+    pub(crate) fn run<K: Packer<A> + Indexer<A>>(
+        &mut self,
+        events: &[Event<A>],
+        tools: &K,
+    ) -> Result<Vec<Outcome, A>, RunFault<A>>
+        requires { IsSound (tools_of (K.packs tools.now) (K.pack_fails tools.now)
+            (K.indexes tools.now) (K.index_fails tools.now)) self.old }
+        ensures sound { IsSound (tools_of (K.packs tools.now) (K.pack_fails tools.now)
+            (K.indexes tools.now) (K.index_fails tools.now)) self.new }
+        ensures runs { MatchResult result
+            (λ outcomes. RunWith (Promises (tools_of (K.packs tools.now) (K.pack_fails tools.now)
+            (K.indexes tools.now) (K.index_fails tools.now)))
+            self.old events.now outcomes.items self.new)
+            (λ fault. RunsFront (Promises (tools_of (K.packs tools.now) (K.pack_fails tools.now)
+            (K.indexes tools.now) (K.index_fails tools.now)))
+            self.old events.now (outcomes_before fault) self.new) }
+    {
+        let mut outcomes = Vec::new(self.repo.graph().allocator());
+        for event in events {
+            if outcomes.try_reserve(1).is_err() {
+                return Err(RunFault::Memory { outcomes });
+            }
+            match self.step(event, tools) {
+                Ok(outcome) => outcomes.push_reserved(outcome),
+                Err(_) => return Err(RunFault::Memory { outcomes }),
+            }
+        }
+        Ok(outcomes)
+    }
+}

@@ -1,0 +1,118 @@
+// The server at work.
+#![tactic(auto)]
+
+ghost use Rattle.std.specs.Prelude.{◌≡◌, ◌≢◌, ◌∷◌, ◌++◌, [], IfOk, MatchResult, length, slice_get};
+ghost use Rattle.ganswer.specs.Faults.{serve_fault_row};
+ghost use Rattle.gworld.specs.Steps.{HearsStranger, ServesRequest, TalksTo, stranger_outcome};
+ghost use Rattle.gworld.specs.declared.outcome.Outcome.TheVariants as outcome;
+
+use super::{KeptReply, Parts, sent_at};
+use crate::fault::NO_SUCH;
+use crate::outcome::Outcome;
+use ganswer::{ServeFault, Server};
+use ggrammar::Ends;
+use ggraph::Packer;
+use gpkt::memory::{SliceSource, VecSink};
+use gserve::laws::serving_is_talking;
+use gserve::{End, serve};
+use std::alloc::{AllocError, Allocator};
+
+impl<A: Allocator + Copy> Parts<A> {
+    /// The server talks to a stranger, who sends these bytes.
+    pub(crate) fn hear_stranger<K: Packer<A>>(
+        &mut self,
+        bytes: &[u8],
+        packer: &K,
+    ) -> Result<Outcome, AllocError>
+        ensures told { IfOk result (λ outcome. HearsStranger (K.packs packer.now) (K.pack_fails packer.now)
+            self.old bytes.now outcome self.new) }
+        ensures same { self.new ≡ self.old }
+    {
+        talk(&self.server, packer, bytes, self.repo.graph().allocator())
+    }
+
+    /// The server answers a request that was sent, and the reply is kept.
+    pub(crate) fn serve<K: Packer<A>>(
+        &mut self,
+        number: usize,
+        packer: &K,
+    ) -> Result<Outcome, AllocError>
+        ensures { MatchResult result
+            (λ outcome. ServesRequest (K.packs packer.now) (K.pack_fails packer.now) self.old
+            (slice_get self.old.sent number) outcome self.new)
+            (λ _. self.new ≡ self.old) }
+    {
+        let alloc = self.repo.graph().allocator();
+        match sent_at(&self.sent, number) {
+            None => Ok(Outcome::Fault { code: NO_SUCH }),
+            Some(sent) => match self.server.answer(&sent.request, packer) {
+                Ok(reply) => {
+                    let request = sent.request.copy_in(alloc)?;
+                    keep(&mut self.kept, KeptReply { request, reply })
+                }
+                Err(fault) => Ok(refuse_request(fault)),
+            },
+        }
+    }
+}
+
+// Keeps a reply.
+fn keep<A: Allocator + Copy>(
+    kept: &mut Vec<KeptReply<A>, A>,
+    reply: KeptReply<A>,
+) -> Result<Outcome, AllocError>
+    ensures { MatchResult result
+        (λ told. (told ≡ outcome.Served (length kept.old.items)) × (kept.new.items ≡ kept.old.items ++ reply ∷ []))
+        (λ _. kept.new.items ≡ kept.old.items) }
+{
+    let number = kept.len();
+    kept.push(reply)?;
+    Ok(Outcome::Served { reply: number })
+}
+
+// The outcome of a request that is refused.
+fn refuse_request(fault: ServeFault) -> Outcome
+    ensures { result ≡ outcome.Fault (serve_fault_row fault).code }
+{
+    Outcome::Fault { code: fault.code() }
+}
+
+// What comes of a conversation with a client that sends these bytes.
+fn talk<A: Allocator + Copy, K: Packer<A>>(
+    server: &Server<A>,
+    packer: &K,
+    bytes: &[u8],
+    alloc: A,
+) -> Result<Outcome, AllocError>
+    ensures { IfOk result (TalksTo server.now (K.packs packer.now) (K.pack_fails packer.now) bytes.now) }
+{
+    serving_is_talking::<A, K>();
+    let mut source = SliceSource::new(bytes);
+    let mut sink = VecSink::new(alloc);
+    let served = serve(server, packer, Ends::Plain, &mut source, &mut sink);
+    let written = sink.written().len();
+    stranger_outcome(written, served.end)
+}
+
+// How a conversation ended, and how much was written in it; where it could not be written there was no memory.
+fn stranger_outcome(written: usize, ended: End) -> Result<Outcome, AllocError>
+    ensures { MatchResult result
+        (λ told. (told ≡ stranger_outcome written ended) × (ended ≢ End.WriteFailed))
+        (λ _. ended ≡ End.WriteFailed) }
+{
+    match ended {
+        End::WriteFailed => Err(AllocError),
+        End::Closed | End::Ended => Ok(Outcome::StrangerServed {
+            written: written as u128,
+        }),
+        End::Refused(fault) => {
+            if fault.is_memory() {
+                Ok(Outcome::Fault { code: fault.code() })
+            } else {
+                Ok(Outcome::StrangerServed {
+                    written: written as u128,
+                })
+            }
+        }
+    }
+}

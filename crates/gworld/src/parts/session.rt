@@ -1,0 +1,129 @@
+// The client's session.
+#![tactic(auto)]
+
+ghost use Rattle.std.specs.Prelude.{◌≡◌, MatchResult, Ok, Err};
+ghost use Rattle.gfetchreply.specs.Values.{default_limit};
+ghost use Rattle.ggrammar.specs.declared.ends.Ends.TheVariants.{Plain};
+ghost use Rattle.ganswer.specs.Adverts.{advertised};
+ghost use Rattle.gsession.specs.Sessions.{Begins, Hears, SessionState};
+ghost use Rattle.gworld.specs.Steps.{AsksNext, BeginsSession, Restarts, SettlesRefs};
+ghost use Rattle.gworld.specs.Steps.{settled_outcome, is_moved, is_same, is_not_forward};
+
+use super::{Parts, Sent, refuse};
+use crate::fault::NO_OPEN_REQUEST;
+use crate::outcome::Outcome;
+use gfetchreply::PackLimit;
+use ggrammar::Ends;
+use grepo::RefUpdate;
+use gsession::{ClientFault, Session, Settled};
+use gspec::Spec;
+use std::alloc::{AllocError, Allocator};
+
+impl<A: Allocator + Copy> Parts<A> {
+    /// Begins a session in the place of any other.
+    pub(crate) fn begin(&mut self, specs: &[Spec<A>]) -> Outcome
+        ensures { BeginsSession self.old specs.now result self.new }
+    {
+        match self.new_session(specs) {
+            Ok(session) => {
+                self.session = Some(session);
+                self.answered = false;
+                Outcome::Done
+            }
+            Err(fault) => Outcome::Fault { code: fault.code() },
+        }
+    }
+
+    // A new session, which has heard the server.
+    fn new_session(&self, specs: &[Spec<A>]) -> Result<Session<A>, ClientFault<A>>
+        ensures { MatchResult result
+            (λ session. (begun : SessionState A) × Begins self.now.repo specs.now default_limit Plain (Ok begun)
+            × Hears begun (advertised self.now.server.graph.format) session (Ok tt))
+            (λ fault. Begins self.now.repo specs.now default_limit Plain (Err fault)) }
+    {
+        let alloc = self.repo.graph().allocator();
+        let mut session = Session::begin(
+            alloc,
+            &self.repo,
+            specs,
+            PackLimit::default(),
+            Ends::Plain,
+        )?;
+        let advert = match self.server.advert() {
+            Ok(advert) => advert,
+            Err(_) => return Err(ClientFault::from(AllocError)),
+        };
+        session.hear(&advert)?;
+        Ok(session)
+    }
+
+    /// Makes the session's next request, and keeps it as sent.
+    pub(crate) fn ask(&mut self) -> Result<Outcome, AllocError>
+        ensures { MatchResult result
+            (λ outcome. AsksNext self.old self.old.session outcome self.new)
+            (λ _. self.new ≡ self.old) }
+    {
+        self.sent.try_reserve(1)?;
+        let number = self.sent.len();
+        match &mut self.session {
+            None => Ok(Outcome::Fault {
+                code: NO_OPEN_REQUEST,
+            }),
+            Some(session) => match session.request(&self.repo) {
+                Ok(request) => {
+                    self.sent.push_reserved(Sent { request });
+                    Ok(Outcome::Asked { request: number })
+                }
+                Err(fault) => Ok(refuse(fault, &mut self.answered)),
+            },
+        }
+    }
+
+    /// The session settles what it asked for.
+    pub(crate) fn settle(&mut self) -> Outcome
+        ensures { SettlesRefs self.old self.old.session result self.new }
+    {
+        match &mut self.session {
+            None => Outcome::Fault {
+                code: NO_OPEN_REQUEST,
+            },
+            Some(session) => match session.settle(&mut self.repo) {
+                Ok(settled) => {
+                    self.answered = false;
+                    settled_outcome(&settled)
+                }
+                Err(fault) => refuse(fault, &mut self.answered),
+            },
+        }
+    }
+
+    /// Starts the client again, without a session.
+    pub(crate) fn restart_client(&mut self) -> Outcome
+        ensures { Restarts self.old result self.new }
+    {
+        self.session = None;
+        self.answered = false;
+        Outcome::Done
+    }
+}
+
+// How many refs moved, stood at their ids already, and stayed because they would not go forward.
+fn settled_outcome<A: Allocator + Copy>(settled: &Settled<A>) -> Outcome
+    ensures { result ≡ settled_outcome settled.now.updates.items }
+{
+    let mut moved = 0;
+    let mut same = 0;
+    let mut not_forward = 0;
+    for update in &settled.updates {
+        match update {
+            RefUpdate::Moved => moved += 1,
+            RefUpdate::Same => same += 1,
+            RefUpdate::NotForward => not_forward += 1,
+        }
+    }
+    Outcome::Settled {
+        moved,
+        same,
+        not_forward,
+    }
+}

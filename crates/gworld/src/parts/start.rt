@@ -1,0 +1,112 @@
+// How a world begins.
+#![tactic(auto)]
+
+ghost use Rattle.std.specs.Prelude.{◌≡◌, ◌≢◌, ◌<◌, length, MatchBool, MatchOption, MatchResult};
+ghost use Rattle.ghistory.specs.Reach.{Agree};
+ghost use Rattle.gworld.specs.Bringing.{AgreesAt, DisagreesAt};
+ghost use Rattle.gworld.specs.Starts.{CanStart, CannotStart, IsFirstDisagreement};
+ghost use Rattle.gworld.specs.Worlds.{new_world};
+
+use super::Parts;
+use super::changes::agrees;
+use crate::fault::WorldFault;
+use ganswer::Server;
+use ggraph::Graph;
+use ggraph::graph_laws::places_are_nodes;
+use gname::Oid;
+use grepo::Repo;
+use std::alloc::Allocator;
+
+impl<A: Allocator + Copy> Parts<A> {
+    /// A world of this server and this client, which has just begun; or why there is none. It takes no memory.
+    pub(crate) fn new(server: Server<A>, repo: Repo<A>) -> Result<Parts<A>, WorldFault>
+        ensures { MatchResult result
+            (λ parts. (parts ≡ new_world server repo) × CanStart server repo)
+            (λ fault. CannotStart server repo fault) }
+    {
+        if let Some(fault) = why_not(&server, &repo) {
+            return Err(fault);
+        }
+        let alloc = repo.graph().allocator();
+        Ok(Parts {
+            server,
+            repo,
+            session: None,
+            sent: Vec::new(alloc),
+            kept: Vec::new(alloc),
+            forged: false,
+            answered: false,
+        })
+    }
+
+    /// The client's repository.
+    pub(crate) fn client(&self) -> &Repo<A>
+        ensures { result.now ≡ self.now.repo }
+    {
+        &self.repo
+    }
+
+    /// The server.
+    pub(crate) fn server(&self) -> &Server<A>
+        ensures { result.now ≡ self.now.server }
+    {
+        &self.server
+    }
+}
+
+// Why no world can begin between them, if none can.
+fn why_not<A: Allocator + Copy>(server: &Server<A>, repo: &Repo<A>) -> Option<WorldFault>
+    ensures { MatchOption result (CanStart server.now repo.now) (CannotStart server.now repo.now) }
+{
+    if !have_one_format(server, repo) {
+        return Some(WorldFault::TwoFormats);
+    }
+    match first_disagreement(server.graph(), repo.graph()) {
+        Some(id) => Some(WorldFault::Disagree { id }),
+        None => None,
+    }
+}
+
+// Whether server and client have one object format.
+fn have_one_format<A: Allocator + Copy>(server: &Server<A>, repo: &Repo<A>) -> bool
+    ensures { MatchBool result (repo.now.graph.format ≡ server.now.graph.format)
+        (repo.now.graph.format ≢ server.now.graph.format) }
+{
+    repo.format() == server.graph().format()
+}
+
+// Of the server's ids, in store order, the first that the client holds with another object.
+fn first_disagreement<A: Allocator + Copy>(server: &Graph<A>, client: &Graph<A>) -> Option<Oid>
+    ensures { MatchOption result (Agree server.now.entries client.now.entries)
+        (IsFirstDisagreement server.now.entries client.now.entries) }
+{
+    places_are_nodes::<A>();
+    for place in 0..server.len() {
+        if let Some(id) = disagreement_at(server, client, place) {
+            return Some(id);
+        }
+    }
+    None
+}
+
+// The id at a place of the server's graph, if the client holds it with another object.
+fn disagreement_at<A: Allocator + Copy>(
+    server: &Graph<A>,
+    client: &Graph<A>,
+    place: usize,
+) -> Option<Oid>
+    requires { place < length server.now.entries }
+    ensures { MatchOption result (AgreesAt server.now.entries client.now.entries place)
+        (DisagreesAt server.now.entries client.now.entries place) }
+{
+    match server.at(place) {
+        Some((id, node)) => {
+            if agrees(client, id, node) {
+                None
+            } else {
+                Some(*id)
+            }
+        }
+        None => None,
+    }
+}
