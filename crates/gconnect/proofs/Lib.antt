@@ -1,3 +1,2 @@
-mod GitLemmas
-mod GreetingLemmas
+mod ErrorLemmas
 mod ListingLemmas

@@ -1,61 +1,26 @@
 -- The steps of a listing, one after the other.
-use Rattle.std.proofs.Common.{◌≡◌, ℕ, Bool, true, false, List, Option, Some, None, Result, Ok, Err, refl, sym, ap, subst, ◌∙◌}
-use Rattle.std.proofs.Common.{inl, inr}
-use Rattle.std.specs.Prelude.{if◌then◌else◌}
-use Rattle.std.proofs.lemmas.Bool.{false≢true}
+use Rattle.std.proofs.Common.{◌≡◌, ℕ, Bool, false, List, Option, Some, refl, ap, subst, ◌∙◌}
 use Rattle.gname.specs.declared.formats.Format.{Format}
-use Rattle.gpkt.specs.Devices.{KeepsPassed}
-use Rattle.gpkt.specs.Sending.{Input, Output, input_of, output_of, IsUp, Passes, SendsSome}
+use Rattle.gpkt.specs.Packets.{Packet}
+use Rattle.gpkt.specs.Sending.{Input, Output, input_of, output_of, IsUp, Passes}
 use Rattle.gpkt.proofs.SendingLemmas.{fails_after, passes_join}
 use Rattle.ggrammar.specs.Capabilities.{Capability}
-use Rattle.ggrammar.specs.Kinds.{ReadsMessage, ReadsOrRefuses}
-use Rattle.ggrammar.specs.MessageReading.{IsReadFailure}
+use Rattle.ggrammar.specs.Kinds.{ReadsMessage}
+use Rattle.ggrammar.specs.MessageReading.{IsReadFailure, ReadsRefused}
 use Rattle.ggrammar.specs.declared.ends.Ends.TheVariants.{Plain}
 use Rattle.ggrammar.specs.declared.fault.MessageFault.{MessageFault}
-use Rattle.ggrammar.specs.declared.fault.Why.{Why}
-use Rattle.ggrammar.specs.declared.fault.Why.TheVariants.{UnknownCommand, Format as OtherFormat}
 use Rattle.ghello.specs.Adverts as advert
-use Rattle.ghello.specs.Offers.{IsFormatOf, check_fault, has_format, lacks_command}
+use Rattle.ghello.specs.Offers.{check_fault}
 use Rattle.glsreply.specs.LsReplies as ls
 use Rattle.grequest.specs.Asked.{LsRefsAsked, Ls}
 use Rattle.gsession.specs.Sessions.{tells_unborn}
 use Rattle.gsession.specs.declared.fault.ClientFault.TheVariants as client
-use Rattle.gclient.specs.Conversations.{FailsToSend, IsLeft, RefusesToRead, request_bytes, rest_of}
-use Rattle.gclient.specs.declared.fault.FetchFault.{FetchFault}
+use Rattle.gclient.specs.Conversations.{FailsToSend, IsLeft, request_bytes, rest_of}
 use Rattle.gclient.specs.declared.fault.FetchFault.TheVariants as fetch
 use Rattle.gconnect.specs.Listings.{FailsToList, FitsNone, HasHeard, HasListed, ReadsReply, RefusesReply, asked_of}
-use Rattle.gconnect.specs.Listings.{asking_bytes, cannot_ask, cannot_end, cannot_hear, cannot_take, ending_bytes}
+use Rattle.gconnect.specs.Listings.{asking_bytes, cannot_ask, cannot_end, cannot_take, ending_bytes}
 use Rattle.gconnect.specs.Steps.{HasHeardServer}
 use Rattle.gconnect.specs.declared.listing.Heard.{Heard}
-
--- ---- the format
-
-abbrev checked : Bool → Bool → Option Why
-checked lacks fits = if lacks then Some UnknownCommand else (if fits then None else Some OtherFormat)
-
--- a command is missing, whatever the format is
-lacks_for_all : (lacks fits other : Bool) (why : Why) → fits ≡ true → checked lacks fits ≡ Some why
-    → checked lacks other ≡ Some why
-lacks_for_all true fits other why is h = h
-lacks_for_all false true other why is h = cc
-lacks_for_all false false other why is h = absurd (false≢true is)
-
--- no format fits
-none_for_all : (lacks fits other : Bool) (why : Why) → fits ≡ false → other ≡ false → checked lacks fits ≡ Some why
-    → checked lacks other ≡ Some why
-none_for_all lacks fits other why first second h = cc
-
--- the format that an advertisement names does not fit, so none does
-pub fits_none : (capabilities : List Capability) (named : Option Format) (chosen : Format) (why : Why)
-    → IsFormatOf capabilities named → ((format : Format) → named ≡ Some format → chosen ≡ format)
-    → check_fault chosen capabilities ≡ Some why → (other : Format) → check_fault other capabilities ≡ Some why
-fits_none capabilities (Some format) chosen why names same h other =
-    let at : chosen ≡ format = same format refl in
-    lacks_for_all (lacks_command capabilities) (has_format chosen capabilities) (has_format other capabilities) why
-    (subst (λ (f : Format). has_format f capabilities ≡ true) (sym at) names) h
-fits_none capabilities None chosen why names same h other =
-    none_for_all (lacks_command capabilities) (has_format chosen capabilities) (has_format other capabilities) why
-    (names chosen) (names other) h
 
 -- ---- hearing
 
@@ -94,13 +59,25 @@ module _ {S : Type 0} (remaining : S → Option (List ℕ)) (source_down : S →
   heard_alone a b heard before = heard_then a b b heard IsLeft before (record { unread = refl; up = before.up })
 
   pub reads_reply : (a b c : S) (format : Format) (reply : ls.LsReply)
-      → ReadsMessage (ls.judge format Plain) (ls.Says format Plain) (record { old = remaining b; new = remaining c }) reply
+      → ReadsMessage (ls.judge format Plain) (ls.Says format Plain)
+      (record { old = remaining b; new = remaining c }) reply
       → source_down c ≡ false
       → ReadsReply format (rest_of (input_of remaining source_down a c) (remaining b)) reply
   reads_reply a b c format reply read up =
       record { packets = read.lines; lines = read.read.bytes; says = read.says; up = up }
 
-module _ {A : Type 0} (asked : LsRefsAsked) {S : Type 0} (remaining : S → Option (List ℕ)) (source_down : S → Bool)
+  pub refuses_reply : (a b c : S) (format : Format) (cause : MessageFault) (failed : Bool) (front : List Packet)
+      → failed ≡ false
+      → ReadsRefused (ls.judge format Plain) ls.brings front (record { old = remaining b; new = remaining c }) cause
+      → IsReadFailure failed (source_down c) cause.why
+      → RefusesReply format (rest_of (input_of remaining source_down a c) (remaining b)) cause
+  refuses_reply a b c format cause failed front ready refused why = record {
+    front = front;
+    refused = refused;
+    source = subst (λ (had : Bool). IsReadFailure had (source_down c) cause.why) ready why;
+  }
+
+module _ (asked : LsRefsAsked) {S : Type 0} (remaining : S → Option (List ℕ)) (source_down : S → Bool)
     {W : Type 0} (contents passed_on : W → Option (List ℕ)) (is_down : W → Bool) where
   abbrev Reading : S → S → Input
   Reading a c = input_of remaining source_down a c
@@ -117,20 +94,20 @@ module _ {A : Type 0} (asked : LsRefsAsked) {S : Type 0} (remaining : S → Opti
       (is ∙ ap (λ (tells : Bool). record asked { unborn = tells }) unborn)
 
   -- the request can't be sent
-  pub unasked : (a b : S) (x y : W) (heard : Heard) (told : LsRefsAsked) → HasHeardServer (Reading a b) heard
-      → told ≡ record asked { unborn = heard.tells_unborn }
+  pub unasked : {A : Type 0} (a b : S) (x y : W) (heard : Heard) (told : LsRefsAsked)
+      → HasHeardServer (Reading a b) heard → told ≡ record asked { unborn = heard.tells_unborn }
       → FailsToSend (Writing x y) (request_bytes heard.format (Ls told))
-      → FailsToList {A = A} asked (Reading a b) (Writing x y) fetch.WriteFailed
+      → FailsToList asked {A = A} (Reading a b) (Writing x y) fetch.WriteFailed
   unasked a b x y heard told before is fails =
       cannot_ask heard.format before.capabilities (heard_alone remaining source_down a b heard before)
       (subst (FailsToSend (Writing x y)) (same_asked heard before.capabilities told is before.unborn) fails)
 
   -- the reply is refused
-  pub untaken : (a b c : S) (x y : W) (heard : Heard) (told : LsRefsAsked) (cause : MessageFault)
+  pub untaken : {A : Type 0} (a b c : S) (x y : W) (heard : Heard) (told : LsRefsAsked) (cause : MessageFault)
       → HasHeardServer (Reading a b) heard → told ≡ record asked { unborn = heard.tells_unborn }
       → Passes (Writing x y) (request_bytes heard.format (Ls told))
       → RefusesReply heard.format (rest_of (Reading a c) (remaining b)) cause
-      → FailsToList {A = A} asked (Reading a c) (Writing x y) (fetch.Client (client.Message cause))
+      → FailsToList asked {A = A} (Reading a c) (Writing x y) (fetch.Client (client.Message cause))
   untaken a b c x y heard told cause before is passed refused =
       cannot_take heard.format before.capabilities cause
       (heard_then remaining source_down a b c heard
@@ -138,12 +115,12 @@ module _ {A : Type 0} (asked : LsRefsAsked) {S : Type 0} (remaining : S → Opti
       (subst (Passes (Writing x y)) (same_asked heard before.capabilities told is before.unborn) passed)
 
   -- the lone flush can't be sent
-  pub unended : (a b c : S) (x y z : W) (heard : Heard) (told : LsRefsAsked) (reply : ls.LsReply)
+  pub unended : {A : Type 0} (a b c : S) (x y z : W) (heard : Heard) (told : LsRefsAsked) (reply : ls.LsReply)
       → HasHeardServer (Reading a b) heard → told ≡ record asked { unborn = heard.tells_unborn }
       → Passes (Writing x y) (request_bytes heard.format (Ls told))
       → ReadsReply heard.format (rest_of (Reading a c) (remaining b)) reply
       → FailsToSend (Writing y z) (ending_bytes heard.format)
-      → FailsToList {A = A} asked (Reading a c) (Writing x z) fetch.WriteFailed
+      → FailsToList asked {A = A} (Reading a c) (Writing x z) fetch.WriteFailed
   unended a b c x y z heard told reply before is passed read fails =
       let sent = subst (Passes (Writing x y)) (same_asked heard before.capabilities told is before.unborn) passed in
       cannot_end heard.format before.capabilities reply

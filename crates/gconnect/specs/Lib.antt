@@ -4,5 +4,3 @@ pub mod GitFetches
 pub mod Listings
 pub mod Steps
 pub use Rattle.gpkt.specs.Sending
-pub use Rattle.gserve.specs.Conversations
-pub use Rattle.gclient.specs.Conversations

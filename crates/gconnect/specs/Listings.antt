@@ -36,9 +36,10 @@ ending_bytes format = request_bytes format Empty
 
 -- ---- what is read
 
--- The advertisement of a server with which a client of this format can go on is read, and then this holds of the rest of
--- the input. There is one such format at most: the one that the advertisement names.
-pub record HasHeard (input : Input) (format : Format) (capabilities : List Capability) (Rest : Input → Type 0) : Type 0 where
+-- The advertisement of a server with which a client of this format can go on is read, and then this holds of the rest
+-- of the input. There is one such format at most: the one that the advertisement names.
+pub record HasHeard (input : Input) (format : Format) (capabilities : List Capability) (Rest : Input → Type 0)
+    : Type 0 where
   pub packets : List Packet
   pub advertises : Advertises format packets capabilities
   pub between : Option (List ℕ)
@@ -62,8 +63,8 @@ pub record ReadsReply (format : Format) (input : Input) (reply : ls.LsReply) : T
   pub says : ls.Says format Plain packets reply
   pub up : IsUp input
 
--- the reply is refused as it is read, at the first packet that does not fit; the fault is the source's exactly where that
--- is down
+-- the reply is refused as it is read, at the first packet that does not fit; the fault is the source's exactly where
+-- that is down
 pub record RefusesReply (format : Format) (input : Input) (cause : MessageFault) : Type 0 where
   pub front : List Packet
   pub refused : ReadsRefused (ls.judge format Plain) ls.brings front input.read cause

@@ -14,7 +14,8 @@ use gpkt::{LineWriter, Sink, WriteFault};
 /// Writes the line of an error with a text of at most 128 bytes, and passes it on.
 pub(crate) fn send_error<W: Sink>(text: &[u8], sink: &mut W) -> Result<(), WriteFault>
     requires { length text.now ≤ max_err_text }
-    ensures sent { PassesPackets (output_of W.contents W.passed_on W.is_down sink.old sink.new) result (error_packets text.now) }
+    ensures sent { PassesPackets (output_of W.contents W.passed_on W.is_down sink.old sink.new) result
+        (error_packets text.now) }
     ensures loans { W.loans sink.new ≡ W.loans sink.old }
 {
     let mut writer = LineWriter::new(sink);
@@ -37,7 +38,8 @@ fn send_to<W: Sink>(text: &[u8], writer: &mut LineWriter<W>) -> Result<(), Write
 
 fn write_error<W: Sink>(text: &[u8], writer: &mut LineWriter<W>) -> Result<(), WriteFault>
     requires { length text.now ≤ max_err_text }
-    ensures { WritesLines W.contents W.passed_on W.is_down W.loans writer.old writer.new result (error_packets text.now) }
+    ensures { WritesLines W.contents W.passed_on W.is_down W.loans writer.old writer.new result
+        (error_packets text.now) }
 {
     writes_lines::<W>();
     writer.text2(b"ERR ", text)

@@ -19,8 +19,8 @@ use ghello::Hello;
 use gpkt::{Sink, Source};
 use std::alloc::Allocator;
 
-/// Fetches by refspecs from a server (gitprotocol-pack(5), "Git Transport"): writes the first line, which names the path
-/// that is asked for, passes it on, and goes on as [`fetch_over`].
+/// Fetches by refspecs from a server (gitprotocol-pack(5), "Git Transport"): writes the first line, which names the
+/// path that is asked for, passes it on, and goes on as [`fetch_over`].
 ///
 /// It fails with 27 where the first line can't be sent: then nothing is read, and the repository is as it was. Else it
 /// fails as `fetch_over` does. After every fault the refs are as before, and to the graph objects only came.

@@ -15,7 +15,8 @@ pub(crate) fn greet<W: Sink, A: Allocator + Copy>(
     hello: &Hello<A>,
     sink: &mut W,
 ) -> Result<(), WriteFault>
-    ensures greets { HasPassed (output_of W.contents W.passed_on W.is_down sink.old sink.new) result (hello_bytes hello.now) }
+    ensures greets { HasPassed (output_of W.contents W.passed_on W.is_down sink.old sink.new) result
+        (hello_bytes hello.now) }
     ensures loans { W.loans sink.new ≡ W.loans sink.old }
 {
     let mut writer = LineWriter::new(sink);

@@ -16,16 +16,17 @@ use gpkt::{LineBuffer, LineReader, LineWriter, Sink, Source};
 use grequest::{LsRefsRequest, Request};
 use std::alloc::Allocator;
 
-/// Lists the refs of a server (gitprotocol-pack(5), "Git Transport"; gitprotocol-v2(5), "ls-refs"): writes the first line,
-/// reads the advertisement, asks for refs, reads the reply, and ends the conversation with a lone flush. What is written is
-/// passed on each time before anything is read, and nothing after the reply is read.
+/// Lists the refs of a server (gitprotocol-pack(5), "Git Transport"; gitprotocol-v2(5), "ls-refs"): writes the first
+/// line, reads the advertisement, asks for refs, reads the reply, and ends the conversation with a lone flush. What
+/// is written is passed on each time before anything is read, and nothing after the reply is read.
 ///
 /// The ids are of the format that the advertisement names, and an unborn `HEAD` is asked for exactly where the server
 /// offers to tell of it, whatever the request says.
 ///
-/// It fails with 28 where there is no memory for the buffer of a reader, and nothing is read; with 20 to 25, 41, 42, 48,
-/// 49, 53 and 54 where the advertisement is refused, and these, 46 and 47 where the reply is; with 43 or 52 where a client
-/// can't go on with the server; and with 27 where the sink fails, and a beginning of what was due stands then.
+/// It fails with 28 where there is no memory for the buffer of a reader, and nothing is read; with 20 to 25, 41, 42,
+/// 48, 49, 53 and 54 where the advertisement is refused, and these, 46 and 47 where the reply is; with 43 or 52 where
+/// a client can't go on with the server; and with 27 where the sink fails, and a beginning of what was due stands
+/// then.
 pub fn list_git<S: Source, W: Sink, A: Allocator + Copy>(
     hello: &Hello<A>,
     source: &mut S,

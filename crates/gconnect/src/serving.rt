@@ -32,8 +32,8 @@ pub enum GitEnd {
 /// Serves one connection (gitprotocol-pack(5), "Git Transport"): reads the client's first line, and where it asks for
 /// the path goes on as [`serve`]. The path is compared byte by byte, and the host is not judged.
 ///
-/// Another path, and a first line that is refused, are answered by an `ERR` line in the advertisement's place, and nothing
-/// after the first line is read. Where there is no memory to read it, nothing is read, and the line says so.
+/// Another path, and a first line that is refused, are answered by an `ERR` line in the advertisement's place, and
+/// nothing after the first line is read. Where there is no memory to read it, nothing is read, and the line says so.
 pub fn serve_git<S: Source, W: Sink, A: Allocator + Copy, K: Packer<A>>(
     server: &Server<A>,
     packer: &K,
@@ -66,8 +66,8 @@ pub fn serve_git<S: Source, W: Sink, A: Allocator + Copy, K: Packer<A>>(
 /// Reads the first line of a connection, and nothing after it.
 ///
 /// It fails with 28 where there is no memory for the buffer of a reader, and nothing is read; with 20 to 25 where its
-/// packet line is refused, 54 where the input ends before it, 41 and 42 where it has another form, and 53 where there is
-/// no memory to keep it.
+/// packet line is refused, 54 where the input ends before it, 41 and 42 where it has another form, and 53 where there
+/// is no memory to keep it.
 pub fn hear<S: Source, A: Allocator + Copy>(
     source: &mut S,
     alloc: A,
@@ -97,7 +97,8 @@ fn asks_for<A: Allocator + Copy>(path: &[u8], hello: &Hello<A>) -> bool
 
 // Tells the client that its repository is not here.
 fn send_away<W: Sink>(sink: &mut W) -> Result<(), WriteFault>
-    ensures sent { PassesPackets (output_of W.contents W.passed_on W.is_down sink.old sink.new) result elsewhere_packets }
+    ensures sent { PassesPackets (output_of W.contents W.passed_on W.is_down sink.old sink.new) result
+        elsewhere_packets }
     ensures loans { W.loans sink.new ≡ W.loans sink.old }
 {
     send_error(b"upload-pack: no such repository", sink)
@@ -105,7 +106,8 @@ fn send_away<W: Sink>(sink: &mut W) -> Result<(), WriteFault>
 
 // Reports that the first line was refused. It takes no memory.
 fn report<W: Sink>(fault: &ServeFault, sink: &mut W) -> Result<(), WriteFault>
-    ensures sent { PassesPackets (output_of W.contents W.passed_on W.is_down sink.old sink.new) result (err_packets fault.now) }
+    ensures sent { PassesPackets (output_of W.contents W.passed_on W.is_down sink.old sink.new) result
+        (err_packets fault.now) }
     ensures loans { W.loans sink.new ≡ W.loans sink.old }
 {
     let mut text = [0; MAX_ERR_TEXT];
