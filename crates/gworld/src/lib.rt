@@ -14,7 +14,7 @@
 //!   that has not begun, with the outcomes of those before it.
 //! - **Whatever is answered, whatever bytes are forged, and whatever packer and indexer do: each ref of the client
 //!   names an id whose whole ancestry the client holds**, and the session asked for objects at most once more than
-//!   there are ids that its tips reach. Where no bytes were forged, server and client hold each common id.
+//!   there are ids that the refs reached when it began. Where no bytes were forged, server and client hold each common id.
 //! - Where no bytes were forged, and packer and indexer are faithful: a pack that is taken completes the wants of the
 //!   request that its reply answers, be that an older one than the request that waits. A reply to fetch that answers
 //!   the request that waits, and comes whole, is taken, unless its pack is over the limit, the graph is full, or
