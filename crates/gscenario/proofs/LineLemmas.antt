@@ -4,9 +4,9 @@ use Rattle.std.proofs.Common.{◌∷◌, ◌++◌, length, Option, None, Some, R
 use Rattle.std.proofs.Common.{sym, ap, subst, arith, append_assoc, append-nil}
 use Rattle.gobject.specs.PlainPackText.{IsInLine, line}
 use Rattle.gscenario.specs.ScenarioText.{AreArguments, BeginsWithCommand, BeginsWrong, IsLineOf, IsNoLine, IsScenario}
-use Rattle.gscenario.specs.ScenarioText.{IsWrongLine}
+use Rattle.gscenario.specs.ScenarioText.{IsWrongLine, Refuses}
 use Rattle.gscenario.specs.ScenarioText.{TakesMemory, command_of, command_text, words_of}
-use Rattle.gscenario.specs.Reading.{HasArguments, IsOf, NoArguments, ReadsArguments, Refuses}
+use Rattle.gscenario.specs.Reading.{HasArguments, IsOf, NoArguments, ReadsArguments}
 use Rattle.gscenario.specs.declared.fault.ScenarioFault.{ScenarioFault}
 use Rattle.gscenario.specs.declared.fault.ScenarioFault.TheVariants.{Memory}
 use Rattle.gscenario.specs.declared.event.Event.{Event}

@@ -1,8 +1,6 @@
 -- Reading a scenario word by word, for its own proofs.
 use Rattle.std.specs.Prelude.{⊤, ℕ, List, [], ◌∷◌, Option, Result, MatchOption, MatchResult}
-use Rattle.gscenario.specs.ScenarioText.{AreArguments, IsWrongLine, TakesMemory, words_of}
-use Rattle.gscenario.specs.declared.fault.ScenarioFault.{ScenarioFault}
-use Rattle.gscenario.specs.declared.fault.ScenarioFault.TheVariants as fault
+use Rattle.gscenario.specs.ScenarioText.{AreArguments, words_of}
 use Rattle.gscenario.specs.declared.event.Event.{Event}
 use Rattle.gscenario.specs.declared.event.Event.TheVariants as event
 use Rattle.gscenario.specs.declared.command.Command.{Command}
@@ -44,8 +42,3 @@ ReadsArguments {A} command words result =
     MatchResult result
     (λ found. MatchOption found (NoArguments A command words) (HasArguments command words))
     (λ _. ⊤)
-
--- why a text is not read: a line is wrong; or there is no memory for what a line says
-abbrev pub Refuses : Type 0 → List ℕ → ScenarioFault → Type 0
-Refuses A text (fault.Scenario number) = IsWrongLine A text number
-Refuses A text fault.Memory = TakesMemory A text

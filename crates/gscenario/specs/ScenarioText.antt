@@ -9,6 +9,8 @@ use Rattle.gname.specs.Names.{IsRefName}
 use Rattle.gobject.specs.declared.node.Entry.{Entry}
 use Rattle.gobject.specs.PlainPackText.{IsInLine, ids_of, letter}
 use Rattle.gspec.specs.Refspecs.{IsSpec, Refspec}
+use Rattle.gscenario.specs.declared.fault.ScenarioFault.{ScenarioFault}
+use Rattle.gscenario.specs.declared.fault.ScenarioFault.TheVariants as fault
 use Rattle.gscenario.specs.declared.event.Event.{Event}
 use Rattle.gscenario.specs.declared.event.Event.TheVariants as event
 use Rattle.gscenario.specs.declared.command.Command.{Command}
@@ -159,3 +161,8 @@ pub record TakesMemory (A : Type 0) (text : List ℕ) : Type 0 where
   pub before : IsScenario front events
   pub inside : IsInLine line
   pub begins : BeginsWithCommand line
+
+-- why a text is not read: a line is wrong; or there is no memory for what a line says
+abbrev pub Refuses : Type 0 → List ℕ → ScenarioFault → Type 0
+Refuses A text (fault.Scenario number) = IsWrongLine A text number
+Refuses A text fault.Memory = TakesMemory A text

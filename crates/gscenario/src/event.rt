@@ -12,8 +12,8 @@ use std::alloc::{Allocator, Global};
 /// a short delivery.
 #[derive(Debug, Drop)]
 pub enum Event<A: Allocator + Copy = Global> {
-    /// The client begins a session with these refspecs, in the place of any other, and the session hears the server's
-    /// advertisement.
+    /// The client begins a session with these refspecs, 16 at most, in the place of any other, and the session hears the
+    /// server's advertisement. It takes packs up to the default limit, and no response-end after a reply.
     Begin(Vec<Spec<A>, A>),
     /// The client's session makes its next request, which is sent: it is the next in the list of sent requests, which
     /// are numbered from 0.
@@ -26,9 +26,9 @@ pub enum Event<A: Allocator + Copy = Global> {
     Deliver { reply: usize, count: usize },
     /// These bytes come as the reply to the request that waits, though no server sent them.
     Forge(Vec<u8, A>),
-    /// A stranger sends these bytes to the server, on a connection of its own.
+    /// A stranger sends these bytes to the server, on a connection of its own, without response-ends.
     StrangeRequest(Vec<u8, A>),
-    /// The client's session moves the refs that it fetched.
+    /// The client's session settles the refs that it asked for: those move that may.
     Settle,
     /// The client starts again: it keeps its repository, and has no session.
     RestartClient,

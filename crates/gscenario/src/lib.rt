@@ -15,9 +15,9 @@
 //!
 //! That memory which is there is used.
 //!
-//! # What a body can still get away with
+//! # What the contracts do not rule out
 //!
-//! It may report out of memory of any text whose first line begins with a command, as often as it likes, and in place
+//! A body may report out of memory of any text whose first line begins with a command, as often as it likes, and in place
 //! of a later line that is wrong. It may take as long as it likes, and more memory than it needs.
 //!
 //! # Stands on

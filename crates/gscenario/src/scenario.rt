@@ -3,8 +3,7 @@
 
 ghost use Rattle.std.specs.Prelude.{◌≡◌, ◌++◌, ◌∷◌, [], IfOk, MatchOption, MatchResult};
 ghost use Rattle.gobject.specs.PlainPackText.{IsInLine, line};
-ghost use Rattle.gscenario.specs.ScenarioText.{BeginsWithCommand, IsLineOf, IsNoLine, IsScenario};
-ghost use Rattle.gscenario.specs.Reading.{Refuses};
+ghost use Rattle.gscenario.specs.ScenarioText.{BeginsWithCommand, IsLineOf, IsNoLine, IsScenario, Refuses};
 
 use crate::arguments::event_of;
 use crate::command::Command;

@@ -11,12 +11,10 @@ use Rattle.gworld.specs.Worlds.{PackTools, WorldState}
 use Rattle.gscenario.specs.declared.event.Event.{Event}
 use Rattle.gworld.specs.declared.outcome.Outcome.{Outcome}
 
-room_left_by : {T E : Type 0} (r : Result T E) (P : Type 0) → is_err r ≡ false → OnOk r P → P
-room_left_by (Ok t) P well room = room
-room_left_by (Err e) P well room = absurd (false≢true (sym well))
-
+-- room was made where making it did not fail
 pub room_left : {T E : Type 0} (r : Result T E) (P : Type 0) → is_err r ≡ false → OnOk r P → P
-room_left r P well room = room_left_by r P well room
+room_left (Ok t) P well room = room
+room_left (Err e) P well room = absurd (false≢true (sym well))
 
 module _ {A : Type 0} (R : WorldState A → Event A → Outcome → WorldState A → Type 0) where
   pub run_goes_on : (w v u : WorldState A) (events : List (Event A)) (outcomes : List Outcome) (event : Event A)

@@ -46,9 +46,6 @@ pub record SessionLaws (A : Type 0) : Type 0 where
   pub asks : AsksAreOfLines A
   pub waits : OpenIsTheSessions A
 
-same_fetch : (one other : FetchAsked) → Some (Fetches one) ≡ Some (Fetches other) → one ≡ other
-same_fetch one other same = cc
-
 either_common : (P : List ℕ → Type 0) (old acks : List (List ℕ)) → All P old → All P acks → (a : List ℕ)
     → Contains old a ⊎ Contains acks a → P a
 either_common P old acks olds news a (inl there) = All-contains P old a olds there
@@ -181,7 +178,10 @@ module _ {A : Type 0} where
     began = began;
     commons = is.commons;
     shared = is.shared;
-    waits = λ asked waits. subst (IsSoundFetch w) (same_fetch fetch asked waits) sound;
+    waits = λ asked waits.
+        let both : Some (Fetches fetch) ≡ Some (Fetches asked) = waits in
+        let same : fetch ≡ asked = cc in
+        subst (IsSoundFetch w) same sound;
     asked = is.asked;
     wanted = is.wanted;
   }

@@ -22,13 +22,14 @@ PromisesAreRuns {A} tools =
     (w new : WorldState A) (events : List (Event A)) (outcomes : List Outcome)
     → RunWith (Promises tools) w events outcomes new → Run tools w events outcomes new
 
--- the client's refs are whole after any run
+-- where the client's refs are whole, they are so after any run
 abbrev pub RefsStayWhole : {A : Type 0} → PackTools A → Type 0
 RefsStayWhole {A} tools =
     (w new : WorldState A) (events : List (Event A)) (outcomes : List Outcome) → AreRefsWhole w
     → RunWith (Promises tools) w events outcomes new → AreRefsWhole new
 
--- and no session asked for objects more than once more than there are ids that its tips reach
+-- where the client's session asked for objects at most once more than there are ids that its tips reach, so it is
+-- after any run
 abbrev pub RequestsStayFew : {A : Type 0} → PackTools A → Type 0
 RequestsStayFew {A} tools =
     (w new : WorldState A) (events : List (Event A)) (outcomes : List Outcome) → AreRequestsFew w
@@ -39,7 +40,7 @@ abbrev pub IsNoForge : {A : Type 0} → Event A → Type 0
 IsNoForge (event.Forge bytes) = ⊥
 IsNoForge _ = ⊤
 
--- where no event forges bytes, the world is not forged after them, and server and client hold each common id
+-- where a world is not forged, and server and client hold each common id, so it is after events that forge no bytes
 abbrev pub CommonsStayShared : {A : Type 0} → PackTools A → Type 0
 CommonsStayShared {A} tools =
     (w new : WorldState A) (events : List (Event A)) (outcomes : List Outcome) → w.forged ≡ false

@@ -1,4 +1,4 @@
--- What each step of a world promises: the headline, in parts.
+-- What each step of a world promises, part by part.
 use Rattle.std.specs.Prelude.{◌≡◌, ◌⊎◌, ⊤, ℕ, ◌+◌, ◌<◌, ◌≤◌, true, false, List, length, All, IfSome, Option, None, Some}
 use Rattle.std.specs.Prelude.{slice_get}
 use Rattle.gobject.specs.declared.fault.IndexFault.TheVariants as index
@@ -59,6 +59,7 @@ module _ {A : Type 0} where
   AreWantsComplete (Fetches asked) new = HasAll new.server.graph.entries asked.wants new.repo.graph.entries
   AreWantsComplete _ new = ⊤
 
+  -- the wants of the request that the kept reply answers are complete, where there is such a reply
   abbrev pub CompletesKept : Option Kept → WorldState A → Type 0
   CompletesKept None new = ⊤
   CompletesKept (Some kept) new = AreWantsComplete kept.asked new
@@ -88,6 +89,7 @@ module _ {A : Type 0} where
   AsksSeldom w s =
       (held parents : ℕ) → CountsReached w.repo.graph.entries s.tips held parents → s.rounds ≤ held + 1
 
+  -- the session, where there is one, asked for objects so seldom
   abbrev pub AreRequestsFew : WorldState A → Type 0
   AreRequestsFew w = IfSome w.session (AsksSeldom w)
 
@@ -137,6 +139,7 @@ module _ {A : Type 0} (tools : PackTools A) where
   IsServedOrRefused server (Some asked) (outcomes.Fault number) = MayRefuse server asked number
   IsServedOrRefused server (Some asked) _ = ⊥
 
+  -- a server that is asked to answer a request that was sent keeps a reply, or refuses it for one of these reasons
   abbrev pub ServesSent : WorldState A → Event A → Outcome → Type 0
   ServesSent w (event.Serve number) outcome = IsServedOrRefused w.server (slice_get w.sent number) outcome
   ServesSent w _ outcome = ⊤
@@ -153,7 +156,8 @@ module _ {A : Type 0} where
     pub full : All (IsFull new.graph.entries) (asked_ids asks)
     pub moved : All (MovesAsked old new) asks
 
-  -- what is asked for is settled; or the refs can't be set, as there would be too many (69); or there is no memory (64)
+  -- What is asked for is settled; or the refs can't be set, as there would be too many (69: no refspec moves HEAD, the
+  -- one other cause that `CannotSettle` has); or there is no memory (64).
   abbrev pub IsSettledOrRefused : RepoState A → Option (SessionState A) → Outcome → RepoState A → Type 0
   IsSettledOrRefused old None outcome new = ⊥
   IsSettledOrRefused old (Some s) (outcomes.Settled moved same not_forward) new = HasSettled old s.asks new

@@ -86,8 +86,9 @@ module _ {A : Type 0} (tools : PackTools A) where
     pub full : IsUnforgedAndFaithful w → All (IsFull w.repo.graph.entries) (asked_ids s.asks)
 
   -- What stays true. The client holds the whole ancestry of each have of each request that was sent, and the server
-  -- each want. Each kept reply answers its request, as the server was then. Where nothing was forged and packer and
-  -- indexer are faithful, the two graphs agree. And the session is sound, and ready to settle where it is answered.
+  -- each want, unless bytes were forged. Each kept reply answers its request, as the server was then. Where nothing
+  -- was forged and packer and indexer are faithful, the two graphs agree. And the session is sound, and ready to settle
+  -- where it is answered.
   pub record IsSound (w : WorldState A) : Type 0 where
     pub format : w.repo.graph.format ≡ w.server.graph.format
     pub agree : IsUnforgedAndFaithful w → Agree w.server.graph.entries w.repo.graph.entries

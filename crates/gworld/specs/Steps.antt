@@ -162,7 +162,7 @@ module _ {A : Type 0} where
 
 -- ---- the server
 
--- how many bytes the server wrote; where it ended the conversation for want of memory, the number of that fault
+-- how many bytes the server wrote; where it ended the conversation out of memory, the number of that fault
 abbrev pub stranger_outcome : ℕ → End → Outcome
 stranger_outcome written (end.Refused fault) =
     if lacks_memory fault then outcomes.Fault (serve_fault_row fault).code else outcomes.StrangerServed written

@@ -66,7 +66,7 @@ abbrev pub IsPackTaken : Outcome → Type 0
 IsPackTaken (outcomes.PackTaken added) = ⊤
 IsPackTaken _ = ⊥
 
--- all bytes came of a reply whose request is the one that waited, and its pack was taken
+-- all bytes came of a reply whose request is equal to the one that waited, and its pack was taken
 pub record IsFullAnswer (kept : Kept) (asked : Asked) (count : ℕ) (outcome : Outcome) : Type 0 where
   pub same : kept.asked ≡ asked
   pub all : length (reply_bytes kept.reply) ≤ count

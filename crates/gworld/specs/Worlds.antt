@@ -17,7 +17,7 @@ pub record Kept : Type 0 where
 
 -- The server. The client's repository, and its session, if it has one. Each request that the client sent, and each
 -- reply that the server made. Whether bytes were ever forged. Whether the session is answered: all bytes came of a
--- reply whose request is the one that waited, and the client took its pack.
+-- reply whose request is equal to the one that waited, and the client took its pack.
 pub record WorldState (A : Type 0) : Type 0 where
   pub server : Server A
   pub repo : RepoState A

@@ -81,17 +81,18 @@ pub fn promises_are_runs<A: Allocator + Copy, K: Packer<A> + Indexer<A>>()
     ensures { (k : K) → PromisesAreRuns (tools_of (K.packs k) (K.pack_fails k) (K.indexes k) (K.index_fails k)) }
 {}
 
-/// After any run each ref of the client names an id whose whole ancestry the client holds.
+/// Where each ref of the client names an id whose whole ancestry the client holds, so it is after any run.
 pub fn refs_stay_whole<A: Allocator + Copy, K: Packer<A> + Indexer<A>>()
     ensures { (k : K) → RefsStayWhole (tools_of (K.packs k) (K.pack_fails k) (K.indexes k) (K.index_fails k)) }
 {}
 
-/// After any run the client's session asked for objects at most once more than there are ids that its tips reach.
+/// Where the client's session asked for objects at most once more than there are ids that its tips reach, so it is
+/// after any run. The tips are the ids at which the client's refs stood when the session began.
 pub fn requests_stay_few<A: Allocator + Copy, K: Packer<A> + Indexer<A>>()
     ensures { (k : K) → RequestsStayFew (tools_of (K.packs k) (K.pack_fails k) (K.indexes k) (K.index_fails k)) }
 {}
 
-/// After any run in which no bytes are forged, server and client hold each common id.
+/// Where no bytes were forged, and server and client hold each common id, so it is after any run that forges none.
 pub fn commons_stay_shared<A: Allocator + Copy, K: Packer<A> + Indexer<A>>()
     ensures { (k : K) → CommonsStayShared (tools_of (K.packs k) (K.pack_fails k) (K.indexes k) (K.index_fails k)) }
 {}

@@ -1,26 +1,27 @@
 //! A server and a client of Git's fetch service under any list of events (gitprotocol-v2(5)): what a fetch leaves
-//! behind where messages are lost, repeated, late, cut short or forged, where objects and refs change at either end,
-//! and where either end starts again. A [`World`] has both ends, and keeps each request that was sent and each reply
-//! that was made; an [`Event`] is one thing that happens to it, and an [`Outcome`] what came of it.
+//! where messages are lost, repeated, late, cut short or forged, where objects and refs change at either end, and
+//! where either end starts again. A [`World`] has both ends, and keeps each request that was sent and each reply that
+//! was made; an [`Event`] is one thing that happens to it, and an [`Outcome`] what came of it.
 //!
 //! # Proved
 //!
 //! - [`World::new`] answers a world of exactly the server, the client's repository, the packer and the indexer that it
 //!   is given, without a session, with nothing sent and nothing forged. It fails with `TwoFormats` exactly where the
 //!   two repositories have ids of two formats, and else with `Disagree` exactly where they hold an id with two
-//!   objects: at the first such id in the order of the server's objects. It takes no memory.
+//!   objects: at the first such id in the order of the server's objects.
 //! - [`World::run`] does the events in order, with one outcome each. What an event does, and with which outcome, is
-//!   said by `Step` (specs/Steps.antt). Where memory is refused to the world's own lists or buffers, the run stops at
-//!   an event that has not begun, with the outcomes of those before it.
+//!   said by `Step` (specs/Steps.antt). Where the world's own lists or buffers can't grow, the run stops at an event
+//!   that has not begun, with the outcomes of those before it.
 //! - **Whatever is answered, whatever bytes are forged, and whatever packer and indexer do: each ref of the client
 //!   names an id whose whole ancestry the client holds**, and the session asked for objects at most once more than
-//!   there are ids that its tips reach. Where no bytes were forged, server and client hold each common id.
+//!   there are ids that the refs reached when it began. Where no bytes were forged, server and client hold each common id.
 //! - Where no bytes were forged, and packer and indexer are faithful: a pack that is taken completes the wants of the
 //!   request that its reply answers, be that an older one than the request that waits. A reply to fetch that answers
-//!   the request that waits, and comes whole, is taken, but for a pack over the limit, a graph that is full, and want
-//!   of memory. Each request that was sent is served, but for a pack that is too large, and want of memory. A session
-//!   that took the whole pack that answers its request settles: each ref that may move does, but for too many refs,
-//!   and want of memory. (`Promises`, specs/Promises.antt, has a definition for each of these.)
+//!   the request that waits, and comes whole, is taken, unless its pack is over the limit, the graph is full, or
+//!   memory is refused. Each request that was sent is served, unless its pack is too large or memory is refused. A
+//!   session that took the whole pack that answers its request settles, and each ref that may move does, unless there
+//!   would be too many refs or memory is refused. (`Promises`, specs/Promises.antt, has a definition for each of
+//!   these.)
 //! - A run whose steps keep their promises is a run; what is promised of the world after each step holds after any
 //!   run; and a packer and an indexer that are faithful are so in each world ([`laws`]).
 //! - Each fault has the number, the name and the text of its row. No call panics, overflows or reads out of bounds,
@@ -32,8 +33,8 @@
 //!
 //! # What the contracts do not rule out
 //!
-//! A run may stop for want of memory at any event, and an event that takes memory may have want of memory as its
-//! outcome, whatever memory there is. A call may take as long as it likes, and more memory than it needs.
+//! A run may stop at any event as if memory were refused, and an event that takes memory may report that there is
+//! none, whatever memory there is. A call may take as long as it likes, and more memory than it needs.
 //!
 //! # Stands on
 //!

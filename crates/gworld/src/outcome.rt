@@ -38,7 +38,7 @@ pub enum Outcome {
         same: usize,
         not_forward: usize,
     },
-    /// It was refused, with the fault of this number.
+    /// It was refused, with the fault of this number: [`World::run`](crate::World::run) lists them by events.
     Fault {
         code: u32,
     },

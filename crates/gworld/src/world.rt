@@ -65,9 +65,23 @@ impl<K: Packer<A> + Indexer<A> + Drop, A: Allocator + Copy> World<K, A> {
 
     /// Does the events, one after the other, and answers the outcome of each.
     ///
-    /// An event that is refused has the outcome `Fault`, and the next ones are done all the same. Where a list of the
-    /// world or a buffer can't grow, the run stops with `Memory`, which has the outcomes of the events that were done:
-    /// the world is as these left it, and the next event has not begun.
+    /// An event that is refused has the outcome `Fault`, and the next ones are done all the same:
+    ///
+    /// - `Begin`: 82 over 16 refspecs, 64 without memory; the session before stays.
+    /// - `Ask`: 83 where there is no session or no request is due, and nothing changes; 64, and the session is over.
+    /// - `Serve`: 93 where no such request was sent; 64, or 65 where the packer fails. Nothing changes.
+    /// - `Deliver`: 93 where no such reply is kept; then as `Forge`.
+    /// - `Forge`: 83 where no request waits; else the fault of the reply that was read or not taken, and the session is
+    ///   over, with refs as before. The world counts as forged from then on.
+    /// - `StrangeRequest`: 28, 53, 64 or 65 where the server had no memory.
+    /// - `Settle`: 83 where that is not due, and nothing changes; 85, 69 or 64, and the session is over, with refs as
+    ///   before.
+    /// - `ServerAdd`, `ClientAdd`: 90 where the other end holds the id with another object, then 72 where a parent is
+    ///   not held, then 75, 62, 63, 60, 61 or 64. Nothing changes.
+    /// - `ServerRef`: 71, then 69 or 64; `ClientRef`: 81, then 69 or 64. Nothing changes.
+    ///
+    /// Where a list of the world or a buffer can't grow, the run stops with `Memory`, which has the outcomes of the
+    /// events that were done: the world is as these left it, and the next event has not begun.
     ///
     /// What each step promises is said by `Promises` (specs/Promises.antt). Whatever is answered, each ref of the
     /// client names an id whose whole ancestry the client holds.

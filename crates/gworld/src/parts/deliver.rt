@@ -34,7 +34,7 @@ impl<A: Allocator + Copy> KeptReply<A> {
         }
     }
 
-    // Whether the reply answers the very request for which the session waits.
+    // Whether the reply answers a request that is equal to the one that waits.
     fn answers_open(&self, session: &Session<A>) -> bool
         ensures { IsTrue result ↔ (session.now.pending ≡ Some self.now.asked) }
     {
