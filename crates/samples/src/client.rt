@@ -1,4 +1,4 @@
-//! A client that fetches all branches.
+//! A client that fetches by refspecs.
 
 use gclient::{Repo, Spec, fetch_over};
 use gcmd::{PackLimit, ProgramFault};
@@ -7,28 +7,31 @@ use ggraph::{Order, PlainPack, load};
 use gpkt::{Sink, Source};
 use std::alloc::Allocator;
 
-/// Fetches all branches of a server (gitprotocol-v2(5)) into the client's repository whose text is given, and answers
+/// Fetches by refspecs from a server (gitprotocol-v2(5)) into the client's repository whose text is given, and answers
 /// that repository.
 ///
 /// It fails with `Text` or `Fetch` where the text is that of no client's repository, and with `Fetch` where the
-/// conversation ends early; every ref is as before then.
-pub fn fetch_branches<A: Allocator + Copy, S: Source, W: Sink>(
+/// conversation fails.
+pub fn fetch_into<A: Allocator + Copy, S: Source, W: Sink>(
     alloc: A,
     text: &[u8],
+    specs: &[Spec<A>],
     source: &mut S,
     sink: &mut W,
 ) -> Result<Repo<A>, ProgramFault<A>> {
     let repository = load(alloc, text, Order::Any)?;
     let mut repo = Repo::new(repository.graph, repository.refs)?;
-    let branches = Spec::parse(alloc, b"+refs/heads/*:refs/remotes/origin/*")?;
-    fetch_over(
+    let limit = PackLimit::default();
+    match fetch_over(
         &mut repo,
         source,
         sink,
         &PlainPack,
-        &[branches],
-        PackLimit::default(),
+        specs,
+        limit,
         Ends::Plain,
-    )?;
-    Ok(repo)
+    ) {
+        Ok(_) => Ok(repo),
+        Err(fault) => Err(ProgramFault::Fetch(fault)),
+    }
 }

@@ -9,5 +9,5 @@
 mod client;
 mod server;
 
-pub use crate::client::fetch_branches;
+pub use crate::client::fetch_into;
 pub use crate::server::serve_text;
