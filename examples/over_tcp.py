@@ -84,7 +84,7 @@ class Listening:
 
     def connect(self):
         stream = socket.create_connection(("127.0.0.1", self.port))
-        stream.settimeout(90)
+        stream.settimeout(300)
         return stream
 
     def talk(self, *pieces, pause=0.0):
@@ -98,7 +98,7 @@ class Listening:
         with open(f"/proc/{self.process.pid}/status") as status:
             return next(int(line.split()[1]) for line in status if line.startswith("VmRSS"))
 
-    def end(self, seconds=100):
+    def end(self, seconds=300):
         status = self.process.wait(seconds)
         self.errors.seek(0)
         return status, self.errors.read().decode()
@@ -402,7 +402,7 @@ def silence(folder):
     check("a silent one: answer", read_all(mute), refused(b"read failed"))
     check("a silent one: end", quiet.end(), (0, "gitv2: fault 24 Io frame 0\n"))
     check("after one that takes nothing", full.talk(hello(), FLUSH), ADVERT)
-    check("one that takes nothing waits", 59 <= time.time() - began <= 140, True)
+    check("one that takes nothing waits", 59 <= time.time() - began <= 200, True)
     check("one that takes nothing: end", full.end(), (0, "gitv2: fault 27 Io\n"))
     deaf.close()
     print(f"silent peers: {time.time() - began:.0f} s")

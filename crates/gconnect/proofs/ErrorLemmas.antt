@@ -1,6 +1,5 @@
 -- The line of an error that reports a fault.
 use Rattle.std.proofs.Common.{◌≡◌, ℕ, List, [], ◌∷◌, ◌++◌, codes, ap}
-use Rattle.gpkt.specs.Packets.{Packet}
 use Rattle.ggrammar.specs.Texts.{text_packet}
 use Rattle.ganswer.specs.declared.fault.ServeFault.{ServeFault}
 use Rattle.gserve.specs.Refusals.{err_packets, err_text}

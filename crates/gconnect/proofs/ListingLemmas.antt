@@ -17,7 +17,7 @@ use Rattle.gsession.specs.Sessions.{tells_unborn}
 use Rattle.gsession.specs.declared.fault.ClientFault.TheVariants as client
 use Rattle.gclient.specs.Conversations.{FailsToSend, IsLeft, request_bytes, rest_of}
 use Rattle.gclient.specs.declared.fault.FetchFault.TheVariants as fetch
-use Rattle.gconnect.specs.Listings.{FailsToList, FitsNone, HasHeard, HasListed, ReadsReply, RefusesReply, asked_of}
+use Rattle.gconnect.specs.Listings.{FailsToList, FitsNone, HasHeard, HasListed, ReadsReply, RefusesReply}
 use Rattle.gconnect.specs.Listings.{asking_bytes, cannot_ask, cannot_end, cannot_take, ending_bytes}
 use Rattle.gconnect.specs.Steps.{HasHeardServer}
 use Rattle.gconnect.specs.declared.listing.Heard.{Heard}

@@ -1,5 +1,5 @@
 -- The first line of a `git://` connection, as the client writes it (gitprotocol-pack(5), "Git Transport").
-use Rattle.std.specs.Prelude.{◌≡◌, false, List, Option, ℕ}
+use Rattle.std.specs.Prelude.{false, List, Option, ℕ}
 use Rattle.gpkt.specs.Packets.{canonical_all}
 use Rattle.gpkt.specs.Sending.{Input, Output, IsUnread, Passes}
 use Rattle.ghello.specs.Hello.{Hello, canonical_hello}

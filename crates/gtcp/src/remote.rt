@@ -360,17 +360,31 @@ where
     ensures meets { Meets {A = A} pair.now.client.now (output_of W.contents W.passed_on W.is_down output.old output.new) result }
     ensures loans { W.loans output.new ≡ W.loans output.old }
 {
-    let server = match load_server(alloc, pair.server) {
-        Ok(server) => server,
-        Err(fault) => return Err(fault),
-    };
-    match open_client(alloc, pair.client) {
-        Ok(mut repo) => meet_client(net, &server, &mut repo, pair.specs, output),
+    match load_server(alloc, pair.server) {
+        Ok(server) => meet_server(net, &server, pair, output),
         Err(fault) => Err(fault),
     }
 }
 
-// The same for the server and the client's repository of the files.
+// The same for the server of the file.
+fn meet_server<A: Allocator + Copy, N, W: Sink>(
+    net: &N,
+    server: &Server<A>,
+    pair: &Pair<'_, A>,
+    output: &mut W,
+) -> Result<(), ProgramFault<A>>
+where
+    N: Net<Stream = TcpStream, Listener = TcpListener>,
+    ensures meets { Meets {A = A} pair.now.client.now (output_of W.contents W.passed_on W.is_down output.old output.new) result }
+    ensures loans { W.loans output.new ≡ W.loans output.old }
+{
+    match open_client(server.graph().allocator(), pair.client) {
+        Ok(mut repo) => meet_client(net, server, &mut repo, pair.specs, output),
+        Err(fault) => Err(fault),
+    }
+}
+
+// The same for the client's repository of the other.
 fn meet_client<A: Allocator + Copy, N, W: Sink>(
     net: &N,
     server: &Server<A>,
