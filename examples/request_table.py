@@ -2,7 +2,7 @@
 """What a server answers to a request that is cut, or of which a byte is changed: the lines of `data/swept` of the crate
 `conformance`, worked out from gitprotocol-v2(5) and docs/PROTOCOL.md alone, apart from the libraries.
 
-    examples/request_table.py > table     and then into crates/conformance/data/swept, behind the row
+    examples/request_table.py > table     and then into crates/conformance/data/swept, after the row
 """
 
 A, B, C = "a" * 40, "b" * 40, "c" * 40
@@ -51,7 +51,7 @@ REQUEST = b"".join(
 
 
 def next_packet(data):
-    """A mark or a payload, and what is behind it."""
+    """A mark or a payload, and what follows it."""
     if not data:
         raise Refused(54)
     if len(data) < 4:
@@ -227,7 +227,7 @@ def places(first, last):
 
 def main():
     original = read(REQUEST)
-    print("# The request is cut behind so many of its %d bytes." % len(REQUEST))
+    print("# The request is cut after so many of its %d bytes." % len(REQUEST))
     cuts = [(len_, answer(REQUEST[:len_], original)) for len_ in range(len(REQUEST))]
     for first, last, out in merged(cuts):
         print(f"cut {places(first, last)} = {out}")

@@ -4,7 +4,7 @@ use crate::command::{Command, Program};
 use crate::device::{Hindrance, Writer};
 use crate::play::Played;
 use crate::spell::number_of;
-use crate::table::{Change, Due, Outcome, error_packet};
+use crate::table::{Change, Ending, Outcome, error_packet};
 use crate::talk::{Place, Talk};
 use crate::trouble::Trouble;
 use gcmd::cmd_check;
@@ -267,16 +267,17 @@ fn is_outcome(
     (before, input): (&[u8], &[u8]),
     outcome: &Outcome<'_>,
 ) -> Result<bool, Trouble> {
-    match &outcome.due {
-        Due::AsItStands => Ok(is_as_due(row, played)),
-        Due::Said(bytes) => Ok(
+    let due = &outcome.due;
+    match due.ending {
+        Ending::AsItStands => Ok(is_as_due(row, played)),
+        Ending::Said => Ok(
             played.status == 0
-                && has_written(&played.output, before, bytes.as_slice())
+                && has_written(&played.output, before, due.bytes.as_slice())
                 && has_printed(played, NOTHING),
         ),
-        Due::Refused { text, fault } => {
-            let text = outcome.filled(alloc, *text, input)?;
-            let fault = outcome.filled(alloc, *fault, input)?;
+        Ending::Refused => {
+            let text = outcome.filled(alloc, due.text, input)?;
+            let fault = outcome.filled(alloc, due.fault, input)?;
             let packet = error_packet(alloc, text.as_slice())?;
             Ok(
                 played.status == 1
@@ -328,20 +329,23 @@ fn advertises(row: &Row<'_>, played: &Played) -> bool {
 /// Whether the client's repository is safe after the run, and no object is lost: the new text of its file, and what it was
 /// at the end, which differs from the file only where there is no new text, and then in new objects alone.
 pub fn is_kept(alloc: Global, row: &Row<'_>, played: &Played) -> bool {
-    let (_, old_refs) = parts_of(row.file);
-    let is_file_kept = match &played.file {
-        Some(text) => is_grown(alloc, row, text.as_slice()),
-        None => true,
-    };
-    let is_state_kept = match (&played.state, &played.file) {
-        (Some(state), Some(text)) => state.as_slice() == text.as_slice(),
-        (Some(state), None) => {
-            let (_, refs) = parts_of(state.as_slice());
-            refs == old_refs && is_grown(alloc, row, state.as_slice())
+    match (&played.state, &played.file) {
+        (Some(state), Some(text)) => {
+            state.as_slice() == text.as_slice() && is_grown(alloc, row, text.as_slice())
         }
-        (None, _) => true,
-    };
-    is_file_kept && is_state_kept
+        (Some(state), None) => {
+            has_same_refs(row, state.as_slice()) && is_grown(alloc, row, state.as_slice())
+        }
+        (None, Some(text)) => is_grown(alloc, row, text.as_slice()),
+        (None, None) => true,
+    }
+}
+
+// Whether a text has the refs of the row's.
+fn has_same_refs(row: &Row<'_>, text: &[u8]) -> bool {
+    let (_, old_refs) = parts_of(row.file);
+    let (_, refs) = parts_of(text);
+    refs == old_refs
 }
 
 // Whether a text has all objects of the row's, and refs whose whole ancestry is there.

@@ -3,7 +3,7 @@
 //! ids at which the refs stand.
 
 use crate::fact::told;
-use crate::history::{asked_of, text_of_count, text_of_id, text_of_ids};
+use crate::history::{Asked, asked_of, text_of_count, text_of_id, text_of_ids};
 use crate::script::Fact;
 use crate::spell::add_number;
 use crate::trouble::Trouble;
@@ -28,16 +28,20 @@ pub fn answer(
         return Err(Trouble::NoGraph);
     };
     let asked = asked_of(alloc, fact.text.as_slice())?;
-    let tips = if fact.kind == "known" {
-        asked.first.as_slice()
-    } else {
-        asked.second.as_slice()
-    };
-    let refs = refs_at(alloc, memory, tips)?;
+    let refs = refs_at(alloc, memory, tips_of(&asked, fact.kind))?;
     memory.refuse(refused);
     match Repo::new(repository.graph, refs) {
         Ok(repo) => look(alloc, &repo, fact.kind, asked.first.as_slice()),
         Err(fault) => told(alloc, fault.code(), fault.name()),
+    }
+}
+
+// Where the refs stand.
+fn tips_of<'b>(asked: &'b Asked, kind: &str) -> &'b [Oid] {
+    if kind == "known" {
+        asked.first.as_slice()
+    } else {
+        asked.second.as_slice()
     }
 }
 

@@ -113,12 +113,16 @@ pub fn fetch_with<'m, I: Source, O: Sink, R: Sink, E: Sink>(
         limit_of(job.command.limit),
         job.command.ends,
     );
+    let is_settled = fetched.is_ok();
     let mut ran = match fetched {
         Ok(fetched) => conclude(job, &repo, &fetched, devices)?,
         Err(fault) => failed(job, ProgramFault::Fetch(fault), devices),
     };
     job.memory.refuse(0);
-    ran.state = Some(text_of(job, &repo)?);
+    // Where no memory is left for the new text, the refs here have moved, and the file stays.
+    if !is_settled || ran.file.is_some() {
+        ran.state = Some(text_of(job, &repo)?);
+    }
     Ok(ran)
 }
 

@@ -83,16 +83,28 @@ where
     let mut tally = Tally::new(depth);
     for format in [Format::Sha1, Format::Sha256] {
         let mut script = Script::new(alloc, format);
-        for (name, text) in names.iter().zip(files.as_slice()) {
-            if let Err(trouble) = script.read(alloc, name.as_str(), text.as_str()) {
+        match read_all(alloc, names, files.as_slice(), &mut script) {
+            Ok(()) => try_script(rt, &script, &mut tally)?,
+            Err(trouble) => {
                 tell_trouble(rt, script.source, script.line, trouble, &mut tally)?;
                 return Ok(false);
             }
         }
-        try_script(rt, &script, &mut tally)?;
     }
     show(rt, &tally)?;
     Ok(tally.wrong == 0)
+}
+
+fn read_all<'a>(
+    alloc: Global,
+    names: &'a [String],
+    files: &'a [String],
+    script: &mut Script<'a>,
+) -> Result<(), Trouble> {
+    for (name, text) in names.iter().zip(files) {
+        script.read(alloc, name.as_str(), text.as_str())?;
+    }
+    Ok(())
 }
 
 // How much is tried, and the names of the files.
@@ -115,6 +127,14 @@ fn try_script<R: Print + AllocGlobal>(
     for fact in script.facts.as_slice() {
         try_fact(rt, script, fact, tally)?;
     }
+    try_cases(rt, script, tally)
+}
+
+fn try_cases<R: Print + AllocGlobal>(
+    rt: &R,
+    script: &Script<'_>,
+    tally: &mut Tally,
+) -> io::Result<()> {
     for case in script.cases.as_slice() {
         try_case(rt, &*script, case, tally)?;
     }
@@ -290,14 +310,15 @@ fn try_case<'b, R: Print + AllocGlobal>(
     tally: &mut Tally,
 ) -> io::Result<()> {
     for words in case.runs.as_slice() {
-        for adds_ends in [false, true] {
-            let run = Attempt {
-                case,
-                words,
-                adds_ends,
-            };
-            try_run(rt, script, run, tally)?;
-        }
+        let plain = Attempt {
+            case,
+            words,
+            adds_ends: false,
+        };
+        let mut ended = plain;
+        ended.adds_ends = true;
+        try_run(rt, script, plain, tally)?;
+        try_run(rt, script, ended, tally)?;
     }
     Ok(())
 }

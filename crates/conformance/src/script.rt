@@ -28,7 +28,7 @@
 //!
 //! Each case and each fact is tried with ids of SHA-1 and with ids of SHA-256, but for those between `single` and `both`,
 //! and in the rest of a file after `single`. The same lines say it with both: an id in braces has sixty-four digits, the
-//! first line of a repository and the object format of an advertisement are those of SHA-256, and behind each line
+//! first line of a repository and the object format of an advertisement are those of SHA-256, and after each line
 //! `C: command=` stands the object format.
 //!
 //! A line `KIND DUE: TEXT` says what is made of a text (`fact.rt`), what is told of a fault (`shown.rt`), and after
@@ -433,16 +433,16 @@ impl<'a> Script<'a> {
 
     fn due_of(&self, alloc: Global, due: &'a str) -> Result<Due<'a>, Trouble> {
         if due == "as it stands" {
-            return Ok(Due::AsItStands);
+            return Ok(Due::as_it_stands(alloc));
         }
         if due == "nothing" {
-            return Ok(Due::Said(Vec::new(alloc)));
+            return Ok(Due::said(Vec::new(alloc)));
         }
         if let Some(name) = due.strip_prefix("use ") {
-            return Ok(Due::Said(self.talk_bytes(alloc, name)?));
+            return Ok(Due::said(self.talk_bytes(alloc, name)?));
         }
         match due.split_once(" | ") {
-            Some((text, fault)) => Ok(Due::Refused { text, fault }),
+            Some((text, fault)) => Ok(Due::refused(alloc, text, fault)),
             None => Err(Trouble::UnknownLine),
         }
     }
@@ -461,11 +461,7 @@ impl<'a> Script<'a> {
         for line in lines {
             speech.say(alloc, line, &mut said)?;
         }
-        let mut bytes = Vec::new(alloc);
-        for one in said.as_slice() {
-            bytes.extend_from_slice(one.bytes.as_slice())?;
-        }
-        Ok(bytes)
+        all_bytes(alloc, said.as_slice())
     }
 }
 
@@ -484,6 +480,14 @@ impl<'a> Case<'a> {
         }
         Ok(true)
     }
+}
+
+fn all_bytes(alloc: Global, said: &[Said]) -> Result<Vec<u8>, Trouble> {
+    let mut bytes = Vec::new(alloc);
+    for one in said {
+        bytes.extend_from_slice(one.bytes.as_slice())?;
+    }
+    Ok(bytes)
 }
 
 // How what is said is spelled.

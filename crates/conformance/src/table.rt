@@ -2,7 +2,7 @@
 //!
 //! | Line | Meaning |
 //! |---|---|
-//! | `cut 1-17 = OUTCOME` | where the input ends behind so many bytes |
+//! | `cut 1-17 = OUTCOME` | where the input ends after so many bytes |
 //! | `change 18 2-9 a-f = OUTCOME` | where the byte at a place is one of these; a place is named once for each outcome |
 //! | `change 18 other = OUTCOME` | the same for all other bytes |
 //!
@@ -17,20 +17,62 @@ use std::alloc::Global;
 /// What is done to the input.
 #[derive(Clone, Copy, PartialEq, Eq)]
 pub enum Change {
-    /// It is cut behind so many bytes.
+    /// It is cut after so many bytes.
     Cut(usize),
     /// The byte at the place is this one.
     Byte(usize, u8),
 }
 
-/// What is written then, after what was written before.
-#[derive(Drop)]
-pub enum Due<'a> {
+/// How the run ends then.
+#[derive(Clone, Copy, PartialEq, Eq)]
+pub enum Ending {
+    /// As it stands.
     AsItStands,
-    /// These bytes, and no fault.
-    Said(Vec<u8>),
-    /// An error of this text, and the line of this fault.
-    Refused { text: &'a str, fault: &'a str },
+    /// With these bytes, and no fault.
+    Said,
+    /// With an error of this text, and the line of this fault.
+    Refused,
+}
+
+/// What is written then, after what was written before the request was read.
+#[derive(Drop)]
+pub struct Due<'a> {
+    pub ending: Ending,
+    pub bytes: Vec<u8>,
+    pub text: &'a str,
+    pub fault: &'a str,
+}
+
+impl<'a> Due<'a> {
+    /// What the row says.
+    pub fn as_it_stands(alloc: Global) -> Due<'a> {
+        Due {
+            ending: Ending::AsItStands,
+            bytes: Vec::new(alloc),
+            text: "",
+            fault: "",
+        }
+    }
+
+    /// These bytes.
+    pub fn said(bytes: Vec<u8>) -> Due<'a> {
+        Due {
+            ending: Ending::Said,
+            bytes,
+            text: "",
+            fault: "",
+        }
+    }
+
+    /// An error.
+    pub fn refused(alloc: Global, text: &'a str, fault: &'a str) -> Due<'a> {
+        Due {
+            ending: Ending::Refused,
+            bytes: Vec::new(alloc),
+            text,
+            fault,
+        }
+    }
 }
 
 /// A line of the table.

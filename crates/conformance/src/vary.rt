@@ -202,7 +202,8 @@ impl<'a, 'b> Bench<'a, 'b> {
         Ok(wrong)
     }
 
-    // A fetch with an indexer that watches how it is fed, where the row has no other: as it stands, and in pieces.
+    // A fetch with an indexer that watches how it is fed, where the row has no other. What the client's repository is in the
+    // end is looked at then, too: as it stands, in pieces, cut, and with each allocation refused.
     fn watched(&mut self) -> Result<Option<usize>, Trouble> {
         let row = self.row;
         let is_fetch = row.command.program == Program::Fetch && !row.talk.input.is_empty();
@@ -210,11 +211,23 @@ impl<'a, 'b> Bench<'a, 'b> {
             return Ok(None);
         }
         self.liar = Some(Liar::Watches);
+        let wrong = self.with_indexer()?;
+        self.liar = None;
+        Ok(wrong)
+    }
+
+    fn with_indexer(&mut self) -> Result<Option<usize>, Trouble> {
         let mut wrong = self.whole()?;
         if wrong.is_none() {
             wrong = self.in_pieces()?;
         }
-        self.liar = None;
+        if wrong.is_some() || self.row.is_long {
+            return Ok(wrong);
+        }
+        wrong = self.cut()?;
+        if wrong.is_none() {
+            wrong = self.scarce()?;
+        }
         Ok(wrong)
     }
 
@@ -364,7 +377,7 @@ impl<'a, 'b> Bench<'a, 'b> {
         Ok(None)
     }
 
-    // With the request cut behind each of its bytes, and each byte changed to each other value, where the row has a table.
+    // With the request cut after each of its bytes, and each byte changed to each other value, where the row has a table.
     fn by_table(&mut self) -> Result<Option<usize>, Trouble> {
         let row = self.row;
         if row.table.is_empty() {

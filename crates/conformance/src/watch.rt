@@ -1,5 +1,5 @@
 //! Whether an indexer is fed as it is to be: with the pieces of a pack as they come, in their order, each once, none of them
-//! empty, and none behind a refusal.
+//! empty, and none after a refusal.
 
 use std::cell::Cell;
 
