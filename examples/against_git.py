@@ -32,7 +32,7 @@ class Cases:
     """The texts, the rows and the facts on names of the files of cases."""
 
     def __init__(self, folder):
-        self.texts, self.talks, self.rows, self.names = {}, {}, [], []
+        self.texts, self.talks, self.rows, self.names, self.long = {}, {}, [], [], set()
         for file in open(f"{folder}/../args").read().split():
             self.read(open(f"{folder}/{file}", "rb").read().split(b"\n"))
 
@@ -51,6 +51,8 @@ class Cases:
                 block.append((line, times))
             elif word == b"row":
                 self.rows.append(Row(rest.decode()))
+            elif word == b"long" and rest:
+                self.long.add(rest.decode())
             elif word == b"run":
                 self.rows[-1].runs.append(rest.decode(errors="backslashreplace").split())
             elif word == b"packer":
@@ -66,6 +68,8 @@ class Cases:
 
     def text(self, name):
         """The bytes of a text."""
+        if name in self.long:
+            return long_text(name)
         lines = [self.spelled(line, time + 1) for line, times in self.texts[name] for time in range(times)]
         return b"".join(line + b"\n" for line in lines)
 
@@ -73,8 +77,9 @@ class Cases:
         """What is said in a case: by whom and how, as `C:`, and the bytes."""
         for line, times in row.lines:
             if re.match(rb"[CS][:.=123]", line):
+                text = line[4:] if line[2:3] == b"*" else line[3:]
                 for time in range(times):
-                    yield line[:2].decode(), self.spelled(line[3:], time + 1)
+                    yield line[:2].decode(), self.spelled(text, time + 1)
 
     def spelled(self, line, time):
         """The bytes that a line spells."""
@@ -85,15 +90,30 @@ class Cases:
                 if len(escape) == 3:
                     return bytes([int(escape[1:], 16)])
                 return {b"n": b"\n", b"0": b"\0"}.get(escape, escape)
+            if inside[:2] == b"#=":
+                return b"%040d" % int(inside[2:])
             if inside[:1] == b"#":
                 width, _, more = inside[1:].partition(b"+")
-                return b"%0*d" % (int(width), time + int(more or 0))
+                return b"%0*d" % (int(width or 40), time + int(more or 0))
+            if re.fullmatch(rb".[+-][0-9]+", inside, re.S):
+                return inside[:1] * (40 + int(inside[1:]))
             part, star, count = inside.partition(b"*")
             if star:
                 return part * int(count)
             return inside * 40 if len(inside) == 1 else self.text(inside.decode())
 
         return re.sub(rb"\\(x[0-9a-f]{2}|.)|\{([^}]*)\}", one, line, flags=re.S)
+
+
+def long_text(name):
+    """A chain of so many commits, each the parent of the one before, as a repository or as a pack."""
+    count = int(re.sub(r"[^0-9]", "", name))
+    commits = [f"c {n:040} {n + 1:040}\n" for n in range(1, count)] + [f"c {count:040}\n"]
+    if not name.endswith("-late"):
+        commits.reverse()
+    if name.startswith("pack-"):
+        return "".join(["GPK1\n", *commits, f"end {count}\n"]).encode()
+    return "".join(["gitv2 1\n", *commits, f"r {1:040} refs/heads/main\nh none\nend\n"]).encode()
 
 
 # ---- git

@@ -3,7 +3,7 @@
 use crate::liars::Liar;
 use crate::trouble::Trouble;
 use gcmd::Ends;
-use gname::MAX_PACK;
+use gname::{Format, MAX_PACK};
 
 /// A program.
 #[derive(Clone, Copy, PartialEq, Eq)]
@@ -32,6 +32,14 @@ impl Program {
         }
     }
 
+    /// Whether its replies may have an end of their own.
+    pub fn has_ends(self) -> bool {
+        match self {
+            Program::Upload | Program::Fetch => true,
+            Program::Ls | Program::Check | Program::Lines => false,
+        }
+    }
+
     /// Whether each packet that it reads is a message of its own.
     pub fn reads_lines(self) -> bool {
         match self {
@@ -41,7 +49,7 @@ impl Program {
     }
 }
 
-/// A program and its words.
+/// A program and its words, and the format of the ids that it meets.
 #[derive(Clone, Copy)]
 pub struct Command<'a> {
     pub program: Program,
@@ -52,12 +60,13 @@ pub struct Command<'a> {
     /// The most bytes of a pack.
     pub limit: usize,
     pub ends: Ends,
+    pub format: Format,
     /// The packer or the indexer, where it is not the plain one.
     pub liar: Option<Liar>,
 }
 
-/// Reads a command line.
-pub fn command_of(line: &str, liar: Option<Liar>) -> Result<Command<'_>, Trouble> {
+/// Reads a command line. The packer and the indexer are the plain ones.
+pub fn command_of(line: &str, format: Format) -> Result<Command<'_>, Trouble> {
     let (name, words) = first_of(line);
     let program = program_of(name)?;
     let words = after(words, "--stdio-server ");
@@ -74,7 +83,8 @@ pub fn command_of(line: &str, liar: Option<Liar>) -> Result<Command<'_>, Trouble
         specs,
         limit,
         ends,
-        liar,
+        format,
+        liar: None,
     })
 }
 

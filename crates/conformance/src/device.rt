@@ -1,10 +1,13 @@
-//! Devices in memory that move some bytes a call and fail at a chosen one.
+//! Devices in memory that move some bytes a call and fail at a chosen one, and std's readers and writers made of them.
 
 ghost use Rattle.std.specs.Prelude.{◌≡◌, is_err, None, []};
 ghost use Rattle.gpkt.specs.Devices.{AnswersDown};
 
+use crate::watch::Watch;
 use gpkt::{Down, Sink, Source};
 use std::alloc::Global;
+use std::io;
+use std::io::{ErrorKind, Read, Write};
 
 /// How a device is hindered: the most bytes a call, and the call that fails, the first being 1.
 #[derive(Clone, Copy)]
@@ -67,15 +70,17 @@ impl Turns {
 
 /// What is still to be read.
 #[derive(Drop)]
-pub struct Reader<'a> {
+pub struct Reader<'a, 'w> {
     rest: &'a [u8],
+    watch: &'w Watch,
     turns: Turns,
 }
 
-impl<'a> Reader<'a> {
-    pub fn new(bytes: &'a [u8], hindrance: Hindrance) -> Reader<'a> {
+impl<'a, 'w> Reader<'a, 'w> {
+    pub fn new(bytes: &'a [u8], hindrance: Hindrance, watch: &'w Watch) -> Reader<'a, 'w> {
         Reader {
             rest: bytes,
+            watch,
             turns: Turns::new(hindrance),
         }
     }
@@ -95,7 +100,7 @@ impl<'a> Reader<'a> {
     }
 }
 
-impl Source for Reader<'_> {
+impl Source for Reader<'_, '_> {
     ghost remaining = { λ _. None };
 
     ghost is_down = { λ s. s.turns.down };
@@ -112,6 +117,7 @@ impl Source for Reader<'_> {
         let (part, rest) = self.rest.split_at(count);
         buf[..count].copy_from_slice(part);
         self.rest = rest;
+        self.watch.give(count);
         Ok(count)
     }
 }
@@ -177,5 +183,52 @@ impl Sink for Writer {
         self.turns.take()?;
         self.passed_on = self.written.len();
         Ok(())
+    }
+}
+
+/// One of std's readers or writers, which does what a device does. A failure is an interrupted call.
+#[derive(Drop)]
+pub struct AsStd<D> {
+    device: D,
+}
+
+impl<D> AsStd<D> {
+    pub fn new(device: D) -> AsStd<D> {
+        AsStd { device }
+    }
+
+    /// The device, as the calls left it.
+    pub fn into_inner(self) -> D {
+        let AsStd { device } = self;
+        device
+    }
+}
+
+fn interrupted() -> io::Error {
+    io::Error::from(ErrorKind::Interrupted)
+}
+
+impl<D: Source> Read for AsStd<D> {
+    fn read(&mut self, buf: &mut [u8]) -> io::Result<usize> {
+        match self.device.read(buf) {
+            Ok(count) => Ok(count),
+            Err(_) => Err(interrupted()),
+        }
+    }
+}
+
+impl<D: Sink> Write for AsStd<D> {
+    fn write(&mut self, buf: &[u8]) -> io::Result<usize> {
+        match self.device.write(buf) {
+            Ok(count) => Ok(count),
+            Err(_) => Err(interrupted()),
+        }
+    }
+
+    fn flush(&mut self) -> io::Result<()> {
+        match self.device.flush() {
+            Ok(()) => Ok(()),
+            Err(_) => Err(interrupted()),
+        }
     }
 }

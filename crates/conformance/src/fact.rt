@@ -1,22 +1,23 @@
 //! What is made of a text: of a name, a prefix, an id, a refspec, the first line of a `git://` connection, a repository, a
-//! pack, and of a payload that is to be written.
+//! pack, of a payload that is to be written, and of one that was read from a side band.
 //!
-//! Due is `ok`, of a pack with the number of its entries and of a first line with its host and its path; or the number and
-//! the name of the fault, and its place or its line.
+//! Due is `ok`, of a pack with the number of its entries, of a first line with its host and its path, of a payload with its
+//! band and how many bytes are on it; or the number and the name of the fault, and its place or its line.
 
 use crate::device::{Hindrance, Reader, Writer};
 use crate::script::Fact;
 use crate::trouble::Trouble;
+use crate::watch::Watch;
 use gcmd::Spec;
 use ggraph::{IndexFault, Indexer, LoadFault, Order, PlainPack, load, save};
 use ghello::read_hello;
 use gname::{Format, NameFault, Oid, OidFault, Prefix, RefName};
-use gpkt::{LineReader, LineWriter};
+use gpkt::{Band, LineReader, LineWriter, band_of};
 use scarce::Scarce;
 use std::alloc::Global;
 
 /// What a line about a text begins with.
-pub const KINDS: [&str; 10] = [
+pub const KINDS: [&str; 11] = [
     "name",
     "prefix",
     "id",
@@ -27,6 +28,7 @@ pub const KINDS: [&str; 10] = [
     "load-parents-first",
     "pack",
     "put",
+    "band",
 ];
 
 /// What is made of the text, which is read in pieces of so many bytes where it comes from a device.
@@ -40,13 +42,14 @@ pub fn answer(
     match fact.kind {
         "name" => name(alloc, memory, text),
         "prefix" => prefix(alloc, memory, text),
-        "id" => id(alloc, Format::Sha1, text),
+        "id" => id(alloc, fact.format, text),
         "id64" => id(alloc, Format::Sha256, text),
         "spec" => spec(alloc, memory, text),
         "hello" => hello(alloc, memory, text, most),
         "load" => repository(alloc, memory, text, Order::Any),
         "load-parents-first" => repository(alloc, memory, text, Order::ParentsFirst),
         "pack" => pack(alloc, memory, text, most),
+        "band" => band(alloc, text),
         _ => payload(alloc, text, most),
     }
 }
@@ -85,7 +88,8 @@ fn hello(
     text: &[u8],
     most: usize,
 ) -> Result<String, Trouble> {
-    let mut source = Reader::new(text, Hindrance::pieces(most));
+    let watch = Watch::new();
+    let mut source = Reader::new(text, Hindrance::pieces(most), &watch);
     let mut reader = match LineReader::new(memory, &mut source) {
         Ok(reader) => reader,
         Err(fault) => return told(alloc, fault.code(), fault.name()),
@@ -169,6 +173,21 @@ fn payload(alloc: Global, text: &[u8], most: usize) -> Result<String, Trouble> {
         Err(fault) if sink.written().is_empty() => told(alloc, fault.code(), fault.name()),
         Err(_) => read_back(alloc, false),
     }
+}
+
+// Of a payload on a side band the band and the number of its bytes.
+fn band(alloc: Global, text: &[u8]) -> Result<String, Trouble> {
+    let (word, bytes) = match band_of(text) {
+        Ok(Band::Data(bytes)) => ("data", bytes),
+        Ok(Band::Progress(bytes)) => ("progress", bytes),
+        Ok(Band::Fatal(bytes)) => ("fatal", bytes),
+        Err(fault) => return told(alloc, fault.code(), fault.name()),
+    };
+    if text.get(1..) != Some(bytes) {
+        return read_back(alloc, false);
+    }
+    let count = bytes.len();
+    Ok(format!(in alloc; "ok {word} {count}")?)
 }
 
 fn read_back(alloc: Global, is_same: bool) -> Result<String, Trouble> {

@@ -1,5 +1,5 @@
-//! What is found in the history of a repository: `missing`, `counted`, `sent`, `sent-tags`, `common`, `ready`, `reaches`,
-//! `offered` and `peeled`. Lists of ids are parted by ` / `; `none` stands for no id.
+//! What is found in the history of a repository: `missing`, `counted`, `sent`, `sent-tags`, `sent-count`, `common`, `ready`,
+//! `reaches`, `offered` and `peeled`. Lists of ids are parted by ` / `; `none` stands for no id.
 
 use crate::fact::told;
 use crate::script::Fact;
@@ -14,11 +14,12 @@ use scarce::Scarce;
 use std::alloc::Global;
 
 /// What a line about a history begins with.
-pub const KINDS: [&str; 9] = [
+pub const KINDS: [&str; 10] = [
     "missing",
     "counted",
     "sent",
     "sent-tags",
+    "sent-count",
     "common",
     "ready",
     "reaches",
@@ -26,12 +27,12 @@ pub const KINDS: [&str; 9] = [
     "peeled",
 ];
 
-// What is asked of a history.
+/// What is asked of a history.
 #[derive(Drop)]
-struct Asked {
-    first: Vec<Oid>,
-    second: Vec<Oid>,
-    count: usize,
+pub struct Asked {
+    pub first: Vec<Oid>,
+    pub second: Vec<Oid>,
+    pub count: usize,
 }
 
 // What is found.
@@ -41,6 +42,7 @@ enum Found<'m> {
     Entries(Vec<Entry<&'m Scarce<Global>>, &'m Scarce<Global>>),
     Id(Option<Oid>),
     Counted(Option<Oid>, Count),
+    Many(usize),
     Whether(bool),
 }
 
@@ -63,7 +65,8 @@ pub fn answer(
     }
 }
 
-fn asked_of(alloc: Global, text: &[u8]) -> Result<Asked, Trouble> {
+/// The lists of ids that a text names, and its number.
+pub fn asked_of(alloc: Global, text: &[u8]) -> Result<Asked, Trouble> {
     let mut parts = text.split(|byte| *byte == b'/');
     let first = ids_of(alloc, parts.next().unwrap_or(b""))?;
     let second = ids_of(alloc, parts.next().unwrap_or(b""))?;
@@ -109,6 +112,7 @@ fn look<'m>(
         "missing" => Ok(Found::Id(missing(graph, first)?)),
         "counted" => counted(graph, first),
         "sent" => Ok(Found::Entries(send_list(graph, first, second)?)),
+        "sent-count" => Ok(Found::Many(send_list(graph, first, second)?.len())),
         "sent-tags" => Ok(Found::Entries(send_list_tags(graph, first, second, refs)?)),
         "common" => Ok(Found::Ids(common_ids(graph, first)?)),
         "ready" => Ok(Found::Whether(ready(graph, first, second)?)),
@@ -144,6 +148,7 @@ fn text_of(alloc: Global, found: &Found<'_>) -> Result<String, Trouble> {
         Found::Entries(entries) => text_of_entries(alloc, entries.as_slice()),
         Found::Id(id) => text_of_id(alloc, *id),
         Found::Counted(missing, count) => text_of_count(alloc, *missing, *count),
+        Found::Many(count) => Ok(format!(in alloc; "{count}")?),
         Found::Whether(is_so) => Ok(String::from_str(alloc, if *is_so { "yes" } else { "no" })?),
     }
 }
@@ -156,7 +161,8 @@ fn text_of_entries(alloc: Global, entries: &[Entry<&Scarce<Global>>]) -> Result<
     text_of_ids(alloc, ids.as_slice())
 }
 
-fn text_of_ids(alloc: Global, ids: &[Oid]) -> Result<String, Trouble> {
+/// The text of a list of ids.
+pub fn text_of_ids(alloc: Global, ids: &[Oid]) -> Result<String, Trouble> {
     if ids.is_empty() {
         return text_of_id(alloc, None);
     }
@@ -170,7 +176,8 @@ fn text_of_ids(alloc: Global, ids: &[Oid]) -> Result<String, Trouble> {
     Ok(text)
 }
 
-fn text_of_id(alloc: Global, id: Option<Oid>) -> Result<String, Trouble> {
+/// The text of an id.
+pub fn text_of_id(alloc: Global, id: Option<Oid>) -> Result<String, Trouble> {
     let Some(id) = id else {
         return Ok(String::from_str(alloc, "none")?);
     };
@@ -182,7 +189,8 @@ fn text_of_id(alloc: Global, id: Option<Oid>) -> Result<String, Trouble> {
     }
 }
 
-fn text_of_count(alloc: Global, missing: Option<Oid>, count: Count) -> Result<String, Trouble> {
+/// The text of what is missing, and of how much was looked at.
+pub fn text_of_count(alloc: Global, missing: Option<Oid>, count: Count) -> Result<String, Trouble> {
     let missing = text_of_id(alloc, missing)?;
     let missing = missing.as_str();
     let ids = count.ids;

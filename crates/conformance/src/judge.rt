@@ -4,6 +4,7 @@ use crate::command::{Command, Program};
 use crate::device::{Hindrance, Writer};
 use crate::play::Played;
 use crate::spell::number_of;
+use crate::table::{Change, Ending, Outcome, error_packet};
 use crate::talk::{Place, Talk};
 use crate::trouble::Trouble;
 use gcmd::cmd_check;
@@ -21,6 +22,11 @@ const PACK_FAILED: &[u8] = b"0021ERR upload-pack: pack failed\n";
 
 const WRITE_FAILED: &[u8] = b"gitv2: fault 27 Io\n";
 
+/// The faults of memory that end a connection before it is served, and in the making of a pack.
+const NO_MEMORY_FAULT: usize = 64;
+
+const PACK_FAULT: usize = 65;
+
 /// The numbers of the faults that may be reported where an allocation was refused.
 const MEMORY_FAULTS: [usize; 6] = [18, 28, 53, 64, 65, 66];
 
@@ -34,9 +40,25 @@ pub struct Row<'b> {
     pub new_file: Option<&'b [u8]>,
     pub talk: Talk,
     /// What is printed where an allocation is refused, one after the other; nothing where the row does not say it.
-    pub memory: &'b [&'b str],
-    /// Whether each byte is changed to each other value.
-    pub is_deep: bool,
+    pub memory: &'b [Vec<u8>],
+    /// Where the packets of the last message begin that is read; nothing where the row does not say it.
+    pub packets: &'b [usize],
+    /// What is due where the request is cut or changed; nothing where the row does not say it.
+    pub table: &'b [Outcome<'b>],
+    pub reach: Reach,
+    /// Whether it is tried whole and in pieces alone.
+    pub is_long: bool,
+}
+
+/// How far bytes are changed.
+#[derive(Clone, Copy, PartialEq, Eq)]
+pub enum Reach {
+    /// Each byte to each other value.
+    Deep,
+    /// Each byte in each bit.
+    Bits,
+    /// Each byte in one of its bits, the next byte in the next.
+    OneBit,
 }
 
 /// How the input stops.
@@ -159,24 +181,111 @@ pub fn is_errors_failed(row: &Row<'_>, played: &Played) -> bool {
         && has_file(played, row.new_file)
 }
 
-/// Whether the run went well, or reported that memory ended, with a beginning of the output up to the end of a message.
+/// Whether the run went well, or ended as it is to where an allocation is refused: it tells of it, after a beginning of the
+/// output up to the end of a message. A server that serves says it to the client, too.
 pub fn is_scarce(row: &Row<'_>, played: &Played) -> bool {
-    if is_as_due(row, played) {
-        return true;
-    }
-    let written = played.output.written();
-    let kept = match written.strip_suffix(NO_MEMORY) {
-        Some(kept) => kept,
-        None => match written.strip_suffix(PACK_FAILED) {
-            Some(kept) => kept,
-            None => written,
-        },
-    };
+    is_as_due(row, played)
+        || is_unserved(row, played)
+        || (is_out_of_memory(played) && has_stopped(row, played))
+}
+
+/// Whether the run ended for want of memory before anything was written: no memory for the repository itself.
+pub fn is_unserved(row: &Row<'_>, played: &Played) -> bool {
+    row.command.program.serves()
+        && is_out_of_memory(played)
+        && played.output.written().is_empty()
+        && fault_of(played.errors.written()) == NO_MEMORY_FAULT
+}
+
+// Whether a fault of memory is reported, and nothing else.
+fn is_out_of_memory(played: &Played) -> bool {
+    let errors = played.errors.written();
     played.status == 1
-        && row.talk.output.starts_with(kept)
-        && row.talk.is_end(kept.len())
-        && MEMORY_FAULTS.contains(&fault_of(played.errors.written()))
-        && (played.file.is_none() || has_file(played, row.new_file))
+        && MEMORY_FAULTS.contains(&fault_of(errors))
+        && errors.ends_with(b"\n")
+        && errors.split(|byte| *byte == b'\n').count() == 2
+        && played.errors.is_passed_on()
+        && has_written(&played.report, NOTHING, NOTHING)
+}
+
+// Whether a beginning of the output was written, up to the end of a message, and then, by a server, the line of the fault.
+// Where a new file is, no memory was left for the report alone.
+fn has_stopped(row: &Row<'_>, played: &Played) -> bool {
+    let told = if row.command.program.serves() {
+        refusal_of(fault_of(played.errors.written()))
+    } else {
+        NOTHING
+    };
+    let Some(kept) = played.output.written().strip_suffix(told) else {
+        return false;
+    };
+    let is_kept = match &played.file {
+        Some(_) => has_file(played, row.new_file) && kept == row.talk.output.as_slice(),
+        None => row.talk.output.starts_with(kept) && row.talk.is_end(kept.len()),
+    };
+    is_kept && played.output.is_passed_on()
+}
+
+// The line to the client of a fault of memory.
+fn refusal_of(fault: usize) -> &'static [u8] {
+    if fault == PACK_FAULT {
+        PACK_FAILED
+    } else {
+        NO_MEMORY
+    }
+}
+
+/// Whether the run did what the row's table says of the changed input.
+pub fn is_in_table(
+    alloc: Global,
+    row: &Row<'_>,
+    played: &Played,
+    input: &[u8],
+    change: Change,
+) -> Result<bool, Trouble> {
+    let Some(before) = written_before(row) else {
+        return Ok(false);
+    };
+    for outcome in row.table {
+        if outcome.is_of(change) {
+            return is_outcome(alloc, row, played, (before, input), outcome);
+        }
+    }
+    Ok(false)
+}
+
+// What is written before the request is read.
+fn written_before<'b>(row: &'b Row<'_>) -> Option<&'b [u8]> {
+    let place = row.talk.place_at(0)?;
+    row.talk.output.as_slice().get(..place.before)
+}
+
+fn is_outcome(
+    alloc: Global,
+    row: &Row<'_>,
+    played: &Played,
+    (before, input): (&[u8], &[u8]),
+    outcome: &Outcome<'_>,
+) -> Result<bool, Trouble> {
+    let due = &outcome.due;
+    match due.ending {
+        Ending::AsItStands => Ok(is_as_due(row, played)),
+        Ending::Said => Ok(
+            played.status == 0
+                && has_written(&played.output, before, due.bytes.as_slice())
+                && has_printed(played, NOTHING),
+        ),
+        Ending::Refused => {
+            let text = outcome.filled(alloc, due.text, input)?;
+            let fault = outcome.filled(alloc, due.fault, input)?;
+            let packet = error_packet(alloc, text.as_slice())?;
+            Ok(
+                played.status == 1
+                    && has_written(&played.output, before, packet.as_slice())
+                    && told(played.errors.written()) == Some(fault.as_slice()),
+            )
+        }
+    }
 }
 
 /// What is told of the fault that is printed, if one is.
@@ -195,11 +304,11 @@ fn fault_of(errors: &[u8]) -> usize {
     }
 }
 
-/// Whether the run of a changed input ended within bounds: a server with its advertisement first, a client with its refs
-/// safe and its objects kept.
-pub fn is_sound(alloc: Global, row: &Row<'_>, played: &Played) -> bool {
+/// Whether the run of a changed input ended within bounds: with one line of a fault or none, and by a server with its
+/// advertisement first.
+pub fn is_sound(row: &Row<'_>, played: &Played) -> bool {
     let is_told = (played.status == 1) == played.errors.written().starts_with(b"gitv2: fault ");
-    is_told && advertises(row, played) && keeps_refs_safe(alloc, row, played)
+    is_told && advertises(row, played)
 }
 
 // Whether the output of a connection begins with the advertisement, where the row has one.
@@ -217,12 +326,32 @@ fn advertises(row: &Row<'_>, played: &Played) -> bool {
     }
 }
 
-// Whether the new text, where there is one, has all objects of the old, and refs whose whole ancestry is there.
-fn keeps_refs_safe(alloc: Global, row: &Row<'_>, played: &Played) -> bool {
-    match &played.file {
-        Some(text) => is_safe(alloc, text.as_slice()) && text.starts_with(objects_of(row.file)),
-        None => true,
+/// Whether the client's repository is safe after the run, and no object is lost: the new text of its file, and what it was
+/// at the end, which differs from the file only where there is no new text, and then in new objects alone.
+pub fn is_kept(alloc: Global, row: &Row<'_>, played: &Played) -> bool {
+    match (&played.state, &played.file) {
+        (Some(state), Some(text)) => {
+            state.as_slice() == text.as_slice() && is_grown(alloc, row, text.as_slice())
+        }
+        (Some(state), None) => {
+            has_same_refs(row, state.as_slice()) && is_grown(alloc, row, state.as_slice())
+        }
+        (None, Some(text)) => is_grown(alloc, row, text.as_slice()),
+        (None, None) => true,
     }
+}
+
+// Whether a text has the refs of the row's.
+fn has_same_refs(row: &Row<'_>, text: &[u8]) -> bool {
+    let (_, old_refs) = parts_of(row.file);
+    let (_, refs) = parts_of(text);
+    refs == old_refs
+}
+
+// Whether a text has all objects of the row's, and refs whose whole ancestry is there.
+fn is_grown(alloc: Global, row: &Row<'_>, text: &[u8]) -> bool {
+    let (objects, _) = parts_of(row.file);
+    text.starts_with(objects) && is_safe(alloc, text)
 }
 
 // Whether the whole ancestry of each ref is there.
@@ -233,8 +362,8 @@ fn is_safe(alloc: Global, file: &[u8]) -> bool {
     status == 0 && output.written().ends_with(b" safe yes\n")
 }
 
-// The beginning of a repository's text up to its refs.
-fn objects_of(file: &[u8]) -> &[u8] {
+// The objects of a repository's text, and what follows.
+fn parts_of(file: &[u8]) -> (&[u8], &[u8]) {
     let mut len = 0usize;
     for line in file.split_inclusive(|byte| *byte == b'\n') {
         if line.starts_with(b"r ") || line.starts_with(b"h ") {
@@ -242,10 +371,7 @@ fn objects_of(file: &[u8]) -> &[u8] {
         }
         len = len.saturating_add(line.len());
     }
-    match file.get(..len) {
-        Some(objects) => objects,
-        None => file,
-    }
+    file.split_at(len.min(file.len()))
 }
 
 // Just these two were written, and passed on.

@@ -1,9 +1,10 @@
-//! Packers and indexers that fail, and that don't do what they are to do.
+//! Packers and indexers that fail, and that don't do what they are to do. Each indexer watches how it is fed.
 
 ghost use Rattle.std.specs.Prelude.{⊤};
 
+use crate::watch::Watch;
 use ggraph::{Entry, IndexFault, Indexer, Kind, Node, PackFault, Packer, Parents, PlainPack};
-use gname::{MAX_PACK, Oid};
+use gname::{Format, MAX_ID_TEXT, MAX_PACK, Oid};
 use std::alloc::Allocator;
 
 /// What a packer or an indexer does.
@@ -19,7 +20,7 @@ pub enum Liar {
     PackMemory,
     /// An indexer that leaves out the first entry.
     DropsFirst,
-    /// Indexers whose one entry is the commit of forty `a` with a parent, a commit of 65 parents, and a tag of two.
+    /// Indexers whose one entry is the commit of all `a` with a parent, a commit of 65 parents, and a tag of two.
     OtherParent,
     ManyParents,
     TwoParentTag,
@@ -27,6 +28,8 @@ pub enum Liar {
     IndexFails,
     FeedFails,
     FinishFails,
+    /// An indexer that does what it is to do.
+    Watches,
 }
 
 impl Liar {
@@ -52,18 +55,28 @@ impl Liar {
             "fails" => Some(Liar::IndexFails),
             "fails-at-piece" => Some(Liar::FeedFails),
             "fails-at-end" => Some(Liar::FinishFails),
+            "watches" => Some(Liar::Watches),
             _ => None,
         }
     }
 }
 
-impl<A: Allocator + Copy> Packer<A> for Liar {
+/// A packer or an indexer of ids of a format, and the input of which it is fed.
+#[derive(Clone, Copy)]
+pub struct Handed<'i, 'w> {
+    pub liar: Liar,
+    pub format: Format,
+    pub input: &'i [u8],
+    pub watch: &'w Watch,
+}
+
+impl<A: Allocator + Copy> Packer<A> for Handed<'_, '_> {
     ghost packs = { λ _ list pack. ⊤ };
 
     ghost pack_fails = { λ _ list fault. ⊤ };
 
     fn pack(&self, alloc: A, entries: &[Entry<A>]) -> Result<Vec<u8, A>, PackFault> {
-        let pack = written(*self, alloc, entries)?;
+        let pack = written(self.liar, alloc, entries)?;
         if pack.len() > MAX_PACK {
             return Err(PackFault::TooLarge);
         }
@@ -96,7 +109,7 @@ pub struct Pieces<A: Allocator + Copy> {
     bytes: Vec<u8, A>,
 }
 
-impl<A: Allocator + Copy> Indexer<A> for Liar {
+impl<A: Allocator + Copy> Indexer<A> for Handed<'_, '_> {
     type Feed = Pieces<A>;
 
     ghost indexes = { λ _ pack list. ⊤ };
@@ -106,7 +119,8 @@ impl<A: Allocator + Copy> Indexer<A> for Liar {
     ghost fed = { λ _ feed pack. ⊤ };
 
     fn start(&self, alloc: A) -> Result<Pieces<A>, IndexFault> {
-        match self {
+        self.watch.begin();
+        match self.liar {
             Liar::IndexFails => Err(IndexFault::Other),
             _ => Ok(Pieces {
                 alloc,
@@ -116,24 +130,56 @@ impl<A: Allocator + Copy> Indexer<A> for Liar {
     }
 
     fn feed(&self, feed: &mut Pieces<A>, piece: &[u8]) -> Result<(), IndexFault> {
-        match self {
-            Liar::FeedFails => Err(IndexFault::Bad { line: 3 }),
-            _ => Ok(feed.bytes.extend_from_slice(piece)?),
+        self.watch.feed(self.input, piece);
+        let fed = taken(self.liar, feed, piece);
+        if fed.is_err() {
+            self.watch.refuse();
         }
+        fed
     }
 
     fn finish(&self, feed: Pieces<A>) -> Result<Vec<Entry<A>, A>, IndexFault> {
+        self.watch.finish();
         let alloc = feed.alloc;
-        let mut list = Vec::new(alloc);
-        match self {
-            Liar::DropsFirst => return without_first(alloc, feed.bytes.as_slice()),
-            Liar::OtherParent => list.push(entry(alloc, b'a', Kind::Commit, &[id(b'd')?])?)?,
-            Liar::ManyParents => list.push(entry(alloc, b'c', Kind::Commit, &[id(b'b')?; 65])?)?,
-            Liar::TwoParentTag => list.push(entry(alloc, b'c', Kind::Tag, &[id(b'a')?; 2])?)?,
-            _ => return Err(IndexFault::Other),
+        let pack = feed.bytes.as_slice();
+        match self.liar {
+            Liar::Watches => PlainPack.index(alloc, pack),
+            Liar::DropsFirst => without_first(alloc, pack),
+            liar => made_up(liar, self.format, alloc),
         }
-        Ok(list)
     }
+}
+
+// Takes a piece, or refuses it.
+fn taken<A: Allocator + Copy>(
+    liar: Liar,
+    feed: &mut Pieces<A>,
+    piece: &[u8],
+) -> Result<(), IndexFault> {
+    match liar {
+        Liar::FeedFails => Err(IndexFault::Bad { line: 3 }),
+        _ => Ok(feed.bytes.extend_from_slice(piece)?),
+    }
+}
+
+// The one entry that the indexer says, whatever it was fed.
+fn made_up<A: Allocator + Copy>(
+    liar: Liar,
+    format: Format,
+    alloc: A,
+) -> Result<Vec<Entry<A>, A>, IndexFault> {
+    let a = id(format, b'a')?;
+    let b = id(format, b'b')?;
+    let c = id(format, b'c')?;
+    let d = id(format, b'd')?;
+    let mut list = Vec::new(alloc);
+    match liar {
+        Liar::OtherParent => list.push(entry(alloc, a, Kind::Commit, &[d])?)?,
+        Liar::ManyParents => list.push(entry(alloc, c, Kind::Commit, &[b; 65])?)?,
+        Liar::TwoParentTag => list.push(entry(alloc, c, Kind::Tag, &[a; 2])?)?,
+        _ => return Err(IndexFault::Other),
+    }
+    Ok(list)
 }
 
 // The entries of a pack but the first.
@@ -149,9 +195,13 @@ fn without_first<A: Allocator + Copy>(
     Ok(list)
 }
 
-// The id of forty such digits.
-fn id(digit: u8) -> Result<Oid, IndexFault> {
-    match Oid::from_hex(&[digit; 40]) {
+// The id of such digits alone.
+fn id(format: Format, digit: u8) -> Result<Oid, IndexFault> {
+    let digits = [digit; MAX_ID_TEXT];
+    let Some(digits) = digits.get(..format.id_text_length()) else {
+        return Err(IndexFault::Other);
+    };
+    match Oid::from_hex_in(format, digits) {
         Ok(id) => Ok(id),
         Err(_) => Err(IndexFault::Other),
     }
@@ -159,13 +209,13 @@ fn id(digit: u8) -> Result<Oid, IndexFault> {
 
 fn entry<A: Allocator + Copy>(
     alloc: A,
-    digit: u8,
+    id: Oid,
     kind: Kind,
     parents: &[Oid],
 ) -> Result<Entry<A>, IndexFault> {
     let parents = Parents::from_slice(alloc, parents)?;
     Ok(Entry {
-        id: id(digit)?,
+        id,
         node: Node { kind, parents },
     })
 }

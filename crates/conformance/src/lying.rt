@@ -1,32 +1,34 @@
 //! Runs over a packer or an indexer that is not the plain one. No program of `gcmd` has another, so what stands around it
-//! there is done here: the file is read, a fault is printed, and the file is written. A fetch reports nothing.
+//! there is done here: the file is read, a fault is printed, the file is written, and a fetch reports. What the client's
+//! repository is in the end is told, too.
 
-use crate::command::{Command, Program};
-use crate::liars::Liar;
-use crate::play::Devices;
-use gclient::{Repo, fetch_over};
-use gcmd::{PackLimit, ProgramFault, Spec, cmd_failed};
+use crate::command::Program;
+use crate::liars::{Handed, Liar};
+use crate::play::{Devices, Job, Ran, limit_of, ran_without_file};
+use crate::report::report_of;
+use crate::trouble::Trouble;
+use gclient::{Fetched, Repo, fetch_over};
+use gcmd::{ProgramFault, Spec, cmd_failed};
 use ggraph::{Head, Order, load, save};
+use gpkt::{Sink, Source, write_all};
 use gserve::{End, ExchangeEnd, Server, serve, serve_one};
 use scarce::Scarce;
 use std::alloc::Global;
 
 /// Serves one request, or a connection, from a repository's text. It answers the exit status.
-pub fn serve_with(
-    memory: &Scarce<Global>,
-    file: &[u8],
-    command: &Command<'_>,
+pub fn serve_with<I: Source, O: Sink, R: Sink, E: Sink>(
+    job: &Job<'_, '_, '_>,
     liar: Liar,
-    devices: &mut Devices<'_>,
+    devices: &mut Devices<I, O, R, E>,
 ) -> u8 {
-    let server = match server_of(memory, file) {
+    let server = match server_of(job.memory, job.file) {
         Ok(server) => server,
         Err(fault) => return cmd_failed(fault, &mut devices.errors),
     };
-    let served = if command.program == Program::Upload {
-        answer_all(&server, liar, command, devices)
+    let served = if job.command.program == Program::Upload {
+        answer_all(&server, job, liar, devices)
     } else {
-        answer_one(&server, liar, command, devices)
+        answer_one(&server, job, liar, devices)
     };
     match served {
         Ok(()) => 0,
@@ -42,16 +44,25 @@ fn server_of<'m>(
     Ok(Server::new(repository.graph, repository.refs, repository.head)?)
 }
 
-fn answer_all<'m>(
+fn handed<'i, 'm>(job: &Job<'_, 'i, 'm>, liar: Liar) -> Handed<'i, 'm> {
+    Handed {
+        liar,
+        format: job.command.format,
+        input: job.input,
+        watch: job.watch,
+    }
+}
+
+fn answer_all<'m, I: Source, O: Sink, R: Sink, E: Sink>(
     server: &Server<&'m Scarce<Global>>,
+    job: &Job<'_, '_, 'm>,
     liar: Liar,
-    command: &Command<'_>,
-    devices: &mut Devices<'_>,
+    devices: &mut Devices<I, O, R, E>,
 ) -> Result<(), ProgramFault<&'m Scarce<Global>>> {
     let served = serve(
         server,
-        &liar,
-        command.ends,
+        &handed(job, liar),
+        job.command.ends,
         &mut devices.input,
         &mut devices.output,
     );
@@ -62,16 +73,16 @@ fn answer_all<'m>(
     }
 }
 
-fn answer_one<'m>(
+fn answer_one<'m, I: Source, O: Sink, R: Sink, E: Sink>(
     server: &Server<&'m Scarce<Global>>,
+    job: &Job<'_, '_, 'm>,
     liar: Liar,
-    command: &Command<'_>,
-    devices: &mut Devices<'_>,
+    devices: &mut Devices<I, O, R, E>,
 ) -> Result<(), ProgramFault<&'m Scarce<Global>>> {
     let ended = serve_one(
         server,
-        &liar,
-        command.ends,
+        &handed(job, liar),
+        job.command.ends,
         &mut devices.input,
         &mut devices.output,
     );
@@ -82,48 +93,46 @@ fn answer_one<'m>(
     }
 }
 
-/// Fetches into a repository's text, and answers the exit status and its new text.
-pub fn fetch_with<'m>(
-    memory: &'m Scarce<Global>,
-    file: &[u8],
-    specs: &[Spec<&'m Scarce<Global>>],
-    limit: PackLimit,
-    command: &Command<'_>,
+/// Fetches into a repository's text, and answers what that left.
+pub fn fetch_with<'m, I: Source, O: Sink, R: Sink, E: Sink>(
+    job: &Job<'_, '_, 'm>,
     liar: Liar,
-    devices: &mut Devices<'_>,
-) -> (u8, Option<Vec<u8, &'m Scarce<Global>>>) {
-    match fetch(memory, file, specs, limit, command, liar, devices) {
-        Ok(text) => (0, Some(text)),
-        Err(fault) => (cmd_failed(fault, &mut devices.errors), None),
-    }
-}
-
-fn fetch<'m>(
-    memory: &'m Scarce<Global>,
-    file: &[u8],
     specs: &[Spec<&'m Scarce<Global>>],
-    limit: PackLimit,
-    command: &Command<'_>,
-    liar: Liar,
-    devices: &mut Devices<'_>,
-) -> Result<Vec<u8, &'m Scarce<Global>>, ProgramFault<&'m Scarce<Global>>> {
-    let mut repo = repo_of(memory, file)?;
+    devices: &mut Devices<I, O, R, E>,
+) -> Result<Ran, Trouble> {
+    let mut repo = match repo_of(job.memory, job.file) {
+        Ok(repo) => repo,
+        Err(fault) => return Ok(failed(job, fault, devices)),
+    };
     let fetched = fetch_over(
         &mut repo,
         &mut devices.input,
         &mut devices.output,
-        &liar,
+        &handed(job, liar),
         specs,
-        limit,
-        command.ends,
+        limit_of(job.command.limit),
+        job.command.ends,
     );
-    match fetched {
-        Ok(_) => match save(memory, repo.graph(), repo.refs(), &Head::None) {
-            Ok(text) => Ok(text),
-            Err(_) => Err(ProgramFault::Memory),
-        },
-        Err(fault) => Err(ProgramFault::Fetch(fault)),
+    let is_settled = fetched.is_ok();
+    let mut ran = match fetched {
+        Ok(fetched) => conclude(job, &repo, &fetched, devices)?,
+        Err(fault) => failed(job, ProgramFault::Fetch(fault), devices),
+    };
+    job.memory.refuse(0);
+    // Where no memory is left for the new text, the refs here have moved, and the file stays.
+    if !is_settled || ran.file.is_some() {
+        ran.state = Some(text_of(job, &repo)?);
     }
+    Ok(ran)
+}
+
+fn failed<'m, I, O, R, E: Sink>(
+    job: &Job<'_, '_, 'm>,
+    fault: ProgramFault<&'m Scarce<Global>>,
+    devices: &mut Devices<I, O, R, E>,
+) -> Ran {
+    let status = cmd_failed(fault, &mut devices.errors);
+    ran_without_file(job, status)
 }
 
 fn repo_of<'m>(
@@ -132,4 +141,42 @@ fn repo_of<'m>(
 ) -> Result<Repo<&'m Scarce<Global>>, ProgramFault<&'m Scarce<Global>>> {
     let repository = load(memory, file, Order::Any)?;
     Ok(Repo::new(repository.graph, repository.refs)?)
+}
+
+// Ends a fetch that settled the refs: makes the new text of the file, and reports.
+fn conclude<'m, I, O, R: Sink, E: Sink>(
+    job: &Job<'_, '_, 'm>,
+    repo: &Repo<&'m Scarce<Global>>,
+    fetched: &Fetched<&'m Scarce<Global>>,
+    devices: &mut Devices<I, O, R, E>,
+) -> Result<Ran, Trouble> {
+    let Ok(text) = save(job.memory, repo.graph(), repo.refs(), &Head::None) else {
+        return Ok(failed(job, ProgramFault::Memory, devices));
+    };
+    let report = report_of(job.alloc, fetched)?;
+    let was_refused = !job.memory.is_due();
+    let status = if told(&mut devices.report, report.as_slice()) {
+        0
+    } else {
+        failed(job, ProgramFault::WriteFailed, devices).status
+    };
+    Ok(Ran {
+        status,
+        file: Some(Vec::from_slice(job.alloc, text.as_slice())?),
+        state: None,
+        was_refused,
+    })
+}
+
+// Whether the report was written and passed on.
+fn told<R: Sink>(sink: &mut R, report: &[u8]) -> bool {
+    write_all(sink, report).is_ok() && sink.flush().is_ok()
+}
+
+// The text of the repository as it is, in memory that does not end.
+fn text_of<'m>(job: &Job<'_, '_, 'm>, repo: &Repo<&'m Scarce<Global>>) -> Result<Vec<u8>, Trouble> {
+    match save(job.memory, repo.graph(), repo.refs(), &Head::None) {
+        Ok(text) => Ok(Vec::from_slice(job.alloc, text.as_slice())?),
+        Err(_) => Err(Trouble::Memory),
+    }
 }

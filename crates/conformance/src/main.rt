@@ -1,10 +1,12 @@
 //! Cases of Git's fetch protocol, from files, tried on the programs of `gcmd` and on the calls below them.
 //!
 //! The words of the command line name files of cases, after `--quick` where no byte is to be changed, or `--once` where all
-//! is tried as it stands alone; `script.rt` says how one is written. Each case is run through its programs: as it stands; in pieces; with each call of each device failing in
-//! turn; cut after each byte; with each byte changed; and with each allocation refused in turn. What is made of a text is
-//! tried in pieces, too, and with each allocation refused. A try that goes wrong is a line on standard output, and the last
-//! lines count the tries.
+//! is tried as it stands alone; `script.rt` says how one is written. Each case is run through its programs, with ids of both
+//! formats and with replies that have ends of their own, where it does not say otherwise: as it stands; in pieces; over std's
+//! devices; with an indexer that watches; with each call of each device failing in turn; cut after each byte; with each byte
+//! changed; by a table of what is due then, where it has one; and with each allocation refused in turn. What is made of a
+//! text is tried in pieces, too, and with each allocation refused. A try that goes wrong is a line on standard output, and
+//! the last lines count the tries.
 //!
 //! # Proved
 //!
@@ -16,8 +18,8 @@
 //!
 //! # Stands on
 //!
-//! `gcmd` for the programs; `gserve` and `gclient` where a packer or an indexer lies; `ggraph`, `ghello`, `gpkt` and
-//! `gname` for what is made of texts; `scarce` for memory that ends.
+//! `gcmd` for the programs; `gserve` and `gclient` where a packer or an indexer lies or watches; `ggraph`, `ghello`, `gpkt`
+//! and `gname` for what is made of texts; `scarce` for memory that ends.
 #![tactic(auto)]
 
 mod command;
@@ -25,26 +27,33 @@ mod device;
 mod fact;
 mod history;
 mod judge;
+mod known;
 mod liars;
+mod long;
 mod lying;
+mod packet;
 mod play;
+mod report;
 mod script;
 mod shown;
 mod spell;
+mod table;
 mod talk;
 mod tally;
 mod trouble;
 mod vary;
+mod watch;
 
-use crate::command::{Program, command_of};
-use crate::judge::Row;
+use crate::command::{Command, Program, command_of};
+use crate::judge::{Reach, Row};
 use crate::script::{Case, Fact, Script};
 use crate::shown::Look;
 use crate::spell::text_named;
-use crate::talk::Talk;
+use crate::talk::{Talk, has_open_replies};
 use crate::tally::{Depth, Tally};
 use crate::trouble::Trouble;
 use crate::vary::{Bench, Way};
+use gcmd::Ends;
 use gname::Format;
 use scarce::Scarce;
 use std::alloc::Global;
@@ -74,16 +83,28 @@ where
     let mut tally = Tally::new(depth);
     for format in [Format::Sha1, Format::Sha256] {
         let mut script = Script::new(alloc, format);
-        for (name, text) in names.iter().zip(files.as_slice()) {
-            if let Err(trouble) = script.read(alloc, name.as_str(), text.as_str()) {
+        match read_all(alloc, names, files.as_slice(), &mut script) {
+            Ok(()) => try_script(rt, &script, &mut tally)?,
+            Err(trouble) => {
                 tell_trouble(rt, script.source, script.line, trouble, &mut tally)?;
                 return Ok(false);
             }
         }
-        try_script(rt, &script, &mut tally)?;
     }
     show(rt, &tally)?;
     Ok(tally.wrong == 0)
+}
+
+fn read_all<'a>(
+    alloc: Global,
+    names: &'a [String],
+    files: &'a [String],
+    script: &mut Script<'a>,
+) -> Result<(), Trouble> {
+    for (name, text) in names.iter().zip(files) {
+        script.read(alloc, name.as_str(), text.as_str())?;
+    }
+    Ok(())
 }
 
 // How much is tried, and the names of the files.
@@ -106,6 +127,14 @@ fn try_script<R: Print + AllocGlobal>(
     for fact in script.facts.as_slice() {
         try_fact(rt, script, fact, tally)?;
     }
+    try_cases(rt, script, tally)
+}
+
+fn try_cases<R: Print + AllocGlobal>(
+    rt: &R,
+    script: &Script<'_>,
+    tally: &mut Tally,
+) -> io::Result<()> {
     for case in script.cases.as_slice() {
         try_case(rt, &*script, case, tally)?;
     }
@@ -166,8 +195,10 @@ fn tell_wrong_fact<R: Print>(
     println!(rt; "{source}:{line}: {kind} {answer}")
 }
 
-// Texts of more bytes are read without an allocation refused.
+// Texts of more bytes are read without an allocation refused, and longer histories are looked at once.
 const LONG_TEXT: usize = 10_000;
+
+const LONG_GRAPH: usize = 150_000;
 
 // The first answer that is not due: whole, in pieces of one byte and of three, and with each allocation refused.
 fn wrong_answer(
@@ -176,19 +207,30 @@ fn wrong_answer(
     fact: &Fact<'_>,
     tally: &mut Tally,
 ) -> Result<Option<String>, Trouble> {
+    let is_long = text(script, fact.graph)?.len() > LONG_GRAPH;
     for most in [usize::MAX, 1, 3] {
         let (answer, _) = answer(alloc, script, fact, most, 0)?;
         tally.count_try();
         if answer.as_bytes() != fact.due.as_slice() {
             return Ok(Some(answer));
         }
-        if tally.depth == Depth::Once {
+        if tally.depth == Depth::Once || is_long {
             return Ok(None);
         }
     }
     if fact.text.len() > LONG_TEXT {
         return Ok(None);
     }
+    wrong_without_memory(alloc, script, fact, tally)
+}
+
+// The first answer, with an allocation refused, that is neither due nor that there is no memory.
+fn wrong_without_memory(
+    alloc: Global,
+    script: &Script<'_>,
+    fact: &Fact<'_>,
+    tally: &mut Tally,
+) -> Result<Option<String>, Trouble> {
     for refused in 1..u64::MAX {
         let (answer, was_refused) = answer(alloc, script, fact, usize::MAX, refused)?;
         tally.count_try();
@@ -212,18 +254,29 @@ fn answer(
     refused: u64,
 ) -> Result<(String, bool), Trouble> {
     let memory = Scarce::new(alloc);
-    if history::KINDS.contains(&fact.kind) {
-        let file = text(script, fact.graph)?;
-        let answer = history::answer(alloc, &memory, fact, file, refused)?;
-        return Ok((answer, !memory.is_due()));
-    }
-    memory.refuse(refused);
-    let answer = if fact.kind == shown::KIND {
-        fault_shown(alloc, fact)?
+    let file = text(script, fact.graph)?;
+    let answer = if history::KINDS.contains(&fact.kind) {
+        history::answer(alloc, &memory, fact, file, refused)?
+    } else if known::KINDS.contains(&fact.kind) {
+        known::answer(alloc, &memory, fact, file, refused)?
     } else {
-        fact::answer(alloc, &memory, fact, most)?
+        memory.refuse(refused);
+        made_of_text(alloc, &memory, fact, most)?
     };
     Ok((answer, !memory.is_due()))
+}
+
+fn made_of_text(
+    alloc: Global,
+    memory: &Scarce<Global>,
+    fact: &Fact<'_>,
+    most: usize,
+) -> Result<String, Trouble> {
+    if fact.kind == shown::KIND {
+        fault_shown(alloc, fact)
+    } else {
+        fact::answer(alloc, memory, fact, most)
+    }
 }
 
 // The line that is due, where a fault has it and this short text.
@@ -241,7 +294,15 @@ fn fault_shown(alloc: Global, fact: &Fact<'_>) -> Result<String, Trouble> {
 
 // ---- cases
 
-// Tries a case by each of its programs.
+// A case and one of its command lines, and whether its replies are to have ends of their own.
+#[derive(Clone, Copy)]
+struct Attempt<'b> {
+    case: &'b Case<'b>,
+    words: &'b str,
+    adds_ends: bool,
+}
+
+// Tries a case by each of its programs, and again with replies that have ends of their own, where they may.
 fn try_case<'b, R: Print + AllocGlobal>(
     rt: &R,
     script: &'b Script<'b>,
@@ -249,35 +310,82 @@ fn try_case<'b, R: Print + AllocGlobal>(
     tally: &mut Tally,
 ) -> io::Result<()> {
     for words in case.runs.as_slice() {
-        match row_of(rt.alloc(), script, case, words) {
-            Ok(row) => try_row(rt, case, words, &row, tally)?,
-            Err(trouble) => tell_trouble(rt, case.source, case.line, trouble, tally)?,
-        }
+        let plain = Attempt {
+            case,
+            words,
+            adds_ends: false,
+        };
+        let mut ended = plain;
+        ended.adds_ends = true;
+        try_run(rt, script, plain, tally)?;
+        try_run(rt, script, ended, tally)?;
     }
     Ok(())
 }
 
+fn try_run<'b, R: Print + AllocGlobal>(
+    rt: &R,
+    script: &'b Script<'b>,
+    run: Attempt<'b>,
+    tally: &mut Tally,
+) -> io::Result<()> {
+    match row_of(rt.alloc(), script, run) {
+        Ok(Some(row)) => try_row(rt, run, &row, tally),
+        Ok(None) => Ok(()),
+        Err(trouble) => tell_trouble(rt, run.case.source, run.case.line, trouble, tally),
+    }
+}
+
+// The row of a run; none where its replies may not have ends of their own.
 fn row_of<'b>(
     alloc: Global,
     script: &'b Script<'b>,
-    case: &'b Case<'b>,
-    words: &'b str,
-) -> Result<Row<'b>, Trouble> {
-    let command = command_of(words, case.liar)?;
-    let talk = Talk::of(alloc, command.program, case)?;
+    run: Attempt<'b>,
+) -> Result<Option<Row<'b>>, Trouble> {
+    let case = run.case;
+    let mut command = command_of(run.words, script.format)?;
+    command.liar = case.liar;
+    if run.adds_ends {
+        if !may_add_ends(command, case) {
+            return Ok(None);
+        }
+        command.ends = Ends::Response;
+    }
+    let talk = Talk::of(alloc, &command, case, run.adds_ends)?;
     let file = text(script, command.repository)?;
     let new_file = match case.file {
         Some(name) if command.program == Program::Fetch => Some(text(script, name)?),
         _ => None,
     };
-    Ok(Row {
+    Ok(Some(Row {
         command,
         file,
         new_file,
         talk,
         memory: case.memory.as_slice(),
-        is_deep: case.is_deep,
-    })
+        packets: case.packets.as_slice(),
+        table: case.table.as_slice(),
+        reach: reach_of(case, run.adds_ends),
+        is_long: case.is_long,
+    }))
+}
+
+// Whether the replies of a case may have ends of their own, which it does not say itself.
+fn may_add_ends(command: Command<'_>, case: &Case<'_>) -> bool {
+    command.program.has_ends()
+        && command.ends == Ends::Plain
+        && !case.is_plain
+        && has_open_replies(case)
+}
+
+fn reach_of(case: &Case<'_>, adds_ends: bool) -> Reach {
+    if adds_ends {
+        Reach::OneBit
+    } else if case.is_deep {
+        Reach::Deep
+    } else {
+        Reach::Bits
+    }
 }
 
 // The text of this name; none has the empty name.
@@ -294,24 +402,25 @@ fn text<'b>(script: &'b Script<'_>, name: &str) -> Result<&'b [u8], Trouble> {
 // Tries a row in each way. Where it is wrong as it stands the other ways would say no more.
 fn try_row<R: Print + AllocGlobal>(
     rt: &R,
-    case: &Case<'_>,
-    words: &str,
+    run: Attempt<'_>,
     row: &Row<'_>,
     tally: &mut Tally,
 ) -> io::Result<()> {
     tally.count_row();
     for way in Way::ALL {
-        if (case.is_long && !way.is_short()) || !tally.depth.has(way) {
+        if (row.is_long && !way.is_short()) || !tally.depth.has(way) {
             continue;
         }
         let mut bench = Bench::new(rt.alloc(), row);
         let found = match bench.try_way(way) {
             Ok(found) => found,
-            Err(trouble) => return tell_trouble(rt, case.source, case.line, trouble, tally),
+            Err(trouble) => {
+                return tell_trouble(rt, run.case.source, run.case.line, trouble, tally);
+            }
         };
         tally.count_runs(way, bench.runs);
         if let Some(at) = found {
-            return tell_wrong(rt, case, words, (way, at), bench.printed.as_slice(), tally);
+            return tell_wrong(rt, run, (way, at), bench.printed.as_slice(), tally);
         }
     }
     Ok(())
@@ -319,20 +428,21 @@ fn try_row<R: Print + AllocGlobal>(
 
 fn tell_wrong<R: Print>(
     rt: &R,
-    case: &Case<'_>,
-    words: &str,
+    run: Attempt<'_>,
     (way, at): (Way, usize),
     printed: &[u8],
     tally: &mut Tally,
 ) -> io::Result<()> {
     tally.count_wrong();
-    let source = case.source;
-    let line = case.line;
-    let row = case.name;
+    let source = run.case.source;
+    let line = run.case.line;
+    let row = run.case.name;
+    let words = run.words;
+    let ends = if run.adds_ends { " (response-end)" } else { "" };
     let name = way.name();
     let printed = match std::str::from_utf8(printed) {
         Ok(text) => text.trim_end(),
         Err(_) => "",
     };
-    println!(rt; "{source}:{line}: {row}: {words}: {name}, {at}: {printed}")
+    println!(rt; "{source}:{line}: {row}: {words}{ends}: {name}, {at}: {printed}")
 }

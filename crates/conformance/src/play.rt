@@ -1,13 +1,14 @@
 //! A run of a program over devices in memory.
 
 use crate::command::{Command, Program};
-use crate::device::{Hindrance, Reader, Writer};
+use crate::device::{AsStd, Hindrance, Reader, Writer};
 use crate::lying::{fetch_with, serve_with};
 use crate::trouble::Trouble;
+use crate::watch::Watch;
 use gcmd::{
-    Ends, PackLimit, Spec, cmd_check, cmd_failed, cmd_fetch, cmd_lines, cmd_ls, cmd_upload,
-    read_specs,
+    PackLimit, Spec, cmd_check, cmd_failed, cmd_fetch, cmd_lines, cmd_ls, cmd_upload, read_specs,
 };
+use gpkt::{FromRead, Sink, Source, ToWrite};
 use scarce::Scarce;
 use std::alloc::Global;
 
@@ -19,6 +20,8 @@ pub struct Trial {
     pub report: Hindrance,
     pub errors: Hindrance,
     pub refused: u64,
+    /// Whether the devices are std's.
+    pub is_std: bool,
 }
 
 impl Trial {
@@ -28,7 +31,33 @@ impl Trial {
         report: Hindrance::NONE,
         errors: Hindrance::NONE,
         refused: 0,
+        is_std: false,
     };
+}
+
+/// What is run: a command, the text of its repository, what it reads, and the memory that it takes.
+#[derive(Clone, Copy)]
+pub struct Job<'b, 'i, 'm> {
+    pub alloc: Global,
+    pub memory: &'m Scarce<Global>,
+    pub watch: &'m Watch,
+    pub command: Command<'b>,
+    pub file: &'b [u8],
+    pub input: &'i [u8],
+    /// The allocation that is refused.
+    pub refused: u64,
+}
+
+/// What a command left.
+#[derive(Drop)]
+pub struct Ran {
+    pub status: u8,
+    /// The new text of the client's file.
+    pub file: Option<Vec<u8>>,
+    /// The client's repository at the end, where it is known.
+    pub state: Option<Vec<u8>>,
+    /// Whether there was an allocation to be refused.
+    pub was_refused: bool,
 }
 
 /// What a run did.
@@ -37,195 +66,260 @@ pub struct Played {
     pub status: u8,
     /// The new text of the client's file.
     pub file: Option<Vec<u8>>,
+    /// The client's repository at the end, where it is known.
+    pub state: Option<Vec<u8>>,
     pub output: Writer,
     pub report: Writer,
     pub errors: Writer,
     /// The bytes that were not read.
     pub left: usize,
     pub read_failed: bool,
-    /// Whether a device was called after it had failed.
-    pub was_called_again: bool,
+    /// Whether a device was called after it had failed, or an indexer not fed as it is to be.
+    pub was_misused: bool,
     /// Whether there was an allocation to be refused.
     pub was_refused: bool,
 }
 
 /// What a program runs over.
 #[derive(Drop)]
-pub struct Devices<'a> {
-    pub input: Reader<'a>,
-    pub output: Writer,
-    pub report: Writer,
-    pub errors: Writer,
-}
-
-impl Devices<'_> {
-    fn were_called_again(&self) -> bool {
-        self.input.was_called_again()
-            || self.output.was_called_again()
-            || self.report.was_called_again()
-            || self.errors.was_called_again()
-    }
+pub struct Devices<I, O, R, E> {
+    pub input: I,
+    pub output: O,
+    pub report: R,
+    pub errors: E,
 }
 
 /// Runs a command over a repository's text and an input.
 pub fn play(
     alloc: Global,
-    command: &Command<'_>,
+    command: Command<'_>,
     file: &[u8],
     input: &[u8],
     trial: Trial,
 ) -> Result<Played, Trouble> {
     let memory = Scarce::new(alloc);
-    let mut devices = Devices {
-        input: Reader::new(input, trial.read),
-        output: Writer::new(alloc, trial.write),
-        report: Writer::new(alloc, trial.report),
-        errors: Writer::new(alloc, trial.errors),
+    let watch = Watch::new();
+    let job = Job {
+        alloc,
+        memory: &memory,
+        watch: &watch,
+        command,
+        file,
+        input,
+        refused: trial.refused,
     };
-    let (status, new_file) = run(alloc, &memory, command, file, trial.refused, &mut devices)?;
-    let was_refused = !memory.is_due();
-    let was_called_again = devices.were_called_again();
+    if trial.is_std {
+        play_over_std(&job, trial)
+    } else {
+        play_over_own(&job, trial)
+    }
+}
+
+fn play_over_own(job: &Job<'_, '_, '_>, trial: Trial) -> Result<Played, Trouble> {
+    let mut devices = Devices {
+        input: Reader::new(job.input, trial.read, job.watch),
+        output: Writer::new(job.alloc, trial.write),
+        report: Writer::new(job.alloc, trial.report),
+        errors: Writer::new(job.alloc, trial.errors),
+    };
+    let ran = run(job, &mut devices)?;
+    Ok(left_by(job, ran, devices))
+}
+
+fn play_over_std(job: &Job<'_, '_, '_>, trial: Trial) -> Result<Played, Trouble> {
+    let mut input = AsStd::new(Reader::new(job.input, trial.read, job.watch));
+    let mut output = AsStd::new(Writer::new(job.alloc, trial.write));
+    let mut report = AsStd::new(Writer::new(job.alloc, trial.report));
+    let mut errors = AsStd::new(Writer::new(job.alloc, trial.errors));
+    let mut devices = Devices {
+        input: FromRead::new(&mut input),
+        output: ToWrite::new(&mut output),
+        report: ToWrite::new(&mut report),
+        errors: ToWrite::new(&mut errors),
+    };
+    let ran = run(job, &mut devices)?;
+    drop(devices);
+    let devices = Devices {
+        input: input.into_inner(),
+        output: output.into_inner(),
+        report: report.into_inner(),
+        errors: errors.into_inner(),
+    };
+    Ok(left_by(job, ran, devices))
+}
+
+// What a run did, from what its devices say.
+fn left_by(
+    job: &Job<'_, '_, '_>,
+    ran: Ran,
+    devices: Devices<Reader<'_, '_>, Writer, Writer, Writer>,
+) -> Played {
     let Devices {
         input,
         output,
         report,
         errors,
     } = devices;
-    Ok(Played {
-        status,
-        file: new_file,
+    let was_misused = input.was_called_again()
+        || output.was_called_again()
+        || report.was_called_again()
+        || errors.was_called_again()
+        || job.watch.is_wrong();
+    Played {
+        status: ran.status,
+        file: ran.file,
+        state: ran.state,
         output,
         report,
         errors,
         left: input.left(),
         read_failed: input.has_failed(),
-        was_called_again,
-        was_refused,
-    })
+        was_misused,
+        was_refused: ran.was_refused,
+    }
 }
 
-// Runs the command, and answers its status and the new text of the client's file.
-fn run(
-    alloc: Global,
-    memory: &Scarce<Global>,
-    command: &Command<'_>,
-    file: &[u8],
-    refused: u64,
-    devices: &mut Devices<'_>,
-) -> Result<(u8, Option<Vec<u8>>), Trouble> {
-    let words = words_of(memory, command.specs)?;
-    memory.refuse(refused);
-    if command.program == Program::Fetch {
-        let (status, new_file) = fetch(memory, file, words.as_slice(), command, devices);
-        return Ok((status, copied(alloc, &new_file)?));
+// Runs the command.
+fn run<I: Source, O: Sink, R: Sink, E: Sink>(
+    job: &Job<'_, '_, '_>,
+    devices: &mut Devices<I, O, R, E>,
+) -> Result<Ran, Trouble> {
+    let words = words_of(job.memory, job.command.specs)?;
+    job.memory.refuse(job.refused);
+    if job.command.program == Program::Fetch {
+        return fetch(job, words.as_slice(), devices);
     }
-    let status = match command.liar {
-        Some(liar) => serve_with(memory, file, command, liar, devices),
-        None => run_plainly(memory, file, command, devices),
+    let status = match job.command.liar {
+        Some(liar) => serve_with(job, liar, devices),
+        None => run_plainly(job, devices),
     };
-    Ok((status, None))
+    Ok(ran_without_file(job, status))
+}
+
+/// What a command left that has no file to be written.
+pub fn ran_without_file(job: &Job<'_, '_, '_>, status: u8) -> Ran {
+    Ran {
+        status,
+        file: None,
+        state: None,
+        was_refused: !job.memory.is_due(),
+    }
 }
 
 // Runs a command that leaves its file as it is.
-fn run_plainly(
-    memory: &Scarce<Global>,
-    file: &[u8],
-    command: &Command<'_>,
-    devices: &mut Devices<'_>,
+fn run_plainly<I: Source, O: Sink, R: Sink, E: Sink>(
+    job: &Job<'_, '_, '_>,
+    devices: &mut Devices<I, O, R, E>,
 ) -> u8 {
-    match command.program {
-        Program::Ls => list(memory, file, devices),
-        Program::Upload => upload(memory, file, command.ends, devices),
-        Program::Check => check(memory, file, devices),
-        Program::Lines | Program::Fetch => show(memory, devices),
+    match job.command.program {
+        Program::Ls => list(job, devices),
+        Program::Upload => upload(job, devices),
+        Program::Check => check(job, devices),
+        Program::Lines | Program::Fetch => show(job, devices),
     }
 }
 
-fn list(memory: &Scarce<Global>, file: &[u8], devices: &mut Devices<'_>) -> u8 {
+fn list<I: Source, O: Sink, R: Sink, E: Sink>(
+    job: &Job<'_, '_, '_>,
+    devices: &mut Devices<I, O, R, E>,
+) -> u8 {
     cmd_ls(
-        memory,
-        file,
+        job.memory,
+        job.file,
         &mut devices.input,
         &mut devices.output,
         &mut devices.errors,
     )
 }
 
-fn upload(memory: &Scarce<Global>, file: &[u8], ends: Ends, devices: &mut Devices<'_>) -> u8 {
+fn upload<I: Source, O: Sink, R: Sink, E: Sink>(
+    job: &Job<'_, '_, '_>,
+    devices: &mut Devices<I, O, R, E>,
+) -> u8 {
     cmd_upload(
-        memory,
-        file,
-        ends,
+        job.memory,
+        job.file,
+        job.command.ends,
         &mut devices.input,
         &mut devices.output,
         &mut devices.errors,
     )
 }
 
-fn check(memory: &Scarce<Global>, file: &[u8], devices: &mut Devices<'_>) -> u8 {
-    cmd_check(memory, file, &mut devices.output, &mut devices.errors)
+fn check<I: Source, O: Sink, R: Sink, E: Sink>(
+    job: &Job<'_, '_, '_>,
+    devices: &mut Devices<I, O, R, E>,
+) -> u8 {
+    cmd_check(
+        job.memory,
+        job.file,
+        &mut devices.output,
+        &mut devices.errors,
+    )
 }
 
-fn show(memory: &Scarce<Global>, devices: &mut Devices<'_>) -> u8 {
+fn show<I: Source, O: Sink, R: Sink, E: Sink>(
+    job: &Job<'_, '_, '_>,
+    devices: &mut Devices<I, O, R, E>,
+) -> u8 {
     cmd_lines(
-        memory,
+        job.memory,
         &mut devices.input,
         &mut devices.output,
         &mut devices.errors,
     )
 }
 
-fn fetch<'m>(
-    memory: &'m Scarce<Global>,
-    file: &[u8],
+fn fetch<'m, I: Source, O: Sink, R: Sink, E: Sink>(
+    job: &Job<'_, '_, 'm>,
     words: &[String<&'m Scarce<Global>>],
-    command: &Command<'_>,
-    devices: &mut Devices<'_>,
-) -> (u8, Option<Vec<u8, &'m Scarce<Global>>>) {
-    let specs = match read_specs(memory, words) {
-        Ok(specs) => specs,
-        Err(fault) => return (cmd_failed(fault, &mut devices.errors), None),
-    };
-    let limit = limit_of(command);
-    match command.liar {
-        Some(liar) => fetch_with(
-            memory,
-            file,
-            specs.as_slice(),
-            limit,
-            command,
-            liar,
-            devices,
-        ),
-        None => fetch_plainly(memory, file, specs.as_slice(), limit, command, devices),
+    devices: &mut Devices<I, O, R, E>,
+) -> Result<Ran, Trouble> {
+    match read_specs(job.memory, words) {
+        Ok(specs) => fetch_by(job, specs.as_slice(), devices),
+        Err(fault) => Ok(ran_without_file(job, cmd_failed(fault, &mut devices.errors))),
     }
 }
 
-fn fetch_plainly<'m>(
-    memory: &'m Scarce<Global>,
-    file: &[u8],
+fn fetch_by<'m, I: Source, O: Sink, R: Sink, E: Sink>(
+    job: &Job<'_, '_, 'm>,
     specs: &[Spec<&'m Scarce<Global>>],
-    limit: PackLimit,
-    command: &Command<'_>,
-    devices: &mut Devices<'_>,
-) -> (u8, Option<Vec<u8, &'m Scarce<Global>>>) {
+    devices: &mut Devices<I, O, R, E>,
+) -> Result<Ran, Trouble> {
+    match job.command.liar {
+        Some(liar) => fetch_with(job, liar, specs, devices),
+        None => fetch_plainly(job, specs, devices),
+    }
+}
+
+fn fetch_plainly<'m, I: Source, O: Sink, R: Sink, E: Sink>(
+    job: &Job<'_, '_, 'm>,
+    specs: &[Spec<&'m Scarce<Global>>],
+    devices: &mut Devices<I, O, R, E>,
+) -> Result<Ran, Trouble> {
     let run = cmd_fetch(
-        memory,
-        file,
+        job.memory,
+        job.file,
         specs,
-        limit,
-        command.ends,
+        limit_of(job.command.limit),
+        job.command.ends,
         &mut devices.input,
         &mut devices.output,
         &mut devices.report,
         &mut devices.errors,
     );
-    (run.status, run.file)
+    let was_refused = !job.memory.is_due();
+    Ok(Ran {
+        status: run.status,
+        file: copied(job.alloc, &run.file)?,
+        state: None,
+        was_refused,
+    })
 }
 
-// The limit of a pack, which is the greatest where the command's is too large.
-fn limit_of(command: &Command<'_>) -> PackLimit {
-    match PackLimit::new(command.limit) {
+/// The limit of a pack, which is the greatest where this one is too large.
+pub fn limit_of(limit: usize) -> PackLimit {
+    match PackLimit::new(limit) {
         Some(limit) => limit,
         None => PackLimit::default(),
     }
@@ -242,7 +336,8 @@ fn words_of<'m>(
     Ok(words)
 }
 
-fn copied(
+/// A text in memory that does not end.
+pub fn copied(
     alloc: Global,
     text: &Option<Vec<u8, &Scarce<Global>>>,
 ) -> Result<Option<Vec<u8>>, Trouble> {

@@ -1,7 +1,8 @@
 //! Reading of a file of cases.
 //!
 //! A line that begins with `#`, and an empty one, say nothing. `text NAME` begins a text: its lines, each ended by a line
-//! feed, up to an empty one; and so `talk NAME` begins lines that cases use. `row NAME` begins a case. Its lines are
+//! feed, up to an empty one; and so `talk NAME` begins lines that cases use. `long NAME` makes a long text (`long.rt`).
+//! `row NAME` begins a case. Its lines are
 //!
 //! | Line | Meaning |
 //! |---|---|
@@ -10,6 +11,7 @@
 //! | `C: TEXT`, `S: TEXT` | the client, the server sends a packet of the text and a line feed; `0000`, `0001` and `0002` are the marks |
 //! | `C. BYTES`, `S. BYTES` | a packet of just these bytes |
 //! | `C1 BYTES`, `S1 BYTES`, also 2 and 3 | a packet of this side band |
+//! | `S1* BYTES` | as many packets of side band 1 as it takes, each as full as may be |
 //! | `C= BYTES`, `S= BYTES` | these bytes, which need not be a packet |
 //! | `\| TEXT` | a line on standard output that is no packet |
 //! | `! TEXT` | a line on standard error, by which the status is 1 |
@@ -18,21 +20,28 @@
 //! | `times N` | the next line counts N times; in a text, too |
 //! | `packer NAME`, `indexer NAME` | one that fails or lies, in the place of the plain one (`liars.rt`) |
 //! | `memory TEXT` | of the faults that are met where an allocation is refused, the next that differs from the one before |
+//! | `packets N..` | where the packets of the last message begin that is read, and where it ends, counted from its beginning |
+//! | `cut ..`, `change ..` | what is due where the request is cut or changed (`table.rt`) |
 //! | `long` | the case is tried whole and in pieces alone |
 //! | `deep` | each byte is changed to each other value |
+//! | `plain` | its replies have no ends of their own, even where they may |
 //!
-//! Between `both` and `single`, and in the rest of a file after `both`, each case is tried with ids of SHA-1 and with ids
-//! of SHA-256. The same lines say it with those: an id in braces has sixty-four digits, the first line of a repository
-//! and the object format of an advertisement are theirs, and behind each `C: command=` line stands the object format.
+//! Each case and each fact is tried with ids of SHA-1 and with ids of SHA-256, but for those between `single` and `both`,
+//! and in the rest of a file after `single`. The same lines say it with both: an id in braces has sixty-four digits, the
+//! first line of a repository and the object format of an advertisement are those of SHA-256, and after each line
+//! `C: command=` stands the object format.
 //!
 //! A line `KIND DUE: TEXT` says what is made of a text (`fact.rt`), what is told of a fault (`shown.rt`), and after
-//! `graph NAME` what is found in a repository (`history.rt`).
+//! `graph NAME` what is found in a repository (`history.rt`, `known.rt`).
 
 use crate::command::first_of;
 use crate::liars::Liar;
+use crate::long::long_text;
+use crate::packet::{full_packet, packet, read_said, text_line};
 use crate::spell::{Form, Text, number_of, spelled};
+use crate::table::{Due, Outcome};
 use crate::trouble::Trouble;
-use crate::{fact, history, shown};
+use crate::{fact, history, known, shown};
 use gname::Format;
 use std::alloc::Global;
 
@@ -68,9 +77,14 @@ pub struct Case<'a> {
     /// The packer or the indexer, where it is not the plain one.
     pub liar: Option<Liar>,
     /// What is printed where an allocation is refused, one after the other.
-    pub memory: Vec<&'a str>,
+    pub memory: Vec<Vec<u8>>,
+    /// Where the packets of the last message begin that is read, where the case says it.
+    pub packets: Vec<usize>,
+    /// What is due where the request is cut or changed.
+    pub table: Vec<Outcome<'a>>,
     pub is_long: bool,
     pub is_deep: bool,
+    pub is_plain: bool,
 }
 
 /// What a file, and those before it, say of ids of one format.
@@ -115,6 +129,7 @@ pub struct Fact<'a> {
     pub source: &'a str,
     pub line: usize,
     pub kind: &'a str,
+    pub format: Format,
     /// The name of the graph's text.
     pub graph: &'a str,
     pub due: Vec<u8>,
@@ -134,7 +149,7 @@ impl<'a> Script<'a> {
             open: Open::Nothing,
             times: 1,
             graph: "",
-            is_both: false,
+            is_both: true,
             is_skipped: false,
         }
     }
@@ -143,7 +158,7 @@ impl<'a> Script<'a> {
     pub fn read(&mut self, alloc: Global, source: &'a str, text: &'a str) -> Result<(), Trouble> {
         self.source = source;
         self.line = 0;
-        self.is_both = false;
+        self.is_both = true;
         for line in text.lines() {
             self.line = self.line.saturating_add(1);
             self.take_line(alloc, line)?;
@@ -175,6 +190,7 @@ impl<'a> Script<'a> {
             "both" => self.set_both(true),
             "single" => self.set_both(false),
             "graph" => self.set_graph(rest),
+            "long" if !rest.is_empty() => self.add_long_text(alloc, rest),
             _ if is_fact(word) => self.add_fact(alloc, word, rest),
             _ if self.is_skipped => Ok(()),
             "use" => self.use_talk(alloc, rest),
@@ -205,7 +221,11 @@ impl<'a> Script<'a> {
     }
 
     fn use_talk(&mut self, alloc: Global, name: &str) -> Result<(), Trouble> {
-        let form = self.form(1);
+        let speech = Speech {
+            texts: self.texts.as_slice(),
+            format: self.format,
+            time: 1,
+        };
         let Some(case) = self.cases.last_mut() else {
             return Err(Trouble::NoRow);
         };
@@ -213,9 +233,17 @@ impl<'a> Script<'a> {
             return Err(Trouble::NoName);
         };
         for line in lines {
-            let (word, rest) = first_of(line);
-            say(alloc, self.texts.as_slice(), word, rest, form, case)?;
+            speech.say(alloc, line, &mut case.said)?;
         }
+        Ok(())
+    }
+
+    fn add_long_text(&mut self, alloc: Global, name: &'a str) -> Result<(), Trouble> {
+        let bytes = long_text(alloc, name, self.format)?;
+        self.texts.push(Text {
+            name: name.as_bytes(),
+            bytes,
+        })?;
         Ok(())
     }
 
@@ -284,8 +312,11 @@ impl<'a> Script<'a> {
             file: None,
             liar: None,
             memory: Vec::new(alloc),
+            packets: Vec::new(alloc),
+            table: Vec::new(alloc),
             is_long: false,
             is_deep: false,
+            is_plain: false,
         })?;
         Ok(())
     }
@@ -294,16 +325,17 @@ impl<'a> Script<'a> {
         let Some((due, text)) = rest.split_once(": ") else {
             return Err(Trouble::UnknownLine);
         };
-        if self.format == Format::Sha256 {
+        if self.is_for_others() {
             return Ok(());
         }
         let form = self.form(1);
         let due = spelled(alloc, self.texts.as_slice(), due.as_bytes(), form)?;
-        let text = spelled(alloc, self.texts.as_slice(), text.as_bytes(), form)?;
+        let text = self.fact_text(alloc, text)?;
         self.facts.push(Fact {
             source: self.source,
             line: self.line,
             kind,
+            format: self.format,
             graph: self.graph,
             due,
             text,
@@ -311,35 +343,233 @@ impl<'a> Script<'a> {
         Ok(())
     }
 
-    fn add_to_case(&mut self, alloc: Global, word: &'a str, rest: &'a str) -> Result<(), Trouble> {
-        let times = self.take_times();
-        let format = self.format;
-        let Some(case) = self.cases.last_mut() else {
-            return Err(Trouble::NoRow);
+    // The text of a fact. The first line of a repository is that of the format.
+    fn fact_text(&self, alloc: Global, line: &str) -> Result<Vec<u8>, Trouble> {
+        let form = self.form(1);
+        let mut text = Vec::new(alloc);
+        let rest = match line.strip_prefix("gitv2 1\\n") {
+            Some(rest) => {
+                text.extend_from_slice(in_format(self.format, "gitv2 1").as_bytes())?;
+                text.push(b'\n')?;
+                rest
+            }
+            None => line,
         };
+        let rest = spelled(alloc, self.texts.as_slice(), rest.as_bytes(), form)?;
+        text.extend_from_slice(rest.as_slice())?;
+        Ok(text)
+    }
+
+    fn add_to_case(&mut self, alloc: Global, word: &'a str, rest: &'a str) -> Result<(), Trouble> {
         match word {
-            "run" => case.runs.push(rest)?,
-            "file" => case.file = Some(rest),
-            "memory" => case.memory.push(rest)?,
-            "packer" => case.liar = Liar::packer(rest),
-            "indexer" => case.liar = Liar::indexer(rest),
-            "long" => case.is_long = true,
-            "deep" => case.is_deep = true,
             "times" => self.times = number_of(rest.as_bytes()),
+            "memory" => return self.add_memory(alloc, rest),
+            "packets" => return self.add_packets(rest),
+            "cut" | "change" => return self.add_outcome(alloc, word == "cut", rest),
             _ => {
-                for time in 1..=times {
-                    let form = Form { format, time };
-                    say(alloc, self.texts.as_slice(), word, rest, form, case)?;
+                if !self.take_word(word, rest)? {
+                    return self.say_times(alloc, word, rest);
                 }
             }
         }
         Ok(())
     }
+
+    fn take_word(&mut self, word: &str, rest: &'a str) -> Result<bool, Trouble> {
+        match self.cases.last_mut() {
+            Some(case) => case.take_word(word, rest),
+            None => Err(Trouble::NoRow),
+        }
+    }
+
+    // What is said, as often as it counts.
+    fn say_times(&mut self, alloc: Global, word: &'a str, rest: &'a str) -> Result<(), Trouble> {
+        let times = self.take_times();
+        let Some(case) = self.cases.last_mut() else {
+            return Err(Trouble::NoRow);
+        };
+        for time in 1..=times {
+            let speech = Speech {
+                texts: self.texts.as_slice(),
+                format: self.format,
+                time,
+            };
+            speech.say_by(alloc, word, rest, &mut case.said)?;
+        }
+        Ok(())
+    }
+
+    fn add_memory(&mut self, alloc: Global, line: &str) -> Result<(), Trouble> {
+        let form = self.form(1);
+        let fault = spelled(alloc, self.texts.as_slice(), line.as_bytes(), form)?;
+        match self.cases.last_mut() {
+            Some(case) => Ok(case.memory.push(fault)?),
+            None => Err(Trouble::NoRow),
+        }
+    }
+
+    fn add_packets(&mut self, places: &str) -> Result<(), Trouble> {
+        let Some(case) = self.cases.last_mut() else {
+            return Err(Trouble::NoRow);
+        };
+        for place in places.split(' ') {
+            case.packets.push(number_of(place.as_bytes()))?;
+        }
+        Ok(())
+    }
+
+    // A line of the table of what is due where the request is cut or changed.
+    fn add_outcome(&mut self, alloc: Global, is_cut: bool, line: &'a str) -> Result<(), Trouble> {
+        let Some((places, due)) = line.split_once(" = ") else {
+            return Err(Trouble::UnknownLine);
+        };
+        let due = self.due_of(alloc, due)?;
+        let Some(case) = self.cases.last_mut() else {
+            return Err(Trouble::NoRow);
+        };
+        case.table.push(Outcome::new(is_cut, places, due))?;
+        Ok(())
+    }
+
+    fn due_of(&self, alloc: Global, due: &'a str) -> Result<Due<'a>, Trouble> {
+        if due == "as it stands" {
+            return Ok(Due::as_it_stands(alloc));
+        }
+        if due == "nothing" {
+            return Ok(Due::said(Vec::new(alloc)));
+        }
+        if let Some(name) = due.strip_prefix("use ") {
+            return Ok(Due::said(self.talk_bytes(alloc, name)?));
+        }
+        match due.split_once(" | ") {
+            Some((text, fault)) => Ok(Due::refused(alloc, text, fault)),
+            None => Err(Trouble::UnknownLine),
+        }
+    }
+
+    // The bytes that are said in a talk.
+    fn talk_bytes(&self, alloc: Global, name: &str) -> Result<Vec<u8>, Trouble> {
+        let Some(lines) = lines_named(self.talks.as_slice(), name) else {
+            return Err(Trouble::NoName);
+        };
+        let speech = Speech {
+            texts: self.texts.as_slice(),
+            format: self.format,
+            time: 1,
+        };
+        let mut said = Vec::new(alloc);
+        for line in lines {
+            speech.say(alloc, line, &mut said)?;
+        }
+        all_bytes(alloc, said.as_slice())
+    }
+}
+
+impl<'a> Case<'a> {
+    // Takes a line that says something of the case, and answers whether it was one.
+    fn take_word(&mut self, word: &str, rest: &'a str) -> Result<bool, Trouble> {
+        match word {
+            "run" => self.runs.push(rest)?,
+            "file" => self.file = Some(rest),
+            "packer" => self.liar = Liar::packer(rest),
+            "indexer" => self.liar = Liar::indexer(rest),
+            "long" => self.is_long = true,
+            "deep" => self.is_deep = true,
+            "plain" => self.is_plain = true,
+            _ => return Ok(false),
+        }
+        Ok(true)
+    }
+}
+
+fn all_bytes(alloc: Global, said: &[Said]) -> Result<Vec<u8>, Trouble> {
+    let mut bytes = Vec::new(alloc);
+    for one in said {
+        bytes.extend_from_slice(one.bytes.as_slice())?;
+    }
+    Ok(bytes)
+}
+
+// How what is said is spelled.
+#[derive(Clone, Copy)]
+struct Speech<'b, 'a> {
+    texts: &'b [Text<'a>],
+    format: Format,
+    time: usize,
+}
+
+impl Speech<'_, '_> {
+    // Adds what is said by a line.
+    fn say(&self, alloc: Global, line: &str, said: &mut Vec<Said>) -> Result<(), Trouble> {
+        let (word, rest) = first_of(line);
+        self.say_by(alloc, word, rest, said)
+    }
+
+    // Adds what is said by a line of this word.
+    fn say_by(
+        &self,
+        alloc: Global,
+        word: &str,
+        rest: &str,
+        said: &mut Vec<Said>,
+    ) -> Result<(), Trouble> {
+        let form = Form {
+            format: self.format,
+            time: self.time,
+        };
+        let line = in_format(self.format, rest);
+        let bytes = spelled(alloc, self.texts, line.as_bytes(), form)?;
+        if word == "S1*" {
+            return say_all(alloc, bytes.as_slice(), said);
+        }
+        let Some((who, bytes)) = read_said(alloc, word, bytes.as_slice())? else {
+            return Err(Trouble::UnknownLine);
+        };
+        said.push(Said { who, bytes })?;
+        if self.format == Format::Sha256 && rest.starts_with("command=") {
+            say_format(alloc, word, said)?;
+        }
+        Ok(())
+    }
+}
+
+// Adds the packets of side band 1 that carry these bytes.
+fn say_all(alloc: Global, bytes: &[u8], said: &mut Vec<Said>) -> Result<(), Trouble> {
+    let mut rest = bytes;
+    for _ in 0..bytes.len() {
+        let (packet, others) = full_packet(alloc, rest)?;
+        said.push(Said {
+            who: Who::Server,
+            bytes: packet,
+        })?;
+        rest = others;
+        if rest.is_empty() {
+            break;
+        }
+    }
+    Ok(())
+}
+
+// Adds the line of a request that names the format of its ids, as the line before it was written.
+fn say_format(alloc: Global, word: &str, said: &mut Vec<Said>) -> Result<(), Trouble> {
+    let bytes = match word {
+        "C:" => text_line(alloc, b"object-format=sha256")?,
+        "C." => packet(alloc, b"", b"object-format=sha256", b"")?,
+        _ => return Ok(()),
+    };
+    said.push(Said {
+        who: Who::Client,
+        bytes,
+    })?;
+    Ok(())
 }
 
 // Whether a line that begins so says what is made of a text.
 fn is_fact(word: &str) -> bool {
-    word == shown::KIND || fact::KINDS.contains(&word) || history::KINDS.contains(&word)
+    word == shown::KIND
+        || fact::KINDS.contains(&word)
+        || history::KINDS.contains(&word)
+        || known::KINDS.contains(&word)
 }
 
 // The line, as it is where ids are of this format: the first of a repository, and one that names the format.
@@ -359,93 +589,4 @@ fn lines_named<'b, 'a>(talks: &'b [Shared<'a>], name: &str) -> Option<&'b [&'a s
         }
     }
     None
-}
-
-// Adds to a case what is said by a line.
-fn say(
-    alloc: Global,
-    texts: &[Text<'_>],
-    word: &str,
-    rest: &str,
-    form: Form,
-    case: &mut Case<'_>,
-) -> Result<(), Trouble> {
-    let line = in_format(form.format, rest);
-    let bytes = spelled(alloc, texts, line.as_bytes(), form)?;
-    let Some((who, bytes)) = read_said(alloc, word, bytes.as_slice())? else {
-        return Err(Trouble::UnknownLine);
-    };
-    case.said.push(Said { who, bytes })?;
-    if form.format == Format::Sha256 && word == "C:" && rest.starts_with("command=") {
-        let bytes = text_line(alloc, b"object-format=sha256")?;
-        case.said.push(Said {
-            who: Who::Client,
-            bytes,
-        })?;
-    }
-    Ok(())
-}
-
-// Who says what by a line that begins with this word.
-fn read_said(alloc: Global, word: &str, bytes: &[u8]) -> Result<Option<(Who, Vec<u8>)>, Trouble> {
-    let (who, form) = match word.as_bytes() {
-        [b'C', form] => (Who::Client, *form),
-        [b'S', form] => (Who::Server, *form),
-        [b'|'] => (Who::Output, b'|'),
-        [b'!'] => (Who::Errors, b'|'),
-        b"report" => (Who::Report, b'|'),
-        _ => return Ok(None),
-    };
-    let written = match form {
-        b':' => text_line(alloc, bytes)?,
-        b'.' => packet(alloc, b"", bytes, b"")?,
-        b'1' => packet(alloc, b"\x01", bytes, b"")?,
-        b'2' => packet(alloc, b"\x02", bytes, b"")?,
-        b'3' => packet(alloc, b"\x03", bytes, b"")?,
-        b'=' => joined(alloc, bytes, b"")?,
-        b'|' => joined(alloc, bytes, b"\n")?,
-        _ => return Ok(None),
-    };
-    Ok(Some((who, written)))
-}
-
-// A mark, or the packet of a text and a line feed.
-fn text_line(alloc: Global, text: &[u8]) -> Result<Vec<u8>, Trouble> {
-    match text {
-        b"0000" | b"0001" | b"0002" => joined(alloc, text, b""),
-        _ => packet(alloc, b"", text, b"\n"),
-    }
-}
-
-// The packet of three parts. One that is too long has the length of all f.
-fn packet(alloc: Global, first: &[u8], text: &[u8], last: &[u8]) -> Result<Vec<u8>, Trouble> {
-    let len = first
-        .len()
-        .saturating_add(text.len())
-        .saturating_add(last.len())
-        .saturating_add(4);
-    let mut bytes = Vec::new(alloc);
-    for shift in [12u32, 8, 4, 0] {
-        bytes.push(hex_digit(len.min(0xffff) >> shift))?;
-    }
-    bytes.extend_from_slice(first)?;
-    bytes.extend_from_slice(text)?;
-    bytes.extend_from_slice(last)?;
-    Ok(bytes)
-}
-
-// The last hexadecimal digit of a number.
-fn hex_digit(number: usize) -> u8 {
-    let digits = b"0123456789abcdef";
-    match digits.get(number % 16) {
-        Some(digit) => *digit,
-        None => b'0',
-    }
-}
-
-fn joined(alloc: Global, text: &[u8], last: &[u8]) -> Result<Vec<u8>, Trouble> {
-    let mut bytes = Vec::new(alloc);
-    bytes.extend_from_slice(text)?;
-    bytes.extend_from_slice(last)?;
-    Ok(bytes)
 }

@@ -1,10 +1,12 @@
 //! How bytes are written in a file of cases.
 //!
 //! `\n` is a line feed, `\0` the byte 0, `\x1f` the byte 31, and a backslash before any other character that character.
-//! `{a}` is the id of forty `a`, or of sixty-four where ids are those of SHA-256; `{a*64}` are sixty-four of them,
-//! `{ab*3}` is `ababab`, and `{NAME}`, of two and more characters, the text of that name. In a line that counts several
-//! times, `{#4}` is the number of the time, from 1, with four digits, and `{#4+16}` sixteen more. `{@2}` is the place of
-//! a packet: 2, or 3 where ids are those of SHA-256, since a line that names the format stands before it then.
+//! `{a}` is the id of forty `a`, or of sixty-four where ids are those of SHA-256, `{a+1}` has a digit more than an id,
+//! `{a-4}` four less; `{a*64}` are sixty-four of them, `{ab*3}` is `ababab`, and `{NAME}`, of two and more characters, the
+//! text of that name. In a line that counts several times, `{#4}` is the number of the time, from 1, with four digits, and
+//! `{#4+16}` sixteen more; `{#}` and `{#+16}` are these numbers with as many digits as an id has, and `{#=17}` is so the
+//! number 17. `{@2}` is the place of a packet: 2, or 3 where ids are those of SHA-256, since a line that names the format
+//! stands before it then.
 
 use crate::trouble::Trouble;
 use gname::Format;
@@ -97,7 +99,8 @@ fn byte_of(high: u8, low: u8) -> u8 {
     digit(high).wrapping_mul(16).wrapping_add(digit(low))
 }
 
-fn digit(letter: u8) -> u8 {
+/// What a hexadecimal digit in lower case counts.
+pub fn digit(letter: u8) -> u8 {
     match letter {
         b'0'..=b'9' => letter.wrapping_sub(b'0'),
         b'a'..=b'f' => letter.wrapping_sub(b'a').wrapping_add(10),
@@ -113,17 +116,36 @@ fn add_braced(
     form: Form,
     bytes: &mut Vec<u8>,
 ) -> Result<(), Trouble> {
-    if let Some(width) = inside.strip_prefix(b"#") {
-        return add_number(alloc, width, form.time, bytes);
+    if let Some(number) = inside.strip_prefix(b"#") {
+        return add_counted(alloc, number, form, bytes);
     }
     if let Some(place) = inside.strip_prefix(b"@") {
         let place = number_of(place).saturating_add(format_lines(form.format));
-        return add_number(alloc, b"1", place, bytes);
+        return add_number(alloc, 1, place, bytes);
     }
     match parted(inside, b'*') {
         Some((part, count)) => add_times(part, number_of(count), bytes),
-        None if inside.len() == 1 => add_times(inside, form.format.id_text_length(), bytes),
-        None => add_text(texts, inside, bytes),
+        None => add_named(texts, inside, form, bytes),
+    }
+}
+
+// Adds an id, one that is too long or too short, or the text of a name.
+fn add_named(
+    texts: &[Text<'_>],
+    inside: &[u8],
+    form: Form,
+    bytes: &mut Vec<u8>,
+) -> Result<(), Trouble> {
+    let length = form.format.id_text_length();
+    match inside {
+        [digit] => add_times(&[*digit], length, bytes),
+        [digit, b'+', more @ ..] => {
+            add_times(&[*digit], length.saturating_add(number_of(more)), bytes)
+        }
+        [digit, b'-', less @ ..] => {
+            add_times(&[*digit], length.saturating_sub(number_of(less)), bytes)
+        }
+        _ => add_text(texts, inside, bytes),
     }
 }
 
@@ -142,18 +164,37 @@ fn add_text(texts: &[Text<'_>], name: &[u8], bytes: &mut Vec<u8>) -> Result<(), 
     }
 }
 
-// Adds the number of the time, and what is to be added to it, with so many digits.
-fn add_number(
+// Adds the number of the time, and what is to be added to it, or a number that is named: with so many digits, or with as
+// many as an id has.
+fn add_counted(
     alloc: Global,
-    width: &[u8],
-    time: usize,
+    inside: &[u8],
+    form: Form,
     bytes: &mut Vec<u8>,
 ) -> Result<(), Trouble> {
-    let (width, more) = match parted(width, b'+') {
-        Some((width, more)) => (number_of(width), number_of(more)),
-        None => (number_of(width), 0),
+    let length = form.format.id_text_length();
+    if let Some(number) = inside.strip_prefix(b"=") {
+        return add_number(alloc, length, number_of(number), bytes);
+    }
+    let (width, more) = match parted(inside, b'+') {
+        Some((width, more)) => (width, number_of(more)),
+        None => (inside, 0),
     };
-    let number = time.saturating_add(more);
+    let width = if width.is_empty() {
+        length
+    } else {
+        number_of(width)
+    };
+    add_number(alloc, width, form.time.saturating_add(more), bytes)
+}
+
+/// Adds a number with so many digits.
+pub fn add_number(
+    alloc: Global,
+    width: usize,
+    number: usize,
+    bytes: &mut Vec<u8>,
+) -> Result<(), Trouble> {
     let digits = format!(in alloc; "{number}")?;
     add_times(b"0", width.saturating_sub(digits.len()), bytes)?;
     bytes.extend_from_slice(digits.as_bytes())?;

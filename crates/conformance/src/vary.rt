@@ -1,41 +1,53 @@
 //! The ways in which a row is tried. Each answers the first of its tries that went wrong.
 
+use crate::command::Program;
 use crate::device::Hindrance;
 use crate::judge::{
-    Row, Stop, is_as_due, is_errors_failed, is_report_failed, is_scarce, is_sound, is_stopped,
-    is_write_failed, told,
+    Reach, Row, Stop, is_as_due, is_errors_failed, is_in_table, is_kept, is_report_failed,
+    is_scarce, is_sound, is_stopped, is_unserved, is_write_failed, told,
 };
+use crate::liars::Liar;
 use crate::play::{Played, Trial, play};
+use crate::table::Change;
 use crate::trouble::Trouble;
 use std::alloc::Global;
 
 /// More calls of a device, and more allocations, than any row has.
 const MOST_TRIES: usize = 1_000_000;
 
+/// The values of one bit.
+const BITS: [u8; 8] = [1, 2, 4, 8, 16, 32, 64, 128];
+
 /// A way of trying a row.
 #[derive(Clone, Copy)]
 pub enum Way {
     Whole,
     Pieces,
+    OverStd,
+    Watched,
     FailingReads,
     FailingWrites,
     FailingReports,
     FailingErrors,
     Cut,
     Changed,
+    Table,
     Scarce,
 }
 
 impl Way {
-    pub const ALL: [Way; 9] = [
+    pub const ALL: [Way; 12] = [
         Way::Whole,
         Way::Pieces,
+        Way::OverStd,
+        Way::Watched,
         Way::FailingReads,
         Way::FailingWrites,
         Way::FailingReports,
         Way::FailingErrors,
         Way::Cut,
         Way::Changed,
+        Way::Table,
         Way::Scarce,
     ];
 
@@ -44,12 +56,15 @@ impl Way {
         match self {
             Way::Whole => "as it stands",
             Way::Pieces => "in pieces",
+            Way::OverStd => "over std's devices",
+            Way::Watched => "with an indexer that watches",
             Way::FailingReads => "with a read that fails",
             Way::FailingWrites => "with a write that fails",
             Way::FailingReports => "with a report that fails",
             Way::FailingErrors => "with standard error that fails",
             Way::Cut => "cut",
             Way::Changed => "with a byte changed",
+            Way::Table => "by the table",
             Way::Scarce => "with an allocation refused",
         }
     }
@@ -61,7 +76,10 @@ impl Way {
 
     /// Whether a long row is tried so, too.
     pub fn is_short(self) -> bool {
-        matches!(&self, Way::Whole | Way::Pieces)
+        matches!(
+            &self,
+            Way::Whole | Way::Pieces | Way::OverStd | Way::Watched
+        )
     }
 }
 
@@ -70,6 +88,9 @@ impl Way {
 pub struct Bench<'a, 'b> {
     alloc: Global,
     row: &'a Row<'b>,
+    // What the runs are over.
+    is_std: bool,
+    liar: Option<Liar>,
     pub runs: u64,
     /// What was printed in the run that went wrong.
     pub printed: Vec<u8>,
@@ -80,19 +101,21 @@ impl<'a, 'b> Bench<'a, 'b> {
         Bench {
             alloc,
             row,
+            is_std: false,
+            liar: row.command.liar,
             runs: 0,
             printed: Vec::new(alloc),
         }
     }
 
-    // The number of a run that went wrong. What it printed is kept.
+    // The number of a run that went wrong, or that left a repository as it is not to be. What it printed is kept.
     fn verdict(
         &mut self,
         is_right: bool,
         number: usize,
         played: &Played,
     ) -> Result<Option<usize>, Trouble> {
-        if is_right && !played.was_called_again {
+        if is_right && !played.was_misused && is_kept(self.alloc, self.row, played) {
             return Ok(None);
         }
         self.printed.clear();
@@ -105,12 +128,15 @@ impl<'a, 'b> Bench<'a, 'b> {
         match way {
             Way::Whole => self.whole(),
             Way::Pieces => self.in_pieces(),
+            Way::OverStd => self.over_std(),
+            Way::Watched => self.watched(),
             Way::FailingReads => self.failing_reads(),
             Way::FailingWrites => self.failing_writes(),
             Way::FailingReports => self.failing_reports(),
             Way::FailingErrors => self.failing_errors(),
             Way::Cut => self.cut(),
             Way::Changed => self.changed(),
+            Way::Table => self.by_table(),
             Way::Scarce => self.scarce(),
         }
     }
@@ -118,7 +144,11 @@ impl<'a, 'b> Bench<'a, 'b> {
     fn play(&mut self, input: &[u8], trial: Trial) -> Result<Played, Trouble> {
         self.runs = self.runs.saturating_add(1);
         let row = self.row;
-        play(self.alloc, &row.command, row.file, input, trial)
+        let mut command = row.command;
+        command.liar = self.liar;
+        let mut trial = trial;
+        trial.is_std = self.is_std;
+        play(self.alloc, command, row.file, input, trial)
     }
 
     fn play_whole(&mut self, trial: Trial) -> Result<Played, Trouble> {
@@ -147,6 +177,58 @@ impl<'a, 'b> Bench<'a, 'b> {
             }
         }
         Ok(None)
+    }
+
+    // Over std's readers and writers: as it stands, in pieces, and with each read and each write failing in turn.
+    fn over_std(&mut self) -> Result<Option<usize>, Trouble> {
+        self.is_std = true;
+        let wrong = self.with_devices()?;
+        self.is_std = false;
+        Ok(wrong)
+    }
+
+    fn with_devices(&mut self) -> Result<Option<usize>, Trouble> {
+        let mut wrong = self.whole()?;
+        if wrong.is_none() {
+            wrong = self.in_pieces()?;
+        }
+        if wrong.is_some() || self.row.is_long {
+            return Ok(wrong);
+        }
+        wrong = self.failing_reads()?;
+        if wrong.is_none() {
+            wrong = self.failing_writes()?;
+        }
+        Ok(wrong)
+    }
+
+    // A fetch with an indexer that watches how it is fed, where the row has no other. What the client's repository is in the
+    // end is looked at then, too: as it stands, in pieces, cut, and with each allocation refused.
+    fn watched(&mut self) -> Result<Option<usize>, Trouble> {
+        let row = self.row;
+        let is_fetch = row.command.program == Program::Fetch && !row.talk.input.is_empty();
+        if !is_fetch || row.command.liar.is_some() {
+            return Ok(None);
+        }
+        self.liar = Some(Liar::Watches);
+        let wrong = self.with_indexer()?;
+        self.liar = None;
+        Ok(wrong)
+    }
+
+    fn with_indexer(&mut self) -> Result<Option<usize>, Trouble> {
+        let mut wrong = self.whole()?;
+        if wrong.is_none() {
+            wrong = self.in_pieces()?;
+        }
+        if wrong.is_some() || self.row.is_long {
+            return Ok(wrong);
+        }
+        wrong = self.cut()?;
+        if wrong.is_none() {
+            wrong = self.scarce()?;
+        }
+        Ok(wrong)
     }
 
     // With each read failing in turn, a byte being read at a time.
@@ -235,6 +317,10 @@ impl<'a, 'b> Bench<'a, 'b> {
 
     // With the input cut after each of its bytes.
     fn cut(&mut self) -> Result<Option<usize>, Trouble> {
+        let named = self.row.packets;
+        if !named.is_empty() && !self.row.talk.has_places(named) {
+            return Ok(Some(MOST_TRIES));
+        }
         let whole = self.play_whole(Trial::FREE)?;
         let input = self.row.talk.input.as_slice();
         let read = input.len().saturating_sub(whole.left);
@@ -269,7 +355,7 @@ impl<'a, 'b> Bench<'a, 'b> {
         Ok(None)
     }
 
-    // With the byte at a place changed in each of its bits, or in a deep row to each other value.
+    // With the byte at a place changed in each of its bits, in one of them, or to each other value.
     fn changed_at(
         &mut self,
         at: usize,
@@ -277,12 +363,12 @@ impl<'a, 'b> Bench<'a, 'b> {
         input: &mut Vec<u8>,
     ) -> Result<Option<usize>, Trouble> {
         for change in 1..=255u8 {
-            if !self.row.is_deep && !change.is_power_of_two() {
+            if !is_tried(self.row.reach, at, change) {
                 continue;
             }
             set(input, at, byte ^ change);
             let played = self.play(input.as_slice(), Trial::FREE)?;
-            let is_right = is_sound(self.alloc, self.row, &played);
+            let is_right = is_sound(self.row, &played);
             let wrong = self.verdict(is_right, at, &played)?;
             if wrong.is_some() {
                 return Ok(wrong);
@@ -291,15 +377,68 @@ impl<'a, 'b> Bench<'a, 'b> {
         Ok(None)
     }
 
-    // With each allocation refused in turn. The faults that the row names are met in their order.
+    // With the request cut after each of its bytes, and each byte changed to each other value, where the row has a table.
+    fn by_table(&mut self) -> Result<Option<usize>, Trouble> {
+        let row = self.row;
+        if row.table.is_empty() {
+            return Ok(None);
+        }
+        let mut input = Vec::from_slice(self.alloc, row.talk.input.as_slice())?;
+        for (at, byte) in row.talk.input.as_slice().iter().enumerate() {
+            let mut wrong = self.cut_by_table(at)?;
+            if wrong.is_none() {
+                wrong = self.changed_by_table(at, *byte, &mut input)?;
+            }
+            if wrong.is_some() {
+                return Ok(wrong);
+            }
+            set(&mut input, at, *byte);
+        }
+        Ok(None)
+    }
+
+    fn cut_by_table(&mut self, len: usize) -> Result<Option<usize>, Trouble> {
+        let row = self.row;
+        let Some(part) = row.talk.input.as_slice().get(..len) else {
+            return Ok(Some(len));
+        };
+        let played = self.play(part, Trial::FREE)?;
+        let is_right = is_in_table(self.alloc, row, &played, part, Change::Cut(len))?;
+        self.verdict(is_right, len, &played)
+    }
+
+    fn changed_by_table(
+        &mut self,
+        at: usize,
+        byte: u8,
+        input: &mut Vec<u8>,
+    ) -> Result<Option<usize>, Trouble> {
+        let row = self.row;
+        for change in 1..=255u8 {
+            let value = byte ^ change;
+            set(input, at, value);
+            let played = self.play(input.as_slice(), Trial::FREE)?;
+            let changed = Change::Byte(at, value);
+            let is_right = is_in_table(self.alloc, row, &played, input.as_slice(), changed)?;
+            let wrong = self.verdict(is_right, at, &played)?;
+            if wrong.is_some() {
+                return Ok(wrong);
+            }
+        }
+        Ok(None)
+    }
+
+    // With each allocation refused in turn. The faults that the row names are met in their order. Once a server has told of
+    // a fault to the client, it does so at each later allocation.
     fn scarce(&mut self) -> Result<Option<usize>, Trouble> {
         let mut met = 0usize;
+        let mut has_served = false;
         for number in 1..MOST_TRIES {
             let mut trial = Trial::FREE;
             trial.refused = number as u64;
             let played = self.play_whole(trial)?;
             let is_right = if played.was_refused {
-                is_scarce(self.row, &played) && self.is_named(&played, &mut met)
+                self.is_scarce(&played, has_served) && self.is_named(&played, &mut met)
             } else {
                 is_as_due(self.row, &played) && met == self.row.memory.len()
             };
@@ -307,8 +446,14 @@ impl<'a, 'b> Bench<'a, 'b> {
             if wrong.is_some() || !played.was_refused {
                 return Ok(wrong);
             }
+            has_served = has_served
+                || !(is_as_due(self.row, &played) || is_unserved(self.row, &played));
         }
         Ok(Some(MOST_TRIES))
+    }
+
+    fn is_scarce(&self, played: &Played, has_served: bool) -> bool {
+        is_scarce(self.row, played) && !(has_served && is_unserved(self.row, played))
     }
 
     // Whether the fault is the one that the row named last, or names next, if it names any.
@@ -329,10 +474,19 @@ impl<'a, 'b> Bench<'a, 'b> {
 }
 
 // Whether this text is named at the place.
-fn is_at(named: &[&str], place: usize, text: &[u8]) -> bool {
+fn is_at(named: &[Vec<u8>], place: usize, text: &[u8]) -> bool {
     match named.get(place) {
-        Some(name) => name.as_bytes() == text,
+        Some(name) => name.as_slice() == text,
         None => false,
+    }
+}
+
+// Whether the byte at a place is changed so.
+fn is_tried(reach: Reach, at: usize, change: u8) -> bool {
+    match reach {
+        Reach::Deep => true,
+        Reach::Bits => change.is_power_of_two(),
+        Reach::OneBit => BITS.get(at % 8) == Some(&change),
     }
 }
 
