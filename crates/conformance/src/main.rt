@@ -365,7 +365,7 @@ fn row_of<'b>(
         memory: case.memory.as_slice(),
         packets: case.packets.as_slice(),
         table: case.table.as_slice(),
-        reach: reach_of(case, run.adds_ends),
+        reach: reach_of(case, script.format, run.adds_ends),
         is_long: case.is_long,
     }))
 }
@@ -378,8 +378,9 @@ fn may_add_ends(command: Command<'_>, case: &Case<'_>) -> bool {
         && has_open_replies(case)
 }
 
-fn reach_of(case: &Case<'_>, adds_ends: bool) -> Reach {
-    if adds_ends {
+// Of a row's likes in the other format, and with ends of their own, each byte is changed in one bit.
+fn reach_of(case: &Case<'_>, format: Format, adds_ends: bool) -> Reach {
+    if adds_ends || format == Format::Sha256 {
         Reach::OneBit
     } else if case.is_deep {
         Reach::Deep

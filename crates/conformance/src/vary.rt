@@ -179,7 +179,8 @@ impl<'a, 'b> Bench<'a, 'b> {
         Ok(None)
     }
 
-    // Over std's readers and writers: as it stands, in pieces, and with each read and each write failing in turn.
+    // Over std's readers and writers: as it stands, and, where the row is not long, in pieces; where each of its bytes is
+    // changed in each bit, with each read and each write failing in turn, too.
     fn over_std(&mut self) -> Result<Option<usize>, Trouble> {
         self.is_std = true;
         let wrong = self.with_devices()?;
@@ -188,11 +189,8 @@ impl<'a, 'b> Bench<'a, 'b> {
     }
 
     fn with_devices(&mut self) -> Result<Option<usize>, Trouble> {
-        let mut wrong = self.whole()?;
-        if wrong.is_none() {
-            wrong = self.in_pieces()?;
-        }
-        if wrong.is_some() || self.row.is_long {
+        let mut wrong = self.whole_and_in_pieces()?;
+        if wrong.is_some() || !self.is_thorough() {
             return Ok(wrong);
         }
         wrong = self.failing_reads()?;
@@ -202,8 +200,24 @@ impl<'a, 'b> Bench<'a, 'b> {
         Ok(wrong)
     }
 
+    // As it stands, and, where the row is not long, in pieces.
+    fn whole_and_in_pieces(&mut self) -> Result<Option<usize>, Trouble> {
+        let wrong = self.whole()?;
+        if wrong.is_some() || self.row.is_long {
+            return Ok(wrong);
+        }
+        self.in_pieces()
+    }
+
+    // Whether the row is tried in all that a way has. Its likes of the other format, or with response-ends, are not.
+    fn is_thorough(&self) -> bool {
+        let row = self.row;
+        !row.is_long && row.reach != Reach::OneBit
+    }
+
     // A fetch with an indexer that watches how it is fed, where the row has no other. What the client's repository is in the
-    // end is looked at then, too: as it stands, in pieces, cut, and with each allocation refused.
+    // end is looked at then, too: as it stands, in pieces, and, where each of its bytes is changed in each bit, cut and with
+    // each allocation refused.
     fn watched(&mut self) -> Result<Option<usize>, Trouble> {
         let row = self.row;
         let is_fetch = row.command.program == Program::Fetch && !row.talk.input.is_empty();
@@ -217,11 +231,8 @@ impl<'a, 'b> Bench<'a, 'b> {
     }
 
     fn with_indexer(&mut self) -> Result<Option<usize>, Trouble> {
-        let mut wrong = self.whole()?;
-        if wrong.is_none() {
-            wrong = self.in_pieces()?;
-        }
-        if wrong.is_some() || self.row.is_long {
+        let mut wrong = self.whole_and_in_pieces()?;
+        if wrong.is_some() || !self.is_thorough() {
             return Ok(wrong);
         }
         wrong = self.cut()?;
@@ -440,7 +451,7 @@ impl<'a, 'b> Bench<'a, 'b> {
             let is_right = if played.was_refused {
                 self.is_scarce(&played, has_served) && self.is_named(&played, &mut met)
             } else {
-                is_as_due(self.row, &played) && met == self.row.memory.len()
+                is_as_due(self.row, &played) && self.has_met_all(met)
             };
             let wrong = self.verdict(is_right, number, &played)?;
             if wrong.is_some() || !played.was_refused {
@@ -456,10 +467,19 @@ impl<'a, 'b> Bench<'a, 'b> {
         is_scarce(self.row, played) && !(has_served && is_unserved(self.row, played))
     }
 
+    // Whether the row names the faults of memory. Of an indexer that it does not name they may be others.
+    fn names_faults(&self) -> bool {
+        !self.row.memory.is_empty() && self.liar == self.row.command.liar
+    }
+
+    fn has_met_all(&self, met: usize) -> bool {
+        !self.names_faults() || met == self.row.memory.len()
+    }
+
     // Whether the fault is the one that the row named last, or names next, if it names any.
     fn is_named(&self, played: &Played, met: &mut usize) -> bool {
         let named = self.row.memory;
-        if named.is_empty() || is_as_due(self.row, played) {
+        if !self.names_faults() || is_as_due(self.row, played) {
             return true;
         }
         let Some(text) = told(played.errors.written()) else {
