@@ -402,7 +402,7 @@ def silence(folder):
     check("a silent one: answer", read_all(mute), refused(b"read failed"))
     check("a silent one: end", quiet.end(), (0, "gitv2: fault 24 Io frame 0\n"))
     check("after one that takes nothing", full.talk(hello(), FLUSH), ADVERT)
-    check("one that takes nothing waits", 59 <= time.time() - began <= 200, True)
+    check("one that takes nothing waits", time.time() - began >= 59, True)
     check("one that takes nothing: end", full.end(), (0, "gitv2: fault 27 Io\n"))
     deaf.close()
     print(f"silent peers: {time.time() - began:.0f} s")
