@@ -1,5 +1,5 @@
 //! The program `gitv2`: reads its words and its files, makes devices of the system's streams, hands both to
-//! the work in `gcmd`, and ends with the work's exit status.
+//! the work in `gcmd` and `gtcp`, and ends with the work's exit status.
 //!
 //! # Proved
 //!
@@ -7,11 +7,12 @@
 //!
 //! # Only tested
 //!
-//! What the words mean (`words.rt`), and one run of `ls` (`args`, `stdin`, `stdout`, `data/`). The other
-//! runs are tried by hand: no test of the gate sees which function `run` calls for the other commands, what a missing file
-//! gives, or that `fetch` writes its file before it reports. `examples/over-tcp.sh` runs those that open sockets.
+//! What the words mean (`words.rt`), and one run of `ls` (`args`, `stdin`, `stdout`, `data/`). The other runs are tried
+//! by hand: no test of the gate sees which function `run` calls for the other commands, in which order the files of
+//! `pair` are read, what a missing file gives, or that `fetch` writes its file before it reports.
+//! `examples/over-tcp.sh` runs those that open sockets.
 //!
-//! # What a body can still get away with
+//! # What the contracts do not rule out
 //!
 //! Anything else: no contract can say what a file, a stream or a socket of the system gives or takes.
 //!
@@ -25,12 +26,12 @@ mod words;
 use crate::words::{Command, Fetch, Serve};
 use gcmd::{
     Ends, FetchRun, ProgramFault, Spec, cmd_check, cmd_failed, cmd_fetch, cmd_lines, cmd_ls,
-    cmd_upload, read_specs,
+    cmd_upload, load_server, read_specs,
 };
 use gpkt::memory::VecSink;
 use gpkt::{Down, FromRead, Sink, ToWrite, write_all};
 use gtcp::{
-    Listing, Pair, Place, RemoteFetch, Service, cmd_fetch_remote, cmd_ls_remote, cmd_pair,
+    Listing, Pair, Place, RemoteFetch, Server, Service, cmd_fetch_remote, cmd_ls_remote, cmd_pair,
     cmd_serve, read_prefixes,
 };
 use std::alloc::Global;
@@ -203,7 +204,8 @@ where
     cmd_ls_remote(rt, rt.alloc(), &listing, &mut output, errors)
 }
 
-// Fetches from the repository of one file into that of another, both ends in this process.
+// Fetches from the repository of one file into that of another, both ends in this process. The server is loaded before
+// the client's file is read.
 fn pair<R, E>(rt: &R, server: &str, client: &str, words: &[String], errors: &mut E) -> u8
 where
     R: Files + Print + AllocGlobal + Net<Stream = TcpStream, Listener = TcpListener>,
@@ -213,20 +215,32 @@ where
         Ok(specs) => specs,
         Err(fault) => return fail(fault, errors),
     };
-    let Ok(server) = fs::read(rt, server) else {
-        return fail(ProgramFault::File, errors);
+    let server = match open_server(rt, server) {
+        Ok(server) => server,
+        Err(fault) => return fail(fault, errors),
     };
     let Ok(client) = fs::read(rt, client) else {
         return fail(ProgramFault::File, errors);
     };
     let pair = Pair {
-        server: server.as_slice(),
+        server: &server,
         client: client.as_slice(),
         specs: specs.as_slice(),
     };
     let mut stdout = io::writer(rt);
     let mut output = ToWrite::new(&mut stdout);
-    cmd_pair(rt, rt.alloc(), &pair, &mut output, errors)
+    cmd_pair(rt, &pair, &mut output, errors)
+}
+
+// The server of the repository of a file.
+fn open_server<R>(rt: &R, file: &str) -> Result<Server, ProgramFault>
+where
+    R: Files + AllocGlobal,
+{
+    let Ok(text) = fs::read(rt, file) else {
+        return Err(ProgramFault::File);
+    };
+    load_server(rt.alloc(), text.as_slice())
 }
 
 // Fetches into the repository of a file.
@@ -312,9 +326,9 @@ where
     }
 }
 
-// Writes the file anew where it has a new text. Where there is no report to be shown then, it fails with the status with
-// which the program ends. Of two faults only the first is printed: where there was no memory for the
-// report, that the file can't be written is not.
+// Writes the file anew where it has a new text. Where there is no report to be shown then, it fails with the status
+// with which the program ends. Of two faults only the first is printed: where there was no memory for the report, that
+// the file can't be written is not.
 fn keep<R, E>(rt: &R, file: &str, run: &FetchRun, errors: &mut E) -> Result<(), u8>
 where
     R: Files,

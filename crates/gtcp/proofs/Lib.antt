@@ -1,4 +1,3 @@
 mod TellingLemmas
 mod ListingLemmas
 mod PrefixLemmas
-mod ExitLemmas

@@ -1,11 +1,13 @@
 -- Faults that are printed, one more at a time.
 use Rattle.std.proofs.Common.{◌≡◌, ◌⊎◌, ℕ, ◌+◌, ◌≤◌, Bool, true, false, List, [], ◌∷◌, ◌++◌, length, Option, Result, Ok, Err, inl, inr, refl, sym, ap, subst, ◌∙◌, append_assoc, arith}
 use Rattle.std.proofs.lemmas.Bool.{false≢true}
-use Rattle.std.proofs.lemmas.List.{flat_map_more, length-append}
+use Rattle.std.proofs.lemmas.List.{append-nil, flat_map_more, length-append}
 use Rattle.std.specs.Io.KnownBytes.{Appends}
-use Rattle.std.specs.Prelude.{IsSome}
-use Rattle.gpkt.specs.Sending.{output_of, IsUnwritten, Passes, Sends, SendsSome}
+use Rattle.std.specs.Prelude.{IsSome, is_ok}
+use Rattle.gpkt.specs.Sending.{Output, output_of, IsUnwritten, Passes, Sends, SendsSome}
 use Rattle.gpkt.proofs.SendingLemmas.{appends_join, passes_join, passes_still}
+use Rattle.gpkt.specs.declared.device.Down.{Down}
+use Rattle.gcmd.specs.Outputs.{IsSent}
 use Rattle.gcmd.specs.Printing.{fault_line}
 use Rattle.gcmd.specs.Programs.{Outcome}
 use Rattle.gcmd.specs.declared.fault.ProgramFault.{ProgramFault}
@@ -22,6 +24,20 @@ module _ {W : Type 0} (contents passed_on : W → Option (List ℕ)) (is_down : 
     written = subst (λ (now : Option (List ℕ)). Appends (contents a) now some.front) (sym still.written) some.written;
     down = still.down ∙ some.down;
   }
+
+-- the line of a fault was to be printed
+pub tells_printed : {A : Type 0} (output : Output) (fault : ProgramFault A) (printed : Result (Unit {0}) Down) (could : Bool)
+    → could ≡ true → IsSent output printed (fault_line fault) → Tells (Err fault) could (is_ok printed) output
+tells_printed output fault printed false h sent = absurd (false≢true h)
+tells_printed output fault (Ok done) true h sent = sent
+tells_printed output fault (Err down) true h (inl at_write) = at_write.0
+tells_printed output fault (Err down) true h (inr at_flush) = record {
+  front = fault_line fault;
+  rest = [];
+  parts = sym (append-nil (fault_line fault));
+  written = at_flush.written;
+  down = at_flush.down;
+}
 
 module _ {A W : Type 0} (contents passed_on : W → Option (List ℕ)) (is_down : W → Bool) where
   -- before the first
@@ -154,3 +170,6 @@ module _ {A W : Type 0} (contents passed_on : W → Option (List ℕ)) (is_down 
       → most ≤ all → PrintsFew A (output_of contents passed_on is_down a b) all
   tells_few a b is_up most all so_far within =
       record { faults = so_far.faults; prints = so_far.prints; few = omega (arith, so_far.few, within) }
+
+  pub tells_nothing : (a : W) (most : ℕ) → PrintsFew A (output_of contents passed_on is_down a a) most
+  tells_nothing a most = tells_few a a true 0 most (tells_none a) (omega arith)

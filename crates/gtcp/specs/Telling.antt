@@ -3,7 +3,7 @@ use Rattle.std.specs.Prelude.{◌≡◌, ◌⊎◌, ℕ, ◌≤◌, Bool, true, 
 use Rattle.std.specs.List.{flat_map}
 use Rattle.gpkt.specs.Sending.{Output, IsUnwritten, Passes, Sends, SendsSome}
 use Rattle.gcmd.specs.Printing.{fault_line}
-use Rattle.gcmd.specs.Programs.{Outcome}
+use Rattle.gcmd.specs.Programs.{ExitsWith, Outcome}
 use Rattle.gcmd.specs.declared.fault.ProgramFault.{ProgramFault}
 
 -- the lines of faults, one after the other
@@ -39,3 +39,11 @@ Tells (Ok done) could can errors = IsUnwritten errors × (can ≡ could)
 Tells (Err fault) false can errors = IsUnwritten errors × (can ≡ false)
 Tells (Err fault) true true errors = Sends errors (fault_line fault)
 Tells (Err fault) true false errors = SendsSome errors (fault_line fault)
+
+-- what `serve` prints: the lines of faults of so many connections at most; and then it ends as its work came out
+pub record RunsServing (A : Type 0) {E : Type 0} (errors : E → E → Output) (old new : E) (most status : ℕ)
+    : Type 0 where
+  pub middle : E
+  pub told : PrintsFew A (errors old middle) most
+  pub outcome : Outcome A
+  pub exits : ExitsWith outcome (errors middle new) status

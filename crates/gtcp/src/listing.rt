@@ -66,23 +66,23 @@ fn put_refs<A: Allocator + Copy>(
 ) -> Result<(), AllocError>
     ensures { OnOk result (text.new.items ≡ text.old.items ++ flat_map ref_line reply.now.lines) }
 {
-    for place in 0..reply.len() {
-        put_ref(text, reply, place)?;
+    for index in 0..reply.len() {
+        put_ref(text, reply, index)?;
     }
     Ok(())
 }
 
-// The line of the ref at a place.
+// The line of the ref at an index.
 fn put_ref<A: Allocator + Copy>(
     text: &mut Vec<u8, A>,
     reply: &LsReply<A>,
-    place: usize,
+    index: usize,
 ) -> Result<(), AllocError>
-    requires { place < length reply.now.lines }
-    ensures { OnOk result ((line : texts.RefLine) × (slice_get reply.now.lines place ≡ Some line)
+    requires { index < length reply.now.lines }
+    ensures { OnOk result ((line : texts.RefLine) × (slice_get reply.now.lines index ≡ Some line)
         × (text.new.items ≡ text.old.items ++ ref_line line)) }
 {
-    match reply.at(place) {
+    match reply.at(index) {
         Some(line) => put_line(text, line),
         None => unreachable!(),
     }

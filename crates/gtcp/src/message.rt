@@ -1,6 +1,7 @@
 //! Messages held back until they are whole.
 
-ghost use Rattle.std.specs.Prelude.{◌≡◌, ◌≤◌, ◌<◌, ◌+◌, ◌++◌, ◌||◌, [], false, true, length, take, drop, nat_lt, IsErr, IsOk, OnErr, OnOk};
+ghost use Rattle.std.specs.Prelude.{◌≡◌, ◌≤◌, ◌<◌, ◌+◌, ◌++◌, ◌||◌, [], false, true};
+ghost use Rattle.std.specs.Prelude.{length, take, drop, nat_lt, IsErr, IsOk, OnErr, OnOk};
 ghost use Rattle.std.specs.Io.KnownBytes.{Appends, Keeps, append_known};
 ghost use Rattle.gtcp.specs.Messages.{max_message};
 
@@ -21,6 +22,7 @@ pub struct MessageSink<W, A: Allocator + Copy = Global> {
     // How many bytes were written to the sink inside.
     written: usize,
     is_too_long: bool,
+    lacks_memory: bool,
     is_down: bool,
 }
 
@@ -53,6 +55,7 @@ impl<W, A: Allocator + Copy> MessageSink<W, A> {
             held: Vec::new(alloc),
             written: 0,
             is_too_long: false,
+            lacks_memory: false,
             is_down: false,
         }
     }
@@ -69,6 +72,11 @@ impl<W, A: Allocator + Copy> MessageSink<W, A> {
         ensures { result ≡ self.now.too_long }
     {
         self.is_too_long
+    }
+
+    /// Whether there was no memory to hold a message.
+    pub fn lacks_memory(&self) -> bool {
+        self.lacks_memory
     }
 
     /// Whether it has failed.
@@ -91,15 +99,16 @@ impl<W, A: Allocator + Copy> MessageSink<W, A> {
 impl<W: Sink, A: Allocator + Copy> MessageSink<W, A> {
     /// Holds more bytes of a message, and writes nothing.
     ///
-    /// It fails where the message would have more than [`MAX_MESSAGE`] bytes with them, and where there is no memory; what
-    /// is held stays so then, and it is down.
+    /// It fails where the message would have more than [`MAX_MESSAGE`] bytes with them, and where there is no memory;
+    /// what is held stays so then, and it is down.
     pub fn hold(&mut self, bytes: &[u8]) -> Result<(), Down>
         requires { self.old.down ≡ false }
         ensures inner { self.new.inner ≡ self.old.inner }
         ensures held { OnOk result (self.new.held ≡ self.old.held ++ bytes.now) }
         ensures kept { OnErr result (self.new.held ≡ self.old.held) }
         ensures fits { OnOk result (length (self.old.held ++ bytes.now) ≤ max_message) }
-        ensures too_long { self.new.too_long ≡ (nat_lt max_message (length self.old.held + length bytes.now) || self.old.too_long) }
+        ensures too_long { self.new.too_long
+            ≡ (nat_lt max_message (length self.old.held + length bytes.now) || self.old.too_long) }
         ensures written { self.new.written ≡ self.old.written }
         ensures down { OnErr result (self.new.down ≡ true) }
         ensures up { OnOk result (self.new.down ≡ false) }
@@ -110,7 +119,10 @@ impl<W: Sink, A: Allocator + Copy> MessageSink<W, A> {
         }
         match self.held.extend_from_slice(bytes) {
             Ok(()) => Ok(()),
-            Err(_) => self.fail(),
+            Err(_) => {
+                self.lacks_memory = true;
+                self.fail()
+            }
         }
     }
 

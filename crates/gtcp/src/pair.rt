@@ -15,8 +15,8 @@ use ggrammar::Ends;
 use ggraph::PlainPack;
 use ghello::Hello;
 use gpkt::memory::SliceSource;
-use gpkt::{Down, FromRead, Sink, Source, ToWrite};
-use gserve::{ExchangeEnd, serve, serve_one};
+use gpkt::{Down, FromRead, LineWriter, Sink, Source, ToWrite};
+use gserve::{ExchangeEnd, MAX_ERR_TEXT, ServeFault, err_text, serve, serve_one};
 use std::alloc::Allocator;
 use std::io::BufReader;
 use std::net::{Net, SocketAddr, TcpListener, TcpStream};
@@ -37,7 +37,21 @@ struct Answers<'a, N, F, W, A: Allocator + Copy> {
 }
 
 impl<'a, N: Source, F: Source, W: Sink, A: Allocator + Copy> Answers<'a, N, F, W, A> {
-    // The server's turn: it hears the client's first line and advertises, or it answers one request.
+    // What a client reads of a server that has not had its turn.
+    fn new(server: &'a Server<A>, near: N, far_end: (F, W)) -> Self {
+        let (far, far_sink) = far_end;
+        Answers {
+            server,
+            near,
+            far,
+            far_sink: MessageSink::new(server.graph().allocator(), far_sink),
+            has_advertised: false,
+            read: 0,
+            is_down: false,
+        }
+    }
+
+    // The server's turn: it hears the client's first line, or it answers one request.
     fn take_turn(&mut self)
         ensures { self.new.is_down ≡ self.old.is_down }
     {
@@ -46,23 +60,7 @@ impl<'a, N: Source, F: Source, W: Sink, A: Allocator + Copy> Answers<'a, N, F, W
             return;
         }
         self.has_advertised = true;
-        if hear(&mut self.far, self.server.graph().allocator()).is_ok() {
-            self.advertise();
-        }
-    }
-
-    // A connection whose client asks for nothing gets the advertisement alone.
-    fn advertise(&mut self)
-        ensures { self.new.is_down ≡ self.old.is_down }
-    {
-        let mut nothing = SliceSource::new(b"");
-        let _served = serve(
-            self.server,
-            &PlainPack,
-            Ends::Plain,
-            &mut nothing,
-            &mut self.far_sink,
-        );
+        greet(self.server, &mut self.far, &mut self.far_sink);
     }
 
     fn answer_one(&mut self) -> ExchangeEnd
@@ -121,6 +119,30 @@ impl<N: Source, F: Source, W: Sink, A: Allocator + Copy> Source for Answers<'_, 
     }
 }
 
+// The server hears the client's first line and advertises, or says why it refuses the line.
+fn greet<A: Allocator + Copy, F: Source, W: Sink>(server: &Server<A>, far: &mut F, sink: &mut W) {
+    match hear(far, server.graph().allocator()) {
+        Ok(_hello) => advertise(server, sink),
+        Err(fault) => refuse(&fault, sink),
+    }
+}
+
+// A connection whose client asks for nothing gets the advertisement alone.
+fn advertise<A: Allocator + Copy, W: Sink>(server: &Server<A>, sink: &mut W) {
+    let mut nothing = SliceSource::new(b"");
+    let _served = serve(server, &PlainPack, Ends::Plain, &mut nothing, sink);
+}
+
+// Writes the line of a refusal, and passes it on. It takes no memory.
+fn refuse<W: Sink>(fault: &ServeFault, sink: &mut W) {
+    let mut text = [0; MAX_ERR_TEXT];
+    let len = err_text(fault, &mut text);
+    let mut writer = LineWriter::new(sink);
+    if writer.text2(b"ERR ", &text[..len]).is_ok() {
+        let _passed = writer.push();
+    }
+}
+
 // Both ends of one connection of this process.
 #[derive(Drop)]
 struct Joined {
@@ -162,8 +184,9 @@ fn accept_from(listener: &TcpListener, client: SocketAddr) -> Option<TcpStream> 
 /// Fetches by refspecs from the server into the repository, over a connection of this process, with plain packs.
 ///
 /// It fails with `PairLimit` where a message would have more than [`MAX_MESSAGE`](crate::MAX_MESSAGE) bytes: nothing of
-/// it is written, and both ends stop. It fails with `Socket` where there is no such connection, and with `Memory` where
-/// there is no memory for its buffers; else as `gclient::fetch_over` fails.
+/// it is written, and both ends stop. It fails with `Socket` where there is no such connection, or its limits are
+/// refused, and with `Memory` where there is no memory for its buffers or to hold a message; else as
+/// `gclient::fetch_over` fails.
 pub(crate) fn fetch_in_pair<A: Allocator + Copy, N>(
     net: &N,
     server: &Server<A>,
@@ -182,7 +205,7 @@ where
     }
 }
 
-// The same, over a connection with these ends.
+// Fetches so over a connection with these ends.
 fn fetch_between<A: Allocator + Copy>(
     server: &Server<A>,
     repo: &mut Repo<A>,
@@ -195,8 +218,9 @@ fn fetch_between<A: Allocator + Copy>(
     ensures grows { Grows repo.old.graph.entries repo.new.graph.entries }
 {
     let alloc = repo.graph().allocator();
-    set_up(near);
-    set_up(far);
+    if set_up(near).is_err() || set_up(far).is_err() {
+        return Err(ProgramFault::Socket);
+    }
     let Ok(mut near_reader) = BufReader::new(alloc, near) else {
         return Err(ProgramFault::Memory);
     };
@@ -216,7 +240,7 @@ fn fetch_between<A: Allocator + Copy>(
     converse(server, repo, specs, near_end, far_end)
 }
 
-// The same, over these devices of both ends.
+// Fetches so over these devices of both ends.
 fn converse<A, N, V, F, W>(
     server: &Server<A>,
     repo: &mut Repo<A>,
@@ -236,27 +260,30 @@ where
 {
     let alloc = repo.graph().allocator();
     let (near, near_sink) = near_end;
-    let (far, far_sink) = far_end;
-    let mut answers = Answers {
-        server,
-        near,
-        far,
-        far_sink: MessageSink::new(alloc, far_sink),
-        has_advertised: false,
-        read: 0,
-        is_down: false,
-    };
+    let mut answers = Answers::new(server, near, far_end);
     let mut requests = MessageSink::new(alloc, near_sink);
     match fetch_as_client(repo, specs, &mut answers, &mut requests) {
         Ok(fetched) => {
             let _closed = answers.answer_one();
             Ok(fetched)
         }
-        Err(_) if requests.is_too_long() || answers.far_sink.is_too_long() => {
-            Err(ProgramFault::PairLimit)
-        }
-        Err(fault) => Err(ProgramFault::Fetch(fault)),
+        Err(fault) => Err(fault_of(fault, &requests, &answers.far_sink)),
     }
+}
+
+// Why both ends stopped: a message was too long, or there was no memory to hold it, or else the client's fault.
+fn fault_of<V: Sink, W: Sink, A: Allocator + Copy>(
+    fault: FetchFault<A>,
+    requests: &MessageSink<V, A>,
+    replies: &MessageSink<W, A>,
+) -> ProgramFault<A> {
+    if requests.is_too_long() || replies.is_too_long() {
+        return ProgramFault::PairLimit;
+    }
+    if requests.lacks_memory() || replies.lacks_memory() {
+        return ProgramFault::Memory;
+    }
+    ProgramFault::Fetch(fault)
 }
 
 // The client's end.

@@ -1,12 +1,13 @@
 //! The programs that open sockets, as functions over the network, bytes and sinks.
 
-ghost use Rattle.std.specs.Prelude.{◌≡◌, ◌≤◌, ℕ, List, IfOk, option_map};
+ghost use Rattle.std.specs.Prelude.{◌≡◌, ℕ, List, IfOk, option_map};
 ghost use Rattle.ghistory.specs.Reach.{Grows};
 ghost use Rattle.gpkt.specs.Sending.{output_of};
 ghost use Rattle.grepo.specs.Settling.{Settles};
 ghost use Rattle.gcmd.specs.Fetching.{NamesClient};
 ghost use Rattle.gcmd.specs.Programs.{Runs};
 ghost use Rattle.gtcp.specs.Remote.{FetchesRemote, ListsRemote, Meets, ShowsReply};
+ghost use Rattle.gtcp.specs.Telling.{PrintsFew, RunsServing};
 
 use crate::fetching::{Wanted, fetch_from, ls_from, request_for};
 use crate::listing::text_of;
@@ -38,12 +39,13 @@ pub struct Service<'a, A: Allocator + Copy> {
     pub file: &'a [u8],
 }
 
-/// `gitv2 serve --listen ADDR --path PATH --connections N [--response-end] FILE`: shows the port that is listened at as
-/// the line `listening PORT` on `output`, and then serves so many connections, one after the other, as
-/// [`serve_listener`] does. The fault of a connection is one line on `errors`, and so is the fault that ends the program.
+/// `gitv2 serve --listen ADDR --path PATH --connections N [--response-end] FILE`: shows the port that is listened at
+/// as the line `listening PORT` on `output`, and then serves so many connections, one after the other, as
+/// [`serve_listener`] does. The fault of a connection is one line on `errors`, and so is the fault that ends the
+/// program.
 ///
-/// It answers the exit status: 0 where all connections were served, whatever their faults; 1 where the file is not served,
-/// there is no such socket, the port can't be shown, or a connection can't be accepted.
+/// It answers the exit status: 0 where all connections were served, whatever their faults; 1 where the file is not
+/// served, there is no such socket, the port can't be shown, or a connection can't be accepted.
 pub fn cmd_serve<A: Allocator + Copy, N, W: Sink, E: Sink>(
     net: &N,
     alloc: A,
@@ -53,7 +55,8 @@ pub fn cmd_serve<A: Allocator + Copy, N, W: Sink, E: Sink>(
 ) -> u8
 where
     N: Net<Stream = TcpStream, Listener = TcpListener>,
-    ensures status { result ≤ 1 }
+    ensures runs { RunsServing A (output_of E.contents E.passed_on E.is_down) errors.old errors.new
+        service.now.connections result }
     ensures output_loans { W.loans output.new ≡ W.loans output.old }
     ensures errors_loans { E.loans errors.new ≡ E.loans errors.old }
 {
@@ -61,6 +64,7 @@ where
     finish(outcome, errors)
 }
 
+// Serves so many connections, and prints their faults alone.
 fn serve_all<A: Allocator + Copy, N, W: Sink, E: Sink>(
     net: &N,
     alloc: A,
@@ -70,6 +74,8 @@ fn serve_all<A: Allocator + Copy, N, W: Sink, E: Sink>(
 ) -> Result<(), ProgramFault<A>>
 where
     N: Net<Stream = TcpStream, Listener = TcpListener>,
+    ensures told { PrintsFew A (output_of E.contents E.passed_on E.is_down errors.old errors.new)
+        service.now.connections }
     ensures output_loans { W.loans output.new ≡ W.loans output.old }
     ensures errors_loans { E.loans errors.new ≡ E.loans errors.old }
 {
@@ -139,8 +145,8 @@ pub struct Listing<'a, A: Allocator + Copy> {
 }
 
 /// `gitv2 ls --tcp ADDR --path PATH [PREFIX]...`: lists the refs of a server, a line each on `output`, as its reply has
-/// them (gitprotocol-v2(5), "ls-refs"). An unborn `HEAD` comes first, where the server tells of it. A fault is one line on
-/// `errors`.
+/// them (gitprotocol-v2(5), "ls-refs"). An unborn `HEAD` comes first, where the server tells of it. A fault is one line
+/// on `errors`.
 ///
 /// It answers the exit status: 0 where the lines are written and passed on, 1 where a fault was met.
 pub fn cmd_ls_remote<A: Allocator + Copy, N, W: Sink, E: Sink>(
@@ -202,7 +208,8 @@ fn show_reply<A: Allocator + Copy, W: Sink>(
     reply: &LsReply<A>,
     output: &mut W,
 ) -> Result<(), ProgramFault<A>>
-    ensures shows { ShowsReply {A = A} reply.now (output_of W.contents W.passed_on W.is_down output.old output.new) result }
+    ensures shows { ShowsReply {A = A} reply.now
+        (output_of W.contents W.passed_on W.is_down output.old output.new) result }
     ensures loans { W.loans output.new ≡ W.loans output.old }
 {
     match text_of(alloc, reply) {
@@ -239,8 +246,9 @@ pub fn cmd_fetch_remote<A: Allocator + Copy, N, R: Sink, E: Sink>(
 ) -> FetchRun<A>
 where
     N: Net<Stream = TcpStream, Listener = TcpListener>,
-    ensures runs { Runs {A = A} (FetchesRemote fetch.now.file.now
-        (output_of R.contents R.passed_on R.is_down report.old report.new) (option_map (λ text. text.items) result.file))
+    ensures runs { Runs {A = A}
+        (FetchesRemote fetch.now.file.now (output_of R.contents R.passed_on R.is_down report.old report.new)
+        (option_map (λ text. text.items) result.file))
         (output_of E.contents E.passed_on E.is_down errors.old errors.new) result.status }
     ensures report_loans { R.loans report.new ≡ R.loans report.old }
     ensures errors_loans { E.loans errors.new ≡ E.loans errors.old }
@@ -259,7 +267,8 @@ fn fetch_remote<A: Allocator + Copy, N, R: Sink>(
 ) -> (Result<(), ProgramFault<A>>, Option<Vec<u8, A>>)
 where
     N: Net<Stream = TcpStream, Listener = TcpListener>,
-    ensures fetches { FetchesRemote {A = A} fetch.now.file.now (output_of R.contents R.passed_on R.is_down report.old report.new)
+    ensures fetches { FetchesRemote {A = A} fetch.now.file.now
+        (output_of R.contents R.passed_on R.is_down report.old report.new)
         (option_map (λ text. text.items) result.1) result.0 }
     ensures loans { R.loans report.new ≡ R.loans report.old }
 {
@@ -269,7 +278,7 @@ where
     }
 }
 
-// The same for the client's repository of the file.
+// Fetches into the client's repository of the file.
 fn fetch_for<A: Allocator + Copy, N, R: Sink>(
     net: &N,
     alloc: A,
@@ -280,7 +289,8 @@ fn fetch_for<A: Allocator + Copy, N, R: Sink>(
 where
     N: Net<Stream = TcpStream, Listener = TcpListener>,
     ensures fetches { (file : List ℕ) → NamesClient file repo.old → FetchesRemote {A = A} file
-        (output_of R.contents R.passed_on R.is_down report.old report.new) (option_map (λ text. text.items) result.1) result.0 }
+        (output_of R.contents R.passed_on R.is_down report.old report.new)
+        (option_map (λ text. text.items) result.1) result.0 }
     ensures loans { R.loans report.new ≡ R.loans report.old }
 {
     match fetch_at(net, repo, fetch) {
@@ -318,73 +328,54 @@ where
 
 // ---- both ends
 
-/// Both ends of a fetch: the texts of the repository that is served and of the one that is fetched into, and the
-/// refspecs.
+/// Both ends of a fetch: the server, the text of the repository that is fetched into, and the refspecs.
 #[derive(Clone, Copy)]
 pub struct Pair<'a, A: Allocator + Copy> {
-    pub server: &'a [u8],
+    pub server: &'a Server<A>,
     pub client: &'a [u8],
     pub specs: &'a [Spec<A>],
 }
 
-/// `gitv2 pair SERVERFILE CLIENTFILE SPEC...`: fetches by refspecs from the one repository into the other, over a
-/// connection of this process, turn by turn, and reports on `output` as `fetch` does. A message has at most
-/// [`MAX_MESSAGE`](crate::MAX_MESSAGE) bytes. No file is written. A fault is one line on `errors`.
+/// `gitv2 pair SERVERFILE CLIENTFILE SPEC...`, once the server is loaded: fetches by refspecs from the one repository
+/// into the other, over a connection of this process, turn by turn, and reports on `output` as `fetch` does. A message
+/// has at most [`MAX_MESSAGE`](crate::MAX_MESSAGE) bytes. No file is written. A fault is one line on `errors`.
 ///
 /// It answers the exit status: 0 where the report is written and passed on, 1 where a fault was met.
 pub fn cmd_pair<A: Allocator + Copy, N, W: Sink, E: Sink>(
     net: &N,
-    alloc: A,
     pair: &Pair<'_, A>,
     output: &mut W,
     errors: &mut E,
 ) -> u8
 where
     N: Net<Stream = TcpStream, Listener = TcpListener>,
-    ensures runs { Runs {A = A} (Meets pair.now.client.now (output_of W.contents W.passed_on W.is_down output.old output.new))
+    ensures runs { Runs {A = A}
+        (Meets pair.now.client.now (output_of W.contents W.passed_on W.is_down output.old output.new))
         (output_of E.contents E.passed_on E.is_down errors.old errors.new) result }
     ensures output_loans { W.loans output.new ≡ W.loans output.old }
     ensures errors_loans { E.loans errors.new ≡ E.loans errors.old }
 {
-    finish(meet(net, alloc, pair, output), errors)
+    finish(meet(net, pair, output), errors)
 }
 
 fn meet<A: Allocator + Copy, N, W: Sink>(
     net: &N,
-    alloc: A,
     pair: &Pair<'_, A>,
     output: &mut W,
 ) -> Result<(), ProgramFault<A>>
 where
     N: Net<Stream = TcpStream, Listener = TcpListener>,
-    ensures meets { Meets {A = A} pair.now.client.now (output_of W.contents W.passed_on W.is_down output.old output.new) result }
+    ensures meets { Meets {A = A} pair.now.client.now
+        (output_of W.contents W.passed_on W.is_down output.old output.new) result }
     ensures loans { W.loans output.new ≡ W.loans output.old }
 {
-    match load_server(alloc, pair.server) {
-        Ok(server) => meet_server(net, &server, pair, output),
+    match open_client(pair.server.graph().allocator(), pair.client) {
+        Ok(mut repo) => meet_client(net, pair.server, &mut repo, pair.specs, output),
         Err(fault) => Err(fault),
     }
 }
 
-// The same for the server of the file.
-fn meet_server<A: Allocator + Copy, N, W: Sink>(
-    net: &N,
-    server: &Server<A>,
-    pair: &Pair<'_, A>,
-    output: &mut W,
-) -> Result<(), ProgramFault<A>>
-where
-    N: Net<Stream = TcpStream, Listener = TcpListener>,
-    ensures meets { Meets {A = A} pair.now.client.now (output_of W.contents W.passed_on W.is_down output.old output.new) result }
-    ensures loans { W.loans output.new ≡ W.loans output.old }
-{
-    match open_client(server.graph().allocator(), pair.client) {
-        Ok(mut repo) => meet_client(net, server, &mut repo, pair.specs, output),
-        Err(fault) => Err(fault),
-    }
-}
-
-// The same for the client's repository of the other.
+// Fetches into the client's repository and reports.
 fn meet_client<A: Allocator + Copy, N, W: Sink>(
     net: &N,
     server: &Server<A>,

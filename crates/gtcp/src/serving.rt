@@ -5,7 +5,7 @@ ghost use Rattle.gpkt.specs.Sending.{output_of};
 ghost use Rattle.gcmd.specs.declared.fault.ProgramFault.TheVariants.{Socket};
 ghost use Rattle.gtcp.specs.Telling.{PrintsFew, Tells};
 
-use crate::stream::{MESSAGE_BUFFER, drop_unread, set_up};
+use crate::stream::{MESSAGE_BUFFER, hang_up, set_up};
 use ganswer::Server;
 use gcmd::{ProgramFault, print_fault};
 use gconnect::{GitEnd, serve_git};
@@ -17,19 +17,20 @@ use std::alloc::Allocator;
 use std::io::{BufReader, BufWriter, Read, Write};
 use std::net::{TcpListener, TcpStream};
 
-// A repository, and the path at which it is served.
+// A repository, the path at which it is served, and how.
 #[derive(Drop)]
-struct Service<'a, K, A: Allocator + Copy> {
+struct Site<'a, K, A: Allocator + Copy> {
     server: &'a Server<A>,
     packer: &'a K,
     path: &'a [u8],
     ends: Ends,
 }
 
-/// Serves so many connections, one after the other, each from its first line on (gitprotocol-pack(5), "Git Transport").
-/// The fault of one is one line on `errors`, and the next is served all the same. A peer that says nothing, or takes
-/// nothing, for [`MAX_SILENCE`](crate::MAX_SILENCE) seconds has failed. Where there is no memory for a buffer a connection
-/// is served without one.
+/// Serves so many connections, one after the other, each from its first line on (gitprotocol-pack(5), "Git
+/// Transport"). The fault of one is one line on `errors`, and the next is served all the same. A peer that says
+/// nothing, or takes nothing, for [`MAX_SILENCE`](crate::MAX_SILENCE) seconds has failed; a connection on which that
+/// limit can't be set is closed, and its fault is 27. Where there is no memory for a buffer a connection is served
+/// without one.
 ///
 /// It fails with `Socket` where a connection can't be accepted, and serves none from then on.
 pub fn serve_listener<A: Allocator + Copy, K: Packer<A>, E: Sink>(
@@ -45,18 +46,18 @@ pub fn serve_listener<A: Allocator + Copy, K: Packer<A>, E: Sink>(
     ensures fault { IfErr result (λ fault. fault ≡ Socket) }
     ensures loans { E.loans errors.new ≡ E.loans errors.old }
 {
-    let service = Service {
+    let site = Site {
         server,
         packer,
         path,
         ends,
     };
-    serve_each(&service, &listener, connections, errors)
+    serve_each(&site, &listener, connections, errors)
 }
 
 // Serves so many connections.
 fn serve_each<A: Allocator + Copy, K: Packer<A>, E: Sink>(
-    service: &Service<'_, K, A>,
+    site: &Site<'_, K, A>,
     listener: &TcpListener,
     connections: u32,
     errors: &mut E,
@@ -70,12 +71,13 @@ fn serve_each<A: Allocator + Copy, K: Packer<A>, E: Sink>(
         let Ok((stream, _)) = listener.accept() else {
             return Err(ProgramFault::Socket);
         };
-        can_tell = tell(serve_stream(service, &stream), can_tell, errors);
+        can_tell = tell(serve_stream(site, &stream), can_tell, errors);
     }
     Ok(())
 }
 
-// Prints the fault of a connection, if it had one, where all before it could be printed. It answers whether they still can.
+// Prints the fault of a connection, if it had one, where all before it could be printed. It answers whether they still
+// can.
 fn tell<A: Allocator + Copy, E: Sink>(
     outcome: Result<(), ProgramFault<A>>,
     can_tell: bool,
@@ -90,76 +92,71 @@ fn tell<A: Allocator + Copy, E: Sink>(
     }
 }
 
-// Serves one connection.
+// Serves one connection. Where its peer's silence can't be limited it is closed, as if a write had failed.
 fn serve_stream<A: Allocator + Copy, K: Packer<A>>(
-    service: &Service<'_, K, A>,
+    site: &Site<'_, K, A>,
     stream: &TcpStream,
 ) -> Result<(), ProgramFault<A>> {
-    set_up(stream);
-    let ended = serve_buffered(service, stream);
-    drop_unread(stream);
+    if set_up(stream).is_err() {
+        return Err(ProgramFault::WriteFailed);
+    }
+    let ended = serve_buffered(site, stream);
+    hang_up(stream);
     outcome_of(ended)
 }
 
 // Serves it through buffers, where there is memory for them.
 fn serve_buffered<A: Allocator + Copy, K: Packer<A>>(
-    service: &Service<'_, K, A>,
+    site: &Site<'_, K, A>,
     stream: &TcpStream,
 ) -> GitEnd {
-    match BufReader::new(service.server.graph().allocator(), stream) {
-        Ok(mut reader) => serve_from(service, &mut reader, stream),
+    match BufReader::new(site.server.graph().allocator(), stream) {
+        Ok(mut reader) => serve_from(site, &mut reader, stream),
         Err(_) => {
             let mut reader = stream;
-            serve_from(service, &mut reader, stream)
+            serve_from(site, &mut reader, stream)
         }
     }
 }
 
 // Serves it from a reader.
 fn serve_from<A: Allocator + Copy, K: Packer<A>, R: Read>(
-    service: &Service<'_, K, A>,
+    site: &Site<'_, K, A>,
     reader: &mut R,
     stream: &TcpStream,
 ) -> GitEnd {
-    let alloc = service.server.graph().allocator();
+    let alloc = site.server.graph().allocator();
     match BufWriter::with_capacity(alloc, MESSAGE_BUFFER, stream) {
         Ok(mut writer) => {
-            let ended = serve_between(service, reader, &mut writer);
+            let ended = serve_between(site, reader, &mut writer);
             // What could not be written is not tried again.
             let (_stream, _unwritten) = writer.into_parts();
             ended
         }
         Err(_) => {
             let mut writer = stream;
-            serve_between(service, reader, &mut writer)
+            serve_between(site, reader, &mut writer)
         }
     }
 }
 
 // Serves it between a reader and a writer.
 fn serve_between<A: Allocator + Copy, K: Packer<A>, R: Read, W: Write>(
-    service: &Service<'_, K, A>,
+    site: &Site<'_, K, A>,
     reader: &mut R,
     writer: &mut W,
 ) -> GitEnd {
     let mut source = FromRead::new(reader);
     let mut sink = ToWrite::new(writer);
-    serve_devices(service, &mut source, &mut sink)
+    serve_devices(site, &mut source, &mut sink)
 }
 
 fn serve_devices<A: Allocator + Copy, K: Packer<A>, S: Source, W: Sink>(
-    service: &Service<'_, K, A>,
+    site: &Site<'_, K, A>,
     source: &mut S,
     sink: &mut W,
 ) -> GitEnd {
-    serve_git(
-        service.server,
-        service.packer,
-        service.path,
-        service.ends,
-        source,
-        sink,
-    )
+    serve_git(site.server, site.packer, site.path, site.ends, source, sink)
 }
 
 // How a connection came out. That its client asked for another path is no fault of it.

@@ -1,7 +1,7 @@
 //! What is set and done at a stream of TCP, whoever speaks on it.
 
-use std::io::Read;
-use std::net::TcpStream;
+use std::io::{self, Read};
+use std::net::{Shutdown, TcpStream};
 use std::time::Duration;
 
 /// The bytes of a message that go out in one write.
@@ -22,21 +22,29 @@ pub(crate) fn send_at_once(stream: &TcpStream) {
 
 /// Sends each message at once, and lets a read and a write fail where the peer says nothing, or takes nothing, for
 /// [`MAX_SILENCE`] seconds.
-pub(crate) fn set_up(stream: &TcpStream) {
+///
+/// It fails where the system refuses one of these limits.
+pub(crate) fn set_up(stream: &TcpStream) -> io::Result<()> {
     send_at_once(stream);
     let limit = Duration::from_secs(MAX_SILENCE);
-    let _ = stream.set_read_timeout(Some(limit));
-    let _ = stream.set_write_timeout(Some(limit));
+    stream.set_read_timeout(Some(limit))?;
+    stream.set_write_timeout(Some(limit))
 }
 
-/// Drops what has come and was not read, and waits for nothing. A socket that is closed over such input resets the
-/// connection, and the peer might then lose the last message.
-pub(crate) fn drop_unread(stream: &TcpStream) {
+/// Ends what is written, so that the last message and the end go out, and then drops what has come and was not read,
+/// waiting for nothing. A socket that is closed over such input resets the connection, and the peer might then lose the
+/// last message. It may lose it still where more comes before the socket is closed, or after it.
+pub(crate) fn hang_up(stream: &TcpStream) {
+    let _ = stream.shutdown(Shutdown::Write);
+    if stream.set_nonblocking(true).is_ok() {
+        drop_unread(stream);
+    }
+}
+
+// Drops what has come; the stream waits for nothing.
+fn drop_unread(stream: &TcpStream) {
     let mut dropped = [0; DROPPED_BYTES];
     let mut reader = stream;
-    if stream.set_nonblocking(true).is_err() {
-        return;
-    }
     for _ in 0..MAX_DROPS {
         match reader.read(&mut dropped) {
             Ok(0) | Err(_) => return,

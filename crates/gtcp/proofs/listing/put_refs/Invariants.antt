@@ -3,5 +3,5 @@ use Rattle.std.specs.List.{flat_map}
 use Rattle.gtcp.specs.Listing.{ref_line}
 use Rattle.gtcp.proofs.listing.put_refs.Given as goal
 
-abbrev pub invariant-loop-place : goal.invariant-loop-place
-invariant-loop-place g l = l.text.items ≡ l.initial.text.items ++ flat_map ref_line (take l.place l.reply.lines)
+abbrev pub invariant-loop-index : goal.invariant-loop-index
+invariant-loop-index g l = l.text.items ≡ l.initial.text.items ++ flat_map ref_line (take l.index l.reply.lines)

@@ -1,5 +1,9 @@
-use Rattle.gtcp.proofs.ExitLemmas.{exits_low}
 use Rattle.gtcp.proofs.remote.cmd_serve.Goals as goal
 
-pub returns-clause-status : goal.returns-clause-status
-returns-clause-status g c = exits_low _ _ _ c.finish.ensures.exits
+pub returns-clause-runs : goal.returns-clause-runs
+returns-clause-runs g c = record {
+  middle = c.serve_all-outcome.new.errors;
+  told = c.serve_all-outcome.ensures.told;
+  outcome = c.serve_all-outcome.result;
+  exits = c.finish.ensures.exits;
+}
