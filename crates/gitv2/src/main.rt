@@ -17,18 +17,19 @@
 //!
 //! # Stands on
 //!
-//! `gcmd` and `gtcp` for the work, `gpkt` for devices, `clap` for the words.
+//! `gcmd`, `gtcp` and `gsimulate` for the work, `gpkt` for devices, `clap` for the words.
 #![tactic(auto)]
 
 mod words;
 
-use crate::words::{Command, Fetch, Serve};
+use crate::words::{Command, Fetch, Serve, Simulate};
 use gcmd::{
     Ends, FetchRun, ProgramFault, Spec, cmd_check, cmd_failed, cmd_fetch, cmd_lines, cmd_ls,
     cmd_upload, read_specs,
 };
 use gpkt::memory::VecSink;
 use gpkt::{Down, FromRead, Sink, ToWrite, write_all};
+use gsimulate::{Simulation, cmd_simulate};
 use gtcp::{
     Listing, Pair, Place, RemoteFetch, Service, cmd_fetch_remote, cmd_ls_remote, cmd_pair,
     cmd_serve, read_prefixes,
@@ -84,6 +85,7 @@ where
             errors,
         ),
         Command::Serve(asked) => listen(rt, &asked, errors),
+        Command::Simulate(asked) => simulate(rt, &asked, errors),
     }
 }
 
@@ -227,6 +229,31 @@ where
     let mut stdout = io::writer(rt);
     let mut output = ToWrite::new(&mut stdout);
     cmd_pair(rt, rt.alloc(), &pair, &mut output, errors)
+}
+
+// Runs a scenario between the repositories of two files.
+fn simulate<R, E>(rt: &R, asked: &Simulate, errors: &mut E) -> u8
+where
+    R: Files + Print + AllocGlobal,
+    E: Sink,
+{
+    let Ok(server) = fs::read(rt, asked.server.as_str()) else {
+        return fail(ProgramFault::File, errors);
+    };
+    let Ok(client) = fs::read(rt, asked.client.as_str()) else {
+        return fail(ProgramFault::File, errors);
+    };
+    let Ok(scenario) = fs::read(rt, asked.scenario.as_str()) else {
+        return fail(ProgramFault::File, errors);
+    };
+    let files = Simulation {
+        server: server.as_slice(),
+        client: client.as_slice(),
+        scenario: scenario.as_slice(),
+    };
+    let mut stdout = io::writer(rt);
+    let mut output = ToWrite::new(&mut stdout);
+    cmd_simulate(rt.alloc(), &files, &mut output, errors)
 }
 
 // Fetches into the repository of a file.
