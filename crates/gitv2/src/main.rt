@@ -25,7 +25,7 @@ mod words;
 use crate::words::{Command, Fetch, Serve, Simulate};
 use gcmd::{
     Ends, FetchRun, ProgramFault, Spec, cmd_check, cmd_failed, cmd_fetch, cmd_lines, cmd_ls,
-    cmd_upload, read_specs,
+    cmd_upload, load_server, open_client, read_specs,
 };
 use gpkt::memory::VecSink;
 use gpkt::{Down, FromRead, Sink, ToWrite, write_all};
@@ -92,6 +92,19 @@ where
 // Ends with a fault that comes before any work.
 fn fail<E: Sink>(fault: ProgramFault<Global>, errors: &mut E) -> u8 {
     cmd_failed(fault, errors)
+}
+
+// The first fault where a file can't be read: that of a file before it, if that of the server, or of the client, is none.
+fn unread(alloc: Global, server: &[u8], client: Option<&[u8]>) -> ProgramFault<Global> {
+    if let Err(fault) = load_server(alloc, server) {
+        return fault;
+    }
+    if let Some(client) = client {
+        if let Err(fault) = open_client(alloc, client) {
+            return fault;
+        }
+    }
+    ProgramFault::File
 }
 
 // Reports of a repository on standard output.
@@ -219,7 +232,7 @@ where
         return fail(ProgramFault::File, errors);
     };
     let Ok(client) = fs::read(rt, client) else {
-        return fail(ProgramFault::File, errors);
+        return fail(unread(rt.alloc(), server.as_slice(), None), errors);
     };
     let pair = Pair {
         server: server.as_slice(),
@@ -240,15 +253,17 @@ where
     let Ok(server) = fs::read(rt, asked.server.as_str()) else {
         return fail(ProgramFault::File, errors);
     };
+    let server = server.as_slice();
     let Ok(client) = fs::read(rt, asked.client.as_str()) else {
-        return fail(ProgramFault::File, errors);
+        return fail(unread(rt.alloc(), server, None), errors);
     };
+    let client = client.as_slice();
     let Ok(scenario) = fs::read(rt, asked.scenario.as_str()) else {
-        return fail(ProgramFault::File, errors);
+        return fail(unread(rt.alloc(), server, Some(client)), errors);
     };
     let files = Simulation {
-        server: server.as_slice(),
-        client: client.as_slice(),
+        server,
+        client,
         scenario: scenario.as_slice(),
     };
     let mut stdout = io::writer(rt);

@@ -69,16 +69,16 @@ HasWorld files IsSo = HasEvents files (CanHappen IsSo)
 -- this is the world as it begins, and these are the events
 abbrev pub BeginsWith : {A K : Type 0} → Simulation → WorldOf A K → List (Event A) → Type 0
 BeginsWith {A} files begun events =
-    HasWorld {A} files (λ w happening. (begun.world ≡ w) × (events ≡ happening))
+    HasWorld {A = A} files (λ w happening. (begun.world ≡ w) × (events ≡ happening))
 
 -- why no event happens: the first file is no server's; or the second no client's; or the third has a wrong line, or
 -- there is no memory for it; or no world can begin between server and client
 abbrev pub CannotBegin : {A : Type 0} → Simulation → SimulationFault A → Type 0
 CannotBegin {A} files (faults.Program fault) =
-    RefusesFile {A} files.server.now fault ⊎ HasServer {A} files (λ server. RefusesClient files.client.now fault)
-CannotBegin {A} files (faults.Scenario fault) = HasEnds {A} files (λ server repo. Refuses A files.scenario.now fault)
+    RefusesFile {A = A} files.server.now fault ⊎ HasServer {A = A} files (λ server. RefusesClient files.client.now fault)
+CannotBegin {A} files (faults.Scenario fault) = HasEnds {A = A} files (λ server repo. Refuses A files.scenario.now fault)
 CannotBegin {A} files (faults.World fault) =
-    HasEvents {A} files (λ server repo events. CannotStart server repo fault)
+    HasEvents {A = A} files (λ server repo events. CannotStart server repo fault)
 CannotBegin files faults.Memory = ⊥
 
 -- ---- what is shown
@@ -108,7 +108,7 @@ pub record IsStopped {A : Type 0} (w : WorldState A) (events : List (Event A)) :
 
 -- what a simulation does: that; or a fault was met before, and nothing is written
 abbrev pub StopsBefore : {A : Type 0} → Simulation → SimulationFault A → Type 0
-StopsBefore {A} files faults.Memory = HasWorld {A} files IsStopped
+StopsBefore {A} files faults.Memory = HasWorld {A = A} files IsStopped
 StopsBefore files fault = CannotBegin files fault
 
 pub record IsNotRun {A : Type 0} (files : Simulation) (output : Output) (ending : Ending A) : Type 0 where
@@ -118,7 +118,7 @@ pub record IsNotRun {A : Type 0} (files : Simulation) (output : Output) (ending 
   pub unwritten : IsUnwritten output
 
 abbrev pub Simulates : {A : Type 0} → Simulation → Output → Ending A → Type 0
-Simulates {A} files output ending = HasWorld {A} files (IsRun output ending) ⊎ IsNotRun files output ending
+Simulates {A} files output ending = HasWorld {A = A} files (IsRun output ending) ⊎ IsNotRun files output ending
 
 -- where the simulation is done nothing is printed, and the status is 0; else the fault's line is printed, and it is 1
 abbrev pub ExitsWith : {A : Type 0} → Ending A → Output → ℕ → Type 0
