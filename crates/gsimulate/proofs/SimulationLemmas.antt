@@ -2,13 +2,14 @@
 use Rattle.std.proofs.Common.{◌≡◌, ℕ, List, Ok, Err, inl, inr, refl, sym, ap, subst}
 use Rattle.gpkt.specs.Sending.{Output, IsUnwritten}
 
+use Rattle.grefs.specs.RefLists.{RefList}
 use Rattle.gcmd.specs.Fetching.{SendsReport}
 use Rattle.gcmd.specs.declared.fault.ProgramFault.{ProgramFault}
 use Rattle.gcmd.specs.declared.fault.ProgramFault.TheVariants as program
 use Rattle.gscenario.specs.declared.event.Event.{Event}
 use Rattle.gworld.specs.Promises.{Promises}
 use Rattle.gworld.specs.Runs.{RunWith, RunsFront}
-use Rattle.gworld.specs.Worlds.{WorldOf, WorldState}
+use Rattle.gworld.specs.Worlds.{WorldOf, WorldState, new_world}
 use Rattle.gworld.specs.declared.outcome.Outcome.{Outcome}
 use Rattle.gsimulate.specs.Lines.{simulated_text}
 use Rattle.gsimulate.specs.Simulating.{BeginsWith, CannotBegin, Ending, HasWorld, Shows, Simulates, StopsBefore, plain_tools}
@@ -31,6 +32,22 @@ shows_sent text output (program.Fetch fault) h = absurd h
 shows_sent text output (program.Name fault) h = absurd h
 shows_sent text output program.PairLimit h = absurd h
 shows_sent text output program.Socket h = absurd h
+
+-- the same text, by what it shows
+pub shows_same : {A : Type 0} (outcomes shown : List Outcome) (refs at : RefList) (output : Output) (ending : Ending A) → shown ≡ outcomes
+    → at ≡ refs → Shows (simulated_text shown at) output ending → Shows (simulated_text outcomes refs) output ending
+shows_same outcomes shown refs at output ending same stand h =
+    subst (λ (these : RefList). Shows (simulated_text outcomes these) output ending) stand
+    (subst (λ (these : List Outcome). Shows (simulated_text these at) output ending) same h)
+
+-- of equal worlds
+pub same_world : {A K : Type 0} (made other : WorldOf A K) → made ≡ other → made.world ≡ other.world
+same_world {A} {K} made other same = ap (λ (it : WorldOf A K). it.world) same
+
+-- the fault is this cause
+pub cannot_begin : {A : Type 0} (files : Simulation) (cause fault : SimulationFault A) → CannotBegin files cause → fault ≡ cause
+    → CannotBegin files fault
+cannot_begin files cause fault cannot same = subst (CannotBegin files) (sym same) cannot
 
 stops_before : {A : Type 0} (files : Simulation) (fault : SimulationFault A) → CannotBegin files fault → StopsBefore files fault
 stops_before files (faults.Program fault) h = h
@@ -66,7 +83,7 @@ module _ {A : Type 0} (files : Simulation) (output : Output) where
           outcomes = outcomes;
           new = new;
           run =
-              subst (λ (happening : List (Event A)). RunWith (Promises (plain_tools A)) _ happening outcomes new) begins.so.1.1
+              subst (λ (happening : List (Event A)). RunWith (Promises (plain_tools A)) (new_world begins.server begins.repo) happening outcomes new) begins.so.1.1
               (subst (λ (world : WorldState A). RunWith (Promises (plain_tools A)) world events outcomes new) begins.so.1.0 run);
           shows = shows;
         });
@@ -88,7 +105,7 @@ module _ {A : Type 0} (files : Simulation) (output : Output) where
             outcomes = outcomes;
             new = new;
             front =
-                subst (λ (happening : List (Event A)). RunsFront (Promises (plain_tools A)) _ happening outcomes new) begins.so.1.1
+                subst (λ (happening : List (Event A)). RunsFront (Promises (plain_tools A)) (new_world begins.server begins.repo) happening outcomes new) begins.so.1.1
                 (subst (λ (world : WorldState A). RunsFront (Promises (plain_tools A)) world events outcomes new) begins.so.1.0 front);
           });
         };

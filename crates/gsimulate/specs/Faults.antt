@@ -1,9 +1,10 @@
 -- The table of a simulation's faults: what is printed of each.
-use Rattle.std.specs.Prelude.{ℕ, List, ◌++◌, codes, Option, Some, None}
+use Rattle.std.specs.Prelude.{ℕ, List, ◌++◌, codes}
 use Rattle.std.specs.Fmt.{decimal}
 use Rattle.gname.specs.Ids.{id_text}
-use Rattle.gcmd.specs.Faults.{Printed, plain, printed_of, program_fault_text}
-use Rattle.gcmd.specs.Printing.{printed_line}
+use Rattle.gname.specs.Faults.{FaultRow}
+use Rattle.gcmd.specs.Faults.{printed_of, program_fault_text}
+use Rattle.gcmd.specs.Printing.{fault_line}
 use Rattle.gscenario.specs.Faults.{scenario_fault_row, scenario_fault_text}
 use Rattle.gscenario.specs.declared.fault.ScenarioFault.{ScenarioFault}
 use Rattle.gscenario.specs.declared.fault.ScenarioFault.TheVariants as scenario
@@ -13,36 +14,40 @@ use Rattle.gworld.specs.declared.fault.WorldFault.TheVariants as world
 use Rattle.gsimulate.specs.declared.fault.SimulationFault.{SimulationFault}
 use Rattle.gsimulate.specs.declared.fault.SimulationFault.TheVariants as faults
 
--- the line that is wrong
-abbrev pub line_in_scenario : ScenarioFault → Option ℕ
-line_in_scenario (scenario.Scenario line) = Some line
-line_in_scenario scenario.Memory = None
+-- the number and the name of each
+abbrev pub simulation_fault_row : {A : Type 0} → SimulationFault A → FaultRow
+simulation_fault_row (faults.Program fault) = ((printed_of fault).number, (printed_of fault).name)
+simulation_fault_row (faults.Scenario fault) = scenario_fault_row fault
+simulation_fault_row (faults.World fault) = world_fault_row fault
+simulation_fault_row faults.Memory = (91, codes "Memory")
 
--- the id that two objects have
-abbrev pub id_in_world : WorldFault → Option (List ℕ)
-id_in_world (world.Disagree id) = Some id
-id_in_world world.TwoFormats = None
+-- ---- the lines that are printed
 
-abbrev pub printed_of_simulation : {A : Type 0} → SimulationFault A → Printed
-printed_of_simulation (faults.Program fault) = printed_of fault
-printed_of_simulation (faults.Scenario fault) =
-    record (plain (scenario_fault_row fault)) { line = line_in_scenario fault }
-printed_of_simulation (faults.World fault) = record (plain (world_fault_row fault)) { id = id_in_world fault }
-printed_of_simulation faults.Memory = plain (91, codes "Memory")
+-- there is no memory to go on
+abbrev pub memory_line : List ℕ
+memory_line = codes "gitv2: fault 91 Memory\n"
 
--- the line that is printed
-abbrev pub simulation_fault_line : {A : Type 0} → SimulationFault A → List ℕ
-simulation_fault_line fault = printed_line (printed_of_simulation fault)
-
--- ---- what the code prints
-
--- of a scenario with a wrong line
+-- a line is wrong
 abbrev pub wrong_line : ℕ → List ℕ
 wrong_line line = codes "gitv2: fault 92 Scenario line " ++ (decimal line ++ codes "\n")
 
--- of an id that two objects have
+abbrev pub scenario_line : ScenarioFault → List ℕ
+scenario_line (scenario.Scenario line) = wrong_line line
+scenario_line scenario.Memory = memory_line
+
+-- two objects have this id
 abbrev pub disagreement : List ℕ → List ℕ
 disagreement id = codes "gitv2: fault 90 Disagree " ++ (id_text id ++ codes "\n")
+
+abbrev pub world_line : WorldFault → List ℕ
+world_line (world.Disagree id) = disagreement id
+world_line world.TwoFormats = codes "gitv2: fault 97 TwoFormats\n"
+
+abbrev pub simulation_fault_line : {A : Type 0} → SimulationFault A → List ℕ
+simulation_fault_line (faults.Program fault) = fault_line fault
+simulation_fault_line (faults.Scenario fault) = scenario_line fault
+simulation_fault_line (faults.World fault) = world_line fault
+simulation_fault_line faults.Memory = memory_line
 
 -- room for such a line
 abbrev pub max_line : ℕ

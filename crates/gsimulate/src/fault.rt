@@ -1,7 +1,7 @@
 //! The faults of a simulation.
 
 ghost use Rattle.std.specs.Prelude.{◌≡◌, Some};
-ghost use Rattle.gsimulate.specs.Faults.{printed_of_simulation, simulation_fault_text};
+ghost use Rattle.gsimulate.specs.Faults.{simulation_fault_row, simulation_fault_text};
 ghost use Rattle.gsimulate.specs.declared.fault.SimulationFault.TheVariants as faults;
 
 use gcmd::ProgramFault;
@@ -27,7 +27,7 @@ pub enum SimulationFault<A: Allocator + Copy = Global> {
 impl<A: Allocator + Copy> SimulationFault<A> {
     /// The number of the fault.
     pub fn code(&self) -> u32
-        ensures { result ≡ (printed_of_simulation self.now).number }
+        ensures { result ≡ (simulation_fault_row self.now).0 }
     {
         match self {
             SimulationFault::Program(fault) => fault.code(),
@@ -39,7 +39,7 @@ impl<A: Allocator + Copy> SimulationFault<A> {
 
     /// The name of the fault.
     pub fn name(&self) -> &'static str
-        ensures { result.now ≡ (printed_of_simulation self.now).name }
+        ensures { result.now ≡ (simulation_fault_row self.now).1 }
     {
         match self {
             SimulationFault::Program(fault) => fault.name(),

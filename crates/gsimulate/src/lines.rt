@@ -1,6 +1,6 @@
 //! What came of events, and where refs stand, as lines.
 
-ghost use Rattle.std.specs.Prelude.{◌≡◌, ◌++◌, IfOk, OnOk};
+ghost use Rattle.std.specs.Prelude.{◌≡◌, ◌<◌, ◌++◌, IfOk, OnOk, Some, length, slice_get};
 ghost use Rattle.std.specs.List.{flat_map};
 ghost use Rattle.gname.specs.Ids.{id_text};
 ghost use Rattle.gworld.specs.declared.outcome.Outcome.TheVariants as outcome;
@@ -33,10 +33,17 @@ fn put_outcomes<A: Allocator + Copy>(
 ) -> Result<(), AllocError>
     ensures { OnOk result (text.new.items ≡ text.old.items ++ flat_map outcome_line outcomes.now) }
 {
-    for outcome in outcomes {
-        put_line(text, outcome)?;
+    for place in 0..outcomes.len() {
+        put_line(text, &outcome_at(outcomes, place))?;
     }
     Ok(())
+}
+
+fn outcome_at(outcomes: &[Outcome], place: usize) -> Outcome
+    requires { place < length outcomes.now }
+    ensures { slice_get outcomes.now place ≡ Some result }
+{
+    outcomes[place]
 }
 
 fn put_line<A: Allocator + Copy>(

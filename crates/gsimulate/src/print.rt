@@ -1,14 +1,15 @@
 //! The line that is printed of a fault.
 
 ghost use Rattle.std.specs.Prelude.{◌≡◌, ◌+◌, ◌≤◌, ◌++◌, length};
+ghost use Rattle.gcmd.specs.Printing.{fault_line};
 ghost use Rattle.gcmd.specs.Programs.{Prints};
 ghost use Rattle.gpkt.specs.Sending.{output_of};
-ghost use Rattle.gsimulate.specs.Faults.{disagreement, max_line, simulation_fault_line, wrong_line};
+ghost use Rattle.gsimulate.specs.Faults.{disagreement, max_line, scenario_line, simulation_fault_line, world_line, wrong_line};
 ghost use Rattle.gsimulate.specs.Simulating.{ExitsWith};
 
 use crate::fault::SimulationFault;
 use arrayvec::ArrayVec;
-use gcmd::{print_fault, send_text};
+use gcmd::{ProgramFault, print_fault, send_text};
 use gname::{MAX_ID_TEXT, Oid};
 use gpkt::Sink;
 use gworld::{ScenarioFault, WorldFault};
@@ -41,17 +42,37 @@ fn print<A: Allocator + Copy, E: Sink>(fault: &SimulationFault<A>, errors: &mut 
     ensures loans { E.loans errors.new ≡ E.loans errors.old }
 {
     match fault {
-        SimulationFault::Program(fault) => {
-            let _ = print_fault(fault, errors);
-        }
-        SimulationFault::Scenario(ScenarioFault::Scenario { line }) => print_wrong_line::<A, E>(*line, errors),
-        SimulationFault::Scenario(ScenarioFault::Memory) | SimulationFault::Memory => {
-            print_line::<A, E>(b"gitv2: fault 91 Memory\n", errors)
-        }
-        SimulationFault::World(WorldFault::TwoFormats) => {
-            print_line::<A, E>(b"gitv2: fault 97 TwoFormats\n", errors)
-        }
-        SimulationFault::World(WorldFault::Disagree { id }) => print_disagreement::<A, E>(id, errors),
+        SimulationFault::Program(fault) => print_program(fault, errors),
+        SimulationFault::Scenario(fault) => print_scenario::<A, E>(fault, errors),
+        SimulationFault::World(fault) => print_world::<A, E>(fault, errors),
+        SimulationFault::Memory => print_line::<A, E>(b"gitv2: fault 91 Memory\n", errors),
+    }
+}
+
+fn print_program<A: Allocator + Copy, E: Sink>(fault: &ProgramFault<A>, errors: &mut E)
+    ensures printed { Prints (output_of E.contents E.passed_on E.is_down errors.old errors.new) (fault_line fault.now) }
+    ensures loans { E.loans errors.new ≡ E.loans errors.old }
+{
+    let _ = print_fault(fault, errors);
+}
+
+fn print_scenario<A: Allocator + Copy, E: Sink>(fault: &ScenarioFault, errors: &mut E)
+    ensures printed { Prints (output_of E.contents E.passed_on E.is_down errors.old errors.new) (scenario_line fault.now) }
+    ensures loans { E.loans errors.new ≡ E.loans errors.old }
+{
+    match fault {
+        ScenarioFault::Scenario { line } => print_wrong_line::<A, E>(*line, errors),
+        ScenarioFault::Memory => print_line::<A, E>(b"gitv2: fault 91 Memory\n", errors),
+    }
+}
+
+fn print_world<A: Allocator + Copy, E: Sink>(fault: &WorldFault, errors: &mut E)
+    ensures printed { Prints (output_of E.contents E.passed_on E.is_down errors.old errors.new) (world_line fault.now) }
+    ensures loans { E.loans errors.new ≡ E.loans errors.old }
+{
+    match fault {
+        WorldFault::TwoFormats => print_line::<A, E>(b"gitv2: fault 97 TwoFormats\n", errors),
+        WorldFault::Disagree { id } => print_disagreement::<A, E>(id, errors),
     }
 }
 

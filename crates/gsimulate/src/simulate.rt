@@ -3,6 +3,7 @@
 ghost use Rattle.std.specs.Prelude.{◌≡◌, MatchResult, Err};
 ghost use Rattle.gpkt.specs.Sending.{output_of};
 ghost use Rattle.gworld.specs.Worlds.{WorldOf};
+ghost use Rattle.gsimulate.specs.declared.simulate.Simulation as files_of;
 ghost use Rattle.gsimulate.specs.Lines.{simulated_text};
 ghost use Rattle.gsimulate.specs.Simulating.{BeginsWith, CannotBegin, Runs, Shows, Simulates};
 
@@ -53,9 +54,10 @@ fn simulate<A: Allocator + Copy, W: Sink>(
     ensures simulates { Simulates {A = A} files.now (output_of W.contents W.passed_on W.is_down output.old output.new) result }
     ensures loans { W.loans output.new ≡ W.loans output.old }
 {
-    let (mut world, events) = begin(alloc, files)?;
-    let outcomes = world.run(events.as_slice())?;
-    show(alloc, outcomes.as_slice(), world.client().refs(), output)
+    match begin(alloc, files) {
+        Ok(begun) => happen(alloc, begun.0, begun.1.as_slice(), output),
+        Err(fault) => Err(fault),
+    }
 }
 
 // The world of the two repositories, and the events of the scenario.
@@ -70,6 +72,22 @@ fn begin<A: Allocator + Copy>(
     let events = Scenario::read(alloc, files.scenario)?;
     let world = World::new(server, repo, PlainPack)?;
     Ok((world, events))
+}
+
+// Runs the events in the world, and shows what came of them.
+fn happen<A: Allocator + Copy, W: Sink>(
+    alloc: A,
+    world: World<PlainPack, A>,
+    events: &[Event<A>],
+    output: &mut W,
+) -> Result<(), SimulationFault<A>>
+    ensures simulates { (files : files_of.Simulation) → BeginsWith files world events.now
+        → Simulates {A = A} files (output_of W.contents W.passed_on W.is_down output.old output.new) result }
+    ensures loans { W.loans output.new ≡ W.loans output.old }
+{
+    let mut running = world;
+    let outcomes = running.run(events)?;
+    show(alloc, outcomes.as_slice(), running.client().refs(), output)
 }
 
 // Shows what came of the events, and the refs.
