@@ -18,18 +18,19 @@
 //!
 //! # Stands on
 //!
-//! `gcmd` and `gtcp` for the work, `gpkt` for devices, `clap` for the words.
+//! `gcmd`, `gtcp` and `gsimulate` for the work, `gpkt` for devices, `clap` for the words.
 #![tactic(auto)]
 
 mod words;
 
-use crate::words::{Command, Fetch, Serve};
+use crate::words::{Command, Fetch, Serve, Simulate};
 use gcmd::{
     Ends, FetchRun, ProgramFault, Spec, cmd_check, cmd_failed, cmd_fetch, cmd_lines, cmd_ls,
-    cmd_upload, load_server, read_specs,
+    cmd_upload, load_server, open_client, read_specs,
 };
 use gpkt::memory::VecSink;
 use gpkt::{Down, FromRead, Sink, ToWrite, write_all};
+use gsimulate::{Simulation, cmd_simulate};
 use gtcp::{
     Listing, Pair, Place, RemoteFetch, Server, Service, cmd_fetch_remote, cmd_ls_remote, cmd_pair,
     cmd_serve, read_prefixes,
@@ -85,12 +86,26 @@ where
             errors,
         ),
         Command::Serve(asked) => listen(rt, &asked, errors),
+        Command::Simulate(asked) => simulate(rt, &asked, errors),
     }
 }
 
 // Ends with a fault that comes before any work.
 fn fail<E: Sink>(fault: ProgramFault<Global>, errors: &mut E) -> u8 {
     cmd_failed(fault, errors)
+}
+
+// The first fault where a file can't be read: that of a file before it, if that of the server, or of the client, is none.
+fn unread(alloc: Global, server: &[u8], client: Option<&[u8]>) -> ProgramFault<Global> {
+    if let Err(fault) = load_server(alloc, server) {
+        return fault;
+    }
+    if let Some(client) = client {
+        if let Err(fault) = open_client(alloc, client) {
+            return fault;
+        }
+    }
+    ProgramFault::File
 }
 
 // Reports of a repository on standard output.
@@ -241,6 +256,33 @@ where
         return Err(ProgramFault::File);
     };
     load_server(rt.alloc(), text.as_slice())
+}
+
+// Runs a scenario between the repositories of two files.
+fn simulate<R, E>(rt: &R, asked: &Simulate, errors: &mut E) -> u8
+where
+    R: Files + Print + AllocGlobal,
+    E: Sink,
+{
+    let Ok(server) = fs::read(rt, asked.server.as_str()) else {
+        return fail(ProgramFault::File, errors);
+    };
+    let server = server.as_slice();
+    let Ok(client) = fs::read(rt, asked.client.as_str()) else {
+        return fail(unread(rt.alloc(), server, None), errors);
+    };
+    let client = client.as_slice();
+    let Ok(scenario) = fs::read(rt, asked.scenario.as_str()) else {
+        return fail(unread(rt.alloc(), server, Some(client)), errors);
+    };
+    let files = Simulation {
+        server,
+        client,
+        scenario: scenario.as_slice(),
+    };
+    let mut stdout = io::writer(rt);
+    let mut output = ToWrite::new(&mut stdout);
+    cmd_simulate(rt.alloc(), &files, &mut output, errors)
 }
 
 // Fetches into the repository of a file.

@@ -25,6 +25,14 @@ pub(crate) struct Serve {
     pub(crate) file: String,
 }
 
+/// What is simulated, by its files.
+#[derive(Debug, Drop)]
+pub(crate) struct Simulate {
+    pub(crate) server: String,
+    pub(crate) client: String,
+    pub(crate) scenario: String,
+}
+
 /// What the words ask for.
 #[derive(Debug, Drop)]
 pub(crate) enum Command {
@@ -53,6 +61,8 @@ pub(crate) enum Command {
     },
     /// `serve --listen ADDR --path PATH --connections N [--response-end] FILE`
     Serve(Serve),
+    /// `simulate SERVERFILE CLIENTFILE SCENARIO`
+    Simulate(Simulate),
     /// `upload [--response-end] FILE`
     Upload {
         ends: Ends,
@@ -74,6 +84,7 @@ pub(crate) fn read(alloc: Global, words: &[String]) -> Option<Command> {
         ("ls", ls) => ls_command(alloc, ls),
         ("pair", pair) => pair_command(alloc, pair),
         ("serve", serve) => serve_command(alloc, serve),
+        ("simulate", simulate) => simulate_command(alloc, simulate),
         ("upload", upload) => upload_command(alloc, upload),
         _ => None,
     }
@@ -101,7 +112,7 @@ fn program<'a>(alloc: Global) -> Result<clap::Command<'a>, AllocError> {
         .arg(Arg::new(alloc, "word").num_args(0..))?;
     let pair = clap::Command::new(alloc, "pair")
         .arg(file(alloc))?
-        .arg(Arg::new(alloc, "client").required(true))?
+        .arg(named(alloc, "client"))?
         .arg(specs(alloc))?;
     let serve = clap::Command::new(alloc, "serve")
         .arg(valued(alloc, "listen"))?
@@ -109,6 +120,10 @@ fn program<'a>(alloc: Global) -> Result<clap::Command<'a>, AllocError> {
         .arg(valued(alloc, "connections"))?
         .arg(flag(alloc, "response-end"))?
         .arg(file(alloc))?;
+    let simulate = clap::Command::new(alloc, "simulate")
+        .arg(file(alloc))?
+        .arg(named(alloc, "client"))?
+        .arg(named(alloc, "scenario"))?;
     let upload = clap::Command::new(alloc, "upload")
         .arg(flag(alloc, "response-end"))?
         .arg(file(alloc))?;
@@ -119,6 +134,7 @@ fn program<'a>(alloc: Global) -> Result<clap::Command<'a>, AllocError> {
         .subcommand(ls)?
         .subcommand(pair)?
         .subcommand(serve)?
+        .subcommand(simulate)?
         .subcommand(upload)
 }
 
@@ -131,7 +147,12 @@ fn valued<'a>(alloc: Global, name: &'static str) -> Arg<'a> {
 }
 
 fn file<'a>(alloc: Global) -> Arg<'a> {
-    Arg::new(alloc, "file").required(true)
+    named(alloc, "file")
+}
+
+// A word that must be there.
+fn named<'a>(alloc: Global, name: &'static str) -> Arg<'a> {
+    Arg::new(alloc, name).required(true)
 }
 
 fn specs<'a>(alloc: Global) -> Arg<'a> {
@@ -139,7 +160,11 @@ fn specs<'a>(alloc: Global) -> Arg<'a> {
 }
 
 fn file_in(alloc: Global, matches: &ArgMatches<'_>) -> Option<String> {
-    String::from_str(alloc, matches.get_str("file")?).ok()
+    word_in(alloc, matches, "file")
+}
+
+fn word_in(alloc: Global, matches: &ArgMatches<'_>, name: &str) -> Option<String> {
+    String::from_str(alloc, matches.get_str(name)?).ok()
 }
 
 fn check_command(alloc: Global, matches: &ArgMatches<'_>) -> Option<Command> {
@@ -242,7 +267,7 @@ fn ls_command(alloc: Global, matches: &ArgMatches<'_>) -> Option<Command> {
 
 fn pair_command(alloc: Global, matches: &ArgMatches<'_>) -> Option<Command> {
     let server = file_in(alloc, matches)?;
-    let client = String::from_str(alloc, matches.get_str("client")?).ok()?;
+    let client = word_in(alloc, matches, "client")?;
     let specs = words_in(alloc, matches, "spec").ok()?;
     Some(Command::Pair {
         server,
@@ -274,6 +299,17 @@ fn connections_in(text: &str) -> Option<u32> {
     } else {
         None
     }
+}
+
+fn simulate_command(alloc: Global, matches: &ArgMatches<'_>) -> Option<Command> {
+    let server = file_in(alloc, matches)?;
+    let client = word_in(alloc, matches, "client")?;
+    let scenario = word_in(alloc, matches, "scenario")?;
+    Some(Command::Simulate(Simulate {
+        server,
+        client,
+        scenario,
+    }))
 }
 
 fn upload_command(alloc: Global, matches: &ArgMatches<'_>) -> Option<Command> {
@@ -313,6 +349,7 @@ mod tests {
             Some(Command::Fetch(fetch)) => Ok(Some(("fetch", fetch.file))),
             Some(Command::Serve(serve)) => Ok(Some(("serve", serve.file))),
             Some(Command::Pair { server, .. }) => Ok(Some(("pair", server))),
+            Some(Command::Simulate(asked)) => Ok(Some(("simulate", asked.scenario))),
             Some(Command::LsTcp { place, .. }) => {
                 Ok(Some(("ls --tcp", String::from_str(alloc, place.address())?)))
             }
@@ -352,6 +389,7 @@ mod tests {
                 "[::1]:65535",
             ),
             ("gitv2 pair a b s t", "pair", "a"),
+            ("gitv2 simulate a b c", "simulate", "c"),
             (
                 "gitv2 serve --listen h:0 --path /p --connections 1 a",
                 "serve",
@@ -455,6 +493,10 @@ mod tests {
             "gitv2 pair a",
             "gitv2 pair a b",
             "gitv2 pair --stdio a b s",
+            "gitv2 simulate",
+            "gitv2 simulate a b",
+            "gitv2 simulate a b c d",
+            "gitv2 simulate --stdio a b c",
             "gitv2 serve",
             "gitv2 serve --listen h:1 --path /p --connections 1",
             "gitv2 serve --listen h:1 --path /p a",

@@ -1,0 +1,73 @@
+-- Lines, one more at a time, and lines that are printed.
+use Rattle.std.proofs.Common.{◌≡◌, ℕ, ◌+◌, ◌≤◌, ◌<◌, List, [], ◌∷◌, ◌++◌, length, take, get_or, Ok, Err, inl, inr, codes, sym, ap, subst, ◌∙◌}
+use Rattle.std.proofs.lemmas.List.{flat_map_more, take_all, take_more}
+use Rattle.std.specs.List.{flat_map}
+use Rattle.gpkt.specs.Sending.{Output}
+use Rattle.gcmd.specs.Fetching.{SendsReport}
+use Rattle.gcmd.specs.Programs.{Outcome, Prints}
+use Rattle.gcmd.specs.declared.fault.ProgramFault.TheVariants as program
+use Rattle.gscenario.specs.declared.fault.ScenarioFault.{ScenarioFault}
+use Rattle.gscenario.specs.declared.fault.ScenarioFault.TheVariants as scenario
+use Rattle.gworld.specs.declared.fault.WorldFault.{WorldFault}
+use Rattle.gworld.specs.declared.fault.WorldFault.TheVariants as world
+use Rattle.gsimulate.specs.Faults.{disagreement, scenario_line, simulation_fault_line, world_line, wrong_line}
+use Rattle.gsimulate.specs.declared.fault.SimulationFault.{SimulationFault}
+
+module _ {X : Type 0} (line : X → List ℕ) (xs : List X) (place : ℕ) where
+  pub lines_more : (x : X) (first old new : List ℕ) → place < length xs → x ≡ get_or xs place x
+      → old ≡ first ++ flat_map line (take place xs) → new ≡ old ++ line x
+      → new ≡ first ++ flat_map line (take (place + 1) xs)
+  lines_more x first old new inside is so_far put =
+      let next : take (place + 1) xs ≡ take place xs ++ x ∷ [] =
+      take_more xs place x inside ∙ sym (ap (λ (y : X). take place xs ++ y ∷ []) is) in
+      put
+      ∙ ap (λ (text : List ℕ). text ++ line x) so_far
+      ∙ flat_map_more line first (take place xs) x
+      ∙ sym (ap (λ (shown : List X). first ++ flat_map line shown) next)
+
+  pub lines_all : (first now : List ℕ) → length xs ≤ place → now ≡ first ++ flat_map line (take place xs)
+      → now ≡ first ++ flat_map line xs
+  lines_all first now past so_far = so_far ∙ ap (λ (shown : List X). first ++ flat_map line shown) (take_all place xs past)
+
+-- ---- faults
+
+-- a wrong line is told
+pub prints_scenario : (errors : Output) (fault : ScenarioFault) (line : ℕ) → fault ≡ scenario.Scenario line → Prints errors (wrong_line line)
+    → Prints errors (scenario_line fault)
+prints_scenario errors fault line same h = subst (λ (f : ScenarioFault). Prints errors (scenario_line f)) (sym same) h
+
+-- and that there was no memory
+pub prints_no_memory : (errors : Output) (fault : ScenarioFault) → fault ≡ scenario.Memory → Prints errors (codes "gitv2: fault 91 Memory\n")
+    → Prints errors (scenario_line fault)
+prints_no_memory errors fault same h = subst (λ (f : ScenarioFault). Prints errors (scenario_line f)) (sym same) h
+
+-- the id that two objects have is told
+pub prints_disagreement : (errors : Output) (fault : WorldFault) (id : List ℕ) → fault ≡ world.Disagree id → Prints errors (disagreement id)
+    → Prints errors (world_line fault)
+prints_disagreement errors fault id same h = subst (λ (f : WorldFault). Prints errors (world_line f)) (sym same) h
+
+-- and that there are two formats
+pub prints_two_formats : (errors : Output) (fault : WorldFault) → fault ≡ world.TwoFormats → Prints errors (codes "gitv2: fault 97 TwoFormats\n")
+    → Prints errors (world_line fault)
+prints_two_formats errors fault same h = subst (λ (f : WorldFault). Prints errors (world_line f)) (sym same) h
+
+module _ {A : Type 0} (errors : Output) (fault : SimulationFault A) where
+  -- each kind of fault is told by its own line
+  pub prints_fault : (same : SimulationFault A) → fault ≡ same → Prints errors (simulation_fault_line same) → Prints errors (simulation_fault_line fault)
+  prints_fault other same h = subst (λ (f : SimulationFault A). Prints errors (simulation_fault_line f)) (sym same) h
+
+-- a line that is sent, or of which a beginning stands, is printed
+pub prints_sent : {A : Type 0} (line : List ℕ) (errors : Output) (outcome : Outcome A) → SendsReport line errors outcome → Prints errors line
+prints_sent line errors (Ok done) h = inl h
+prints_sent line errors (Err program.WriteFailed) h = inr h
+prints_sent line errors (Err program.Memory) h = absurd h
+prints_sent line errors (Err program.File) h = absurd h
+prints_sent line errors (Err (program.Text fault)) h = absurd h
+prints_sent line errors (Err (program.Build fault)) h = absurd h
+prints_sent line errors (Err (program.Request fault)) h = absurd h
+prints_sent line errors (Err (program.Line fault)) h = absurd h
+prints_sent line errors (Err (program.Spec fault)) h = absurd h
+prints_sent line errors (Err (program.Fetch fault)) h = absurd h
+prints_sent line errors (Err (program.Name fault)) h = absurd h
+prints_sent line errors (Err program.PairLimit) h = absurd h
+prints_sent line errors (Err program.Socket) h = absurd h

@@ -1,0 +1,114 @@
+-- A simulation, put together.
+use Rattle.std.proofs.Common.{◌≡◌, ℕ, List, Ok, Err, inl, inr, refl, sym, ap, subst}
+use Rattle.gpkt.specs.Sending.{Output, IsUnwritten}
+
+use Rattle.grefs.specs.RefLists.{RefList}
+use Rattle.gcmd.specs.Fetching.{SendsReport}
+use Rattle.gcmd.specs.declared.fault.ProgramFault.{ProgramFault}
+use Rattle.gcmd.specs.declared.fault.ProgramFault.TheVariants as program
+use Rattle.gscenario.specs.declared.event.Event.{Event}
+use Rattle.gworld.specs.Promises.{Promises}
+use Rattle.gworld.specs.Runs.{RunWith, RunsFront}
+use Rattle.gworld.specs.Worlds.{WorldOf, WorldState, new_world}
+use Rattle.gworld.specs.declared.outcome.Outcome.{Outcome}
+use Rattle.gsimulate.specs.Lines.{simulated_text}
+use Rattle.gsimulate.specs.Simulating.{BeginsWith, CannotBegin, Ending, HasWorld, Shows, Simulates, StopsBefore, plain_tools}
+use Rattle.gsimulate.specs.declared.fault.SimulationFault.{SimulationFault}
+use Rattle.gsimulate.specs.declared.fault.SimulationFault.TheVariants as faults
+use Rattle.gsimulate.specs.declared.simulate.Simulation.{Simulation}
+
+-- a text that is reported is shown
+pub shows_sent : {A : Type 0} (text : List ℕ) (output : Output) (fault : ProgramFault A) → SendsReport {A = A} text output (Err fault)
+    → Shows {A = A} text output (Err (faults.Program fault))
+shows_sent text output program.WriteFailed h = h
+shows_sent text output program.Memory h = absurd h
+shows_sent text output program.File h = absurd h
+shows_sent text output (program.Text fault) h = absurd h
+shows_sent text output (program.Build fault) h = absurd h
+shows_sent text output (program.Request fault) h = absurd h
+shows_sent text output (program.Line fault) h = absurd h
+shows_sent text output (program.Spec fault) h = absurd h
+shows_sent text output (program.Fetch fault) h = absurd h
+shows_sent text output (program.Name fault) h = absurd h
+shows_sent text output program.PairLimit h = absurd h
+shows_sent text output program.Socket h = absurd h
+
+-- the same text, by what it shows
+pub shows_same : {A : Type 0} (outcomes shown : List Outcome) (refs at : RefList) (output : Output) (ending : Ending A) → shown ≡ outcomes
+    → at ≡ refs → Shows (simulated_text shown at) output ending → Shows (simulated_text outcomes refs) output ending
+shows_same outcomes shown refs at output ending same stand h =
+    subst (λ (these : RefList). Shows (simulated_text outcomes these) output ending) stand
+    (subst (λ (these : List Outcome). Shows (simulated_text these at) output ending) same h)
+
+-- of equal worlds
+pub same_world : {A K : Type 0} (made other : WorldOf A K) → made ≡ other → made.world ≡ other.world
+same_world {A} {K} made other same = ap (λ (it : WorldOf A K). it.world) same
+
+-- the fault is this cause
+pub cannot_begin : {A : Type 0} (files : Simulation) (cause fault : SimulationFault A) → CannotBegin files cause → fault ≡ cause
+    → CannotBegin files fault
+cannot_begin files cause fault cannot same = subst (CannotBegin files) (sym same) cannot
+
+stops_before : {A : Type 0} (files : Simulation) (fault : SimulationFault A) → CannotBegin files fault → StopsBefore files fault
+stops_before files (faults.Program fault) h = h
+stops_before files (faults.Scenario fault) h = h
+stops_before files (faults.World fault) h = h
+stops_before files faults.Memory h = absurd h
+
+module _ {A : Type 0} (files : Simulation) (output : Output) where
+  -- no event happened
+  pub not_begun : (fault cause : SimulationFault A) → CannotBegin files cause → fault ≡ cause → IsUnwritten output
+      → Simulates files output (Err fault)
+  not_begun fault cause cannot same unwritten = inr (record {
+    fault = fault;
+    stops = stops_before files fault (subst (CannotBegin files) (sym same) cannot);
+    met = refl;
+    unwritten = unwritten;
+  })
+
+  module _ {K : Type 0} (begun : WorldOf A K) (events : List (Event A)) (begins : BeginsWith files begun events)
+      (outcomes : List Outcome) (new : WorldState A)
+    where
+      -- all happened
+      pub is_simulated : (ending : Ending A) → RunWith (Promises (plain_tools A)) begun.world events outcomes new
+          → Shows (simulated_text outcomes new.repo.refs) output ending → Simulates files output ending
+      is_simulated ending run shows = inl (record {
+        server = begins.server;
+        repo = begins.repo;
+        events = begins.events;
+        names = begins.names;
+        opens = begins.opens;
+        reads = begins.reads;
+        so = (begins.so.0, record {
+          outcomes = outcomes;
+          new = new;
+          run =
+              subst (λ (happening : List (Event A)). RunWith (Promises (plain_tools A)) (new_world begins.server begins.repo) happening outcomes new) begins.so.1.1
+              (subst (λ (world : WorldState A). RunWith (Promises (plain_tools A)) world events outcomes new) begins.so.1.0 run);
+          shows = shows;
+        });
+      })
+
+      -- the run stopped
+      pub is_stopped : (fault : SimulationFault A) → RunsFront (Promises (plain_tools A)) begun.world events outcomes new
+          → fault ≡ faults.Memory → IsUnwritten output → Simulates files output (Err fault)
+      is_stopped fault front same unwritten = inr (record {
+        fault = faults.Memory;
+        stops = record {
+          server = begins.server;
+          repo = begins.repo;
+          events = begins.events;
+          names = begins.names;
+          opens = begins.opens;
+          reads = begins.reads;
+          so = (begins.so.0, record {
+            outcomes = outcomes;
+            new = new;
+            front =
+                subst (λ (happening : List (Event A)). RunsFront (Promises (plain_tools A)) (new_world begins.server begins.repo) happening outcomes new) begins.so.1.1
+                (subst (λ (world : WorldState A). RunsFront (Promises (plain_tools A)) world events outcomes new) begins.so.1.0 front);
+          });
+        };
+        met = ap Err same;
+        unwritten = unwritten;
+      })

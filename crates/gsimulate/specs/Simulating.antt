@@ -1,0 +1,132 @@
+-- What a simulation does: the files are taken in their order, the events happen, and it is shown what came of them.
+use Rattle.std.specs.Prelude.{◌≡◌, ◌⊎◌, ℕ, List, Result, Ok, Err}
+use Rattle.ganswer.specs.Servers.{Server}
+use Rattle.gcmd.specs.Fetching.{NamesClient, RefusesClient, plain_index_fails, plain_indexes}
+use Rattle.gcmd.specs.Outputs.{BreaksOff}
+use Rattle.gcmd.specs.Programs.{Prints}
+use Rattle.gcmd.specs.Serving.{NamesServer, RefusesFile, plain_pack_fails, plain_packs}
+use Rattle.gcmd.specs.declared.fault.ProgramFault.{ProgramFault}
+use Rattle.gcmd.specs.declared.fault.ProgramFault.TheVariants as program
+use Rattle.gpkt.specs.Sending.{Output, IsUnwritten, Sends}
+use Rattle.grepo.specs.Repos.{RepoState}
+use Rattle.gscenario.specs.Reading.{Refuses}
+use Rattle.gscenario.specs.ScenarioText.{IsScenario}
+use Rattle.gscenario.specs.declared.event.Event.{Event}
+use Rattle.gworld.specs.Promises.{Promises}
+use Rattle.gworld.specs.Runs.{RunWith, RunsFront}
+use Rattle.gworld.specs.Starts.{CanStart, CannotStart}
+use Rattle.gworld.specs.Worlds.{PackTools, WorldOf, WorldState, new_world, tools_of}
+use Rattle.gworld.specs.declared.outcome.Outcome.{Outcome}
+use Rattle.gsimulate.specs.Faults.{simulation_fault_line}
+use Rattle.gsimulate.specs.Lines.{simulated_text}
+use Rattle.gsimulate.specs.declared.fault.SimulationFault.{SimulationFault}
+use Rattle.gsimulate.specs.declared.fault.SimulationFault.TheVariants as faults
+use Rattle.gsimulate.specs.declared.simulate.Simulation.{Simulation}
+
+-- how a simulation comes out: it is done, or a fault was met
+abbrev pub Ending : Type 0 → Type 0
+Ending A = Result (Unit {0}) (SimulationFault A)
+
+-- packs are plain
+abbrev pub plain_tools : (A : Type 0) → PackTools A
+plain_tools A = tools_of plain_packs plain_pack_fails plain_indexes (plain_index_fails A)
+
+-- ---- the files
+
+-- the first file names a server
+pub record HasServer {A : Type 0} (files : Simulation) (IsSo : Server A → Type 0) : Type 0 where
+  pub server : Server A
+  pub names : NamesServer files.server.now server
+  pub so : IsSo server
+
+-- and the second a client's repository
+pub record HasEnds {A : Type 0} (files : Simulation) (IsSo : Server A → RepoState A → Type 0) : Type 0 where
+  pub server : Server A
+  pub repo : RepoState A
+  pub names : NamesServer files.server.now server
+  pub opens : NamesClient files.client.now repo
+  pub so : IsSo server repo
+
+-- and the third some events
+pub record HasEvents {A : Type 0} (files : Simulation) (IsSo : Server A → RepoState A → List (Event A) → Type 0)
+    : Type 0 where
+  pub server : Server A
+  pub repo : RepoState A
+  pub events : List (Event A)
+  pub names : NamesServer files.server.now server
+  pub opens : NamesClient files.client.now repo
+  pub reads : IsScenario files.scenario.now events
+  pub so : IsSo server repo events
+
+-- a world can begin between the two, in which the events happen
+abbrev pub CanHappen : {A : Type 0} → (WorldState A → List (Event A) → Type 0)
+    → Server A → RepoState A → List (Event A) → Type 0
+CanHappen IsSo server repo events = CanStart server repo × IsSo (new_world server repo) events
+
+abbrev pub HasWorld : {A : Type 0} → Simulation → (WorldState A → List (Event A) → Type 0) → Type 0
+HasWorld files IsSo = HasEvents files (CanHappen IsSo)
+
+-- this is the world as it begins, and these are the events
+abbrev pub BeginsWith : {A K : Type 0} → Simulation → WorldOf A K → List (Event A) → Type 0
+BeginsWith {A} files begun events =
+    HasWorld {A = A} files (λ w happening. (begun.world ≡ w) × (events ≡ happening))
+
+-- why no event happens: the first file is no server's; or the second no client's; or the third has a wrong line, or
+-- there is no memory for it; or no world can begin between server and client
+abbrev pub CannotBegin : {A : Type 0} → Simulation → SimulationFault A → Type 0
+CannotBegin {A} files (faults.Program fault) =
+    RefusesFile {A = A} files.server.now fault ⊎ HasServer {A = A} files (λ server. RefusesClient files.client.now fault)
+CannotBegin {A} files (faults.Scenario fault) = HasEnds {A = A} files (λ server repo. Refuses A files.scenario.now fault)
+CannotBegin {A} files (faults.World fault) =
+    HasEvents {A = A} files (λ server repo events. CannotStart server repo fault)
+CannotBegin files faults.Memory = ⊥
+
+-- ---- what is shown
+
+-- the text is written and passed on; or the output failed at it; or there is no memory for it
+abbrev pub Shows : {A : Type 0} → List ℕ → Output → Ending A → Type 0
+Shows text output (Ok done) = Sends output text
+Shows text output (Err (faults.Program program.WriteFailed)) = BreaksOff output text
+Shows text output (Err (faults.Program program.Memory)) = IsUnwritten output
+Shows text output (Err _) = ⊥
+
+-- all events happened, each as is promised, and what came of them is shown, with the client's refs as they are then
+pub record IsRun {A : Type 0} (output : Output) (ending : Ending A) (w : WorldState A) (events : List (Event A))
+    : Type 0 where
+  pub outcomes : List Outcome
+  pub new : WorldState A
+  pub run : RunWith (Promises (plain_tools A)) w events outcomes new
+  pub shows : Shows (simulated_text outcomes new.repo.refs) output ending
+
+-- the run stopped for want of memory before an event, and nothing is shown
+pub record IsStopped {A : Type 0} (w : WorldState A) (events : List (Event A)) : Type 0 where
+  pub outcomes : List Outcome
+  pub new : WorldState A
+  pub front : RunsFront (Promises (plain_tools A)) w events outcomes new
+
+-- ---- the whole
+
+-- what a simulation does: that; or a fault was met before, and nothing is written
+abbrev pub StopsBefore : {A : Type 0} → Simulation → SimulationFault A → Type 0
+StopsBefore {A} files faults.Memory = HasWorld {A = A} files IsStopped
+StopsBefore files fault = CannotBegin files fault
+
+pub record IsNotRun {A : Type 0} (files : Simulation) (output : Output) (ending : Ending A) : Type 0 where
+  pub fault : SimulationFault A
+  pub stops : StopsBefore files fault
+  pub met : ending ≡ Err fault
+  pub unwritten : IsUnwritten output
+
+abbrev pub Simulates : {A : Type 0} → Simulation → Output → Ending A → Type 0
+Simulates {A} files output ending = HasWorld {A = A} files (IsRun output ending) ⊎ IsNotRun files output ending
+
+-- where the simulation is done nothing is printed, and the status is 0; else the fault's line is printed, and it is 1
+abbrev pub ExitsWith : {A : Type 0} → Ending A → Output → ℕ → Type 0
+ExitsWith (Ok done) errors status = IsUnwritten errors × (status ≡ 0)
+ExitsWith (Err fault) errors status = Prints errors (simulation_fault_line fault) × (status ≡ 1)
+
+-- a simulation does its work, and ends as that came out
+pub record Runs (A : Type 0) (files : Simulation) (output errors : Output) (status : ℕ) : Type 0 where
+  pub ending : Ending A
+  pub simulates : Simulates files output ending
+  pub exits : ExitsWith ending errors status

@@ -1,0 +1,98 @@
+//! The faults of a simulation.
+
+ghost use Rattle.std.specs.Prelude.{◌≡◌, Some};
+ghost use Rattle.gsimulate.specs.Faults.{simulation_fault_row, simulation_fault_text};
+ghost use Rattle.gsimulate.specs.declared.fault.SimulationFault.TheVariants as faults;
+
+use gcmd::ProgramFault;
+use gworld::{RunFault, ScenarioFault, WorldFault};
+use std::alloc::{Allocator, Global};
+use std::error::Error;
+use std::fmt;
+
+/// Why a simulation ends with status 1. One line is printed of it.
+#[derive(Debug, Drop)]
+pub enum SimulationFault<A: Allocator + Copy = Global> {
+    /// 64, 67, 68, 71, 80: a file is none of a server or of a client, or there is no memory for it, or for what is to be
+    /// shown; 27: the output failed.
+    Program(ProgramFault<A>),
+    /// 92, 91: a line of the scenario is wrong, or there is no memory for its events.
+    Scenario(ScenarioFault),
+    /// 97, 90: no world can begin between this server and this client.
+    World(WorldFault),
+    /// 91: there was no memory for the next event.
+    Memory,
+}
+
+impl<A: Allocator + Copy> SimulationFault<A> {
+    /// The number of the fault.
+    pub fn code(&self) -> u32
+        ensures { result ≡ (simulation_fault_row self.now).0 }
+    {
+        match self {
+            SimulationFault::Program(fault) => fault.code(),
+            SimulationFault::Scenario(fault) => fault.code(),
+            SimulationFault::World(fault) => fault.code(),
+            SimulationFault::Memory => 91,
+        }
+    }
+
+    /// The name of the fault.
+    pub fn name(&self) -> &'static str
+        ensures { result.now ≡ (simulation_fault_row self.now).1 }
+    {
+        match self {
+            SimulationFault::Program(fault) => fault.name(),
+            SimulationFault::Scenario(fault) => fault.name(),
+            SimulationFault::World(fault) => fault.name(),
+            SimulationFault::Memory => "Memory",
+        }
+    }
+}
+
+impl<A: Allocator + Copy> fmt::Display for SimulationFault<A> {
+    ghost output = { λ fault. Some (simulation_fault_text fault) };
+
+    fn fmt<W: fmt::Write>(&self, f: &mut fmt::Formatter<W>) -> fmt::Result {
+        match self {
+            SimulationFault::Program(fault) => fmt::Display::fmt(fault, f),
+            SimulationFault::Scenario(fault) => fmt::Display::fmt(fault, f),
+            SimulationFault::World(fault) => fmt::Display::fmt(fault, f),
+            SimulationFault::Memory => f.write_str("out of memory"),
+        }
+    }
+}
+
+impl<A: Allocator + Copy + fmt::Debug> Error for SimulationFault<A> {}
+
+impl<A: Allocator + Copy> From<ProgramFault<A>> for SimulationFault<A> {
+    ghost from_gives = { λ cause fault. fault ≡ faults.Program cause };
+
+    fn from(cause: ProgramFault<A>) -> SimulationFault<A> {
+        SimulationFault::Program(cause)
+    }
+}
+
+impl<A: Allocator + Copy> From<ScenarioFault> for SimulationFault<A> {
+    ghost from_gives = { λ cause fault. fault ≡ faults.Scenario cause };
+
+    fn from(cause: ScenarioFault) -> SimulationFault<A> {
+        SimulationFault::Scenario(cause)
+    }
+}
+
+impl<A: Allocator + Copy> From<WorldFault> for SimulationFault<A> {
+    ghost from_gives = { λ cause fault. fault ≡ faults.World cause };
+
+    fn from(cause: WorldFault) -> SimulationFault<A> {
+        SimulationFault::World(cause)
+    }
+}
+
+impl<A: Allocator + Copy> From<RunFault<A>> for SimulationFault<A> {
+    ghost from_gives = { λ _ fault. fault ≡ faults.Memory };
+
+    fn from(_stopped: RunFault<A>) -> SimulationFault<A> {
+        SimulationFault::Memory
+    }
+}

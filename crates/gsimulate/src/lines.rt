@@ -1,0 +1,155 @@
+//! What came of events, and where refs stand, as lines.
+
+ghost use Rattle.std.specs.Prelude.{◌≡◌, ◌<◌, ◌++◌, IfOk, OnOk, Some, length, slice_get};
+ghost use Rattle.std.specs.List.{flat_map};
+ghost use Rattle.gname.specs.Ids.{id_text};
+ghost use Rattle.gworld.specs.declared.outcome.Outcome.TheVariants as outcome;
+ghost use Rattle.gsimulate.specs.Lines.{outcome_line, outcome_text, ref_line, simulated_text};
+
+use ggraph::Refs;
+use gname::{MAX_ID_TEXT, Oid, RefName};
+use gworld::Outcome;
+use itoa::{Buffer, Integer};
+use std::alloc::{AllocError, Allocator};
+
+/// A line for each outcome, and then one for each ref. It fails where there is no memory.
+pub(crate) fn text_of<A: Allocator + Copy>(
+    alloc: A,
+    outcomes: &[Outcome],
+    refs: &Refs<A>,
+) -> Result<Vec<u8, A>, AllocError>
+    ensures { IfOk result (λ text. text.items ≡ simulated_text outcomes.now refs.now) }
+{
+    let mut text = Vec::new(alloc);
+    put_outcomes(&mut text, outcomes)?;
+    put_refs(&mut text, refs.as_slice())?;
+    Ok(text)
+}
+
+// A line for each outcome.
+fn put_outcomes<A: Allocator + Copy>(
+    text: &mut Vec<u8, A>,
+    outcomes: &[Outcome],
+) -> Result<(), AllocError>
+    ensures { OnOk result (text.new.items ≡ text.old.items ++ flat_map outcome_line outcomes.now) }
+{
+    for place in 0..outcomes.len() {
+        put_line(text, &outcome_at(outcomes, place))?;
+    }
+    Ok(())
+}
+
+fn outcome_at(outcomes: &[Outcome], place: usize) -> Outcome
+    requires { place < length outcomes.now }
+    ensures { slice_get outcomes.now place ≡ Some result }
+{
+    outcomes[place]
+}
+
+fn put_line<A: Allocator + Copy>(
+    text: &mut Vec<u8, A>,
+    outcome: &Outcome,
+) -> Result<(), AllocError>
+    ensures { OnOk result (text.new.items ≡ text.old.items ++ outcome_line outcome.now) }
+{
+    put_outcome(text, outcome)?;
+    text.extend_from_slice(b"\n")
+}
+
+// What came of an event.
+fn put_outcome<A: Allocator + Copy>(
+    text: &mut Vec<u8, A>,
+    outcome: &Outcome,
+) -> Result<(), AllocError>
+    ensures { OnOk result (text.new.items ≡ text.old.items ++ outcome_text outcome.now) }
+{
+    match outcome {
+        Outcome::Done => text.extend_from_slice(b"done"),
+        Outcome::Asked { request } => put_count(text, b"asked ", *request),
+        Outcome::Served { reply } => put_count(text, b"served ", *reply),
+        Outcome::StrangerServed { written } => put_count(text, b"stranger ", *written),
+        Outcome::LsTaken { asks, wants } => put_taken(text, *asks, *wants),
+        Outcome::Round { common } => put_count(text, b"round common=", *common),
+        Outcome::PackTaken { added } => put_count(text, b"pack added=", *added),
+        Outcome::Settled {
+            moved,
+            same,
+            not_forward,
+        } => put_settled(text, *moved, *same, *not_forward),
+        Outcome::Fault { code } => put_count(text, b"fault ", *code),
+    }
+}
+
+// How many refs are asked for, and how many objects are wanted.
+fn put_taken<A: Allocator + Copy>(
+    text: &mut Vec<u8, A>,
+    asks: usize,
+    wants: usize,
+) -> Result<(), AllocError>
+    ensures { OnOk result (text.new.items ≡ text.old.items ++ outcome_text (outcome.LsTaken asks wants)) }
+{
+    put_count(text, b"ls asks=", asks)?;
+    put_count(text, b" wants=", wants)
+}
+
+// How many refs moved, stood there already, and stayed.
+fn put_settled<A: Allocator + Copy>(
+    text: &mut Vec<u8, A>,
+    moved: usize,
+    same: usize,
+    not_forward: usize,
+) -> Result<(), AllocError>
+    ensures { OnOk result (text.new.items ≡ text.old.items ++ outcome_text (outcome.Settled moved same not_forward)) }
+{
+    put_count(text, b"settled moved=", moved)?;
+    put_count(text, b" same=", same)?;
+    put_count(text, b" notforward=", not_forward)
+}
+
+// A number after its word.
+fn put_count<A: Allocator + Copy, I: Integer>(
+    text: &mut Vec<u8, A>,
+    word: &[u8],
+    number: I,
+) -> Result<(), AllocError>
+    ensures { OnOk result (text.new.items ≡ text.old.items ++ (word.now ++ I.text number)) }
+{
+    text.extend_from_slice(word)?;
+    let mut digits = Buffer::new();
+    text.extend_from_slice(digits.format(number).as_bytes())
+}
+
+// A line for each ref.
+fn put_refs<A: Allocator + Copy>(
+    text: &mut Vec<u8, A>,
+    refs: &[(RefName<A>, Oid)],
+) -> Result<(), AllocError>
+    ensures { OnOk result (text.new.items ≡ text.old.items ++ flat_map ref_line refs.now) }
+{
+    for reference in refs {
+        put_ref(text, &reference.0, &reference.1)?;
+    }
+    Ok(())
+}
+
+fn put_ref<A: Allocator + Copy>(
+    text: &mut Vec<u8, A>,
+    name: &RefName<A>,
+    id: &Oid,
+) -> Result<(), AllocError>
+    ensures { OnOk result (text.new.items ≡ text.old.items ++ ref_line (name.now, id.now)) }
+{
+    text.extend_from_slice(b"ref ")?;
+    put_id(text, id)?;
+    text.extend_from_slice(b" ")?;
+    text.extend_from_slice(name.as_bytes())?;
+    text.extend_from_slice(b"\n")
+}
+
+fn put_id<A: Allocator + Copy>(text: &mut Vec<u8, A>, id: &Oid) -> Result<(), AllocError>
+    ensures { OnOk result (text.new.items ≡ text.old.items ++ id_text id.now) }
+{
+    let mut digits = [0; MAX_ID_TEXT];
+    let count = id.to_hex(&mut digits);
+    text.extend_from_slice(&digits[..count])
+}

@@ -1,0 +1,121 @@
+//! A scenario, run.
+
+ghost use Rattle.std.specs.Prelude.{◌≡◌, MatchResult, Err};
+ghost use Rattle.gpkt.specs.Sending.{output_of};
+ghost use Rattle.gworld.specs.Worlds.{WorldOf};
+ghost use Rattle.gsimulate.specs.declared.simulate.Simulation as files_of;
+ghost use Rattle.gsimulate.specs.Lines.{simulated_text};
+ghost use Rattle.gsimulate.specs.Simulating.{BeginsWith, CannotBegin, Runs, Shows, Simulates};
+
+use crate::fault::SimulationFault;
+use crate::lines::text_of;
+use crate::print::finish;
+use gcmd::{ProgramFault, load_server, open_client, send_text};
+use ggraph::{PlainPack, Refs};
+use gpkt::Sink;
+use gworld::{Event, Outcome, Scenario, World};
+use std::alloc::Allocator;
+
+/// What is simulated: the texts of the repository that is served, of the client's, and of the scenario.
+#[derive(Clone, Copy)]
+pub struct Simulation<'a> {
+    pub server: &'a [u8],
+    pub client: &'a [u8],
+    pub scenario: &'a [u8],
+}
+
+/// `gitv2 simulate SERVERFILE CLIENTFILE SCENARIO`: runs the events of a scenario between a server and a client that fetches
+/// from it, with plain packs (gitprotocol-v2(5)). What came of each event is a line on `output`, and then each ref of the
+/// client is one, `ref ID NAME`, in the byte order of the names. A fault is one line on `errors`: the first that is met in
+/// the server's file, the client's, the scenario, between the two repositories, and as the events happen. What is refused
+/// to an event is no fault but its outcome.
+///
+/// It answers the exit status: 0 where the lines are written and passed on, 1 where a fault was met. Nothing is written
+/// then, save a beginning where the output failed.
+pub fn cmd_simulate<A: Allocator + Copy, W: Sink, E: Sink>(
+    alloc: A,
+    files: &Simulation<'_>,
+    output: &mut W,
+    errors: &mut E,
+) -> u8
+    ensures runs { Runs A files.now (output_of W.contents W.passed_on W.is_down output.old output.new)
+        (output_of E.contents E.passed_on E.is_down errors.old errors.new) result }
+    ensures output_loans { W.loans output.new ≡ W.loans output.old }
+    ensures errors_loans { E.loans errors.new ≡ E.loans errors.old }
+{
+    finish(simulate(alloc, files, output), errors)
+}
+
+fn simulate<A: Allocator + Copy, W: Sink>(
+    alloc: A,
+    files: &Simulation<'_>,
+    output: &mut W,
+) -> Result<(), SimulationFault<A>>
+    ensures simulates { Simulates {A = A} files.now (output_of W.contents W.passed_on W.is_down output.old output.new) result }
+    ensures loans { W.loans output.new ≡ W.loans output.old }
+{
+    match begin(alloc, files) {
+        Ok(begun) => happen(alloc, begun.0, begun.1.as_slice(), output),
+        Err(fault) => Err(fault),
+    }
+}
+
+// The world of the two repositories, and the events of the scenario.
+fn begin<A: Allocator + Copy>(
+    alloc: A,
+    files: &Simulation<'_>,
+) -> Result<(World<PlainPack, A>, Vec<Event<A>, A>), SimulationFault<A>>
+    ensures { MatchResult result (λ pair. BeginsWith files.now pair.0 pair.1.items) (CannotBegin files.now) }
+{
+    let server = load_server(alloc, files.server)?;
+    let repo = open_client(alloc, files.client)?;
+    let events = Scenario::read(alloc, files.scenario)?;
+    let world = World::new(server, repo, PlainPack)?;
+    Ok((world, events))
+}
+
+// Runs the events in the world, and shows what came of them.
+fn happen<A: Allocator + Copy, W: Sink>(
+    alloc: A,
+    world: World<PlainPack, A>,
+    events: &[Event<A>],
+    output: &mut W,
+) -> Result<(), SimulationFault<A>>
+    ensures simulates { (files : files_of.Simulation) → BeginsWith files world events.now
+        → Simulates {A = A} files (output_of W.contents W.passed_on W.is_down output.old output.new) result }
+    ensures loans { W.loans output.new ≡ W.loans output.old }
+{
+    let mut running = world;
+    let outcomes = running.run(events)?;
+    show(alloc, outcomes.as_slice(), running.client().refs(), output)
+}
+
+// Shows what came of the events, and the refs.
+fn show<A: Allocator + Copy, W: Sink>(
+    alloc: A,
+    outcomes: &[Outcome],
+    refs: &Refs<A>,
+    output: &mut W,
+) -> Result<(), SimulationFault<A>>
+    ensures shows { Shows {A = A} (simulated_text outcomes.now refs.now) (output_of W.contents W.passed_on W.is_down output.old output.new) result }
+    ensures loans { W.loans output.new ≡ W.loans output.old }
+{
+    match text_of(alloc, outcomes, refs) {
+        Ok(text) => send(text.as_slice(), output),
+        Err(_) => Err(SimulationFault::Program(ProgramFault::Memory)),
+    }
+}
+
+// Writes a text, and passes it on.
+fn send<A: Allocator + Copy, W: Sink>(
+    text: &[u8],
+    output: &mut W,
+) -> Result<(), SimulationFault<A>>
+    ensures shows { Shows {A = A} text.now (output_of W.contents W.passed_on W.is_down output.old output.new) result }
+    ensures loans { W.loans output.new ≡ W.loans output.old }
+{
+    match send_text(text, output) {
+        Ok(()) => Ok(()),
+        Err(fault) => Err(SimulationFault::Program(fault)),
+    }
+}
