@@ -1,15 +1,36 @@
 -- Faults that are printed, one more at a time.
 use Rattle.std.proofs.Common.{◌≡◌, ◌⊎◌, ℕ, ◌+◌, ◌≤◌, Bool, true, false, List, [], ◌∷◌, ◌++◌, length, Option, Result, Ok, Err, inl, inr, refl, sym, ap, subst, ◌∙◌, append_assoc, arith}
 use Rattle.std.proofs.lemmas.Bool.{false≢true}
-use Rattle.std.proofs.lemmas.List.{flat_map_more, length-append}
+use Rattle.std.proofs.lemmas.List.{append-nil, flat_map_more, length-append}
 use Rattle.std.specs.Io.KnownBytes.{Appends}
-use Rattle.std.specs.Prelude.{IsSome}
-use Rattle.gpkt.specs.Sending.{output_of, IsUnwritten, Passes, Sends, SendsSome}
+use Rattle.std.specs.Prelude.{IsSome, is_ok}
+use Rattle.gpkt.specs.Sending.{Output, output_of, IsUnwritten, Passes, Sends, SendsSome}
+use Rattle.gpkt.specs.declared.device.Down.{Down}
 use Rattle.gpkt.proofs.SendingLemmas.{appends_join, passes_join, passes_still}
+use Rattle.gcmd.specs.Outputs.{BreaksOff, IsSent}
 use Rattle.gcmd.specs.Printing.{fault_line}
 use Rattle.gcmd.specs.Programs.{Outcome}
 use Rattle.gcmd.specs.declared.fault.ProgramFault.{ProgramFault}
 use Rattle.gtcp.specs.Telling.{PrintsFaults, PrintsFew, PrintsNone, PrintsSoFar, Tells, fault_lines}
+
+-- a line that breaks off stands in part
+breaks_off : (errors : Output) (line : List ℕ) → BreaksOff errors line → SendsSome errors line
+breaks_off errors line (inl write) = write.0
+breaks_off errors line (inr flush) =
+    record { front = line; rest = []; parts = sym (append-nil line); written = flush.written; down = flush.down }
+
+-- the fault of a connection, where those before could be printed
+pub tells_fault : {A : Type 0} (outcome : Outcome A) (fault : ProgramFault A) (could can : Bool) (errors : Output)
+    (sent : Result (Unit {0}) Down) → outcome ≡ Err fault → could ≡ true → can ≡ is_ok sent
+    → IsSent errors sent (fault_line fault) → Tells outcome could can errors
+tells_fault {A} outcome fault could can errors (Ok done) met up still printed =
+    subst (λ (o : Outcome A). Tells o could can errors) (sym met)
+    (subst (λ (b : Bool). Tells (Err fault) b can errors) (sym up)
+    (subst (λ (b : Bool). Tells (Err fault) true b errors) (sym still) printed))
+tells_fault {A} outcome fault could can errors (Err down) met up still printed =
+    subst (λ (o : Outcome A). Tells o could can errors) (sym met)
+    (subst (λ (b : Bool). Tells (Err fault) b can errors) (sym up)
+    (subst (λ (b : Bool). Tells (Err fault) true b errors) (sym still) (breaks_off errors (fault_line fault) printed)))
 
 module _ {W : Type 0} (contents passed_on : W → Option (List ℕ)) (is_down : W → Bool) where
   -- a beginning stays so where nothing more is written
