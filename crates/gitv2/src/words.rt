@@ -95,47 +95,70 @@ fn parse<'a>(alloc: Global, words: &'a [String]) -> Option<ArgMatches<'a>> {
 }
 
 fn program<'a>(alloc: Global) -> Result<clap::Command<'a>, AllocError> {
+    program_of_files(alloc)?
+        .subcommand(fetch_words(alloc)?)?
+        .subcommand(ls_words(alloc)?)?
+        .subcommand(pair_words(alloc)?)?
+        .subcommand(serve_words(alloc)?)
+}
+
+// The commands that open no connection.
+fn program_of_files<'a>(alloc: Global) -> Result<clap::Command<'a>, AllocError> {
     let check = clap::Command::new(alloc, "check").arg(file(alloc))?;
-    let fetch = clap::Command::new(alloc, "fetch")
+    let lines = clap::Command::new(alloc, "lines");
+    clap::Command::new(alloc, "gitv2")
+        .subcommand(check)?
+        .subcommand(lines)?
+        .subcommand(simulate_words(alloc)?)?
+        .subcommand(upload_words(alloc)?)
+}
+
+fn fetch_words<'a>(alloc: Global) -> Result<clap::Command<'a>, AllocError> {
+    clap::Command::new(alloc, "fetch")
         .arg(flag(alloc, "stdio"))?
         .arg(valued(alloc, "tcp"))?
         .arg(valued(alloc, "path"))?
         .arg(valued(alloc, "limit"))?
         .arg(flag(alloc, "response-end"))?
         .arg(file(alloc))?
-        .arg(specs(alloc))?;
-    let lines = clap::Command::new(alloc, "lines");
-    let ls = clap::Command::new(alloc, "ls")
+        .arg(specs(alloc))
+}
+
+fn ls_words<'a>(alloc: Global) -> Result<clap::Command<'a>, AllocError> {
+    clap::Command::new(alloc, "ls")
         .arg(flag(alloc, "stdio-server"))?
         .arg(valued(alloc, "tcp"))?
         .arg(valued(alloc, "path"))?
-        .arg(Arg::new(alloc, "word").num_args(0..))?;
-    let pair = clap::Command::new(alloc, "pair")
+        .arg(Arg::new(alloc, "word").num_args(0..))
+}
+
+fn pair_words<'a>(alloc: Global) -> Result<clap::Command<'a>, AllocError> {
+    clap::Command::new(alloc, "pair")
         .arg(file(alloc))?
         .arg(named(alloc, "client"))?
-        .arg(specs(alloc))?;
-    let serve = clap::Command::new(alloc, "serve")
+        .arg(specs(alloc))
+}
+
+fn serve_words<'a>(alloc: Global) -> Result<clap::Command<'a>, AllocError> {
+    clap::Command::new(alloc, "serve")
         .arg(valued(alloc, "listen"))?
         .arg(valued(alloc, "path"))?
         .arg(valued(alloc, "connections"))?
         .arg(flag(alloc, "response-end"))?
-        .arg(file(alloc))?;
-    let simulate = clap::Command::new(alloc, "simulate")
+        .arg(file(alloc))
+}
+
+fn simulate_words<'a>(alloc: Global) -> Result<clap::Command<'a>, AllocError> {
+    clap::Command::new(alloc, "simulate")
         .arg(file(alloc))?
         .arg(named(alloc, "client"))?
-        .arg(named(alloc, "scenario"))?;
-    let upload = clap::Command::new(alloc, "upload")
+        .arg(named(alloc, "scenario"))
+}
+
+fn upload_words<'a>(alloc: Global) -> Result<clap::Command<'a>, AllocError> {
+    clap::Command::new(alloc, "upload")
         .arg(flag(alloc, "response-end"))?
-        .arg(file(alloc))?;
-    clap::Command::new(alloc, "gitv2")
-        .subcommand(check)?
-        .subcommand(fetch)?
-        .subcommand(lines)?
-        .subcommand(ls)?
-        .subcommand(pair)?
-        .subcommand(serve)?
-        .subcommand(simulate)?
-        .subcommand(upload)
+        .arg(file(alloc))
 }
 
 fn flag<'a>(alloc: Global, name: &'static str) -> Arg<'a> {
