@@ -1,11 +1,9 @@
 -- Lines, one more at a time, and lines that are printed.
-use Rattle.std.proofs.Common.{◌≡◌, ℕ, ◌+◌, ◌≤◌, ◌<◌, List, [], ◌∷◌, ◌++◌, length, take, get_or, Ok, Err, inl, inr, codes, sym, ap, subst, ◌∙◌}
+use Rattle.std.proofs.Common.{◌≡◌, ℕ, ◌+◌, ◌≤◌, ◌<◌, List, [], ◌∷◌, ◌++◌, length, take, get_or, codes, sym, ap, subst, ◌∙◌}
 use Rattle.std.proofs.lemmas.List.{flat_map_more, take_all, take_more}
 use Rattle.std.specs.List.{flat_map}
 use Rattle.gpkt.specs.Sending.{Output}
-use Rattle.gcmd.specs.Fetching.{SendsReport}
-use Rattle.gcmd.specs.Programs.{Outcome, Prints}
-use Rattle.gcmd.specs.declared.fault.ProgramFault.TheVariants as program
+use Rattle.gcmd.specs.Programs.{Prints}
 use Rattle.gscenario.specs.declared.fault.ScenarioFault.{ScenarioFault}
 use Rattle.gscenario.specs.declared.fault.ScenarioFault.TheVariants as scenario
 use Rattle.gworld.specs.declared.fault.WorldFault.{WorldFault}
@@ -55,19 +53,3 @@ module _ {A : Type 0} (errors : Output) (fault : SimulationFault A) where
   -- each kind of fault is told by its own line
   pub prints_fault : (same : SimulationFault A) → fault ≡ same → Prints errors (simulation_fault_line same) → Prints errors (simulation_fault_line fault)
   prints_fault other same h = subst (λ (f : SimulationFault A). Prints errors (simulation_fault_line f)) (sym same) h
-
--- a line that is sent, or of which a beginning stands, is printed
-pub prints_sent : {A : Type 0} (line : List ℕ) (errors : Output) (outcome : Outcome A) → SendsReport line errors outcome → Prints errors line
-prints_sent line errors (Ok done) h = inl h
-prints_sent line errors (Err program.WriteFailed) h = inr h
-prints_sent line errors (Err program.Memory) h = absurd h
-prints_sent line errors (Err program.File) h = absurd h
-prints_sent line errors (Err (program.Text fault)) h = absurd h
-prints_sent line errors (Err (program.Build fault)) h = absurd h
-prints_sent line errors (Err (program.Request fault)) h = absurd h
-prints_sent line errors (Err (program.Line fault)) h = absurd h
-prints_sent line errors (Err (program.Spec fault)) h = absurd h
-prints_sent line errors (Err (program.Fetch fault)) h = absurd h
-prints_sent line errors (Err (program.Name fault)) h = absurd h
-prints_sent line errors (Err program.PairLimit) h = absurd h
-prints_sent line errors (Err program.Socket) h = absurd h

@@ -1,37 +1,17 @@
 -- A simulation, put together.
-use Rattle.std.proofs.Common.{◌≡◌, ℕ, List, Ok, Err, inl, inr, refl, sym, ap, subst}
+use Rattle.std.proofs.Common.{◌≡◌, List, Err, inl, inr, refl, sym, ap, subst}
 use Rattle.gpkt.specs.Sending.{Output, IsUnwritten}
-
 use Rattle.grefs.specs.RefLists.{RefList}
-use Rattle.gcmd.specs.Fetching.{SendsReport}
-use Rattle.gcmd.specs.declared.fault.ProgramFault.{ProgramFault}
-use Rattle.gcmd.specs.declared.fault.ProgramFault.TheVariants as program
 use Rattle.gscenario.specs.declared.event.Event.{Event}
 use Rattle.gworld.specs.Promises.{Promises}
 use Rattle.gworld.specs.Runs.{RunWith, RunsFront}
 use Rattle.gworld.specs.Worlds.{WorldOf, WorldState, new_world}
 use Rattle.gworld.specs.declared.outcome.Outcome.{Outcome}
 use Rattle.gsimulate.specs.Lines.{simulated_text}
-use Rattle.gsimulate.specs.Simulating.{BeginsWith, CannotBegin, Ending, HasWorld, Shows, Simulates, StopsBefore, plain_tools}
+use Rattle.gsimulate.specs.Simulating.{BeginsWith, CannotBegin, Ending, Shows, Simulates, StopsBefore, plain_tools}
 use Rattle.gsimulate.specs.declared.fault.SimulationFault.{SimulationFault}
 use Rattle.gsimulate.specs.declared.fault.SimulationFault.TheVariants as faults
 use Rattle.gsimulate.specs.declared.simulate.Simulation.{Simulation}
-
--- a text that is reported is shown
-pub shows_sent : {A : Type 0} (text : List ℕ) (output : Output) (fault : ProgramFault A) → SendsReport {A = A} text output (Err fault)
-    → Shows {A = A} text output (Err (faults.Program fault))
-shows_sent text output program.WriteFailed h = h
-shows_sent text output program.Memory h = absurd h
-shows_sent text output program.File h = absurd h
-shows_sent text output (program.Text fault) h = absurd h
-shows_sent text output (program.Build fault) h = absurd h
-shows_sent text output (program.Request fault) h = absurd h
-shows_sent text output (program.Line fault) h = absurd h
-shows_sent text output (program.Spec fault) h = absurd h
-shows_sent text output (program.Fetch fault) h = absurd h
-shows_sent text output (program.Name fault) h = absurd h
-shows_sent text output program.PairLimit h = absurd h
-shows_sent text output program.Socket h = absurd h
 
 -- the same text, by what it shows
 pub shows_same : {A : Type 0} (outcomes shown : List Outcome) (refs at : RefList) (output : Output) (ending : Ending A) → shown ≡ outcomes
@@ -79,14 +59,17 @@ module _ {A : Type 0} (files : Simulation) (output : Output) where
         names = begins.names;
         opens = begins.opens;
         reads = begins.reads;
-        so = (begins.so.0, record {
-          outcomes = outcomes;
-          new = new;
-          run =
-              subst (λ (happening : List (Event A)). RunWith (Promises (plain_tools A)) (new_world begins.server begins.repo) happening outcomes new) begins.so.1.1
-              (subst (λ (world : WorldState A). RunWith (Promises (plain_tools A)) world events outcomes new) begins.so.1.0 run);
-          shows = shows;
-        });
+        so = (
+          begins.so.0,
+          record {
+            outcomes = outcomes;
+            new = new;
+            run =
+                subst (λ (happening : List (Event A)). RunWith (Promises (plain_tools A)) (new_world begins.server begins.repo) happening outcomes new) begins.so.1.1
+                (subst (λ (world : WorldState A). RunWith (Promises (plain_tools A)) world events outcomes new) begins.so.1.0 run);
+            shows = shows;
+          },
+        );
       })
 
       -- the run stopped
@@ -101,13 +84,16 @@ module _ {A : Type 0} (files : Simulation) (output : Output) where
           names = begins.names;
           opens = begins.opens;
           reads = begins.reads;
-          so = (begins.so.0, record {
-            outcomes = outcomes;
-            new = new;
-            front =
-                subst (λ (happening : List (Event A)). RunsFront (Promises (plain_tools A)) (new_world begins.server begins.repo) happening outcomes new) begins.so.1.1
-                (subst (λ (world : WorldState A). RunsFront (Promises (plain_tools A)) world events outcomes new) begins.so.1.0 front);
-          });
+          so = (
+            begins.so.0,
+            record {
+              outcomes = outcomes;
+              new = new;
+              front =
+                  subst (λ (happening : List (Event A)). RunsFront (Promises (plain_tools A)) (new_world begins.server begins.repo) happening outcomes new) begins.so.1.1
+                  (subst (λ (world : WorldState A). RunsFront (Promises (plain_tools A)) world events outcomes new) begins.so.1.0 front);
+            },
+          );
         };
         met = ap Err same;
         unwritten = unwritten;

@@ -5,7 +5,6 @@ use Rattle.gcmd.specs.Fetching.{NamesClient, RefusesClient, plain_index_fails, p
 use Rattle.gcmd.specs.Outputs.{BreaksOff}
 use Rattle.gcmd.specs.Programs.{Prints}
 use Rattle.gcmd.specs.Serving.{NamesServer, RefusesFile, plain_pack_fails, plain_packs}
-use Rattle.gcmd.specs.declared.fault.ProgramFault.{ProgramFault}
 use Rattle.gcmd.specs.declared.fault.ProgramFault.TheVariants as program
 use Rattle.gpkt.specs.Sending.{Output, IsUnwritten, Sends}
 use Rattle.grepo.specs.Repos.{RepoState}
@@ -75,7 +74,8 @@ BeginsWith {A} files begun events =
 -- there is no memory for it; or no world can begin between server and client
 abbrev pub CannotBegin : {A : Type 0} → Simulation → SimulationFault A → Type 0
 CannotBegin {A} files (faults.Program fault) =
-    RefusesFile {A = A} files.server.now fault ⊎ HasServer {A = A} files (λ server. RefusesClient files.client.now fault)
+    RefusesFile {A = A} files.server.now fault
+    ⊎ HasServer {A = A} files (λ server. RefusesClient files.client.now fault)
 CannotBegin {A} files (faults.Scenario fault) = HasEnds {A = A} files (λ server repo. Refuses A files.scenario.now fault)
 CannotBegin {A} files (faults.World fault) =
     HasEvents {A = A} files (λ server repo events. CannotStart server repo fault)

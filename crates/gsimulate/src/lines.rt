@@ -46,10 +46,7 @@ fn outcome_at(outcomes: &[Outcome], place: usize) -> Outcome
     outcomes[place]
 }
 
-fn put_line<A: Allocator + Copy>(
-    text: &mut Vec<u8, A>,
-    outcome: &Outcome,
-) -> Result<(), AllocError>
+fn put_line<A: Allocator + Copy>(text: &mut Vec<u8, A>, outcome: &Outcome) -> Result<(), AllocError>
     ensures { OnOk result (text.new.items ≡ text.old.items ++ outcome_line outcome.now) }
 {
     put_outcome(text, outcome)?;

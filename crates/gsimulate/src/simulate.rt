@@ -107,10 +107,7 @@ fn show<A: Allocator + Copy, W: Sink>(
 }
 
 // Writes a text, and passes it on.
-fn send<A: Allocator + Copy, W: Sink>(
-    text: &[u8],
-    output: &mut W,
-) -> Result<(), SimulationFault<A>>
+fn send<A: Allocator + Copy, W: Sink>(text: &[u8], output: &mut W) -> Result<(), SimulationFault<A>>
     ensures shows { Shows {A = A} text.now (output_of W.contents W.passed_on W.is_down output.old output.new) result }
     ensures loans { W.loans output.new ≡ W.loans output.old }
 {

@@ -1,4 +1,4 @@
-use Rattle.std.proofs.Common.{◌≤◌, ◌<◌, length, arith}
+use Rattle.std.proofs.Common.{◌<◌, length, arith}
 use Rattle.gsimulate.specs.Lines.{ref_line}
 use Rattle.gsimulate.proofs.LineLemmas.{lines_more}
 use Rattle.gsimulate.proofs.lines.put_refs.Goals as goal
