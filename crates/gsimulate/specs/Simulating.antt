@@ -8,8 +8,7 @@ use Rattle.gcmd.specs.Serving.{NamesServer, RefusesFile, plain_pack_fails, plain
 use Rattle.gcmd.specs.declared.fault.ProgramFault.TheVariants as program
 use Rattle.gpkt.specs.Sending.{Output, IsUnwritten, Sends}
 use Rattle.grepo.specs.Repos.{RepoState}
-use Rattle.gscenario.specs.Reading.{Refuses}
-use Rattle.gscenario.specs.ScenarioText.{IsScenario}
+use Rattle.gscenario.specs.ScenarioText.{IsScenario, Refuses}
 use Rattle.gscenario.specs.declared.event.Event.{Event}
 use Rattle.gworld.specs.Promises.{Promises}
 use Rattle.gworld.specs.Runs.{RunWith, RunsFront}
