@@ -12,7 +12,7 @@
 //!
 //! That it is safe and ends.
 //!
-//! # What a body can still get away with
+//! # What the contracts do not rule out
 //!
 //! Anything else: that wrong answers are noticed was tried with wrong cases and wrong programs.
 //!

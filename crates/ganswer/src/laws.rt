@@ -1,4 +1,4 @@
-//! Laws of answers and of changes. A call does nothing, and gives its caller's proof the law.
+//! The laws of answers and of changes: functions without effect, whose contracts they are.
 
 ghost use Rattle.ganswer.specs.Laws.{AcksAreCommon, AdvertsWelcome, AnswersAreOne, FetchAnswersFit, LsAnswersAreHeld, LsAnswersAreOne, LsAnswersFit, LsRequestsHaveAnswers, PacksAreEnough, ServersGrow, ServesWhatIsHeld};
 

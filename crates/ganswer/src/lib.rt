@@ -38,7 +38,7 @@
 //!
 //! That `OnePack` calls its packer once for the one answer that it takes.
 //!
-//! # What a body can still get away with
+//! # What the contracts do not rule out
 //!
 //! It may report out of memory: `answer` for a request for refs, and for a fetch whose wants are all here, but not once
 //! it has asked the packer; `advert` at any time; `new` for the name of a ref that it reports, or where nothing is

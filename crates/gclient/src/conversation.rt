@@ -1,4 +1,4 @@
-// A conversation, from the advertisement to the refs here that move.
+//! A conversation, from the advertisement to the refs here that move.
 #![tactic(auto)]
 
 ghost use Rattle.std.specs.Prelude.{◌≡◌, ◌≤◌, ◌+◌, ℕ, List, Option, None, false, length, IfOk, OnErr, OnOk};

@@ -1,4 +1,4 @@
-// Why a conversation failed.
+//! Why a conversation failed.
 #![tactic(auto)]
 
 ghost use Rattle.std.specs.Prelude.{◌≡◌, Some};

@@ -1,4 +1,4 @@
-// What a conversation brought.
+//! What a conversation brought.
 #![tactic(auto)]
 
 use gname::RefName;

@@ -1,4 +1,4 @@
-// Laws of conversations. A call does nothing, and gives its caller's proof the law.
+//! The laws of conversations: functions without effect, whose contracts they are.
 #![tactic(auto)]
 
 ghost use Rattle.gclient.specs.Laws.{EndsAreFew, FailingKeepsRefs, FetchingGrows, NextIsFew, RoundsAreAsked};

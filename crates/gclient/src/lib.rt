@@ -24,7 +24,7 @@
 //!
 //! That memory which is there is used: the program `conformance` refuses each allocation of many fetches in turn.
 //!
-//! # What a body can still get away with
+//! # What the contracts do not rule out
 //!
 //! Where the bytes of a source or of a sink are not known, nothing is said of those that were read or written; what
 //! came of the conversation, and whether a device has failed, is said all the same. Where the sink fails, a shorter

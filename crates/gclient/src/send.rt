@@ -1,4 +1,4 @@
-// What is written and passed on.
+//! What is written and passed on.
 #![tactic(auto)]
 
 ghost use Rattle.std.specs.Prelude.{◌≡◌, false, OnOk};

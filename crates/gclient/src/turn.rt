@@ -1,4 +1,4 @@
-// The turns of a conversation.
+//! The turns of a conversation.
 #![tactic(auto)]
 
 ghost use Rattle.std.specs.Prelude.{◌≡◌, ℕ, true, false, List, Option, None, OnOk};

@@ -37,7 +37,7 @@
 //! By the cases of `conformance`: the exact bytes of whole runs; that memory, where there is some, is found; that a device is
 //! not called again after it failed; a byte a call, and a failure at each call in turn.
 //!
-//! # What a body can still get away with
+//! # What the contracts do not rule out
 //!
 //! A call that takes memory can answer that there is none, wherever the crates below may. Of an output whose
 //! bytes are not known no clause says what is written to it; but one body serves every output. How often a device is called

@@ -25,7 +25,7 @@
 //!
 //! That memory which is there is used.
 //!
-//! # What a body can still get away with
+//! # What the contracts do not rule out
 //!
 //! Where the bytes of a source or of a sink are not known, nothing is said of those that were read or written; how it
 //! ended, and whether a device has failed, is said all the same. Where the sink fails, a shorter beginning may stand

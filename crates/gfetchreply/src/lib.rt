@@ -32,7 +32,7 @@
 //! That memory is found where there is some, and that writing, and building of ids and of a pack that are there, take
 //! none.
 //!
-//! # What a body can still get away with
+//! # What the contracts do not rule out
 //!
 //! It may report out of memory at any id. Where the pack is kept in memory, it may do so at any packet with data; with
 //! a sink of the caller's, at a packet with data once that sink has refused a piece, which it may be given again. Any

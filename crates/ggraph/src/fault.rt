@@ -1,4 +1,4 @@
-// What loading and saving a repository text refuse.
+//! What loading and saving a repository text refuse.
 #![tactic(auto)]
 
 ghost use Rattle.std.specs.Prelude.{◌≡◌, Some};

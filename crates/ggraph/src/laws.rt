@@ -1,4 +1,4 @@
-//! Laws of repositories. A call does nothing, and gives its caller's proof the law.
+//! The laws of repositories: functions without effect, whose contracts they are.
 
 ghost use Rattle.ggraph.specs.Loading.{ParentsFirstIsOrdered, TextsStopOnce};
 ghost use Rattle.ggraph.specs.SafeRefs.{SafeStays, SettingStaysSafe};

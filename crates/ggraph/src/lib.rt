@@ -19,7 +19,7 @@
 //! - Each fault has the number, the name and the text of its row.
 //! - No call panics, overflows or reads out of bounds, and each returns.
 //!
-//! # What a body can still get away with
+//! # What the contracts do not rule out
 //!
 //! Loading may report out of memory at any line that is right and keeps something, saving of anything that
 //! can be saved, and `is_safe` of any refs, as often as they like. A call may take as long as it likes, and

@@ -1,4 +1,4 @@
-// The text that keeps a repository.
+//! The text that keeps a repository.
 #![tactic(auto)]
 
 mod laws;

@@ -23,7 +23,7 @@
 //!   for a reason in them; what is written says its value, in lines that fit; a message is read exactly where the
 //!   bytes begin with it, and what is written reads back. The constants are the limits of the definitions.
 //!
-//! # What a body can still get away with
+//! # What the contracts do not rule out
 //!
 //! It may take as long as it likes, and answer that it is out of memory wherever something is to be kept. A value may keep
 //! more memory than it needs, and a look-up or a writer may take some and let it go.

@@ -1,4 +1,4 @@
-// Whether no parent is missing.
+//! Whether no parent is missing.
 #![tactic(auto)]
 
 ghost use Rattle.std.specs.Prelude.{◌↔◌, All, IsTrue};

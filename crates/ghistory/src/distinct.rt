@@ -1,4 +1,4 @@
-// The distinct ids of a list.
+//! The distinct ids of a list.
 #![tactic(auto)]
 
 ghost use Rattle.std.specs.Prelude.{◌≡◌, IfOk};

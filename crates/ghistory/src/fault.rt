@@ -1,4 +1,4 @@
-// What a call on a graph refuses.
+//! What a call on a graph refuses.
 #![tactic(auto)]
 
 ghost use Rattle.std.specs.Prelude.{◌≡◌, Some};

@@ -1,4 +1,4 @@
-// Adding entries to a graph, all or none.
+//! Adding entries to a graph, all or none.
 #![tactic(auto)]
 
 ghost use Rattle.std.specs.Prelude.{◌≡◌, ◌<◌, ◌++◌, ◌∷◌, ◌↔◌, ℕ, List, [], length, None, MatchResult, OnOk, IsTrue, All};

@@ -1,4 +1,4 @@
-// Laws of graphs. A call does nothing, and gives its caller's proof the law.
+//! The laws of graphs: functions without effect, whose contracts they are.
 #![tactic(auto)]
 
 ghost use Rattle.std.specs.Prelude.{◌≡◌};

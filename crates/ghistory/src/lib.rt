@@ -20,7 +20,7 @@
 //!   the levels about some tips, of the ids to offer, of distinct ids, and that a list to send, once it is
 //!   inserted, completes the ancestries of the wants at the client.
 //!
-//! # What a body can still get away with
+//! # What the contracts do not rule out
 //!
 //! It may take as long as it likes, and more memory than it needs. It may report out of memory of any new
 //! object for which there is room, of any copy and of any list of distinct ids. A copy by `entry_in` may take

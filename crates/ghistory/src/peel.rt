@@ -1,4 +1,4 @@
-// From a tag to the commit at the end of its chain.
+//! From a tag to the commit at the end of its chain.
 #![tactic(auto)]
 
 ghost use Rattle.std.specs.Prelude.{◌≡◌, IfSome, Some, List, ℕ};

@@ -28,7 +28,7 @@
 //!
 //! That memory is found where there is some.
 //!
-//! # What a body can still get away with
+//! # What the contracts do not rule out
 //!
 //! It may report out of memory at any line that is accepted, and at any `push`; a value may keep more memory than it
 //! needs, and any other call may take some and let it go. It may take as long as it likes. Who writes line by line may

@@ -21,7 +21,7 @@
 //!
 //! [`MsgFault`] and [`laws::canon_says`] are second, shorter names.
 //!
-//! # What a body can still get away with
+//! # What the contracts do not rule out
 //!
 //! What the libraries below say of their readers and writers; there is no other body here.
 //!

@@ -1,5 +1,5 @@
-// The pass down: from the last place at which something is wanted or known to the first below which nothing is
-// new.
+//! The pass down: from the last place at which something is wanted or known to the first below which nothing is
+//! new.
 #![tactic(auto)]
 
 ghost use Rattle.std.specs.Prelude.{◌≡◌, ◌≤◌, ◌<◌, ◌+◌, ℕ, List, IfErr, IfOk, ◌||◌, length, slice_set, true};

@@ -11,7 +11,7 @@
 //! - Each of them fails with `Memory` alone, and may be called only where `Graph::is_ordered` holds.
 //! - The pass down takes a further step only while something below is wanted and not known.
 //!
-//! # What a body can still get away with
+//! # What the contracts do not rule out
 //!
 //! It may look at an object more often than once, and use more memory than it needs: a pass clears up to three
 //! bytes for each object up to the last id that it starts from, whether it gets there or not. A pass may start

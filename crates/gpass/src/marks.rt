@@ -1,4 +1,4 @@
-// Marks by place, and the places of some ids.
+//! Marks by place, and the places of some ids.
 #![tactic(auto)]
 
 ghost use Rattle.std.specs.Prelude.{◌≡◌, ◌≤◌, ◌<◌, ℕ, IfErr, IfOk, false, length, replicate, slice_set, true};

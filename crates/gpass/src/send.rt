@@ -1,4 +1,4 @@
-// The list to send: what the pass down found to be new, with its tags.
+//! The list to send: what the pass down found to be new, with its tags.
 #![tactic(auto)]
 
 ghost use Rattle.std.specs.Prelude.{◌≡◌, IfErr, IfOk};

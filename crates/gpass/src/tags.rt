@@ -1,4 +1,4 @@
-// Tags to send: those on the chains of tags that lead from tips to new commits.
+//! Tags to send: those on the chains of tags that lead from tips to new commits.
 #![tactic(auto)]
 
 ghost use Rattle.std.specs.Prelude.{◌≡◌, ◌⊎◌, ◌≤◌, ◌<◌, ℕ, IfErr, IfOk, MatchOption, length, true};

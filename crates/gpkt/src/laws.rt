@@ -1,4 +1,4 @@
-//! Laws of packet lines. A call does nothing, and gives its caller's proof the law.
+//! The laws of packet lines: functions without effect, whose contracts they are.
 
 ghost use Rattle.std.specs.Prelude.{◌≡◌};
 ghost use Rattle.gpkt.specs.Bands.{BandFits, BandIsPayload, BandIsRead, max_band};

@@ -1,4 +1,4 @@
-// What a call on refs refuses.
+//! What a call on refs refuses.
 #![tactic(auto)]
 
 ghost use Rattle.std.specs.Prelude.{◌≡◌, Some};

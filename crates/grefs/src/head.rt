@@ -1,4 +1,4 @@
-// What HEAD stands at.
+//! What HEAD stands at.
 #![tactic(auto)]
 
 ghost use Rattle.std.specs.Prelude.{◌≡◌, ◌≢◌, IfOk, MatchOption};

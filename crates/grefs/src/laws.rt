@@ -1,4 +1,4 @@
-// Laws of refs. A call does nothing, and gives its caller's proof the law.
+//! The laws of refs: functions without effect, whose contracts they are.
 #![tactic(auto)]
 
 ghost use Rattle.std.specs.Prelude.{◌≡◌};

@@ -20,7 +20,7 @@
 //!
 //! That memory which is there is used.
 //!
-//! # What a body can still get away with
+//! # What the contracts do not rule out
 //!
 //! Setting or adding a new name, and copying, may report out of memory as often as they like. A copy by
 //! `Refs::copy_in` may take its memory from the allocator of the refs that it copies and not from the one that

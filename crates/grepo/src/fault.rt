@@ -1,4 +1,4 @@
-// What a call on a repository refuses.
+//! What a call on a repository refuses.
 #![tactic(auto)]
 
 ghost use Rattle.std.specs.Prelude.{◌≡◌, Some};

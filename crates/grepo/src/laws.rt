@@ -1,4 +1,4 @@
-// Laws of repositories. A call does nothing, and gives its caller's proof the law.
+//! The laws of repositories: functions without effect, whose contracts they are.
 #![tactic(auto)]
 
 ghost use Rattle.grepo.specs.Laws.{HeldIsNotMissing, OneSettling, RefusalsChangeNothing, SettingStaysWhole, SettlingStaysWhole, WholeStays};

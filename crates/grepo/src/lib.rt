@@ -31,7 +31,7 @@
 //!
 //! That memory which is there is used: the program `conformance` refuses each allocation of many fetches in turn.
 //!
-//! # What a body can still get away with
+//! # What the contracts do not rule out
 //!
 //! Where several ids are missing it may answer any. It may report out of memory as often as it likes, but not of an
 //! object that is held: only memory tells what is missing of an ancestry, so that want of it for walks and copies

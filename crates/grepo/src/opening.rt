@@ -1,4 +1,4 @@
-// Which ref stands in the way of a repository.
+//! Which ref stands in the way of a repository.
 #![tactic(auto)]
 
 ghost use Rattle.std.specs.Prelude.{◌≡◌, All, IfErr, IfOk};

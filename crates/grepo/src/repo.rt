@@ -1,4 +1,4 @@
-// A client's repository.
+//! A client's repository.
 #![tactic(auto)]
 
 ghost use Rattle.std.specs.Prelude.{◌≡◌, ◌⊎◌, [], ◌∷◌, All, Contains, IfErr, IfOk, MatchResult, ℕ, List, OnOk};

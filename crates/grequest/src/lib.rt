@@ -30,7 +30,7 @@
 //!
 //! That memory which is there is used.
 //!
-//! # What a body can still get away with
+//! # What the contracts do not rule out
 //!
 //! A call that keeps or copies something may report out of memory, whatever there is. It may take as long as
 //! it likes, and more memory than it needs; a new request may take some, too. Where a sink fails, a shorter

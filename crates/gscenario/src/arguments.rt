@@ -1,4 +1,4 @@
-// The words after the first of a line.
+//! The words after the first of a line.
 #![tactic(auto)]
 
 ghost use Rattle.std.specs.Prelude.{◌≡◌, ◌≢◌, ◌∷◌, [], ℕ, List, MatchOption, MatchResult, ⊤};

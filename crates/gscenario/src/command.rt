@@ -1,4 +1,4 @@
-// The first words of a scenario's lines.
+//! The first words of a scenario's lines.
 #![tactic(auto)]
 
 ghost use Rattle.std.specs.Prelude.{◌≡◌, ◌≢◌, MatchOption};

@@ -1,4 +1,4 @@
-// What may happen to a server and a client.
+//! What may happen to a server and a client.
 #![tactic(auto)]
 
 use gname::{Oid, RefName};

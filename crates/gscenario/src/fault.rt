@@ -1,4 +1,4 @@
-// Why a text is no scenario.
+//! Why a text is no scenario.
 #![tactic(auto)]
 
 ghost use Rattle.std.specs.Prelude.{◌≡◌, Some};

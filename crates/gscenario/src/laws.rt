@@ -1,4 +1,4 @@
-//! Laws of scenarios. A call does nothing, and gives its caller's proof the law.
+//! The laws of scenarios: functions without effect, whose contracts they are.
 #![tactic(auto)]
 
 ghost use Rattle.gscenario.specs.Laws.{TextsHaveOneReading, WrongIsNone, WrongLinesHaveOnePlace};

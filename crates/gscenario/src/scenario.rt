@@ -1,4 +1,4 @@
-// Reading a scenario.
+//! Reading a scenario.
 #![tactic(auto)]
 
 ghost use Rattle.std.specs.Prelude.{◌≡◌, ◌++◌, ◌∷◌, [], IfOk, MatchOption, MatchResult};

@@ -36,7 +36,7 @@
 //!
 //! That each part of a packet is written in one call, also the digits of an id.
 //!
-//! # What a body can still get away with
+//! # What the contracts do not rule out
 //!
 //! Where the bytes of a source or of a sink are not known, nothing is said of those that were read or written; how
 //! many requests were answered, how it ended, and whether a device has failed is said all the same. Where the sink

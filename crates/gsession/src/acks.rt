@@ -1,4 +1,4 @@
-// Ids that a server acknowledges.
+//! Ids that a server acknowledges.
 #![tactic(auto)]
 
 ghost use Rattle.std.specs.Prelude.{◌≡◌, ◌↔◌, ◌++◌, ℕ, List, true, All, Contains, IfOk, IfSome, MatchOption};

@@ -1,4 +1,4 @@
-// What a session asks for.
+//! What a session asks for.
 #![tactic(auto)]
 
 ghost use Rattle.std.specs.Prelude.{◌≡◌, ◌↔◌, ◌∷◌, [], true, All, IfErr, IfOk, IsTrue};

@@ -1,4 +1,4 @@
-// What a call of a session refuses.
+//! What a call of a session refuses.
 #![tactic(auto)]
 
 ghost use Rattle.std.specs.Prelude.{◌≡◌, Some};

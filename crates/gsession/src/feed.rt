@@ -1,4 +1,4 @@
-// The pack of a reply on its way to the indexer.
+//! The pack of a reply on its way to the indexer.
 #![tactic(auto)]
 
 ghost use Rattle.std.specs.Prelude.{◌≡◌, ◌++◌, [], List, ℕ, false, MatchResult};

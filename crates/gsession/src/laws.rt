@@ -1,4 +1,4 @@
-// Laws of sessions. A call does nothing, and gives its caller's proof the law.
+//! The laws of sessions: functions without effect, whose contracts they are.
 #![tactic(auto)]
 
 ghost use Rattle.std.specs.Prelude.{◌≡◌};

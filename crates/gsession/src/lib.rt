@@ -38,7 +38,7 @@
 //!
 //! That memory which is there is used: the program `conformance` refuses each allocation of many fetches in turn.
 //!
-//! # What a body can still get away with
+//! # What the contracts do not rule out
 //!
 //! It may report out of memory as often as it likes where no fault stands before: while a reply to fetch is read, at an
 //! acknowledged id; once it was read, in place of the fault of the indexer or of the graph, too. It may keep all of a pack

@@ -1,4 +1,4 @@
-// A client's session.
+//! A client's session.
 #![tactic(auto)]
 
 ghost use Rattle.std.specs.Prelude.{◌≡◌, ◌↔◌, [], IsTrue, All, MatchBool, MatchResult, Ok, Err, IfOk, IfSome, option_map};

@@ -1,4 +1,4 @@
-// How far a session is.
+//! How far a session is.
 #![tactic(auto)]
 
 /// What a session waits for, or asks for next.

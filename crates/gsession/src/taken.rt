@@ -1,4 +1,4 @@
-// What a session took.
+//! What a session took.
 #![tactic(auto)]
 
 use gname::RefName;

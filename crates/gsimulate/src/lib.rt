@@ -17,7 +17,7 @@
 //!
 //! That memory which is there is used.
 //!
-//! # What a body can still get away with
+//! # What the contracts do not rule out
 //!
 //! It may report out of memory for the scenario, for an event, or for what is to be shown, wherever `gscenario` and
 //! `gworld` may, or there is something to be shown. How often the sinks are called is not said, nor how long anything takes.

@@ -1,4 +1,4 @@
-// Why a text is no refspec.
+//! Why a text is no refspec.
 #![tactic(auto)]
 
 ghost use Rattle.std.specs.Prelude.{◌≡◌, Some};

@@ -1,4 +1,4 @@
-// Laws of refspecs. A call does nothing, and gives its caller's proof the law.
+//! The laws of refspecs: functions without effect, whose contracts they are.
 #![tactic(auto)]
 
 ghost use Rattle.gspec.specs.Refspecs.{OneReading};

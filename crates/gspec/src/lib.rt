@@ -14,7 +14,7 @@
 //!
 //! That memory which is there is used.
 //!
-//! # What a body can still get away with
+//! # What the contracts do not rule out
 //!
 //! It may report out of memory of any refspec, destination and copy, as often as it likes. It may take as long
 //! as it likes, and more memory than it needs.

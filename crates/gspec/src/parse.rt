@@ -1,4 +1,4 @@
-// Reading a refspec.
+//! Reading a refspec.
 #![tactic(auto)]
 
 ghost use Rattle.std.specs.Prelude.{◌≡◌, ◌<◌, IfSome, false, length, position, true};

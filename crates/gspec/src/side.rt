@@ -1,4 +1,4 @@
-// The sides of a refspec.
+//! The sides of a refspec.
 #![tactic(auto)]
 
 ghost use Rattle.std.specs.Prelude.{◌≡◌, ◌<◌, ◌↔◌, ◌++◌, IsTrue, MatchOption, length};

@@ -1,4 +1,4 @@
-// Refspecs, and what they do with the names of refs.
+//! Refspecs, and what they do with the names of refs.
 #![tactic(auto)]
 
 ghost use Rattle.std.specs.Prelude.{◌≡◌, ◌↔◌, IfOk, IfSome, IsTrue, MatchResult};

@@ -1,4 +1,4 @@
-// What both ends have, and what reaches it.
+//! What both ends have, and what reaches it.
 #![tactic(auto)]
 
 ghost use Rattle.std.specs.Prelude.{◌≡◌, ◌↔◌, ◌<◌, [], ℕ, List, Ok, Some, length, not, is_some, filter, IfOk, IfErr, IsTrue, false, All, Contains};

@@ -1,4 +1,4 @@
-// Laws of marks. A call does nothing, and gives its caller's proof the law.
+//! The laws of marks: functions without effect, whose contracts they are.
 #![tactic(auto)]
 
 ghost use Rattle.gwalk.specs.Marks.{CoveringStays, MarksStayFull, StopsAtMarks};

@@ -20,7 +20,7 @@
 //!   reaches and that were not sent.
 //! - `Memory` is the only fault. No call panics, overflows or reads out of bounds, and each returns.
 //!
-//! # What a body can still get away with
+//! # What the contracts do not rule out
 //!
 //! Where several ids are missing it may answer any. It may report out of memory as often as it likes, but
 //! where it is proved that a call does not. It may take as long as it likes, and more memory than it needs: no

@@ -1,4 +1,4 @@
-// Marks of ids whose whole ancestry is held.
+//! Marks of ids whose whole ancestry is held.
 #![tactic(auto)]
 
 ghost use Rattle.std.specs.Prelude.{◌≡◌, ℕ, List, [], length, IfOk, ◌||◌, OnOk, OnErr, IfErr, All, slice_index_or, false};

@@ -1,4 +1,4 @@
-// The ids that a client offers as haves.
+//! The ids that a client offers as haves.
 #![tactic(auto)]
 
 ghost use Rattle.std.specs.Prelude.{◌≡◌, ◌<◌, [], IfOk, IfErr, List, ℕ, length, not, ◌&&◌, slice_index_or, false};

@@ -1,4 +1,4 @@
-// The objects to send.
+//! The objects to send.
 #![tactic(auto)]
 
 ghost use Rattle.std.specs.Prelude.{◌≡◌, ◌↔◌, ◌⊎◌, [], IfOk, IfErr, IfSome, IsSome, IsTrue, List, ℕ, Some, length, slice_index_or, true, false};

@@ -1,4 +1,4 @@
-// The walk from some objects to their parents, and on to theirs.
+//! The walk from some objects to their parents, and on to theirs.
 #![tactic(auto)]
 
 ghost use Rattle.std.specs.Prelude.{◌≡◌, ◌<◌, ◌∷◌, ◌++◌, [], ℕ, Bool, List, slice_get, length, IfOk, OnOk, Some};

@@ -1,4 +1,4 @@
-// Why there is no such world, and why a run stopped.
+//! Why there is no such world, and why a run stopped.
 #![tactic(auto)]
 
 ghost use Rattle.std.specs.Prelude.{◌≡◌, Some};

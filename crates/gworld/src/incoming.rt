@@ -1,4 +1,4 @@
-// Bytes come as the reply to the request that waits.
+//! Bytes come as the reply to the request that waits.
 #![tactic(auto)]
 
 ghost use Rattle.std.specs.Prelude.{◌≡◌, MatchResult, take, Some};

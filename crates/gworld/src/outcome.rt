@@ -1,4 +1,4 @@
-// What came of an event.
+//! What came of an event.
 #![tactic(auto)]
 
 /// What came of an event.

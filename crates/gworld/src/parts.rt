@@ -1,4 +1,4 @@
-// A world without its packer and its indexer.
+//! A world without its packer and its indexer.
 #![tactic(auto)]
 
 ghost use Rattle.std.specs.Prelude.{◌≡◌, slice_get};

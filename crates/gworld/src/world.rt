@@ -1,4 +1,4 @@
-// A world, and its runs.
+//! A world, and its runs.
 #![tactic(auto)]
 
 ghost use Rattle.std.specs.Prelude.{◌≡◌, MatchResult};

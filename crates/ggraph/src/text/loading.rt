@@ -1,4 +1,4 @@
-// Loading a repository text.
+//! Loading a repository text.
 #![tactic(auto)]
 
 ghost use Rattle.std.specs.Prelude.{◌≡◌, ◌++◌, ◌≤◌, MatchOption, IfOk, IfErr};

@@ -1,4 +1,4 @@
-// The parts of a line: ids in lower case, and names.
+//! The parts of a line: ids in lower case, and names.
 #![tactic(auto)]
 
 ghost use Rattle.std.specs.Prelude.{◌≡◌, ◌++◌, ◌≤◌, MatchOption, MatchResult, All, IsTrue, ◌↔◌, codes, false, length, take};

@@ -1,4 +1,4 @@
-// A repository text, read so far.
+//! A repository text, read so far.
 #![tactic(auto)]
 
 ghost use Rattle.std.specs.Prelude.{◌≡◌, ◌++◌, ◌∷◌, [], IfErr, OnOk, IsTrue, ◌↔◌, All, codes};

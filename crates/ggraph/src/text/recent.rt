@@ -1,4 +1,4 @@
-// The ids that were read last.
+//! The ids that were read last.
 #![tactic(auto)]
 
 ghost use Rattle.std.specs.Prelude.{◌≡◌, ◌≢◌, ◌++◌, [], IfSome};

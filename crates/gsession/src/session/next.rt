@@ -1,4 +1,4 @@
-// The requests of a session.
+//! The requests of a session.
 #![tactic(auto)]
 
 ghost use Rattle.std.specs.Prelude.{◌≡◌, List, None, MatchResult, Ok, Err, IfOk};

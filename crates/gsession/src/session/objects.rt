@@ -1,4 +1,4 @@
-// How a session takes the reply to fetch.
+//! How a session takes the reply to fetch.
 #![tactic(auto)]
 
 ghost use Rattle.std.specs.Prelude.{◌≡◌, ◌++◌, false, All, Contains, MatchOption, MatchResult, IfOk, length};

@@ -1,4 +1,4 @@
-// How a session takes the reply to ls-refs.
+//! How a session takes the reply to ls-refs.
 #![tactic(auto)]
 
 ghost use Rattle.std.specs.Prelude.{◌≡◌, ◌≤◌, List, All, MatchBool, None, Err, length};

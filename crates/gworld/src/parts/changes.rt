@@ -1,4 +1,4 @@
-// Changes of the ends.
+//! Changes of the ends.
 #![tactic(auto)]
 
 ghost use Rattle.std.specs.Prelude.{◌≡◌, MatchBool, MatchResult};

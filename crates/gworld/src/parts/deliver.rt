@@ -1,4 +1,4 @@
-// Replies that come.
+//! Replies that come.
 #![tactic(auto)]
 
 ghost use Rattle.std.specs.Prelude.{◌≡◌, ◌↔◌, MatchResult, slice_get, IsTrue, IfOk, Some};

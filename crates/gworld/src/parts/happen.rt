@@ -1,4 +1,4 @@
-// What an event does.
+//! What an event does.
 #![tactic(auto)]
 
 ghost use Rattle.std.specs.Prelude.{◌≡◌, MatchResult};

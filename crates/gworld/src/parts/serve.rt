@@ -1,4 +1,4 @@
-// The server at work.
+//! The server at work.
 #![tactic(auto)]
 
 ghost use Rattle.std.specs.Prelude.{◌≡◌, ◌≢◌, ◌∷◌, ◌++◌, [], IfOk, MatchResult, length, slice_get};

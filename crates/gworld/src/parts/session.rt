@@ -1,4 +1,4 @@
-// The client's session.
+//! The client's session.
 #![tactic(auto)]
 
 ghost use Rattle.std.specs.Prelude.{◌≡◌, MatchResult, Ok, Err};

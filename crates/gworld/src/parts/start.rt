@@ -1,4 +1,4 @@
-// How a world begins.
+//! How a world begins.
 #![tactic(auto)]
 
 ghost use Rattle.std.specs.Prelude.{◌≡◌, ◌≢◌, ◌<◌, length, MatchBool, MatchOption, MatchResult};
