@@ -19,7 +19,7 @@
 //! - The number, the name and the phrase of each fault stand in one row, `why_row`; of a peer's error the
 //!   first 256 bytes are kept. The constants are the limits of the definitions.
 //!
-//! # What the contracts do not rule out
+//! # What a body can still get away with
 //!
 //! It may take as long as it likes, and show anything of a peer's text by `{:?}`. Where a packet brings something to
 //! keep, a message may be refused as if there were no memory. Where the bytes of a source are not known, nothing is

@@ -30,7 +30,7 @@
 //!   `conformance` have names with that program's answers.
 //! - What a value prints for debugging, and that memory which is there is used.
 //!
-//! # What the contracts do not rule out
+//! # What a body can still get away with
 //!
 //! It may report out of memory of any well-formed name or prefix, of `HEAD` and of any copy, as often
 //! as it likes. It may take as long as it likes, and more memory than it needs.

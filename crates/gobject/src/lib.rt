@@ -19,7 +19,7 @@
 //! - Each fault has the number, the name and the text of its row.
 //! - No call panics, overflows or reads out of bounds, and each returns.
 //!
-//! # What the contracts do not rule out
+//! # What a body can still get away with
 //!
 //! It may report out of memory of any list whose text is not too long, of any bytes in which an entry is
 //! there to keep, and of any copy, as often as it likes: so where a line is bad and an entry stands before

@@ -1,4 +1,4 @@
-//! A pack in plain text: a line for each entry.
+// A pack in plain text: a line for each entry.
 #![tactic(auto)]
 
 mod feed;

@@ -1,4 +1,4 @@
-//! The laws of packet lines: functions without effect, whose contracts they are.
+//! Laws of packet lines. A call does nothing, and gives its caller's proof the law.
 
 ghost use Rattle.std.specs.Prelude.{◌≡◌};
 ghost use Rattle.gpkt.specs.Bands.{BandFits, BandIsPayload, BandIsRead, max_band};

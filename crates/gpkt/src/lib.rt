@@ -39,7 +39,7 @@
 //! - Its call is made once and not tried again, of whatever kind its error is; a line is read in no more
 //!   calls than it has bytes, and nothing is flushed before a push.
 //!
-//! # What the contracts do not rule out
+//! # What a body can still get away with
 //!
 //! A device that is always down; a source that gives a byte a call, and a sink that takes one; a
 //! buffer that is never made, and a constructor that reads before it fails; a

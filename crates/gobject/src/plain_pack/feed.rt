@@ -1,4 +1,4 @@
-//! A plain pack that is read in pieces.
+// A plain pack that is read in pieces.
 #![tactic(auto)]
 
 ghost use Rattle.std.specs.Prelude.{[], ◌++◌, ◌∷◌, ℕ, List, MatchResult};
