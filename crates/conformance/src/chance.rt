@@ -243,7 +243,12 @@ fn id_of(line: &[u8]) -> Option<&str> {
 fn add_new_ids(alloc: Global, format: Format, ids: &mut Vec<String>) -> Result<(), Trouble> {
     for number in 0..NEW_IDS {
         let mut digits = Vec::new(alloc);
-        add_number(alloc, format.id_text_length(), number.saturating_add(900), &mut digits)?;
+        add_number(
+            alloc,
+            format.id_text_length(),
+            number.saturating_add(900),
+            &mut digits,
+        )?;
         if let Ok(id) = std::str::from_utf8(digits.as_slice()) {
             ids.push(String::from_str(alloc, id)?)?;
         }

@@ -45,11 +45,8 @@ impl Program {
     pub fn reads_lines(self) -> bool {
         match self {
             Program::Lines => true,
-            Program::Ls
-            | Program::Upload
-            | Program::Fetch
-            | Program::Check
-            | Program::Simulate => false,
+            Program::Ls | Program::Upload | Program::Fetch | Program::Check | Program::Simulate =>
+                false,
         }
     }
 }

@@ -5,8 +5,8 @@
 //! formats and with replies that have ends of their own, where it does not say otherwise: as it stands; in pieces; over std's
 //! devices; with an indexer that watches; with each call of each device failing in turn; cut after each byte; with each byte
 //! changed; by a table of what is due then, where it has one; and with each allocation refused in turn. What is made of a
-//! text is tried in pieces, too, and with each allocation refused. A try that goes wrong is a line on standard output, and
-//! the last lines count the tries.
+//! text is tried in pieces, too, and with each allocation refused. Simulations are tried in worlds of their own, too, and in
+//! others events happen by chance. A try that goes wrong is a line on standard output, and the last lines count the tries.
 //!
 //! # Proved
 //!
@@ -18,8 +18,8 @@
 //!
 //! # Stands on
 //!
-//! `gcmd` for the programs; `gserve` and `gclient` where a packer or an indexer lies or watches; `ggraph`, `ghello`, `gpkt`
-//! and `gname` for what is made of texts; `scarce` for memory that ends.
+//! `gcmd` and `gsimulate` for the programs; `gworld` and `gscenario` for events; `gserve` and `gclient` where a packer or an
+//! indexer lies or watches; `ggraph`, `ghello`, `gpkt` and `gname` for what is made of texts; `scarce` for memory that ends.
 #![tactic(auto)]
 
 mod chance;

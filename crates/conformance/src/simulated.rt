@@ -27,12 +27,7 @@ pub fn simulate<I, O: Sink, R, E: Sink>(
         client: job.command.client,
         scenario: job.command.scenario,
     };
-    cmd_simulate(
-        job.memory,
-        &files,
-        &mut devices.output,
-        &mut devices.errors,
-    )
+    cmd_simulate(job.memory, &files, &mut devices.output, &mut devices.errors)
 }
 
 /// Runs a simulation with a packer or an indexer that is not the plain one. It answers the exit status.

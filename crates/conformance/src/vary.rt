@@ -184,8 +184,7 @@ impl<'a, 'b> Bench<'a, 'b> {
         let row = self.row;
         self.runs = self.runs.saturating_add(1);
         let happened = run_one_by_one(self.alloc, row.command, row.file)?;
-        let is_right =
-            happened.is_whole && happened.text.as_bytes() == row.talk.output.as_slice();
+        let is_right = happened.is_whole && happened.text.as_bytes() == row.talk.output.as_slice();
         Ok(if is_right { None } else { Some(0) })
     }
 
