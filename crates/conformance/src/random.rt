@@ -93,7 +93,10 @@ fn happen_with_liars(alloc: Global, setting: Setting<'_>) -> Result<Option<Strin
     let mut other = setting;
     other.count = setting.count / 4;
     for liar in LIARS {
-        other.tools.liar = Some(liar);
+        other.tools = Tools {
+            liar: Some(liar),
+            format: setting.tools.format,
+        };
         other.seed = other.seed.wrapping_add(1);
         let found = happen(alloc, other)?;
         if found.is_some() {
