@@ -1,6 +1,7 @@
-//! Worlds in which events happen by chance: `random whole: SEED COUNT / CLIENT`, with the texts of the client's repository, and
+//! Worlds in which events happen by chance: `random whole: SEED COUNT / CLIENT`, with the text of the client's repository, and
 //! as its graph that of the server's. So many events happen, with plain packers and indexers, with allocations refused, and
-//! with each of those that lie; each time, after each event, the client is to hold the whole ancestry of its refs.
+//! with each of those that lie; each time, after each event, the client is to hold the whole ancestry of its refs. Of the
+//! outcomes each kind is to come with plain packs; rounds of acknowledgments where `rounds` stands behind the count.
 
 use crate::chance::Chance;
 use crate::liars::Liar;
@@ -33,6 +34,9 @@ const LIARS: [Liar; 12] = [
     Liar::FinishFails,
 ];
 
+/// What stands behind a count.
+const ROUNDS: &[u8] = b"rounds";
+
 /// Of more allocations the first are not refused.
 const MOST_REFUSED: usize = 30;
 
@@ -44,8 +48,10 @@ struct Setting<'b> {
     tools: Tools,
     seed: usize,
     count: usize,
-    /// Whether an allocation is refused now and then.
+    // Whether an allocation is refused now and then.
     is_scarce: bool,
+    // Whether rounds of acknowledgments are to come.
+    has_rounds: bool,
 }
 
 /// What is found where events happen by chance to the server of a repository's text.
@@ -78,6 +84,7 @@ fn setting_of<'b>(text: &'b [u8], server: &'b [u8], format: Format) -> Setting<'
         seed,
         count,
         is_scarce: false,
+        has_rounds: words.next().unwrap_or(b"") == ROUNDS,
     }
 }
 
@@ -173,7 +180,7 @@ fn conclude(
         return Ok(Some(again));
     }
     if setting.tools.liar.is_none() {
-        return never_came(alloc, outcomes);
+        return never_came(alloc, outcomes, setting.has_rounds);
     }
     Ok(None)
 }
@@ -189,7 +196,11 @@ fn run_again(alloc: Global, setting: Setting<'_>, log: &str) -> Result<String, T
 }
 
 // The first kind of outcome that never came.
-fn never_came(alloc: Global, outcomes: &[Outcome]) -> Result<Option<String>, Trouble> {
+fn never_came(
+    alloc: Global,
+    outcomes: &[Outcome],
+    has_rounds: bool,
+) -> Result<Option<String>, Trouble> {
     let mut came = [false; 8];
     for outcome in outcomes {
         if let Some(mark) = came.get_mut(kind_of(*outcome)) {
@@ -197,7 +208,7 @@ fn never_came(alloc: Global, outcomes: &[Outcome]) -> Result<Option<String>, Tro
         }
     }
     for (mark, name) in came.iter().zip(KINDS) {
-        if !*mark {
+        if !*mark && (has_rounds || name != ROUND) {
             return Ok(Some(format!(in alloc; "never {name}")?));
         }
     }
@@ -205,8 +216,10 @@ fn never_came(alloc: Global, outcomes: &[Outcome]) -> Result<Option<String>, Tro
 }
 
 const KINDS: [&str; 8] = [
-    "asked", "served", "stranger", "ls", "round", "pack", "moved", "fault",
+    "asked", "served", "stranger", "ls", ROUND, "pack", "moved", "fault",
 ];
+
+const ROUND: &str = "round";
 
 // The place of the kind of an outcome in the list; a place past its end for others.
 fn kind_of(outcome: Outcome) -> usize {
