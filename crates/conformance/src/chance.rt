@@ -103,6 +103,7 @@ impl Chance {
         match self.step {
             Step::Begin => self.begin(),
             Step::Ask => self.fixed("ask\n"),
+            Step::Serve(_) if self.dice.is_one_of(3) => self.forged(),
             Step::Serve(request) => Ok(format!(in self.alloc; "serve {request}\n")?),
             Step::Deliver(reply) => Ok(format!(in self.alloc; "deliver {reply} all\n")?),
             Step::Settle => self.fixed("settle\n"),
@@ -138,13 +139,17 @@ impl Chance {
     // A forged reply, or a stranger's request.
     fn strange(&mut self, roll: usize) -> Result<String, Trouble> {
         if roll < 86 {
-            let bytes = self.forger.reply()?;
-            let digits = hex_of(self.alloc, bytes.as_slice())?;
-            return Ok(format!(in self.alloc; "forge {digits}\n")?);
+            return self.forged();
         }
         let bytes = self.forger.request()?;
         let digits = hex_of(self.alloc, bytes.as_slice())?;
         Ok(format!(in self.alloc; "stranger {digits}\n")?)
+    }
+
+    fn forged(&mut self) -> Result<String, Trouble> {
+        let bytes = self.forger.reply()?;
+        let digits = hex_of(self.alloc, bytes.as_slice())?;
+        Ok(format!(in self.alloc; "forge {digits}\n")?)
     }
 
     // A change of one of the ends.
