@@ -13,6 +13,7 @@ pub enum Program {
     Fetch,
     Check,
     Lines,
+    Simulate,
 }
 
 impl Program {
@@ -20,7 +21,7 @@ impl Program {
     pub fn reads_client(self) -> bool {
         match self {
             Program::Ls | Program::Upload | Program::Lines => true,
-            Program::Fetch | Program::Check => false,
+            Program::Fetch | Program::Check | Program::Simulate => false,
         }
     }
 
@@ -28,7 +29,7 @@ impl Program {
     pub fn serves(self) -> bool {
         match self {
             Program::Ls | Program::Upload => true,
-            Program::Fetch | Program::Check | Program::Lines => false,
+            Program::Fetch | Program::Check | Program::Lines | Program::Simulate => false,
         }
     }
 
@@ -36,7 +37,7 @@ impl Program {
     pub fn has_ends(self) -> bool {
         match self {
             Program::Upload | Program::Fetch => true,
-            Program::Ls | Program::Check | Program::Lines => false,
+            Program::Ls | Program::Check | Program::Lines | Program::Simulate => false,
         }
     }
 
@@ -44,7 +45,8 @@ impl Program {
     pub fn reads_lines(self) -> bool {
         match self {
             Program::Lines => true,
-            Program::Ls | Program::Upload | Program::Fetch | Program::Check => false,
+            Program::Ls | Program::Upload | Program::Fetch | Program::Check | Program::Simulate =>
+                false,
         }
     }
 }
@@ -55,7 +57,7 @@ pub struct Command<'a> {
     pub program: Program,
     /// The name of the repository's text; empty where there is none.
     pub repository: &'a str,
-    /// The refspecs.
+    /// The refspecs; of a simulation the names of its client's text and of its scenario.
     pub specs: &'a str,
     /// The most bytes of a pack.
     pub limit: usize,
@@ -63,6 +65,9 @@ pub struct Command<'a> {
     pub format: Format,
     /// The packer or the indexer, where it is not the plain one.
     pub liar: Option<Liar>,
+    /// The texts of a simulation's client and of its scenario; empty where there are none.
+    pub client: &'a [u8],
+    pub scenario: &'a [u8],
 }
 
 /// Reads a command line. The packer and the indexer are the plain ones.
@@ -85,6 +90,8 @@ pub fn command_of(line: &str, format: Format) -> Result<Command<'_>, Trouble> {
         ends,
         format,
         liar: None,
+        client: b"",
+        scenario: b"",
     })
 }
 
@@ -95,6 +102,7 @@ fn program_of(name: &str) -> Result<Program, Trouble> {
         "fetch" => Ok(Program::Fetch),
         "check" => Ok(Program::Check),
         "lines" => Ok(Program::Lines),
+        "simulate" => Ok(Program::Simulate),
         _ => Err(Trouble::UnknownProgram),
     }
 }

@@ -28,7 +28,7 @@ const NO_MEMORY_FAULT: usize = 64;
 const PACK_FAULT: usize = 65;
 
 /// The numbers of the faults that may be reported where an allocation was refused.
-const MEMORY_FAULTS: [usize; 6] = [18, 28, 53, 64, 65, 66];
+const MEMORY_FAULTS: [usize; 7] = [18, 28, 53, 64, 65, 66, 91];
 
 /// What a program is run on, and what is to come of it.
 #[derive(Drop)]
@@ -186,7 +186,30 @@ pub fn is_errors_failed(row: &Row<'_>, played: &Played) -> bool {
 pub fn is_scarce(row: &Row<'_>, played: &Played) -> bool {
     is_as_due(row, played)
         || is_unserved(row, played)
+        || has_event_without_memory(row, played)
         || (is_out_of_memory(played) && has_stopped(row, played))
+}
+
+// Whether the events of a simulation came out as the row says, up to one for which there was no memory.
+fn has_event_without_memory(row: &Row<'_>, played: &Played) -> bool {
+    if row.command.program != Program::Simulate || played.status != 0 {
+        return false;
+    }
+    let written = played.output.written().split(|byte| *byte == b'\n');
+    let due = row.talk.output.as_slice().split(|byte| *byte == b'\n');
+    for (line, due) in written.zip(due) {
+        if line != due {
+            return is_refusal_of_memory(line);
+        }
+    }
+    false
+}
+
+fn is_refusal_of_memory(line: &[u8]) -> bool {
+    match line.strip_prefix(b"fault ") {
+        Some(digits) => MEMORY_FAULTS.contains(&number_of(digits)),
+        None => false,
+    }
 }
 
 /// Whether the run ended for want of memory before anything was written: no memory for the repository itself.

@@ -5,8 +5,8 @@
 //! formats and with replies that have ends of their own, where it does not say otherwise: as it stands; in pieces; over std's
 //! devices; with an indexer that watches; with each call of each device failing in turn; cut after each byte; with each byte
 //! changed; by a table of what is due then, where it has one; and with each allocation refused in turn. What is made of a
-//! text is tried in pieces, too, and with each allocation refused. A try that goes wrong is a line on standard output, and
-//! the last lines count the tries.
+//! text is tried in pieces, too, and with each allocation refused. Simulations are tried in worlds of their own, too, and in
+//! others events happen by chance. A try that goes wrong is a line on standard output, and the last lines count the tries.
 //!
 //! # Proved
 //!
@@ -18,13 +18,16 @@
 //!
 //! # Stands on
 //!
-//! `gcmd` for the programs; `gserve` and `gclient` where a packer or an indexer lies or watches; `ggraph`, `ghello`, `gpkt`
-//! and `gname` for what is made of texts; `scarce` for memory that ends.
+//! `gcmd` and `gsimulate` for the programs; `gworld` and `gscenario` for events; `gserve` and `gclient` where a packer or an
+//! indexer lies or watches; `ggraph`, `ghello`, `gpkt` and `gname` for what is made of texts; `scarce` for memory that ends.
 #![tactic(auto)]
 
+mod chance;
 mod command;
 mod device;
+mod dice;
 mod fact;
+mod forgery;
 mod history;
 mod judge;
 mod known;
@@ -33,18 +36,22 @@ mod long;
 mod lying;
 mod packet;
 mod play;
+mod random;
 mod report;
 mod script;
 mod shown;
+mod simulated;
 mod spell;
 mod table;
 mod talk;
 mod tally;
+mod tools;
 mod trouble;
 mod vary;
 mod watch;
+mod worlds;
 
-use crate::command::{Command, Program, command_of};
+use crate::command::{Command, Program, command_of, first_of};
 use crate::judge::{Reach, Row};
 use crate::script::{Case, Fact, Script};
 use crate::shown::Look;
@@ -207,7 +214,7 @@ fn wrong_answer(
     fact: &Fact<'_>,
     tally: &mut Tally,
 ) -> Result<Option<String>, Trouble> {
-    let is_long = text(script, fact.graph)?.len() > LONG_GRAPH;
+    let is_long = fact.kind == random::KIND || text(script, fact.graph)?.len() > LONG_GRAPH;
     for most in [usize::MAX, 1, 3] {
         let (answer, _) = answer(alloc, script, fact, most, 0)?;
         tally.count_try();
@@ -259,6 +266,8 @@ fn answer(
         history::answer(alloc, &memory, fact, file, refused)?
     } else if known::KINDS.contains(&fact.kind) {
         known::answer(alloc, &memory, fact, file, refused)?
+    } else if fact.kind == random::KIND {
+        random::answer(alloc, fact, file)?
     } else {
         memory.refuse(refused);
         made_of_text(alloc, &memory, fact, most)?
@@ -352,6 +361,7 @@ fn row_of<'b>(
         command.ends = Ends::Response;
     }
     let talk = Talk::of(alloc, &command, case, run.adds_ends)?;
+    add_texts(script, &mut command)?;
     let file = text(script, command.repository)?;
     let new_file = match case.file {
         Some(name) if command.program == Program::Fetch => Some(text(script, name)?),
@@ -365,9 +375,20 @@ fn row_of<'b>(
         memory: case.memory.as_slice(),
         packets: case.packets.as_slice(),
         table: case.table.as_slice(),
-        reach: reach_of(case, script.format, run.adds_ends),
+        reach: reach_of(case, run.adds_ends),
         is_long: case.is_long,
     }))
+}
+
+// Gives a simulation the texts of its client and of its scenario.
+fn add_texts<'b>(script: &'b Script<'b>, command: &mut Command<'b>) -> Result<(), Trouble> {
+    if command.program != Program::Simulate {
+        return Ok(());
+    }
+    let (client, scenario) = first_of(command.specs);
+    command.client = text(script, client)?;
+    command.scenario = text(script, scenario)?;
+    Ok(())
 }
 
 // Whether the replies of a case may have ends of their own, which it does not say itself.
@@ -378,9 +399,9 @@ fn may_add_ends(command: Command<'_>, case: &Case<'_>) -> bool {
         && has_open_replies(case)
 }
 
-// Of a row's likes in the other format, and with ends of their own, each byte is changed in one bit.
-fn reach_of(case: &Case<'_>, format: Format, adds_ends: bool) -> Reach {
-    if adds_ends || format == Format::Sha256 {
+// Of a row's likes with ends of their own, each byte is changed in one bit.
+fn reach_of(case: &Case<'_>, adds_ends: bool) -> Reach {
+    if adds_ends {
         Reach::OneBit
     } else if case.is_deep {
         Reach::Deep

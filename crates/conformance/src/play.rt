@@ -3,6 +3,7 @@
 use crate::command::{Command, Program};
 use crate::device::{AsStd, Hindrance, Reader, Writer};
 use crate::lying::{fetch_with, serve_with};
+use crate::simulated::{simulate, simulate_with};
 use crate::trouble::Trouble;
 use crate::watch::Watch;
 use gcmd::{
@@ -189,9 +190,23 @@ fn run<I: Source, O: Sink, R: Sink, E: Sink>(
     if job.command.program == Program::Fetch {
         return fetch(job, words.as_slice(), devices);
     }
+    if job.command.program == Program::Simulate {
+        return run_simulation(job, devices);
+    }
     let status = match job.command.liar {
         Some(liar) => serve_with(job, liar, devices),
         None => run_plainly(job, devices),
+    };
+    Ok(ran_without_file(job, status))
+}
+
+fn run_simulation<I, O: Sink, R, E: Sink>(
+    job: &Job<'_, '_, '_>,
+    devices: &mut Devices<I, O, R, E>,
+) -> Result<Ran, Trouble> {
+    let status = match job.command.liar {
+        Some(_) => simulate_with(job, devices)?,
+        None => simulate(job, devices),
     };
     Ok(ran_without_file(job, status))
 }
@@ -215,7 +230,7 @@ fn run_plainly<I: Source, O: Sink, R: Sink, E: Sink>(
         Program::Ls => list(job, devices),
         Program::Upload => upload(job, devices),
         Program::Check => check(job, devices),
-        Program::Lines | Program::Fetch => show(job, devices),
+        Program::Lines | Program::Fetch | Program::Simulate => show(job, devices),
     }
 }
 
