@@ -78,7 +78,7 @@ fn listed<'m, I: Source, O: Sink, R: Sink, E: Sink>(
     words: &[String<&'m Scarce<Global>>],
     devices: &mut Devices<I, O, R, E>,
 ) -> Result<(), Failed<'m>> {
-    let words = if job.command.specs.is_empty() {
+    let words: &[String<&'m Scarce<Global>>] = if job.command.specs.is_empty() {
         &[]
     } else {
         words
