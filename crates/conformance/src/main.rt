@@ -6,7 +6,8 @@
 //! devices; with an indexer that watches; with each call of each device failing in turn; cut after each byte; with each byte
 //! changed; by a table of what is due then, where it has one; and with each allocation refused in turn. What is made of a
 //! text is tried in pieces, too, and with each allocation refused. Simulations are tried in worlds of their own, too, and in
-//! others events happen by chance. A try that goes wrong is a line on standard output, and the last lines count the tries.
+//! others events happen by chance. Both ends of a pair are tried as they stand, over sockets. A try that goes wrong is a line
+//! on standard output, and the last lines count the tries.
 //!
 //! # Proved
 //!
@@ -18,12 +19,14 @@
 //!
 //! # Stands on
 //!
-//! `gcmd` and `gsimulate` for the programs; `gworld` and `gscenario` for events; `gserve` and `gclient` where a packer or an
+//! `gcmd` and `gsimulate` for the programs, `gconnect` and `gtcp` for those of the network; `gworld` and `gscenario` for
+//! events; `gserve` and `gclient` where a packer or an
 //! indexer lies or watches; `ggraph`, `ghello`, `gpkt` and `gname` for what is made of texts; `scarce` for memory that ends.
 #![tactic(auto)]
 
 mod chance;
 mod command;
+mod connected;
 mod device;
 mod dice;
 mod fact;
@@ -34,6 +37,7 @@ mod known;
 mod liars;
 mod long;
 mod lying;
+mod meeting;
 mod packet;
 mod play;
 mod random;
@@ -64,6 +68,7 @@ use gcmd::Ends;
 use gname::Format;
 use scarce::Scarce;
 use std::alloc::Global;
+use std::net::{Net, TcpListener, TcpStream};
 use std::process::ExitCode;
 use std::rt::{Env, Files};
 use std::{env, fs, io};
@@ -78,7 +83,7 @@ fn main(rt: HostRuntime) -> ExitCode {
 // Tries all cases of the files that the words name. It answers whether nothing went wrong.
 fn run<R>(rt: &R) -> io::Result<bool>
 where
-    R: Env + Files + Print + AllocGlobal,
+    R: Env + Files + Print + AllocGlobal + Net<Stream = TcpStream, Listener = TcpListener>,
 {
     let alloc = rt.alloc();
     let words: Vec<String> = env::args(rt)?.skip(1).collect(alloc)?;
@@ -126,22 +131,20 @@ fn depth_of(words: &[String]) -> (Depth, &[String]) {
 }
 
 // Tries the cases of one format of ids.
-fn try_script<R: Print + AllocGlobal>(
-    rt: &R,
-    script: &Script<'_>,
-    tally: &mut Tally,
-) -> io::Result<()> {
+fn try_script<R>(rt: &R, script: &Script<'_>, tally: &mut Tally) -> io::Result<()>
+where
+    R: Print + AllocGlobal + Net<Stream = TcpStream, Listener = TcpListener>,
+{
     for fact in script.facts.as_slice() {
         try_fact(rt, script, fact, tally)?;
     }
     try_cases(rt, script, tally)
 }
 
-fn try_cases<R: Print + AllocGlobal>(
-    rt: &R,
-    script: &Script<'_>,
-    tally: &mut Tally,
-) -> io::Result<()> {
+fn try_cases<R>(rt: &R, script: &Script<'_>, tally: &mut Tally) -> io::Result<()>
+where
+    R: Print + AllocGlobal + Net<Stream = TcpStream, Listener = TcpListener>,
+{
     for case in script.cases.as_slice() {
         try_case(rt, &*script, case, tally)?;
     }
@@ -312,12 +315,15 @@ struct Attempt<'b> {
 }
 
 // Tries a case by each of its programs, and again with replies that have ends of their own, where they may.
-fn try_case<'b, R: Print + AllocGlobal>(
+fn try_case<'b, R>(
     rt: &R,
     script: &'b Script<'b>,
     case: &'b Case<'b>,
     tally: &mut Tally,
-) -> io::Result<()> {
+) -> io::Result<()>
+where
+    R: Print + AllocGlobal + Net<Stream = TcpStream, Listener = TcpListener>,
+{
     for words in case.runs.as_slice() {
         let plain = Attempt {
             case,
@@ -326,10 +332,29 @@ fn try_case<'b, R: Print + AllocGlobal>(
         };
         let mut ended = plain;
         ended.adds_ends = true;
+        if meeting::words_of(words).is_some() {
+            try_pair(rt, script, plain, tally)?;
+            continue;
+        }
         try_run(rt, script, plain, tally)?;
         try_run(rt, script, ended, tally)?;
     }
     Ok(())
+}
+
+// Tries both ends in one process.
+fn try_pair<R>(rt: &R, script: &Script<'_>, run: Attempt<'_>, tally: &mut Tally) -> io::Result<()>
+where
+    R: Print + AllocGlobal + Net<Stream = TcpStream, Listener = TcpListener>,
+{
+    tally.count_row();
+    tally.count_runs(Way::Whole, 1);
+    let words = meeting::words_of(run.words).unwrap_or("");
+    match meeting::is_as_due(rt, rt.alloc(), script, run.case, words) {
+        Ok((true, _)) => Ok(()),
+        Ok((false, printed)) => tell_wrong(rt, run, (Way::Whole, 0), printed.as_slice(), tally),
+        Err(trouble) => tell_trouble(rt, run.case.source, run.case.line, trouble, tally),
+    }
 }
 
 fn try_run<'b, R: Print + AllocGlobal>(
@@ -396,7 +421,7 @@ fn may_add_ends(command: Command<'_>, case: &Case<'_>) -> bool {
     command.program.has_ends()
         && command.ends == Ends::Plain
         && !case.is_plain
-        && has_open_replies(case)
+        && has_open_replies(case, command.has_hello())
 }
 
 // Of a row's likes with ends of their own, each byte is changed in one bit.
