@@ -75,7 +75,8 @@ abbrev pub CannotBegin : {A : Type 0} → Simulation → SimulationFault A → T
 CannotBegin {A} files (faults.Program fault) =
     RefusesFile {A = A} files.server.now fault
     ⊎ HasServer {A = A} files (λ server. RefusesClient files.client.now fault)
-CannotBegin {A} files (faults.Scenario fault) = HasEnds {A = A} files (λ server repo. Refuses A files.scenario.now fault)
+CannotBegin {A} files (faults.Scenario fault) =
+    HasEnds {A = A} files (λ server repo. Refuses A files.scenario.now fault)
 CannotBegin {A} files (faults.World fault) =
     HasEvents {A = A} files (λ server repo events. CannotStart server repo fault)
 CannotBegin files faults.Memory = ⊥
