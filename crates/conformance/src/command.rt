@@ -33,11 +33,8 @@ impl Program {
     pub fn serves(self) -> bool {
         match self {
             Program::Ls | Program::Upload | Program::Serve => true,
-            Program::Fetch
-            | Program::Check
-            | Program::Lines
-            | Program::Simulate
-            | Program::List => false,
+            Program::Fetch | Program::Check | Program::Lines | Program::Simulate | Program::List =>
+                false,
         }
     }
 
@@ -45,11 +42,8 @@ impl Program {
     pub fn has_ends(self) -> bool {
         match self {
             Program::Upload | Program::Fetch | Program::Serve => true,
-            Program::Ls
-            | Program::Check
-            | Program::Lines
-            | Program::Simulate
-            | Program::List => false,
+            Program::Ls | Program::Check | Program::Lines | Program::Simulate | Program::List =>
+                false,
         }
     }
 
