@@ -19,6 +19,16 @@ use ghello::Hello;
 use gpkt::{Sink, Source};
 use std::alloc::Allocator;
 
+/// What is fetched, and how: from which path and host, by which refspecs, how many bytes a pack may have, and how
+/// replies end.
+#[derive(Clone, Copy)]
+pub struct Wanted<'a, A: Allocator + Copy> {
+    pub hello: &'a Hello<A>,
+    pub specs: &'a [Spec<A>],
+    pub limit: PackLimit,
+    pub ends: Ends,
+}
+
 /// Fetches by refspecs from a server (gitprotocol-pack(5), "Git Transport"): writes the first line, which names the
 /// path that is asked for, passes it on, and goes on as [`fetch_over`].
 ///
@@ -26,16 +36,13 @@ use std::alloc::Allocator;
 /// fails as `fetch_over` does. After every fault the refs are as before, and to the graph objects only came.
 pub fn fetch_git<S: Source, W: Sink, A: Allocator + Copy, K: Indexer<A>>(
     repo: &mut Repo<A>,
-    hello: &Hello<A>,
     source: &mut S,
     sink: &mut W,
     indexer: &K,
-    specs: &[Spec<A>],
-    limit: PackLimit,
-    ends: Ends,
+    wanted: &Wanted<'_, A>,
 ) -> Result<Fetched<A>, FetchFault<A>>
     ensures fetches { FetchesGit (K.indexes indexer.now) (K.index_fails indexer.now)
-        (start_of repo.old specs.now limit ends) hello.now
+        (start_of repo.old wanted.now.specs.now wanted.now.limit wanted.now.ends) wanted.now.hello.now
         (input_of S.remaining S.is_down source.old source.new)
         (output_of W.contents W.passed_on W.is_down sink.old sink.new) repo.new result }
     ensures settled { IfOk result (λ fetched. Settles repo.new.graph.entries repo.old.refs fetched.settled.asks
@@ -50,7 +57,8 @@ pub fn fetch_git<S: Source, W: Sink, A: Allocator + Copy, K: Indexer<A>>(
 {
     // A look-up says that the repository is whole.
     let _format = repo.format();
-    match greet(hello, sink) {
+    let (specs, limit, ends) = (wanted.specs, wanted.limit, wanted.ends);
+    match greet(wanted.hello, sink) {
         Ok(()) => fetch_over(repo, source, sink, indexer, specs, limit, ends),
         Err(_) => Err(FetchFault::WriteFailed),
     }

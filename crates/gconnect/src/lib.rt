@@ -46,6 +46,6 @@ mod listing;
 mod request_line;
 mod serving;
 
-pub use crate::fetching::fetch_git;
+pub use crate::fetching::{Wanted, fetch_git};
 pub use crate::listing::{list_git, list_over};
-pub use crate::serving::{GitEnd, hear, serve_git};
+pub use crate::serving::{GitEnd, Site, hear, serve_git};

@@ -15,6 +15,15 @@ use gpkt::{LineBuffer, LineReader, Sink, Source, WriteFault};
 use gserve::{MAX_ERR_TEXT, Served, err_text, serve};
 use std::alloc::Allocator;
 
+/// What is served on connections, and how: a repository by a packer, at which path, and how replies end.
+#[derive(Drop)]
+pub struct Site<'a, K, A: Allocator + Copy> {
+    pub server: &'a Server<A>,
+    pub packer: &'a K,
+    pub path: &'a [u8],
+    pub ends: Ends,
+}
+
 /// How a `git://` connection ended.
 #[derive(Debug, Drop)]
 pub enum GitEnd {
@@ -35,22 +44,20 @@ pub enum GitEnd {
 /// Another path, and a first line that is refused, are answered by an `ERR` line in the advertisement's place, and
 /// nothing after the first line is read. Where there is no memory to read it, nothing is read, and the line says so.
 pub fn serve_git<S: Source, W: Sink, A: Allocator + Copy, K: Packer<A>>(
-    server: &Server<A>,
-    packer: &K,
-    path: &[u8],
-    ends: Ends,
+    site: &Site<'_, K, A>,
     source: &mut S,
     sink: &mut W,
 ) -> GitEnd
-    ensures serves { ServesGit server.now (K.packs packer.now) (K.pack_fails packer.now) path.now ends
+    ensures serves { ServesGit site.now.server.now (K.packs site.now.packer.now) (K.pack_fails site.now.packer.now)
+        site.now.path.now site.now.ends
         (input_of S.remaining S.is_down source.old source.new)
         (output_of W.contents W.passed_on W.is_down sink.old sink.new) result }
     ensures source_loans { S.loans source.new ≡ S.loans source.old }
     ensures sink_loans { W.loans sink.new ≡ W.loans sink.old }
 {
-    match hear(source, server.graph().allocator()) {
-        Ok(hello) if asks_for(path, &hello) => {
-            GitEnd::Served(serve(server, packer, ends, source, sink))
+    match hear(source, site.server.graph().allocator()) {
+        Ok(hello) if asks_for(site.path, &hello) => {
+            GitEnd::Served(serve(site.server, site.packer, site.ends, source, sink))
         }
         Ok(_) => match send_away(sink) {
             Ok(()) => GitEnd::Elsewhere,

@@ -1,3 +1,4 @@
 mod TellingLemmas
 mod ListingLemmas
 mod PrefixLemmas
+mod ServingLemmas

@@ -1,13 +1,17 @@
 //! A server at the other end of a stream, as its client.
 
-ghost use Rattle.std.specs.Prelude.{◌≡◌, IfOk, OnErr};
+ghost use Rattle.std.specs.Prelude.{◌≡◌, ◌≤◌, ◌+◌, ℕ, IfOk, OnErr};
 ghost use Rattle.ghistory.specs.Reach.{Grows};
+ghost use Rattle.ghistory.specs.Walks.{CountsReached};
 ghost use Rattle.grepo.specs.Repos.{IsWhole};
 ghost use Rattle.grepo.specs.Settling.{Settles};
+ghost use Rattle.gsession.specs.Sessions.{tips_of};
+ghost use Rattle.gclient.specs.Conversations.{start_of};
+ghost use Rattle.gtcp.specs.Sockets.{FetchesFrom, FetchesOn, ListsFrom, ListsOn, MakesRequest};
 
 use crate::stream::{MESSAGE_BUFFER, send_at_once};
 use gclient::{FetchFault, Fetched, Repo, Spec};
-use gconnect::{fetch_git, list_git};
+use gconnect::{Wanted, fetch_git, list_git};
 use gfetchreply::PackLimit;
 use ggrammar::{Ends, MessageFault};
 use ggraph::Indexer;
@@ -19,14 +23,6 @@ use grequest::LsRefsRequest;
 use std::alloc::Allocator;
 use std::io::{BufReader, BufWriter};
 use std::net::TcpStream;
-
-/// What is fetched, and how.
-#[derive(Clone, Copy)]
-pub(crate) struct Wanted<'a, A: Allocator + Copy> {
-    pub(crate) specs: &'a [Spec<A>],
-    pub(crate) limit: PackLimit,
-    pub(crate) ends: Ends,
-}
 
 /// Fetches by refspecs from the server at the other end of the stream: writes the first line of a `git://` connection
 /// (gitprotocol-pack(5), "Git Transport"), which names the host and the path, and then does as `gclient::fetch_over`.
@@ -44,11 +40,15 @@ pub fn fetch_on<A: Allocator + Copy, K: Indexer<A>>(
     limit: PackLimit,
     ends: Ends,
 ) -> Result<Fetched<A>, FetchFault<A>>
+    ensures fetches { FetchesOn (K.indexes indexer.now) (K.index_fails indexer.now)
+        (start_of repo.old specs.now limit ends) (record { path = path.now; host = host.now }) repo.new result }
     ensures settled { IfOk result (λ fetched. Settles repo.new.graph.entries repo.old.refs fetched.settled.asks
         fetched.settled.updates.items repo.new.refs) }
     ensures refs { OnErr result (repo.new.refs ≡ repo.old.refs) }
     ensures grows { Grows repo.old.graph.entries repo.new.graph.entries }
     ensures safe { IsWhole repo.new }
+    ensures bound { IfOk result (λ fetched. (held parents : ℕ)
+        → CountsReached repo.old.graph.entries (tips_of repo.old) held parents → fetched.requests ≤ held + 1) }
 {
     // A look-up says that the repository is whole.
     let _format = repo.format();
@@ -56,23 +56,31 @@ pub fn fetch_on<A: Allocator + Copy, K: Indexer<A>>(
         Ok(hello) => hello,
         Err(fault) => return Err(FetchFault::from(fault)),
     };
-    let wanted = Wanted { specs, limit, ends };
-    fetch_from(&stream, &hello, repo, indexer, &wanted)
+    let wanted = Wanted {
+        hello: &hello,
+        specs,
+        limit,
+        ends,
+    };
+    fetch_from(&stream, repo, indexer, &wanted)
 }
 
 /// Fetches as [`fetch_on`] does, with a first line that is made.
 pub(crate) fn fetch_from<A: Allocator + Copy, K: Indexer<A>>(
     stream: &TcpStream,
-    hello: &Hello<A>,
     repo: &mut Repo<A>,
     indexer: &K,
     wanted: &Wanted<'_, A>,
 ) -> Result<Fetched<A>, FetchFault<A>>
+    ensures fetches { FetchesFrom (K.indexes indexer.now) (K.index_fails indexer.now)
+        (start_of repo.old wanted.now.specs.now wanted.now.limit wanted.now.ends) wanted.now.hello.now repo.new result }
     ensures settled { IfOk result (λ fetched. Settles repo.new.graph.entries repo.old.refs fetched.settled.asks
         fetched.settled.updates.items repo.new.refs) }
     ensures refs { OnErr result (repo.new.refs ≡ repo.old.refs) }
     ensures grows { Grows repo.old.graph.entries repo.new.graph.entries }
     ensures safe { IsWhole repo.new }
+    ensures bound { IfOk result (λ fetched. (held parents : ℕ)
+        → CountsReached repo.old.graph.entries (tips_of repo.old) held parents → fetched.requests ≤ held + 1) }
 {
     // A look-up says that the repository is whole.
     let _format = repo.format();
@@ -86,17 +94,7 @@ pub(crate) fn fetch_from<A: Allocator + Copy, K: Indexer<A>>(
     };
     let mut source = FromRead::new(&mut reader);
     let mut sink = ToWrite::new(&mut writer);
-    let (specs, limit, ends) = (wanted.specs, wanted.limit, wanted.ends);
-    fetch_git(
-        repo,
-        hello,
-        &mut source,
-        &mut sink,
-        indexer,
-        specs,
-        limit,
-        ends,
-    )
+    fetch_git(repo, &mut source, &mut sink, indexer, wanted)
 }
 
 /// Lists the refs of the server at the other end of the stream that begin with one of the prefixes, or all where there
@@ -111,7 +109,9 @@ pub fn ls_on<A: Allocator + Copy>(
     host: &[u8],
     path: &[u8],
     prefixes: &[Prefix<A>],
-) -> Result<LsReply<A>, FetchFault<A>> {
+) -> Result<LsReply<A>, FetchFault<A>>
+    ensures { ListsOn prefixes.now (record { path = path.now; host = host.now }) result }
+{
     let asked = match request_for(alloc, prefixes) {
         Ok(asked) => asked,
         Err(fault) => return Err(FetchFault::from(fault)),
@@ -128,7 +128,9 @@ pub(crate) fn ls_from<A: Allocator + Copy>(
     stream: &TcpStream,
     hello: &Hello<A>,
     asked: LsRefsRequest<A>,
-) -> Result<LsReply<A>, FetchFault<A>> {
+) -> Result<LsReply<A>, FetchFault<A>>
+    ensures { ListsFrom asked hello.now result }
+{
     send_at_once(stream);
     let Ok(mut reader) = BufReader::new(alloc, stream) else {
         return Err(FetchFault::NoBuffer);
@@ -147,7 +149,9 @@ pub(crate) fn ls_from<A: Allocator + Copy>(
 pub(crate) fn request_for<A: Allocator + Copy>(
     alloc: A,
     prefixes: &[Prefix<A>],
-) -> Result<LsRefsRequest<A>, MessageFault> {
+) -> Result<LsRefsRequest<A>, MessageFault>
+    ensures { MakesRequest prefixes.now result }
+{
     let mut asked = LsRefsRequest::new(alloc);
     asked.set_symrefs(true);
     asked.set_peel(true);

@@ -1,15 +1,21 @@
 //! Both ends of a connection in one process, turn by turn.
 
-ghost use Rattle.std.specs.Prelude.{◌≡◌, [], None, true, IfOk, IsErr};
+ghost use Rattle.std.specs.Prelude.{◌≡◌, ◌||◌, [], None, true, IfOk, IsErr};
+ghost use Rattle.ggrammar.specs.declared.ends.Ends.TheVariants.{Plain};
+ghost use Rattle.gfetchreply.specs.Values.{default_limit};
 ghost use Rattle.ghistory.specs.Reach.{Grows};
 ghost use Rattle.grepo.specs.Settling.{Settles};
+ghost use Rattle.gclient.specs.Conversations.{start_of};
+ghost use Rattle.gcmd.specs.Fetching.{plain_index_fails, plain_indexes};
+ghost use Rattle.gtcp.specs.Remote.{FetchesInPair, IsPairFault, pair_hello};
+ghost use Rattle.gtcp.specs.Sockets.{FetchesOn};
 
 use crate::message::MessageSink;
 use crate::stream::set_up;
 use ganswer::Server;
 use gclient::{FetchFault, Fetched, Repo, Spec};
 use gcmd::ProgramFault;
-use gconnect::{fetch_git, hear};
+use gconnect::{Wanted, fetch_git, hear};
 use gfetchreply::PackLimit;
 use ggrammar::Ends;
 use ggraph::PlainPack;
@@ -195,6 +201,7 @@ pub(crate) fn fetch_in_pair<A: Allocator + Copy, N>(
 ) -> Result<Fetched<A>, ProgramFault<A>>
 where
     N: Net<Stream = TcpStream, Listener = TcpListener>,
+    ensures fetches { FetchesInPair repo.old specs.now repo.new result }
     ensures settled { IfOk result (λ fetched. Settles repo.new.graph.entries repo.old.refs fetched.settled.asks
         fetched.settled.updates.items repo.new.refs) }
     ensures grows { Grows repo.old.graph.entries repo.new.graph.entries }
@@ -213,6 +220,7 @@ fn fetch_between<A: Allocator + Copy>(
     near: &TcpStream,
     far: &TcpStream,
 ) -> Result<Fetched<A>, ProgramFault<A>>
+    ensures fetches { FetchesInPair repo.old specs.now repo.new result }
     ensures settled { IfOk result (λ fetched. Settles repo.new.graph.entries repo.old.refs fetched.settled.asks
         fetched.settled.updates.items repo.new.refs) }
     ensures grows { Grows repo.old.graph.entries repo.new.graph.entries }
@@ -254,6 +262,7 @@ where
     V: Sink + Drop,
     F: Source + Drop,
     W: Sink + Drop,
+    ensures fetches { FetchesInPair repo.old specs.now repo.new result }
     ensures settled { IfOk result (λ fetched. Settles repo.new.graph.entries repo.old.refs fetched.settled.asks
         fetched.settled.updates.items repo.new.refs) }
     ensures grows { Grows repo.old.graph.entries repo.new.graph.entries }
@@ -276,7 +285,10 @@ fn fault_of<V: Sink, W: Sink, A: Allocator + Copy>(
     fault: FetchFault<A>,
     requests: &MessageSink<V, A>,
     replies: &MessageSink<W, A>,
-) -> ProgramFault<A> {
+) -> ProgramFault<A>
+    ensures { IsPairFault fault (requests.now.too_long || replies.now.too_long)
+        (requests.now.lacks_memory || replies.now.lacks_memory) result }
+{
     if requests.is_too_long() || replies.is_too_long() {
         return ProgramFault::PairLimit;
     }
@@ -293,6 +305,8 @@ fn fetch_as_client<A: Allocator + Copy, S: Source, W: Sink>(
     answers: &mut S,
     requests: &mut W,
 ) -> Result<Fetched<A>, FetchFault<A>>
+    ensures fetches { FetchesOn plain_indexes (plain_index_fails A) (start_of repo.old specs.now default_limit Plain)
+        pair_hello repo.new result }
     ensures settled { IfOk result (λ fetched. Settles repo.new.graph.entries repo.old.refs fetched.settled.asks
         fetched.settled.updates.items repo.new.refs) }
     ensures grows { Grows repo.old.graph.entries repo.new.graph.entries }
@@ -301,15 +315,11 @@ fn fetch_as_client<A: Allocator + Copy, S: Source, W: Sink>(
         Ok(hello) => hello,
         Err(fault) => return Err(FetchFault::from(fault)),
     };
-    let limit = PackLimit::default();
-    fetch_git(
-        repo,
-        &hello,
-        answers,
-        requests,
-        &PlainPack,
+    let wanted = Wanted {
+        hello: &hello,
         specs,
-        limit,
-        Ends::Plain,
-    )
+        limit: PackLimit::default(),
+        ends: Ends::Plain,
+    };
+    fetch_git(repo, answers, requests, &PlainPack, &wanted)
 }
