@@ -1,6 +1,6 @@
 -- Where a repository is served (git-fetch(1), "GIT URLS").
 use Rattle.std.specs.Prelude.{◌≡◌, ◌<◌, ◌++◌, ℕ, List, codes}
-use Rattle.core.specs.Str.Parse.{IsNumeral, digits_value}
+use Rattle.std.specs.Str.Parse.{IsNumeral, digits_value}
 use Rattle.ghello.specs.Hello.{Hello, IsHello}
 
 -- a decimal number up to 65,535

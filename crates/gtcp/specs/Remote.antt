@@ -108,7 +108,8 @@ module _ {A : Type 0} (old : List ℕ) (specs : List Refspec) (limit : ℕ) (end
   abbrev pub CannotFetch : ProgramFault A → Type 0
   CannotFetch fault =
       RefusesClient old fault
-      ⊎ ((repo new : RepoState A) × NamesClient old repo × FetchesAt repo specs limit ends hello new (Err fault))
+      ⊎ ((repo : RepoState A) × (new : RepoState A) × NamesClient old repo
+      × FetchesAt repo specs limit ends hello new (Err fault))
 
   -- what `fetch --tcp` does: that; or a fault was met, nothing is reported, and there is no new file
   abbrev pub FetchesRemote : Output → Option (List ℕ) → Outcome A → Type 0
@@ -155,7 +156,8 @@ module _ {A : Type 0} (client : List ℕ) (specs : List Refspec) where
   abbrev pub CannotMeet : ProgramFault A → Type 0
   CannotMeet fault =
       RefusesClient client fault
-      ⊎ ((repo new : RepoState A) × NamesClient client repo × FetchesInPair repo specs new (Err fault))
+      ⊎ ((repo : RepoState A) × (new : RepoState A) × NamesClient client repo
+      × FetchesInPair repo specs new (Err fault))
 
   -- what `pair` does: that; or a fault was met before
   abbrev pub Meets : Output → Outcome A → Type 0
