@@ -19,8 +19,9 @@
 //!
 //! # What the contracts do not rule out
 //!
-//! It may report out of memory for the scenario, for an event, or for what is to be shown, wherever `gscenario` and
-//! `gworld` may, or there is something to be shown. How often the sinks are called is not said, nor how long anything takes.
+//! It may report out of memory for a file, for the scenario or for an event, wherever `gcmd`, `gscenario` and `gworld`
+//! may, and for what is to be shown, even where that is nothing. How often the sinks are called is not said, nor how long
+//! anything takes.
 //!
 //! # Stands on
 //!
