@@ -1,7 +1,9 @@
 -- A graph's entries as its map grows and is cut back.
-use Rattle.std.proofs.Common.{◌≡◌, ◌↔◌, ℕ, ◌<◌, Bool, nat_eq, List, [], ◌∷◌, ◌++◌, length, take, All, IsTrue, None, sym, ap, ◌∙◌, subst}
+use Rattle.std.proofs.Common.{◌≡◌, ◌↔◌, ℕ, ◌<◌, Bool, true, false, cond, nat_eq, List, [], ◌∷◌, ◌++◌, length, take, All, IsTrue, Option, None, Some, sym, ap, ◌∙◌, subst}
 use Rattle.std.specs.Cmp.Lexicographic.{pointwise}
+use Rattle.std.specs.Map.{lookup}
 use Rattle.std.proofs.lemmas.List.{map-append, take-map}
+use Rattle.std.proofs.lemmas.Option.{none-some, same_Some}
 use Rattle.indexmap.specs.IndexMap.{IndexMap, insert_entry}
 use Rattle.indexmap.proofs.CallerLemmas.{insert_entry-new}
 use Rattle.gobject.specs.declared.node.Node.{Node}
@@ -18,6 +20,16 @@ pub pushed_pairs : {A S : Type 0} (m : IndexMap (List ℕ) (Node A) S) (new : Li
 pushed_pairs m new entry absent is =
     ap entries_of (is ∙ insert_entry-new (pointwise nat_eq) m entry.id entry.node (node_at_pairs m.entries entry.id ∙ absent))
     ∙ map-append (λ pair. entry_of pair.0 pair.1) m.entries ((entry.id, entry.node) ∷ [])
+
+put_here : {A : Type 0} (b : Bool) (pair : List ℕ × Node A) (pairs rest : List (List ℕ × Node A)) (found : Option (Node A)) (node : Node A) → (found ≡ Some node → rest ≡ pairs) → cond b (Some pair.1) found ≡ Some node → cond b ((pair.0, node) ∷ pairs) (pair ∷ rest) ≡ pair ∷ pairs
+put_here true pair pairs rest found node again at = ap (λ n. (pair.0, n) ∷ pairs) (sym (same_Some pair.1 node at))
+put_here false pair pairs rest found node again at = ap (λ more. pair ∷ more) (again at)
+
+-- where the pair is there, putting it in changes nothing
+pub put_again : {A : Type 0} (pairs : List (List ℕ × Node A)) (a : List ℕ) (node : Node A) → lookup (pointwise nat_eq a) pairs ≡ Some node → insert_entry (pointwise nat_eq) pairs a node ≡ pairs
+put_again [] a node at = absurd (none-some node at)
+put_again (pair ∷ pairs) a node at =
+    put_here (pointwise nat_eq a pair.0) pair pairs (insert_entry (pointwise nat_eq) pairs a node) (lookup (pointwise nat_eq a) pairs) node (put_again pairs a node) at
 
 -- the first pairs are the first entries
 pub taken_pairs : {A : Type 0} (pairs new : List (List ℕ × Node A)) (n : ℕ) → new ≡ take n pairs → entries_of new ≡ take n (entries_of pairs)

@@ -8,7 +8,7 @@ use Rattle.ghistory.specs.declared.fault.GraphFault.TheVariants.{TooManyParents,
 use Rattle.gobject.specs.declared.node.Node.{Node}
 use Rattle.gobject.specs.declared.node.Entry.{Entry}
 use Rattle.gobject.specs.Objects.{node_at, entry_of, IsShaped, IsTagShaped, max_parents}
-use Rattle.ghistory.specs.Graphs.{History, IsNode, HasIdsOf, HasParent, max_nodes}
+use Rattle.ghistory.specs.Graphs.{History, IsNode, Holds, HasIdsOf, HasParent, max_nodes}
 
 -- one entry comes in: its ids are of the graph's format, its node has its shape, and it was there with that node or
 -- comes at the end; one that is new comes in only where there is room for it
@@ -96,3 +96,13 @@ abbrev pub AddsOnlyParents : {A : Type 0} → List (Entry A) → List (Entry A) 
 AddsOnlyParents {A} old entries new =
     (a b : List ℕ) → HasParent new a b →
     HasParent old a b ⊎ ((node : Node A) × Lists entries a node × Contains node.parents b)
+
+-- an entry comes at the end, if its id is new; if not, and if there is no memory for it, all stays
+abbrev pub PutsNew : {A : Type 0} → List (Entry A) → Entry A → List (Entry A) → Result Bool GraphFault → Type 0
+PutsNew old entry new (Ok true) = (node_at old entry.id ≡ None) × (new ≡ old ++ entry ∷ [])
+PutsNew old entry new (Ok false) = Holds old entry.id × (new ≡ old)
+PutsNew old entry new (Err fault) = (fault ≡ Memory) × (node_at old entry.id ≡ None) × (new ≡ old)
+
+-- the same of a graph
+abbrev pub PushesNew : {A : Type 0} → History A → Entry A → History A → Result Bool GraphFault → Type 0
+PushesNew old entry new result = (new.format ≡ old.format) × PutsNew old.entries entry new.entries result

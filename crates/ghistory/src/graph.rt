@@ -6,12 +6,14 @@ ghost use Rattle.std.specs.Option.{option_copied, option_map};
 ghost use Rattle.gobject.specs.Objects.{IsShaped, entry_of, node_at, place_of};
 ghost use Rattle.gname.specs.declared.formats.Format.TheVariants.{Sha1};
 ghost use Rattle.ghistory.specs.declared.fault.GraphFault.TheVariants.{Memory};
-ghost use Rattle.ghistory.specs.Graphs.{IsGraph, IsOrdered, Holds, IsFirstAbsent, HasIdsOf, max_nodes, pairs_of};
+ghost use Rattle.ghistory.specs.Graphs.{IsGraph, IsOrdered, Holds, IsFirstAbsent, HasIdsOf, entries_of, max_nodes, pairs_of};
+ghost use Rattle.ghistory.specs.Insert.{PushesNew, PutsNew};
 
 use crate::fault::GraphFault;
 use gname::{Format, Oid};
 use gobject::{Entry, Node};
 use indexmap::IndexMap;
+use indexmap::map::Entry as Slot;
 use std::alloc::{AllocError, Allocator, Global};
 use std::hash::{BuildHasherDefault, DefaultHasher};
 use std::marker::Model;
@@ -116,7 +118,25 @@ impl<A: Allocator + Copy> Graph<A> {
     pub fn contains_all(&self, ids: &[Oid]) -> bool
         ensures { IsTrue result ↔ All (Holds self.now.entries) ids.now }
     {
-        ids.iter().all(|id| self.contains(id))
+        ids.iter().all(|id| self.holds(id))
+    }
+
+    // Whether the id is one of the graph's. A parent is often the node that came last, which needs no look-up.
+    fn holds(&self, id: &Oid) -> bool
+        ensures { IsTrue result ↔ Holds self.now.entries id.now }
+    {
+        self.is_last(id) || self.contains(id)
+    }
+
+    // Whether the id is that of the node that came last.
+    fn is_last(&self, id: &Oid) -> bool
+        ensures { IsTrue result → Holds self.now.entries id.now }
+    {
+        let last = self.nodes.len().saturating_sub(1);
+        match self.nodes.get_index(last) {
+            Some(pair) => pair.0 == id,
+            None => false,
+        }
     }
 
     /// The first of the ids that the graph does not hold. It takes no memory.
@@ -237,6 +257,26 @@ impl<A: Allocator + Copy> Graph<A> {
         Ok(())
     }
 
+    /// Adds an entry after the others, if its id is new, and answers whether it is. The caller has looked up whether the
+    /// graph holds its parents. Where the id is not new, or there is no memory, the graph stays as it was.
+    ///
+    /// It fails with `Memory` alone, and only for a new id.
+    pub fn push_new(&mut self, entry: Entry<A>, parents_held: bool) -> Result<bool, GraphFault>
+        requires ids { HasIdsOf self.old.format entry }
+        requires shaped { IsShaped entry.node }
+        requires room { length self.old.entries < max_nodes }
+        requires parents { IsTrue parents_held ↔ All (Holds self.old.entries) entry.node.parents }
+        ensures pushes { PushesNew self.old entry self.new result }
+        ensures graph { IsGraph self.new }
+    {
+        let ordered = self.stays_ordered(parents_held);
+        if !put_new(&mut self.nodes, entry.id, entry.node)? {
+            return Ok(false);
+        }
+        self.ordered = ordered;
+        Ok(true)
+    }
+
     /// Keeps the first entries, as many as `count`, which came with their parents first as `ordered` says.
     pub(crate) fn cut_back(&mut self, count: usize, ordered: bool)
         requires { IsTrue ordered ↔ IsOrdered (take count self.old.entries) }
@@ -244,5 +284,26 @@ impl<A: Allocator + Copy> Graph<A> {
     {
         self.nodes.truncate(count);
         self.ordered = ordered;
+    }
+}
+
+// Adds a pair to the map, if its id is new, and answers whether it is. The id is looked up once.
+fn put_new<A: Allocator + Copy>(
+    nodes: &mut IndexMap<Oid, Node<A>, IdHasher, A>,
+    id: Oid,
+    node: Node<A>,
+) -> Result<bool, GraphFault>
+    ensures { PutsNew (entries_of nodes.old.entries) (entry_of id node) (entries_of nodes.new.entries) result }
+{
+    match nodes.entry(id) {
+        Ok(Slot::Vacant(slot)) => {
+            slot.insert(node);
+            Ok(true)
+        }
+        Ok(Slot::Occupied(slot)) => {
+            slot.into_mut();
+            Ok(false)
+        }
+        Err(_) => Err(GraphFault::Memory),
     }
 }

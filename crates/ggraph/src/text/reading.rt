@@ -192,7 +192,8 @@ impl<A: Allocator + Copy> Reading<A> {
     }
 }
 
-// Adds the node of a line to the graph. Memory is asked for last.
+// Adds the node of a line to the graph. Only an id that is new makes a want of memory a fault, and it is looked up as
+// it is added: a second look-up tells what a refused line is.
 fn add_node<A: Allocator + Copy>(
     graph: &mut Graph<A>,
     alloc: A,
@@ -207,17 +208,26 @@ fn add_node<A: Allocator + Copy>(
         × (graph.new ≡ with_entry graph.old (entry_of id (node_of kind parents.now)))) }
     ensures refused { IfErr result (RefusesEntry order graph.old (entry_of id (node_of kind parents.now)) number) }
 {
-    if graph.len() >= MAX_NODES || !is_shaped(kind, parents) || graph.contains(&id) {
+    if graph.len() >= MAX_NODES || !is_shaped(kind, parents) {
         return Err(LoadFault::Text { line: number });
     }
     let parents_held = graph.contains_all(parents);
     if order == Order::ParentsFirst && !parents_held {
+        if graph.contains(&id) {
+            return Err(LoadFault::Text { line: number });
+        }
         return Err(LoadFault::ParentLater { line: number });
     }
-    let parents = Parents::from_slice(alloc, parents)?;
+    let Ok(parents) = Parents::from_slice(alloc, parents) else {
+        if graph.contains(&id) {
+            return Err(LoadFault::Text { line: number });
+        }
+        return Err(LoadFault::Memory);
+    };
     let node = Node { kind, parents };
-    match graph.push_after(Entry { id, node }, parents_held) {
-        Ok(()) => Ok(()),
+    match graph.push_new(Entry { id, node }, parents_held) {
+        Ok(true) => Ok(()),
+        Ok(false) => Err(LoadFault::Text { line: number }),
         Err(_) => Err(LoadFault::Memory),
     }
 }
