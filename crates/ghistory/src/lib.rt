@@ -11,6 +11,8 @@
 //!   for its first cause alone, in a fixed order, and then the graph is as it was. Memory is a cause only
 //!   where an object is new and there is room for it. A list is refused in one way, out of memory aside: by
 //!   its first entry that can't come in; a list that can come in whole is refused for want of memory alone.
+//! - `push_new` adds an object after the others, if its id is new, and answers whether it is; where it is not, and out
+//!   of memory, which it reports of a new id alone, the graph is as it was.
 //! - `is_closed` answers whether no parent is missing. `peel` answers the commit at the end of a chain of
 //!   tags exactly where there is one. Neither takes memory.
 //! - `first_absent` answers the first of some ids that is not held.
