@@ -37,7 +37,7 @@
 //!
 //! # Stands on
 //!
-//! `hex` for reading digits, `memchr` for searches in a name.
+//! `hex` for what is wrong with digits that can't be read, `memchr` for searches in a name.
 #![tactic(auto)]
 
 mod digits;
