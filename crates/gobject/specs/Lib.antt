@@ -1,8 +1,9 @@
 pub mod Faults
+pub mod Laws
 pub mod Objects
 pub mod Packs
+pub mod ParentLists
+pub mod PlainPackFeed
+pub mod PlainPackReading
 pub mod PlainPackText
 pub mod PlainPackWriting
-pub mod PlainPackReading
-pub mod PlainPackFeed
-pub mod Laws

@@ -17,18 +17,27 @@ pub enum Kind {
     Tag,
 }
 
-/// The ids of a node's parents, in order. The same id may come more than once.
+/// The ids of a node's parents, in order. The same id may come more than once. One alone, as most nodes have, takes no
+/// memory of its own.
 #[derive(Debug, Drop)]
 pub struct Parents<A: Allocator + Copy = Global> {
-    ids: Vec<Oid, A>,
+    alloc: A,
+    ids: Ids<A>,
+}
+
+#[derive(Debug, Drop)]
+enum Ids<A: Allocator + Copy> {
+    One([Oid; 1]),
+    Many(Vec<Oid, A>),
 }
 
 impl<A: Allocator + Copy> Model for Parents<A> {
     ghost use Rattle.std.specs.Prelude.{List, ℕ};
+    ghost use Rattle.gobject.specs.ParentLists.{ids_of};
 
     ghost Value = { List (List ℕ) };
 
-    ghost view = { λ parents. parents.ids.items };
+    ghost view = { λ parents. ids_of parents.ids };
 }
 
 impl<A: Allocator + Copy> Parents<A> {
@@ -37,7 +46,8 @@ impl<A: Allocator + Copy> Parents<A> {
         ensures { result ≡ [] }
     {
         Parents {
-            ids: Vec::new(alloc),
+            alloc,
+            ids: Ids::Many(Vec::new(alloc)),
         }
     }
 
@@ -45,8 +55,12 @@ impl<A: Allocator + Copy> Parents<A> {
     pub fn from_slice(alloc: A, ids: &[Oid]) -> Result<Parents<A>, AllocError>
         ensures { IfOk result (λ parents. parents ≡ ids.now) }
     {
-        let ids = Vec::from_slice(alloc, ids)?;
-        Ok(Parents { ids })
+        if ids.len() == 1 {
+            let ids = Ids::One([ids[0]]);
+            return Ok(Parents { alloc, ids });
+        }
+        let ids = Ids::Many(Vec::from_slice(alloc, ids)?);
+        Ok(Parents { alloc, ids })
     }
 
     /// Adds a parent at the end. Where there is no memory the list stays as it was.
@@ -54,16 +68,39 @@ impl<A: Allocator + Copy> Parents<A> {
         ensures ok { OnOk result (self.new ≡ self.old ++ id ∷ []) }
         ensures err { OnErr result (self.new ≡ self.old) }
     {
-        self.ids.push(id)?;
-        Ok(())
+        if self.as_slice().is_empty() {
+            self.ids = Ids::One([id]);
+            return Ok(());
+        }
+        match &mut self.ids {
+            Ids::Many(ids) => {
+                ids.push(id)?;
+                Ok(())
+            }
+            Ids::One(ids) => {
+                let both = pair_of(self.alloc, ids[0], id)?;
+                self.ids = Ids::Many(both);
+                Ok(())
+            }
+        }
     }
 
     /// The parents in order.
     pub fn as_slice(&self) -> &[Oid]
         ensures { result.now ≡ self.now }
     {
-        self.ids.as_slice()
+        match &self.ids {
+            Ids::One(ids) => ids,
+            Ids::Many(ids) => ids.as_slice(),
+        }
     }
+}
+
+// A list of two ids.
+fn pair_of<A: Allocator>(alloc: A, first: Oid, second: Oid) -> Result<Vec<Oid, A>, AllocError>
+    ensures { IfOk result (λ pair. pair.items ≡ first ∷ second ∷ []) }
+{
+    Vec::from_slice(alloc, &[first, second])
 }
 
 /// An object: what it is, and its parents.
