@@ -11,6 +11,7 @@ use Rattle.gname.specs.declared.formats.Format.{Format}
 use Rattle.gname.specs.declared.formats.Format.TheVariants.{Sha1, Sha256}
 use Rattle.gname.specs.declared.ids.OidFault.{OidFault}
 use Rattle.gname.specs.declared.ids.OidFault.TheVariants.{Length, Digit}
+use Rattle.gname.proofs.IdLemmas.{few_digits}
 use Rattle.ggrammar.specs.Ids.{id_of_text, ok_of, IdIsSpelt}
 
 -- a text of the right length that spells none
@@ -61,10 +62,6 @@ pub id_spells : IdsHaveOneFormat → IdsHaveTexts → (format : Format) (id : Li
 id_spells one texts format id h =
     let of = one format id h in
     subst (λ (f : Format). IsIdTextOf f (id_text id) id) of.1 (texts id of.0).0
-
-few_digits : (format : Format) → id_text_length format ≤ 64
-few_digits Sha1 = omega arith
-few_digits Sha256 = omega arith
 
 pub id_text_short : IdsHaveOneFormat → IdsHaveTexts → (format : Format) (id : List ℕ) → IsIdOf format id → length (id_text id) ≤ 64
 id_text_short one texts format id h =

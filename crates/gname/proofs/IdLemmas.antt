@@ -1,5 +1,5 @@
 -- Facts on object ids and their texts.
-use Rattle.std.proofs.Common.{◌≡◌, ◌≢◌, ℕ, ◌+◌, ◌*◌, ◌%◌, ◌<◌, true, inl, inr, List, length, take, Result, Ok, Err, IsErrAnd, refl, sym, ap, ◌∙◌, arith}
+use Rattle.std.proofs.Common.{◌≡◌, ◌≢◌, ℕ, ◌+◌, ◌*◌, ◌%◌, ◌<◌, ◌≤◌, true, inl, inr, List, length, take, Result, Ok, Err, IsErrAnd, refl, sym, ap, ◌∙◌, arith}
 use Rattle.std.specs.List.{AllPass}
 use Rattle.std.specs.Result.{result_unwrap_or}
 use Rattle.std.proofs.Math.ListN.{length-take}
@@ -17,6 +17,11 @@ use Rattle.gname.specs.Ids.{IsId, IsIdOf, IsIdText, IsIdTextOf, IsFirstBadDigit,
 use Rattle.gname.specs.Laws.{IdTextFacts}
 use Rattle.gname.specs.declared.ids.OidFault.{OidFault}
 use Rattle.gname.specs.declared.ids.OidFault.TheVariants.{Length, Digit}
+
+-- an id has at most 64 digits
+pub few_digits : (format : Format) → id_text_length format ≤ 64
+few_digits Sha1 = omega arith
+few_digits Sha256 = omega arith
 
 -- an id of a format has that format
 pub format_of-id : (format : Format) (id : List ℕ) → IsIdOf format id → format_of id ≡ format

@@ -1,8 +1,10 @@
 //! The hexadecimal digits of bytes.
 #![tactic(auto)]
 
-ghost use Rattle.std.specs.Prelude.{◌≡◌, ◌*◌, ◌/◌, ◌%◌, length, slice_index};
-ghost use Rattle.hex.specs.Hex.{encode_lower, lower_digits};
+ghost use Rattle.std.specs.Prelude.{◌≡◌, ◌<◌, ◌*◌, ◌/◌, ◌%◌, IsTrue, Ok, Some, length, slice_index};
+ghost use Rattle.hex.specs.Hex.{decode_sized, encode_lower, hex_digit_value, lower_digits};
+
+use hex::{FromHex, FromHexError};
 
 // The two digits of each byte, from `00` to `ff`. Writing both at once is what makes the texts of
 // ids cheap: a list of refs is mostly such texts.
@@ -35,4 +37,57 @@ pub(crate) fn write_digits(bytes: &[u8], out: &mut [u8])
         out[2 * i] = high;
         out[2 * i + 1] = low;
     }
+}
+
+// The value of each byte as a digit, in either case, and 255 of one that is none. Ids are read by a look-up for each
+// digit: a branch on what kind of digit it is would be guessed wrong at each third one.
+static DIGIT_VALUES: [u8; 256] = [
+    255, 255, 255, 255, 255, 255, 255, 255, 255, 255, 255, 255, 255, 255, 255, 255, 255, 255, 255,
+    255, 255, 255, 255, 255, 255, 255, 255, 255, 255, 255, 255, 255, 255, 255, 255, 255, 255, 255,
+    255, 255, 255, 255, 255, 255, 255, 255, 255, 255, 0, 1, 2, 3, 4, 5, 6, 7, 8, 9, 255, 255, 255,
+    255, 255, 255, 255, 10, 11, 12, 13, 14, 15, 255, 255, 255, 255, 255, 255, 255, 255, 255, 255,
+    255, 255, 255, 255, 255, 255, 255, 255, 255, 255, 255, 255, 255, 255, 255, 255, 10, 11, 12, 13,
+    14, 15, 255, 255, 255, 255, 255, 255, 255, 255, 255, 255, 255, 255, 255, 255, 255, 255, 255,
+    255, 255, 255, 255, 255, 255, 255, 255, 255, 255, 255, 255, 255, 255, 255, 255, 255, 255, 255,
+    255, 255, 255, 255, 255, 255, 255, 255, 255, 255, 255, 255, 255, 255, 255, 255, 255, 255, 255,
+    255, 255, 255, 255, 255, 255, 255, 255, 255, 255, 255, 255, 255, 255, 255, 255, 255, 255, 255,
+    255, 255, 255, 255, 255, 255, 255, 255, 255, 255, 255, 255, 255, 255, 255, 255, 255, 255, 255,
+    255, 255, 255, 255, 255, 255, 255, 255, 255, 255, 255, 255, 255, 255, 255, 255, 255, 255, 255,
+    255, 255, 255, 255, 255, 255, 255, 255, 255, 255, 255, 255, 255, 255, 255, 255, 255, 255, 255,
+    255, 255, 255, 255, 255, 255, 255, 255, 255, 255, 255, 255, 255, 255, 255, 255, 255, 255, 255,
+    255, 255, 255,
+];
+
+// The value of a digit, in either case, and 255 of a byte that is none.
+fn digit_value(byte: u8) -> u8
+    ensures { result < 16 → hex_digit_value byte ≡ Some result }
+{
+    DIGIT_VALUES[byte as usize]
+}
+
+// Reads two digits for each byte, in either case, and answers whether all are digits.
+fn read_digits(text: &[u8], out: &mut [u8]) -> bool
+    requires { length text.now ≡ 2 * length out.old }
+    ensures { IsTrue result → decode_sized text.now (length out.old) ≡ Ok out.new }
+{
+    'bytes: for i in 0..text.len() / 2 {
+        let high = digit_value(text[2 * i]);
+        let low = digit_value(text[2 * i + 1]);
+        if high > 15 || low > 15 {
+            return false;
+        }
+        out[i] = high * 16 + low;
+    }
+    true
+}
+
+/// The bytes of a text of two digits for each, in either case, as `hex` reads it.
+pub(crate) fn from_digits<const N: usize>(text: &[u8]) -> Result<[u8; N], FromHexError>
+    ensures { result ≡ decode_sized text.now N }
+{
+    let mut bytes = [0u8; N];
+    if text.len() % 2 == 0 && text.len() / 2 == N && read_digits(text, &mut bytes) {
+        return Ok(bytes);
+    }
+    FromHex::from_hex(text)
 }

@@ -10,7 +10,7 @@ use std::error::Error;
 use std::fmt;
 
 /// Why a text is no ref name, or no prefix. A text may have several faults: the first in this order
-/// is reported, with its first place in the text.
+/// is reported, with its first position in the text.
 #[derive(Clone, Copy, Debug, PartialEq, Eq, Drop)]
 pub enum NameFault {
     /// It has no byte.

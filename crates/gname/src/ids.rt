@@ -13,9 +13,9 @@ ghost use Rattle.gname.specs.Formats.{id_text_length};
 ghost use Rattle.gname.specs.Ids.{IsId, IsIdOf, IsIdText, ReadsId, format_of, id_cmp, id_fault_of, id_text};
 ghost use Rattle.gname.specs.Faults.{id_fault_row, id_fault_text};
 
-use crate::digits::write_digits;
+use crate::digits::{from_digits, write_digits};
 use crate::formats::Format;
-use hex::{FromHex, FromHexError};
+use hex::FromHexError;
 use std::cmp::Ordering;
 use std::error::Error;
 use std::fmt;
@@ -70,8 +70,8 @@ impl Oid {
         ensures { ReadsId format text.now result }
     {
         let digest = match format {
-            Format::Sha1 => Digest::Sha1(FromHex::from_hex(text)?),
-            Format::Sha256 => Digest::Sha256(FromHex::from_hex(text)?),
+            Format::Sha1 => Digest::Sha1(from_digits(text)?),
+            Format::Sha256 => Digest::Sha256(from_digits(text)?),
         };
         Ok(Oid { digest })
     }
@@ -168,7 +168,7 @@ impl Hash for Oid {
 pub enum OidFault {
     /// The text does not have forty bytes, or sixty-four in SHA-256.
     Length,
-    /// The byte at this place is the first that is no hexadecimal digit.
+    /// The byte at this position is the first that is no hexadecimal digit.
     Digit { at: usize },
 }
 

@@ -66,14 +66,14 @@ pub fn rules_never_report_memory()
     ensures { RulesNeverReportMemory }
 {}
 
-/// A fault's place is the first that has the fault.
+/// A fault's position is the first that has the fault.
 pub fn first_places_are_first()
     ensures { FirstPlacesAreFirst }
 {}
 
 /// The components of a text are its parts between slashes, and every text has one at least. A ref name has no
 /// component that is empty, begins with a dot or ends with `.lock`. The fault `Component` is that of a text exactly where
-/// it has such a component and no earlier rule finds a fault; its place is where the first such component begins.
+/// it has such a component and no earlier rule finds a fault; its position is where the first such component begins.
 pub fn components_are_parts()
     ensures { ComponentsAreParts }
 {}

@@ -9,7 +9,7 @@
 //!   [`Format`].
 //! - [`RefName::new`], [`RefName::check`] and [`Prefix::new`] accept exactly the names and prefixes that
 //!   the rules of git-check-ref-format(1) allow, and report of each other text the first fault in one
-//!   fixed order, with its first place. Out of memory is reported of a well-formed text alone, and
+//!   fixed order, with its first position. Out of memory is reported of a well-formed text alone, and
 //!   never by `check`, which takes no memory. [`RefName::head`] is `HEAD`, and [`RefName::copy_in`] the
 //!   same name in another allocator, where there is memory.
 //! - The components that the rules judge are the parts of a text between its slashes:
@@ -30,14 +30,15 @@
 //!   `conformance` have names with that program's answers.
 //! - What a value prints for debugging, and that memory which is there is used.
 //!
-//! # What a body can still get away with
+//! # What the contracts do not rule out
 //!
-//! It may report out of memory of any well-formed name or prefix, of `HEAD` and of any copy, as often
-//! as it likes. It may take as long as it likes, and more memory than it needs.
+//! A body may report out of memory of any well-formed name or prefix, of `HEAD` and of any copy, as often as it
+//! likes. Formatting a fault may fail where there is room for its text. It may take as long as
+//! it likes, and more memory than it needs.
 //!
 //! # Stands on
 //!
-//! `hex` for reading digits, `memchr` for searches in a name.
+//! `hex` for what is wrong with digits that can't be read, `memchr` for searches in a name.
 #![tactic(auto)]
 
 mod digits;

@@ -12,6 +12,7 @@ use Rattle.gname.specs.declared.formats.Format.{Format}
 use Rattle.gname.specs.declared.formats.Format.TheVariants.{Sha1, Sha256}
 use Rattle.gname.specs.Formats.{id_text_length}
 use Rattle.gname.specs.Laws.{IdTextsAreDigits, IdsHaveOneFormat, TextsSpellOneId}
+use Rattle.gname.proofs.IdLemmas.{few_digits}
 use Rattle.gobject.specs.declared.node.Kind.{Kind}
 use Rattle.gobject.specs.declared.node.Kind.TheVariants.{Commit, Tag}
 use Rattle.gobject.specs.declared.plain_pack.read.Separator.{Separator}
@@ -45,10 +46,6 @@ IsPart-id law text id h = λ at.
       | inl lt ↦ hex_other (get_or text at 0) ((law text id h).digits at 0 lt)
       | inr le ↦ let past = get_or_past text at 0 le in (λ is. absurd (omega arith), λ is. absurd (omega arith))
     ]
-
-few_digits : (format : Format) → id_text_length format ≤ 64
-few_digits Sha1 = omega arith
-few_digits Sha256 = omega arith
 
 -- an id has at most 64 digits
 pub length-id-most : (digits id : List ℕ) → IsIdText digits id → length digits ≤ 64
