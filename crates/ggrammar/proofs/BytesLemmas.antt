@@ -16,7 +16,7 @@ module _ (judge : Judge) where
   pub reads_front : ReadsFront judge
   reads_front lines bytes rest whole at = record { whole = whole; bytes = (at.front, at.parts, at.spelt) }
 
-  -- of two whole lists at the front of the same bytes neither is longer
+  -- of two complete lists at the front of the same bytes neither is longer
   same_lines : OneBegins → (lines others : List Packet) (front next rest after : List ℕ) → IsWhole judge lines → IsWhole judge others
       → SpellsAll lines front → SpellsAll others next → front ++ rest ≡ next ++ after → (others ≡ lines) × (after ≡ rest)
   same_lines begins lines others front next rest after whole also spelt read same =
@@ -42,7 +42,7 @@ module _ (judge : Judge) where
       let h = same_lines begins lines others bytes (bytes ++ rest) rest [] whole also spelt read (sym (append-nil (bytes ++ rest))) in
       (h.0, sym h.1)
 
-  -- a whole list does not go on with a packet that is refused
+  -- a complete list does not go on with a packet that is refused
   refused_is_not_whole : (front more : List Packet) (packet : Packet) (reason : Why) → judge front packet ≡ Refused reason
       → IsWhole judge (front ++ packet ∷ more) → ⊥
   refused_is_not_whole front more packet reason refuses whole =
@@ -51,7 +51,7 @@ module _ (judge : Judge) where
         | inr h ↦ IsOpen-never_refuses front packet h.0 reason (subst (IsOpen judge) h.1 whole.goes) refuses
       ]
 
-  -- a line is spelt where a message goes on
+  -- a packet is spelt where a message goes on
   module _ (one : OneReading) (no_line : RefusedIsNoLine) (four : HasFourBytes) (brings : List Packet → Packet → Bool) (front : List Packet)
       (line : Packet) (mid new spelling rest : List ℕ) (parts : mid ≡ spelling ++ rest) (spelt : Spells line spelling) (fits : (reason : Why) → judge front line ≡ Refused reason → ⊥) where
     refuses_packet : (reason : Why) (packet : Packet) → Reads (known mid new) (Ok (Some packet)) → judge front packet ≡ Refused reason → ⊥

@@ -1,15 +1,15 @@
--- Facts on open and whole lists of packet lines, for every judge.
+-- Facts on open and complete lists of packets, for every judge.
 use Rattle.std.proofs.Common.{◌≡◌, List, [], ◌∷◌, ◌++◌, ◌⊎◌, inl, inr, refl, sym, ap, subst, ◌∙◌, append_assoc}
 use Rattle.gpkt.specs.Packets.{Packet}
 use Rattle.ggrammar.specs.Grammar.{Judge, Open, Whole, Refused, IsOpen, HasEndings, LawsOf, OpenIsUnfinished, RefusesFirstMisfits, IsPrefixFree}
 use Rattle.ggrammar.specs.declared.fault.Why.{Why}
 
--- an empty list has no place
+-- an empty list has no position
 pub nil_has_none : {X : Type 0} (front : List X) (x : X) (back : List X) → [] ≡ front ++ x ∷ back → ⊥
 nil_has_none [] x back e = cc
 nil_has_none (y ∷ front) x back e = cc
 
--- a place of a list with one more is the last, or one of the list's
+-- a position of a list with one more is the last, or one of the list's
 pub split_push : {X : Type 0} (xs : List X) (x : X) (front : List X) (y : X) (back : List X) → xs ++ x ∷ [] ≡ front ++ y ∷ back
     → ((front ≡ xs) × (y ≡ x) × (back ≡ [])) ⊎ ((more : List X) × (xs ≡ front ++ y ∷ more))
 split_push [] x [] y back e = inl (refl, cc, cc)

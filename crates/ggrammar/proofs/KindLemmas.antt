@@ -1,4 +1,4 @@
--- Reading a kind of message, by what its lines say.
+-- Reading a kind of message, by what its packets say.
 use Rattle.std.proofs.Common.{◌≡◌, ℕ, Bool, List, ◌++◌, Option, Some, None, Result, Ok, Err, refl, subst, ap}
 use Rattle.std.specs.Prelude.{IfErr}
 use Rattle.gpkt.specs.Packets.{Packet, canonical_all}

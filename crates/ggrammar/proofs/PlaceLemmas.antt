@@ -1,4 +1,4 @@
--- Places and what packets give there, with a packet more; the texts of packets.
+-- Positions and what packets give there, with a packet more; the texts of packets.
 use Rattle.std.proofs.Common.{◌≡◌, List, [], ◌∷◌, ◌++◌, Some, refl, sym, ap, ◌∙◌, append_assoc, append-nil}
 use Rattle.std.proofs.lemmas.List.Elements.{filter_map-append}
 use Rattle.gpkt.specs.Packets.{Packet}

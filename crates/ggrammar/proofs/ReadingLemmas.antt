@@ -1,4 +1,4 @@
--- Lines read one after the other.
+-- Packets read one after the other.
 use Rattle.std.proofs.Common.{◌≡◌, ℕ, List, [], ◌∷◌, ◌++◌, length, Option, Some, None, Ok, Result, Bool, true, ◌+◌, refl, sym, subst, ap, ◌∙◌, append_assoc, append-nil}
 use Rattle.gpkt.specs.Packets.{Packet, Spells, SpellsAll}
 use Rattle.gpkt.specs.LineReading.{Reads}
@@ -34,7 +34,7 @@ ReadsLines-push (Some x) (Some y) None lines packet p q = absurd q
 ReadsLines-push (Some x) (Some y) (Some z) lines packet p q =
     (p.0 ++ q.0, p.1 ∙ ap (λ xs. p.0 ++ xs) q.1 ∙ sym (append_assoc p.0 q.0 z), SpellsAll-push lines packet p.0 q.0 p.2 q.2)
 
--- what the next line is
+-- what the next packet is
 pub read_some : (result : Result (Option Line) LineFault) (field : Option Line) (line : Line) → result ≡ Ok field → field ≡ Some line → read_of result ≡ Ok (Some (packet_of line))
 read_some result field line e f = ap read_of (e ∙ ap (λ x. Ok x) f)
 
@@ -61,7 +61,7 @@ reason_after judge brings front bytes packet (why.RemoteFatal said) read h = (pa
 reason_after judge brings front bytes packet why.WrongSection read h = (packet, read, h)
 reason_after judge brings front bytes packet why.Format read h = (packet, read, h)
 
--- a message that is being read: its lines so far
+-- a message that is being read: its packets so far
 pub record IsGoing {M : Type 0} (judge : Judge) (holds : M → List Packet → Type 0) (old new : Option (List ℕ)) (message : M) (frame : ℕ) : Type 0 where
   pub lines : List Packet
   pub goes : IsOpen judge lines
@@ -126,7 +126,7 @@ module _ {M : Type 0} (judge : Judge) (brings : List Packet → Packet → Bool)
   }
 
 module _ {S : Type 0} (remaining : S → Option (List ℕ)) (is_down : S → Bool) (loans : S → List ℕ) where
-  -- a reader that gives a line had not failed before
+  -- a reader that gives a packet had not failed before
   pub not_failed : (old new : Reader S) (packet : Packet) {P : Type 0}
       → HasRead remaining is_down loans old new (Ok (Some packet)) → old.failed ≡ true → P
   not_failed old new packet h failed = let well = h.after.0 in absurd (false≢true (sym well ∙ failed))

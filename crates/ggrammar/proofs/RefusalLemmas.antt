@@ -19,7 +19,7 @@ use Rattle.ggrammar.proofs.BytesLemmas.{reads_front, reads_no_other, refuses, re
 module _ (judge : Judge) (brings : List Packet → Packet → Bool) where
   -- ---- one refusal
 
-  -- what a line's reading says of a refusal after these lines
+  -- what a packet's reading says of a refusal after these packets
   abbrev Explains : List Packet → Result (Option Packet) LineFault → Why → Type 0
   Explains front (Err fault) reason = reason ≡ why.Line fault
   Explains front (Ok None) reason = reason ≡ why.Ended
@@ -80,7 +80,7 @@ module _ (judge : Judge) (brings : List Packet → Packet → Bool) where
   same_fault : {a b : MessageFault} → a.frame ≡ b.frame → a.why ≡ b.why → a ≡ b
   same_fault frame reason = λ i. record { frame = frame i; why = reason i }
 
-  -- after the same lines
+  -- after the same packets
   one_after : OneOutcome → (front others : List Packet) (mid next new after : List ℕ) (fault other : MessageFault) → others ≡ front → next ≡ mid
       → fault.frame ≡ length front → other.frame ≡ length others → IsReasonAfter judge brings front (known mid new) fault.why
       → IsReasonAfter judge brings others (known next after) other.why → IsOfBytes fault.why → IsOfBytes other.why → (fault ≡ other) × (new ≡ after)

@@ -23,7 +23,7 @@ pub past_error : (said : Option (List ℕ)) (verdict : Verdict) → IsForPacket 
 past_error (Some said) verdict h = tt
 past_error None verdict h = h
 
--- behind the flush
+-- after the flush
 pub of_end : (packet : Packet) → IsForPacket (after_flush packet)
 of_end (Data payload) = past_error (peer_error payload) (Refused UnexpectedFrame) tt
 of_end Flush = tt
@@ -52,7 +52,7 @@ room_left false e = cc
 pub room_goes_on : (room : Bool) → room ≡ true → if_room room ≡ Open
 room_goes_on room e = ap if_room e
 
--- and where there is room, nothing is whole yet
+-- and where there is room, nothing is complete yet
 pub room_not_whole : (room : Bool) → if_room room ≡ Whole → ⊥
 room_not_whole true e = cc
 room_not_whole false e = cc

@@ -1,4 +1,4 @@
--- Lines written one after the other.
+-- Packets written one after the other.
 use Rattle.std.proofs.Common.{◌≡◌, ◌≢◌, ℕ, ◌<◌, ◌↔◌, Bool, false, List, [], ◌++◌, length, Option, Result, Ok, Err, sym, subst, ap, ◌∙◌, append_assoc, append-nil, arith}
 use Rattle.std.specs.Prelude.{IfErr, IsErrOf}
 use Rattle.gpkt.specs.Packets.{Packet, canonical, canonical_all, max_payload, payload_of}
@@ -8,13 +8,13 @@ use Rattle.gpkt.specs.declared.fault.WriteFault.{WriteFault}
 use Rattle.gpkt.specs.declared.fault.WriteFault.TheVariants.{Payload}
 use Rattle.ggrammar.specs.Writing.{WritesLines, WritesLine, WritesFitting, LinesArePart, StartsWriting, GoesOnWriting, GoesOnAfterPart, FailsWriting, EndsWriting}
 
--- a call that was not to write too long a line
+-- a call that was not to write too long a packet
 not_payload : (result : Result (Unit {0}) WriteFault) → IfErr result (λ fault. fault ≢ Payload) → result ≢ Err Payload
 not_payload (Ok done) other = λ e. cc
 not_payload (Err fault) other = λ e. other cc
 
 module _ {W : Type 0} (contents passed_on : W → Option (List ℕ)) (is_down : W → Bool) (loans : W → List ℕ) where
-  -- a call that was to write the lines of an equal list
+  -- a call that was to write the packets of an equal list
   as_lines : (old new : Writer W) (result : Result (Unit {0}) WriteFault) (lines others : List Packet) → lines ≡ others
       → WritesLines contents passed_on is_down loans old new result lines → WritesLines contents passed_on is_down loans old new result others
   as_lines old new result lines others same = subst (WritesLines contents passed_on is_down loans old new result) same
@@ -34,7 +34,7 @@ module _ {W : Type 0} (contents passed_on : W → Option (List ℕ)) (is_down : 
   pub writes_fitting : WritesFitting contents passed_on is_down loans
   writes_fitting old new result line h long short = writes_line old new result line h (fitting old result line long short)
 
-  -- lines that were written, and then more
+  -- packets that were written, and then more
   followed : CanonicalJoins → WritesJoin contents passed_on is_down loans → (old mid new : Writer W) (front more : List Packet)
       (result : Result (Unit {0}) WriteFault) → WritesLines contents passed_on is_down loans old mid (Ok tt) front
       → WritesLines contents passed_on is_down loans mid new result more → WritesLines contents passed_on is_down loans old new result (front ++ more)
@@ -44,7 +44,7 @@ module _ {W : Type 0} (contents passed_on : W → Option (List ℕ)) (is_down : 
     fits = h.fits;
   }
 
-  -- lines that could not be written, and no more after them
+  -- packets that could not be written, and no more after them
   cut : CanonicalJoins → FailsOfMore contents passed_on is_down loans → (old new : Writer W) (front more : List Packet) (fault : WriteFault)
       → WritesLines contents passed_on is_down loans old new (Err fault) front → WritesLines contents passed_on is_down loans old new (Err fault) (front ++ more)
   cut canonical_joins fails old new front more fault wrote = record {

@@ -4,7 +4,7 @@ use Rattle.ggrammar.specs.declared.fault.Why.{Why}
 use Rattle.ggrammar.specs.declared.fault.Why.TheVariants as why
 use Rattle.ggrammar.specs.declared.fault.MessageFault.{MessageFault}
 
--- why something is not added: it has a wrong form; else there is no room for one more; else there is no memory
+-- why something is not added: it has a wrong form; else there is no room for one more; else it is out of memory
 abbrev pub IsBuildReason : Bool → Bool → Why → Type 0
 IsBuildReason well_formed has_room why.BadText = well_formed ≡ false
 IsBuildReason well_formed has_room why.Limit = (well_formed ≡ true) × (has_room ≡ false)

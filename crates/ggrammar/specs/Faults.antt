@@ -1,5 +1,5 @@
--- The table of faults of messages: the number and the name of each, and what the peer is told; and what is kept of a
--- peer's text.
+-- The table of faults of messages: the number and the name of each, and what is reported to the peer; and what is kept
+-- of a peer's text.
 use Rattle.std.specs.Prelude.{ℕ, List, ◌++◌, codes, take}
 use Rattle.std.specs.Fmt.{decimal}
 use Rattle.gpkt.specs.Faults.{FaultRow, band_fault_row, line_fault_row}
@@ -18,7 +18,7 @@ max_peer_text = 256
 abbrev pub kept_text : List ℕ → List ℕ
 kept_text said = take max_peer_text (text said)
 
--- a fault's number and name, and what the peer is told of it
+-- a fault's number and name, and what is reported of it to the peer
 pub record WhyRow : Type 0 where
   pub code : ℕ
   pub name : List ℕ
@@ -27,7 +27,7 @@ pub record WhyRow : Type 0 where
 abbrev pub row_of : FaultRow → List ℕ → WhyRow
 row_of row phrase = record { code = row.0; name = row.1; phrase = phrase }
 
--- why no line is read, in a peer's words
+-- why no packet is read, in a peer's words
 abbrev pub line_phrase : LineFault → List ℕ
 line_phrase line.BadDigits = codes "bad packet line"
 line_phrase line.Reserved = codes "bad packet line"
@@ -56,6 +56,6 @@ why_row why.Format = row_of (52, codes "Format") (codes "object format mismatch"
 why_row why.Memory = row_of (53, codes "Memory") (codes "out of memory")
 why_row why.Ended = row_of (54, codes "Ended") (codes "unexpected end")
 
--- the text of a fault of a message: the place of its packet, and why
+-- the text of a fault of a message: the position of its packet, and why
 abbrev pub message_fault_text : MessageFault → List ℕ
 message_fault_text fault = codes "packet " ++ decimal fault.frame ++ codes ": " ++ (why_row fault.why).phrase

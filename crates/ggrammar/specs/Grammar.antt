@@ -1,5 +1,5 @@
--- What a list of packet lines is to a message's grammar. A judge says what the lines are with a packet more: a
--- beginning of the message that goes on, a whole message, or none, and why. (The section on each message in
+-- What a list of packets is to a message's grammar. A judge says what the packets are with a packet more: a
+-- beginning of the message that goes on, a complete message, or none, and why. (The section on each message in
 -- gitprotocol-v2(5) says what may be sent; the judge adds the reasons.)
 use Rattle.std.specs.Prelude.{◌≡◌, Bool, List, [], ◌∷◌, ◌++◌, if◌then◌else◌}
 use Rattle.gpkt.specs.Packets.{Packet}
@@ -30,16 +30,16 @@ pub record IsWhole (judge : Judge) (lines : List Packet) : Type 0 where
   pub goes : IsOpen judge front
   pub ends : judge front last ≡ Whole
 
--- some lines can follow that make a whole message
+-- some packets can follow that make a complete message
 abbrev pub Begins : Judge → List Packet → Type 0
 Begins judge lines = (more : List Packet) × IsWhole judge (lines ++ more)
 
--- the lines begin a message, and no beginning of theirs is a whole one
+-- the packets begin a message, and no beginning of theirs is a complete one
 pub record IsUnfinished (judge : Judge) (front : List Packet) : Type 0 where
   pub begins : Begins judge front
   pub unfinished : (whole back : List Packet) → front ≡ whole ++ back → IsWhole judge whole → ⊥
 
--- with this packet the lines begin no message any more, and it is the first such packet
+-- with this packet the packets begin no message any more, and it is the first such packet
 pub record IsFirstMisfit (judge : Judge) (front : List Packet) (packet : Packet) : Type 0 where
   pub before : IsUnfinished judge front
   pub misfit : Begins judge (front ++ packet ∷ []) → ⊥
@@ -67,12 +67,12 @@ IsPrefixFree judge = (lines back : List Packet) → IsWhole judge lines → IsWh
 abbrev pub NothingIsOpen : Judge → Type 0
 NothingIsOpen judge = IsOpen judge []
 
--- open lines go on being open with a packet with which the message goes on
+-- open packets go on being open with a packet with which the message goes on
 abbrev pub OpenGoesOn : Judge → Type 0
 OpenGoesOn judge = (front : List Packet) (packet : Packet) → IsOpen judge front → judge front packet ≡ Open
     → IsOpen judge (front ++ packet ∷ [])
 
--- the lines before others that are open are open
+-- the packets before others that are open are open
 abbrev pub FrontIsOpen : Judge → Type 0
 FrontIsOpen judge = (lines more : List Packet) → IsOpen judge (lines ++ more) → IsOpen judge lines
 

@@ -1,5 +1,5 @@
--- The laws of a kind of message: of its judge, of what whole lists of lines say, of which values can be written, and as
--- which lines.
+-- The laws of a kind of message: of its judge, of what complete lists of packets say, of which values can be written,
+-- and as which packets.
 use Rattle.std.specs.Prelude.{◌≡◌, ℕ, ◌↔◌, All, Bool, List, ◌++◌, Option, Some, None, Result, Ok, Err, IfErr}
 use Rattle.gpkt.specs.Packets.{Packet, canonical_all}
 use Rattle.gpkt.specs.Change.{Change}
@@ -10,49 +10,49 @@ use Rattle.ggrammar.specs.MessageReading.{ReadsWhole, ReadsRefused}
 use Rattle.ggrammar.specs.MessageBytes.{known, IsFront, IsOfBytes}
 use Rattle.ggrammar.specs.declared.fault.MessageFault.{MessageFault}
 
--- what lines say of a message, or which lines are written of it
+-- what packets say of a message, or which packets are written of it
 abbrev pub Meaning : Type 0 → Type 1
 Meaning M = List Packet → M → Type 0
 
 module _ {M : Type 0} where
-  -- lines say at most one message
+  -- packets say at most one message
   abbrev pub OneMeaning : Meaning M → Type 0
   OneMeaning Says = (lines : List Packet) (one other : M) → Says lines one → Says lines other → one ≡ other
 
-  -- what says a message is whole, and what is whole says one
+  -- what says a message is complete, and what is complete says one
   abbrev pub SaysWhole : Judge → Meaning M → Type 0
   SaysWhole judge Says = (lines : List Packet) → IsWhole judge lines ↔ ((message : M) × Says lines message)
 
-  -- the table's whole lists are those of the manual's words, with the same message
+  -- the table's complete lists are those of the manual's words, with the same message
   abbrev pub AsInManual : Meaning M → Meaning M → Type 0
   AsInManual Says IsMessage = (lines : List Packet) (message : M) → Says lines message ↔ IsMessage lines message
 
-  -- the lines that are written of a value say it, and each fits a packet
+  -- the packets that are written of a value say it, and none is too long
   abbrev pub CanonicalSays : Meaning M → (M → Type 0) → Meaning M → Type 0
   CanonicalSays Says IsValue IsCanonical = (lines : List Packet) (message : M) → IsValue message
       → IsCanonical lines message → Says lines message × All Fits lines
 
   -- ---- what reading a message answers
 
-  -- whole lines are read that say the message
+  -- packets are read that say the complete message
   pub record ReadsMessage (judge : Judge) (Says : Meaning M) (change : Change) (message : M) : Type 0 where
     pub lines : List Packet
     pub read : ReadsWhole judge change lines
     pub says : Says lines message
 
-  -- or it is refused after some lines
+  -- or it is refused after some packets
   abbrev pub ReadsOrRefuses : Judge → (List Packet → Packet → Bool) → Meaning M → Change → Result M MessageFault
       → Type 0
   ReadsOrRefuses judge brings Says change (Ok message) = ReadsMessage judge Says change message
   ReadsOrRefuses judge brings Says change (Err fault) =
       (front : List Packet) × ReadsRefused judge brings front change fault
 
-  -- a front of the bytes, which is all but the rest, spells lines that say the message
+  -- a front of the bytes, which is all but the rest, spells packets that say the message
   abbrev pub SaysAtFront : Meaning M → List ℕ → List ℕ → M → Type 0
   SaysAtFront Says bytes rest message = (lines : List Packet) × IsFront lines bytes rest × Says lines message
 
-  -- A message is read exactly where a front of the bytes spells lines that say it: that front is taken, and
-  -- nothing after it. Memory that is refused, a device that fails and a reader that had failed are apart.
+  -- A message is read exactly where a front of the bytes spells packets that say it: that front is taken, and
+  -- nothing after it. Out of memory, a device that fails and a reader that had failed are apart.
   abbrev pub ReadsExactly : Judge → (List Packet → Packet → Bool) → Meaning M → Type 0
   ReadsExactly judge brings Says =
       (bytes new rest : List ℕ) (result : Result M MessageFault) (message : M)
@@ -77,7 +77,7 @@ module _ {M : Type 0} where
   ReadsIfAny judge brings Says change (Err fault) =
       (front : List Packet) × ReadsRefused judge brings front change fault
 
-  -- it is read exactly where a front of the bytes spells lines that say it
+  -- it is read exactly where a front of the bytes spells packets that say it
   abbrev pub ReadsExactlyIfAny : Judge → (List Packet → Packet → Bool) → Meaning M → Type 0
   ReadsExactlyIfAny judge brings Says =
       (bytes new rest : List ℕ) (result : Result (Option M) MessageFault) (message : M)

@@ -14,7 +14,7 @@ use Rattle.ggrammar.specs.declared.fault.MessageFault.{MessageFault}
 abbrev pub known : List ℕ → List ℕ → Change
 known old new = record { old = Some old; new = Some new }
 
--- these lines are spelt at the front of the bytes, before the rest
+-- these packets are spelt at the front of the bytes, before the rest
 pub record IsFront (lines : List Packet) (bytes rest : List ℕ) : Type 0 where
   pub front : List ℕ
   pub parts : bytes ≡ front ++ rest
@@ -27,24 +27,24 @@ IsOfBytes (Line Failed) = ⊥
 IsOfBytes Memory = ⊥
 IsOfBytes why = Unit {0}
 
--- whole lines at the front are read
+-- a complete message at the front is read
 abbrev pub ReadsFront : Judge → Type 0
 ReadsFront judge = (lines : List Packet) (bytes rest : List ℕ) → IsWhole judge lines → IsFront lines bytes rest
     → ReadsWhole judge (known bytes rest) lines
 
--- and no others are, and the bytes after them stay
+-- and nothing else is, and the bytes after it stay
 abbrev pub ReadsNoOther : Judge → Type 0
 ReadsNoOther judge = (lines others : List Packet) (bytes rest new : List ℕ) → IsWhole judge lines
     → IsFront lines bytes rest → ReadsWhole judge (known bytes new) others → (others ≡ lines) × (new ≡ rest)
 
--- where reading is refused for a reason in the bytes, no whole lines are at the front
+-- where reading is refused for a reason in the bytes, no complete message is at the front
 abbrev pub RefusedIsNoMessage : Judge → Type 0
 RefusedIsNoMessage judge =
     (brings : List Packet → Packet → Bool) (front lines : List Packet) (bytes new rest : List ℕ) (fault : MessageFault)
     → ReadsRefused judge brings front (known bytes new) fault → IsOfBytes fault.why → IsFront lines bytes rest
     → ¬ IsWhole judge lines
 
--- where the input has ended, no whole lines are at the front
+-- where the input has ended, no complete message is at the front
 abbrev pub EndedIsNoMessage : Judge → Type 0
 EndedIsNoMessage judge = (lines : List Packet) (bytes new rest : List ℕ) → Reads (known bytes new) (Ok None)
     → IsFront lines bytes rest → ¬ IsWhole judge lines
@@ -57,7 +57,7 @@ OneRefusal judge =
     → ReadsRefused judge brings others (known bytes after) other → IsOfBytes fault.why → IsOfBytes other.why
     → (fault ≡ other) × (new ≡ after)
 
--- why a packet is refused for its own sake: no fault of a line, no end of the input, no want of memory
+-- why a packet is refused for its own sake: no fault of reading it, no end of the input, not out of memory
 abbrev pub IsOfPacket : Why → Type 0
 IsOfPacket (Line fault) = ⊥
 IsOfPacket Ended = ⊥

@@ -12,7 +12,7 @@ use Rattle.ggrammar.specs.declared.fault.MessageFault.{MessageFault}
 use Rattle.ggrammar.specs.declared.message.Step.{Step}
 use Rattle.ggrammar.specs.declared.message.Step.TheVariants as step
 
--- these lines are read, a whole message
+-- these packets are read, a complete message
 pub record ReadsWhole (judge : Judge) (change : Change) (lines : List Packet) : Type 0 where
   pub whole : IsWhole judge lines
   pub bytes : ReadsLines change lines
@@ -23,8 +23,8 @@ IsAccepted Open = Unit {0}
 IsAccepted Whole = Unit {0}
 IsAccepted (Refused why) = ⊥
 
--- Why a packet is refused that stands there: the judge says so; or the judge accepts it, and there is no memory for
--- what it brings, if it brings something.
+-- Why a packet is refused that stands there: the judge says so; or the judge accepts it, and it is out of memory
+-- for what it brings, if it brings something.
 abbrev pub IsReason : Verdict → Bool → Why → Type 0
 IsReason verdict brings (Line fault) = ⊥
 IsReason verdict brings Ended = ⊥
@@ -36,13 +36,13 @@ abbrev pub ReadsRefusedPacket : Judge → (List Packet → Packet → Bool) → 
 ReadsRefusedPacket judge brings front change why =
     (packet : Packet) × Reads change (Ok (Some packet)) × IsReason (judge front packet) (brings front packet) why
 
--- why the message is refused after these lines: no line is spelt there; the input ends; or a packet is refused
+-- why the message is refused after these packets: no packet is spelt there; the input ends; or a packet is refused
 abbrev pub IsReasonAfter : Judge → (List Packet → Packet → Bool) → List Packet → Change → Why → Type 0
 IsReasonAfter judge brings front change (Line fault) = Reads change (Err fault)
 IsReasonAfter judge brings front change Ended = Reads change (Ok None)
 IsReasonAfter judge brings front change why = ReadsRefusedPacket judge brings front change why
 
--- the message is refused after these lines, which begin a message and hold no whole one
+-- the message is refused after these packets, which begin a message and hold no complete one
 pub record ReadsRefused (judge : Judge) (brings : List Packet → Packet → Bool) (front : List Packet) (change : Change)
     (fault : MessageFault) : Type 0 where
   pub between : Option (List ℕ)
@@ -56,13 +56,13 @@ pub record ReadsRefused (judge : Judge) (brings : List Packet → Packet → Boo
 
 module _ {M : Type 0} (judge : Judge) (brings : List Packet → Packet → Bool)
     (holds left : M → List Packet → Type 0) where
-  -- it takes a packet after these as the judge says; where it refuses it, this is left of the lines before
+  -- it takes a packet after these as the judge says; where it refuses it, this is left of the packets before
   abbrev pub TakesPacket : List Packet → Packet → M → Result Step Why → Type 0
   TakesPacket front packet new (Ok step.Open) = (judge front packet ≡ Open) × holds new (front ++ packet ∷ [])
   TakesPacket front packet new (Ok step.Whole) = (judge front packet ≡ Whole) × holds new (front ++ packet ∷ [])
   TakesPacket front packet new (Err why) = IsReason (judge front packet) (brings front packet) why × left new front
 
-  -- a whole message was read, and it holds its packets
+  -- a complete message was read, and it holds its packets
   pub record HasTaken (change : Change) (message : M) : Type 0 where
     pub lines : List Packet
     pub read : ReadsWhole judge change lines
@@ -75,20 +75,20 @@ module _ {M : Type 0} (judge : Judge) (brings : List Packet → Packet → Bool)
     pub leaves : left message front
 
 -- The fault is the device's exactly where the device is down now and the reader had not failed before, and that of a
--- failed reader exactly where it had. Reading a line takes no memory.
+-- failed reader exactly where it had. Reading a packet takes no memory.
 abbrev pub IsReadFailure : Bool → Bool → Why → Type 0
 IsReadFailure failed down (Line Io) = (failed ≡ false) × (down ≡ true)
 IsReadFailure failed down (Line Failed) = failed ≡ true
 IsReadFailure failed down (Line LineMemory) = ⊥
 IsReadFailure failed down why = (failed ≡ false) × (down ≡ false)
 
--- the reader has failed now exactly where the line itself was refused
+-- the reader has failed now exactly where the packet was not read
 abbrev pub IsFailedBy : Why → Bool → Type 0
 IsFailedBy (Line fault) failed = failed ≡ true
 IsFailedBy why failed = failed ≡ false
 
 -- How a call leaves the reader that it reads a message with. After a message the reader goes on, and its device is
--- well. After a fault it has failed exactly where the line itself was refused; the device is down exactly where the
+-- well. After a fault it has failed exactly where the packet was not read; the device is down exactly where the
 -- fault is the device's; and a reader that had failed is refused at once, at packet 0.
 abbrev pub LeavesReader : {S M : Type 0} → (S → Bool) → Reader S → Reader S → Result M MessageFault → Type 0
 LeavesReader is_down old new (Ok message) =

@@ -1,13 +1,14 @@
--- Where a packet stands in a message, and what packets give at their places. A grammar says which place is the next.
+-- Where a packet stands in a message, and what packets give at their positions. A grammar says which position is the
+-- next.
 use Rattle.std.specs.Prelude.{List, [], ◌∷◌, ◌++◌}
 use Rattle.gpkt.specs.Packets.{Packet}
 
--- the place after these packets
+-- the position after these packets
 abbrev pub place_after : {Place : Type 0} → (Place → Packet → Place) → Place → List Packet → Place
 place_after next place [] = place
 place_after next place (packet ∷ packets) = place_after next (next place packet) packets
 
--- what packets give, each at its place, in order
+-- what packets give, each at its position, in order
 abbrev pub collected : {Place X : Type 0} → (Place → Packet → Place) → (Place → Packet → List X) → Place
     → List Packet → List X
 collected next give place [] = []

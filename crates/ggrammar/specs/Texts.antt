@@ -1,10 +1,10 @@
--- The text lines of messages (gitprotocol-common(5), "pkt-line Format"): a text is written with a line feed after it,
+-- The text packets of messages (gitprotocol-common(5), "pkt-line Format"): a text is written with a line feed after it,
 -- and read with or without.
 use Rattle.std.specs.Prelude.{◌≡◌, ℕ, List, [], ◌∷◌, ◌++◌, Option, Some, None}
 use Rattle.std.specs.List.{filter_map}
 use Rattle.gpkt.specs.Packets.{Packet, Data, line_feed, text as stripped}
 
--- the line of a text that is written
+-- the packet of a text that is written
 abbrev pub text_packet : List ℕ → Packet
 text_packet text = Data (text ++ line_feed ∷ [])
 
@@ -12,7 +12,7 @@ abbrev pub text_in : Packet → Option (List ℕ)
 text_in (Data payload) = Some (stripped payload)
 text_in _ = None
 
--- the texts of all data lines, in order
+-- the texts of all data packets, in order
 abbrev pub texts_of : List Packet → List (List ℕ)
 texts_of packets = filter_map text_in packets
 
@@ -20,6 +20,6 @@ texts_of packets = filter_map text_in packets
 abbrev pub TextsOfMore : Type 0
 TextsOfMore = (packets more : List Packet) → texts_of (packets ++ more) ≡ texts_of packets ++ texts_of more
 
--- the line of a text is read as that text
+-- the packet of a text is read as that text
 abbrev pub TextIsRead : Type 0
 TextIsRead = (text : List ℕ) → text_in (text_packet text) ≡ Some text

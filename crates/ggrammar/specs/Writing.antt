@@ -1,4 +1,4 @@
--- Writing the lines of a message, one after the other.
+-- Writing the packets of a message, one after the other.
 use Rattle.std.specs.Prelude.{◌≡◌, ◌≢◌, ℕ, ◌<◌, ◌↔◌, Bool, false, List, [], ◌∷◌, ◌++◌, length, Option, Result, Ok, Err}
 use Rattle.std.specs.Prelude.{IfErr, IsErrAnd, IsErrOf}
 use Rattle.gpkt.specs.Packets.{Packet, canonical, canonical_all, max_payload, payload_of}
@@ -11,32 +11,32 @@ module _
     {W : Type 0} (contents_of passed_on_of : W → Option (List ℕ)) (is_down : W → Bool)
     (loans_of : W → List ℕ)
   where
-    -- one call of a writer that was to write these lines, of which none is too long
+    -- one call of a writer that was to write these packets, of which none is too long
     pub record WritesLines (old new : Writer W) (result : Result Unit WriteFault) (lines : List Packet) : Type 0 where
       pub written : HasWritten contents_of passed_on_of is_down loans_of old new result (canonical_all lines)
       pub fits : IfErr result (λ fault. fault ≢ Payload)
 
-    -- Lines are being written, and these of them are to come: whoever writes what is to come, and more, has from the
-    -- start written all the lines, and more.
+    -- Packets are being written, and these of them are to come: whoever writes what is to come, and more, has from the
+    -- start written all the packets, and more.
     pub record IsWriting (start now : Writer W) (lines coming : List Packet) : Type 0 where
       pub joins : (more : List Packet) (new : Writer W) (result : Result Unit WriteFault)
           → WritesLines now new result (coming ++ more) → WritesLines start new result (lines ++ more)
 
-    -- one call that was to write a part of a message, which may have no lines
+    -- one call that was to write a part of a message, which may have no packets
     abbrev pub WritesPart : Writer W → Writer W → Result Unit WriteFault → List Packet → Type 0
     WritesPart old new (Ok done) part = IsWriting old new part []
     WritesPart old new (Err fault) part = WritesLines old new (Err fault) part
 
     -- ---- laws
 
-    -- one line that is never too long
+    -- one packet that is never too long
     abbrev pub WritesLine : Type 0
     WritesLine =
         (old new : Writer W) (result : Result Unit WriteFault) (line : Packet)
         → HasWritten contents_of passed_on_of is_down loans_of old new result (canonical line)
         → IfErr result (λ fault. fault ≢ Payload) → WritesLines old new result (line ∷ [])
 
-    -- one line that a packet can carry
+    -- one packet that is not too long
     abbrev pub WritesFitting : Type 0
     WritesFitting =
         (old new : Writer W) (result : Result Unit WriteFault) (line : Packet)
@@ -44,17 +44,17 @@ module _
         → (IsErrOf result Payload ↔ ((old.failed ≡ false) × (max_payload < length (payload_of line)))) → Fits line
         → WritesLines old new result (line ∷ [])
 
-    -- lines are a part
+    -- packets are a part
     abbrev pub LinesArePart : Type 0
     LinesArePart =
         (old new : Writer W) (result : Result Unit WriteFault) (lines : List Packet)
         → WritesLines old new result lines → WritesPart old new result lines
 
-    -- before a line is written all are to come
+    -- before a packet is written all are to come
     abbrev pub StartsWriting : Type 0
     StartsWriting = (start : Writer W) (lines : List Packet) → IsWriting start start lines lines
 
-    -- lines that were written are to come no more
+    -- packets that were written are to come no more
     abbrev pub GoesOnWriting : Type 0
     GoesOnWriting =
         (start now next : Writer W) (lines coming front rest : List Packet) → IsWriting start now lines coming
@@ -66,7 +66,7 @@ module _
         (start now next : Writer W) (lines coming part rest : List Packet) → IsWriting start now lines coming
         → coming ≡ part ++ rest → WritesPart now next (Ok tt) part → IsWriting start next lines rest
 
-    -- where writing some of the lines failed, and that is answered, writing all of them did
+    -- where writing some of the packets failed, and that is answered, writing all of them did
     abbrev pub FailsWriting : Type 0
     FailsWriting =
         (start now new : Writer W) (lines coming front rest : List Packet) (fault : WriteFault)
@@ -74,7 +74,7 @@ module _
         → WritesLines now new (Err fault) front → IsErrAnd result (λ other. other ≡ fault)
         → WritesLines start new result lines
 
-    -- whoever writes what is to come has written all the lines
+    -- whoever writes what is to come has written all the packets
     abbrev pub EndsWriting : Type 0
     EndsWriting =
         (start now new : Writer W) (lines coming : List Packet) (result : Result Unit WriteFault)

@@ -12,11 +12,14 @@ pub const MAX_CAPABILITY: usize = 1_000;
 /// A capability, lent from its text.
 #[derive(Clone, Copy, Debug, PartialEq, Eq)]
 pub struct Capability<'a> {
+    /// What comes before the first `=`, or all of the text.
     pub key: &'a [u8],
+    /// What comes after it; `None` where there is no `=`.
     pub value: Option<&'a [u8]>,
 }
 
-/// The capability that a text is: a key, or a key, the first `=` and a value. `None` where it is none.
+/// The capability (gitprotocol-v2(5), "Capability Advertisement") that a text is: a key, or a key, the
+/// first `=` and a value. `None` where it is none.
 #[tactic(auto, unfolding(crate::specs::Capabilities::capability_of))]
 pub fn capability_of(text: &[u8]) -> Option<Capability<'_>>
     ensures { option_map capability_view result ≡ capability_of text.now }
@@ -53,7 +56,7 @@ fn key_and_value<'a>(key: &'a [u8], value: &'a [u8]) -> Option<Capability<'a>>
     }
 }
 
-// Where the first `=` stands.
+// The position of the first `=`.
 fn first_equals_sign(text: &[u8]) -> Option<usize>
     ensures place { result ≡ position is_equals_sign text.now }
     ensures within { IfSome result (λ at. at < length text.now) }

@@ -28,8 +28,9 @@ impl Model for PeerText {
 }
 
 impl PeerText {
-    /// Keeps what a peer says, after the word of an `ERR` line or on the side band for fatal errors: one
-    /// line feed at its end is left out, and then all after the first 256 bytes. Takes no memory.
+    /// Keeps what a peer says, after the word of an `ERR` packet or on the side band for fatal
+    /// errors: one line feed at its end is left out, and then all after the first 256 bytes. Takes
+    /// no memory.
     pub fn new(said: &[u8]) -> PeerText
         ensures { result ≡ kept_text said.now }
     {
@@ -65,7 +66,7 @@ impl fmt::Debug for PeerText {
 /// Why a packet, or the end of the input in its place, is no part of the message.
 #[derive(Debug, Drop)]
 pub enum Why {
-    /// 20 to 25: the packet line itself was refused.
+    /// 20 to 25: the packet was not read.
     Line(LineFault),
     /// 29, 30: the payload is of no side band.
     Band(BandFault),
@@ -90,17 +91,17 @@ pub enum Why {
     RemoteErr(PeerText),
     /// 50: the peer gave up, on the side band for fatal errors.
     RemoteFatal(PeerText),
-    /// 51: a section, a line or an end out of its place in a reply to fetch.
+    /// 51: a section, a packet of one or an end out of order in a reply to fetch.
     WrongSection,
     /// 52: another object format.
     Format,
-    /// 53: no memory for what the packet brings.
+    /// 53: out of memory for what the packet brings.
     Memory,
     /// 54: the input ends where a packet of the message is due.
     Ended,
 }
 
-// The number and the name of a fault, and what the peer is told of it.
+// The number and the name of a fault, and what is reported of it to the peer.
 #[derive(Clone, Copy)]
 struct WhyRow {
     code: u32,
@@ -114,7 +115,7 @@ fn row(code: u32, name: &'static str, phrase: &'static str) -> WhyRow
     WhyRow { code, name, phrase }
 }
 
-// Why no line is read, in a peer's words.
+// Why no packet was read, in a peer's words.
 fn line_phrase(fault: &LineFault) -> &'static str
     ensures { result.now ≡ line_phrase fault.now }
 {
@@ -141,7 +142,8 @@ impl Why {
         self.row().name
     }
 
-    /// What a peer is told of the fault, as in `ERR upload-pack: bad line`; it is also what the fault displays.
+    /// What is reported of the fault to a peer, as in `ERR upload-pack: bad line`; the fault
+    /// displays it, too.
     pub fn phrase(&self) -> &'static str
         ensures { result.now ≡ (why_row self.now).phrase }
     {
@@ -183,10 +185,12 @@ impl fmt::Display for Why {
 
 impl Error for Why {}
 
-/// A message that was refused: at which of its packets, from 0, and why.
+/// A message that was refused: at which of its packets, and why.
 #[derive(Debug, Drop)]
 pub struct MessageFault {
+    /// The position of the packet in the message, from 0.
     pub frame: u64,
+    /// Why it is refused.
     pub why: Why,
 }
 
@@ -194,7 +198,7 @@ pub struct MessageFault {
 pub type MsgFault = MessageFault;
 
 impl MessageFault {
-    /// The fault of a call that builds a value: no packet brought it, and its place is 0.
+    /// The fault of a call that builds a value: no packet brought it, and its position is 0.
     pub fn of_value(why: Why) -> MessageFault
         ensures { result ≡ record { frame = 0; why = why } }
     {

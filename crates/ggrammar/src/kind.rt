@@ -17,7 +17,7 @@ pub trait Kind {
 
     ghost brings: { Given → List Packet → Packet → Bool };
 
-    // What whole lists of packets say.
+    // What complete lists of packets say.
     ghost says: { Given → Meaning Said };
 
     // Which values can be written, and as which packets.

@@ -31,10 +31,10 @@ pub fn grammars_are_exact()
     ensures { (judge : Judge) → LawsOf judge }
 {}
 
-/// Whole lines at the front of some bytes are read, and no others, and what follows them stays. Where reading
-/// is refused for a reason in the bytes, no whole lines are at their front, and there is one fault and one rest.
-/// Where the input has ended none are there either. All bytes begin with a message or are refused, where each
-/// open list has an ending. No spelling of a message begins another.
+/// A complete message at the front of some bytes is read, and what follows it stays. Where reading
+/// is refused for a reason in the bytes, none is at their front, and there is one fault and one
+/// rest. Where the input has ended none is there either. All bytes begin with a message or are
+/// refused, where each open list has an ending. No spelling of a message begins another.
 pub fn messages_are_read()
     ensures { (judge : Judge) → LawsOfBytes judge }
 {
@@ -53,7 +53,7 @@ pub fn texts_are_classified()
     ensures capabilities { CapabilityIsItsText }
 {}
 
-/// The texts of packets come in their order, and the line of a text is read as that text.
+/// The texts of packets come in their order, and the packet of a text is read as that text.
 pub fn texts_are_read()
     ensures more { TextsOfMore }
     ensures line { TextIsRead }
@@ -61,8 +61,9 @@ pub fn texts_are_read()
     text_reads_back();
 }
 
-/// Lines that are written one after the other are one write of all of them; where one fails, all of them do.
-/// A writer starts with all its lines to come, goes on after each call, and ends with its last one.
+/// Packets that are written one after the other are one write of all of them; where one fails, all
+/// of them do. A writer starts with all its packets to come, goes on after each call, and ends with
+/// its last one.
 pub fn writes_lines<W: Sink>()
     ensures line { WritesLine W.contents W.passed_on W.is_down W.loans }
     ensures fitting { WritesFitting W.contents W.passed_on W.is_down W.loans }
@@ -77,8 +78,9 @@ pub fn writes_lines<W: Sink>()
     writes_join::<W>();
 }
 
-/// A kind of message whose whole lists each say one message is read exactly where the bytes begin with it, and
-/// what is written of a value of the kind reads back, whatever follows. The same where a message may be missing.
+/// A kind of message whose complete lists each say one message is read exactly where the bytes
+/// begin with it, and what is written of a value of the kind reads back, whatever follows. The same
+/// where a message may be missing.
 pub fn kinds_are_read<K: Kind>()
     ensures exactly { (given : K.Given) → SaysWhole (K.judge given) (K.says given) → OneMeaning (K.says given)
         → ReadsExactly (K.judge given) (K.brings given) (K.says given) }

@@ -15,7 +15,7 @@ use std::alloc::Allocator;
 pub enum Step {
     /// It goes on.
     Open,
-    /// It has ended.
+    /// It is complete.
     Whole,
 }
 
@@ -33,8 +33,8 @@ pub trait Message {
     // This is left where the message was refused after these packets.
     ghost left: { Self → List Packet → Type 0 };
 
-    /// Takes the next packet. It fails where the grammar refuses the packet, and where memory for what the
-    /// packet brings is refused.
+    /// Takes the next packet. It fails where the grammar refuses the packet, and where it is out of
+    /// memory for what the packet brings.
     fn take(&mut self, line: Line<'_>) -> Result<Step, Why>
         ensures judge { judge self.new ≡ judge self.old }
         ensures brings { brings self.new ≡ brings self.old }
@@ -52,9 +52,10 @@ pub trait Message {
 
 /// Reads a message to its end, and nothing after it.
 ///
-/// The fault has the packet's place, from 0. What the line reader refuses comes first, then the end of the
-/// input, then what the grammar refuses. After a refusal the line reader has failed exactly where the line
-/// itself was refused. A reader that had failed before is refused at once, at packet 0.
+/// The fault has the packet's position, from 0. What the packet reader refuses comes first, then
+/// the end of the input, then what the grammar refuses. After a refusal the packet reader has
+/// failed exactly where the packet was not read. A reader that had failed before is refused at
+/// once, at packet 0.
 pub fn read_message<S: Source, A: Allocator + Copy, M: Message>(
     reader: &mut LineReader<S, A>,
     message: &mut M,

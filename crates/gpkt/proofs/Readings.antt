@@ -45,7 +45,7 @@ pub number_of-digits_of : (n : ℕ) → n < 65536 → number_of (digits_of n) �
 unfolding number_of digits_of
 number_of-digits_of n fits = ap number_in (decode_of-encode_lower (to_be_bytes w16 n) (two_bytes n)) ∙ ap Some (omega arith)
 
--- ---- the parts of a line
+-- ---- the parts of a packet
 
 abbrev announced : Packet → ℕ
 announced (Data payload) = length payload + 4
@@ -53,7 +53,7 @@ announced Flush = 0
 announced Delim = 1
 announced ResponseEnd = 2
 
--- the line of a number and a payload
+-- the packet of a number and a payload
 abbrev line_from : ℕ → List ℕ → Packet
 line_from zero payload = Flush
 line_from (suc zero) payload = Delim
@@ -198,7 +198,7 @@ canonical_joins_lem [] more = refl
 canonical_joins_lem (line ∷ lines) more =
     ap (λ l. canonical line ++ l) (canonical_joins_lem lines more) ∙ sym (append_assoc (canonical line) (canonical_all lines) (canonical_all more))
 
--- ---- several lines
+-- ---- several packets
 
 pub spellings_join_lem : SpellingsJoin
 spellings_join_lem [] more front rest s t = subst (λ l. SpellsAll more (l ++ rest)) (sym s) t

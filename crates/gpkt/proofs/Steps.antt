@@ -1,4 +1,4 @@
--- The steps of reading a line, joined.
+-- The steps of reading a packet, joined.
 use Rattle.std.proofs.Common.{◌≡◌, ℕ, ◌+◌, ◌<◌, ◌≤◌, List, ◌++◌, length, take, drop, Option, Some, None, Ok, Err, refl, sym, ap, ◌∙◌, inl, inr, append_assoc, append-nil, arith, subst, length-append}
 use lib.Seq.{drop_at, take_at}
 use Rattle.gpkt.specs.declared.head.Head.TheVariants as head

@@ -68,6 +68,6 @@ BandIsRead = (band : BandPacket) → band_form (band_payload band) ≡ Ok band
 abbrev pub BandIsPayload : Type 0
 BandIsPayload = (payload : List ℕ) (band : BandPacket) → band_form payload ≡ Ok band → payload ≡ band_payload band
 
--- a line can carry the payload exactly where its bytes are few enough for a band
+-- a packet can carry the payload exactly where its bytes are few enough for a band
 abbrev pub BandFits : Type 0
 BandFits = (band : BandPacket) → (length (band_bytes band) ≤ max_band) ↔ (length (band_payload band) ≤ max_payload)

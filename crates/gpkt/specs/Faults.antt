@@ -12,7 +12,7 @@ use Rattle.gpkt.specs.declared.fault.BandFault.TheVariants as band
 abbrev pub FaultRow : Type 0
 FaultRow = ℕ × List ℕ
 
--- why a line was not read
+-- why a packet was not read
 abbrev pub line_fault_row : LineFault → FaultRow
 line_fault_row line.BadDigits = (20, codes "BadDigits")
 line_fault_row line.Reserved = (21, codes "Reserved")
@@ -22,7 +22,7 @@ line_fault_row line.Io = (24, codes "Io")
 line_fault_row line.Failed = (25, codes "Failed")
 line_fault_row line.Memory = (28, codes "Memory")
 
--- why a line was not written
+-- why a packet was not written
 abbrev pub write_fault_row : WriteFault → FaultRow
 write_fault_row write.Failed = (25, codes "Failed")
 write_fault_row write.Payload = (26, codes "Payload")

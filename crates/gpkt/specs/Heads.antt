@@ -1,4 +1,4 @@
--- The steps of reading one line: its head, which is the four digits, and its payload.
+-- The steps of reading one packet: its head, which is the four digits, and its payload.
 use Rattle.std.specs.Prelude.{◌≡◌, ℕ, ◌+◌, ◌<◌, ◌≤◌, Bool, true, false, List, [], length, take}
 use Rattle.std.specs.Prelude.{Option, Some, None, option_map, Result, Ok, Err}
 use Rattle.std.specs.Io.KnownBytes.{Consumes, IsAtEnd}
@@ -22,7 +22,7 @@ abbrev pub payload_len : Head → ℕ
 payload_len (head.Data len) = len
 payload_len _ = 0
 
--- the line whose payload stands at the front of the buffer
+-- the packet whose payload stands at the front of the buffer
 abbrev pub packet_in : List ℕ → Head → Packet
 packet_in buffer (head.Data len) = Data (take len buffer)
 packet_in buffer head.Flush = Flush
@@ -87,7 +87,7 @@ is_io (Ok value) = false
 is_io (Err Io) = true
 is_io (Err _) = false
 
--- the faults that come of reading a line's bytes
+-- the faults that come of reading a packet's bytes
 abbrev pub IsNewFault : LineFault → Type 0
 IsNewFault Failed = ⊥
 IsNewFault Memory = ⊥

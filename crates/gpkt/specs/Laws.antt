@@ -1,4 +1,4 @@
--- The laws of packet lines.
+-- The laws of packets.
 use Rattle.std.specs.Prelude.{◌≡◌, ◌≢◌, ℕ, ◌≤◌, ◌⊎◌, All, Bool, List, [], ◌∷◌, ◌++◌, length}
 use Rattle.std.specs.Prelude.{Option, Some, Result, Ok, Err, OnOk}
 use Rattle.std.specs.Io.KnownBytes.{Appends}
@@ -13,14 +13,14 @@ use Rattle.gpkt.specs.Packets.{digit_count, line_feed, max_payload}
 use Rattle.gpkt.specs.LineReading.{NoLine, Gives, Reads, ReadsLines}
 use Rattle.gpkt.specs.LineWriting.{Writer, HasWritten, HasPushed}
 
--- at most one line is spelt at the front of the bytes, in one way
+-- at most one packet is spelt at the front of the bytes, in one way
 abbrev pub OneReading : Type 0
 OneReading =
     (line other : Packet) (front next rest after : List ℕ) → Spells line front → Spells other next
     → front ++ rest ≡ next ++ after
     → (line ≡ other) × (front ≡ next) × (rest ≡ after)
 
--- where reading is refused, no line is spelt at the front
+-- where reading is refused, no packet is spelt at the front
 abbrev pub RefusedIsNoLine : Type 0
 RefusedIsNoLine =
     (fault : LineFault) (line : Packet) (bytes front rest : List ℕ) → NoLine fault bytes
@@ -41,11 +41,11 @@ OneOutcome =
     → Gives old after other → IsOfBytes result → IsOfBytes other
     → (result ≡ other) × (new ≡ after)
 
--- a line is spelt at the front of the bytes
+-- a packet is spelt at the front of the bytes
 abbrev pub SpellsAtFront : List ℕ → Type 0
 SpellsAtFront bytes = (line : Packet) × (front : List ℕ) × (rest : List ℕ) × (bytes ≡ front ++ rest) × Spells line front
 
--- bytes are empty, or spell a line at their front, or there is a reason why they do not
+-- bytes are empty, or spell a packet at their front, or there is a reason why they do not
 abbrev pub EveryFront : Type 0
 EveryFront =
     (bytes : List ℕ) → (bytes ≡ []) ⊎ (SpellsAtFront bytes ⊎ ((fault : LineFault) × NoLine fault bytes))
@@ -54,7 +54,7 @@ EveryFront =
 abbrev pub HasFourBytes : Type 0
 HasFourBytes = (line : Packet) (bytes : List ℕ) → Spells line bytes → digit_count ≤ length bytes
 
--- a line can carry it
+-- a packet can carry it
 abbrev pub Fits : Packet → Type 0
 Fits line = length (payload_of line) ≤ max_payload
 
@@ -68,7 +68,7 @@ CanonicalSpellsAll = (lines : List Packet) → All Fits lines → SpellsAll line
 abbrev pub CanonicalJoins : Type 0
 CanonicalJoins = (lines more : List Packet) → canonical_all (lines ++ more) ≡ canonical_all lines ++ canonical_all more
 
--- lists of lines are spelt one after the other
+-- lists of packets are spelt one after the other
 abbrev pub SpellingsJoin : Type 0
 SpellingsJoin =
     (lines more : List Packet) (front rest : List ℕ) → SpellsAll lines front → SpellsAll more rest
@@ -78,13 +78,13 @@ abbrev pub SpellingsSplit : Type 0
 SpellingsSplit = (lines more : List Packet) (bytes : List ℕ) → SpellsAll (lines ++ more) bytes
     → (front : List ℕ) × (rest : List ℕ) × (bytes ≡ front ++ rest) × SpellsAll lines front × SpellsAll more rest
 
--- the lines begin the longer list, whose other lines are spelt at the front of `rest`, before `after`
+-- the packets begin the longer list, whose other packets are spelt at the front of `rest`, before `after`
 abbrev pub BeginsWith : List Packet → List Packet → List ℕ → List ℕ → Type 0
 BeginsWith lines longer rest after =
     (more : List Packet) × (bytes : List ℕ) × (longer ≡ lines ++ more) × SpellsAll more bytes
     × (rest ≡ bytes ++ after)
 
--- of two lists of lines at the front of the same bytes one begins the other
+-- of two lists of packets at the front of the same bytes one begins the other
 abbrev pub OneBegins : Type 0
 OneBegins =
     (lines others : List Packet) (front next rest after : List ℕ) → SpellsAll lines front
@@ -99,18 +99,18 @@ TextOfLine = (words : List ℕ) → text (words ++ line_feed ∷ []) ≡ words
 abbrev pub TextOrLine : Type 0
 TextOrLine = (payload : List ℕ) → (payload ≡ text payload) ⊎ (payload ≡ text payload ++ line_feed ∷ [])
 
--- before a line is read no line was read
+-- before a packet is read no packet was read
 abbrev pub ReadsNone : Type 0
 ReadsNone = (bytes : Option (List ℕ)) → ReadsLines (record { old = bytes; new = bytes }) []
 
--- a line that is read after some lines
+-- a packet that is read after some packets
 abbrev pub ReadsNext : Type 0
 ReadsNext =
     (old mid new : Option (List ℕ)) (lines : List Packet) (line : Packet)
     → ReadsLines (record { old = old; new = mid }) lines → Reads (record { old = mid; new = new }) (Ok (Some line))
     → ReadsLines (record { old = old; new = new }) (lines ++ line ∷ [])
 
--- lines that are read one after the other are a list of lines that is read
+-- packets that are read one after the other are a list of packets that is read
 abbrev pub ReadsJoin : Type 0
 ReadsJoin =
     (old mid new : Option (List ℕ)) (lines more : List Packet) → ReadsLines (record { old = old; new = mid }) lines

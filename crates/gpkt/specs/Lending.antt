@@ -1,4 +1,4 @@
--- What a line reader ends as once the line that it lent is no longer borrowed.
+-- What a packet reader ends as once the packet that it lent is no longer borrowed.
 use Rattle.std.specs.Prelude.{Bool, List, ℕ, Option, Result}
 use Rattle.std.specs.Borrow.{Fml, RattleType, MutBor}
 use Rattle.std.specs.Io.BufRead.{Rests}

@@ -1,4 +1,4 @@
--- What a line reader's call gives, and what it takes from its source.
+-- What a packet reader's call gives, and what it takes from its source.
 use Rattle.std.specs.Prelude.{◌≡◌, ℕ, ◌<◌, ◌≤◌, ◌⊎◌, Bool, true, false, List, [], ◌++◌, length, take, drop}
 use Rattle.std.specs.Prelude.{Option, Some, None, option_map, Result, Ok, Err, refl}
 use Rattle.std.specs.Coded.{Coded, code_by, coded×, coded_bool}
@@ -23,13 +23,13 @@ reader_code {S} code =
 abbrev pub AnnouncesAtFront : List ℕ → ℕ → Type 0
 AnnouncesAtFront bytes announced = (digit_count ≤ length bytes) × (number_of (take digit_count bytes) ≡ Some announced)
 
--- a beginning of a line that is no whole one: not all the digits, or fewer bytes than they announce
+-- a beginning of a packet that is no whole one: not all the digits, or fewer bytes than they announce
 abbrev pub IsPartialLine : List ℕ → Type 0
 IsPartialLine bytes =
     (length bytes < digit_count)
     ⊎ ((announced : ℕ) × AnnouncesAtFront bytes announced × (announced ≤ max_packet) × (length bytes < announced))
 
--- no line is spelt at the front of the bytes, which are all that is left, for this reason
+-- no packet is spelt at the front of the bytes, which are all that is left, for this reason
 abbrev pub NoLine : LineFault → List ℕ → Type 0
 NoLine BadDigits bytes = (digit_count ≤ length bytes) × (number_of (take digit_count bytes) ≡ None)
 NoLine Reserved bytes = AnnouncesAtFront bytes reserved_len
@@ -55,7 +55,7 @@ Gives old new (Err Memory) = ⊥
 abbrev pub Reads : Change → Result (Option Packet) LineFault → Type 0
 Reads bytes result = WhereKnown bytes (λ old new. Gives old new result)
 
--- the bytes that are read spell these lines, one after the other, where the bytes still to come are known
+-- the bytes that are read spell these packets, one after the other, where the bytes still to come are known
 abbrev pub ReadsLines : Change → List Packet → Type 0
 ReadsLines bytes lines = WhereKnown bytes (λ old new. (front : List ℕ) × (old ≡ front ++ new) × SpellsAll lines front)
 

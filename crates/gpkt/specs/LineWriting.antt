@@ -1,4 +1,4 @@
--- What a line writer's call writes, and what it leaves.
+-- What a packet writer's call writes, and what it leaves.
 use Rattle.std.specs.Prelude.{◌≡◌, ℕ, ◌<◌, Bool, true, false, List, ◌++◌, length, Option, Result, Ok, Err, refl}
 use Rattle.std.specs.Coded.{Coded, code_by, coded×, coded_bool}
 use Rattle.std.specs.Io.KnownBytes.{Appends, Keeps}

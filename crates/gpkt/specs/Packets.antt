@@ -1,4 +1,4 @@
--- Packet lines, and how bytes spell them (gitprotocol-common(5), "pkt-line Format").
+-- Packets, and how bytes spell them (gitprotocol-common(5), "pkt-line Format").
 use Rattle.std.specs.Prelude.{◌≡◌, ℕ, ◌+◌, ◌-◌, ◌*◌, ◌≤◌, List, [], ◌∷◌, ◌++◌, length, codes}
 use Rattle.std.specs.Prelude.{Option, Some, None, Result, Ok, Err}
 use Rattle.std.specs.Int.{w16, to_be_bytes}
@@ -8,18 +8,18 @@ use Rattle.hex.specs.declared.error.FromHexError.{FromHexError}
 use Rattle.gpkt.specs.declared.line.Line.{Line}
 use Rattle.gpkt.specs.declared.line.Line.TheVariants as lent
 
--- what a line says
+-- what a packet says
 pub data Packet : Type 0 where
   Data : (payload : List ℕ) → Packet
   Flush : Packet
   Delim : Packet
   ResponseEnd : Packet
 
--- how many digits a line begins with
+-- how many digits a packet begins with
 abbrev pub digit_count : ℕ
 digit_count = 4
 
--- the most bytes of a line, its digits counted
+-- the most bytes of a packet, its digits counted
 abbrev pub max_packet : ℕ
 max_packet = 65520
 
@@ -27,7 +27,7 @@ max_packet = 65520
 abbrev pub max_payload : ℕ
 max_payload = max_packet - digit_count
 
--- what the digits announce where they are not the length of a data line
+-- what the digits announce where they are not the length of a data packet
 abbrev pub flush_len : ℕ
 flush_len = 0
 
@@ -37,7 +37,7 @@ delim_len = 1
 abbrev pub response_end_len : ℕ
 response_end_len = 2
 
--- which no line has
+-- which no packet has
 abbrev pub reserved_len : ℕ
 reserved_len = 3
 
@@ -59,7 +59,7 @@ number_in (Err e) = None
 unfoldable pub number_of : List ℕ → Option ℕ
 number_of digits = number_in (decode_of digits)
 
--- the bytes spell the line: four digits, and what they announce
+-- the bytes spell the packet: four digits, and what they announce
 abbrev pub Spells : Packet → List ℕ → Type 0
 Spells (Data payload) bytes =
     (digits : List ℕ) × (bytes ≡ digits ++ payload) × (number_of digits ≡ Some (length payload + digit_count))
@@ -68,7 +68,7 @@ Spells Flush bytes = number_of bytes ≡ Some flush_len
 Spells Delim bytes = number_of bytes ≡ Some delim_len
 Spells ResponseEnd bytes = number_of bytes ≡ Some response_end_len
 
--- the bytes are the spellings of the lines, one after the other
+-- the bytes are the spellings of the packets, one after the other
 abbrev pub SpellsAll : List Packet → List ℕ → Type 0
 SpellsAll [] bytes = bytes ≡ []
 SpellsAll (line ∷ lines) bytes =
@@ -85,19 +85,19 @@ canonical Flush = codes "0000"
 canonical Delim = codes "0001"
 canonical ResponseEnd = codes "0002"
 
--- the canonical spellings of the lines, one after the other
+-- the canonical spellings of the packets, one after the other
 abbrev pub canonical_all : List Packet → List ℕ
 canonical_all [] = []
 canonical_all (line ∷ lines) = canonical line ++ canonical_all lines
 
--- a line without where its payload lies in memory
+-- a packet without where its payload lies in memory
 abbrev pub packet_of : Line → Packet
 packet_of (lent.Data payload) = Data payload.now
 packet_of lent.Flush = Flush
 packet_of lent.Delim = Delim
 packet_of lent.ResponseEnd = ResponseEnd
 
--- what the line carries, which is nothing but for a data line
+-- what the packet carries, which is nothing but for a data packet
 abbrev pub payload_of : Packet → List ℕ
 payload_of (Data payload) = payload
 payload_of Flush = []

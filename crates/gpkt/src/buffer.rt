@@ -1,4 +1,4 @@
-//! The buffer of a line reader.
+//! The buffer of a packet reader.
 
 ghost use Rattle.std.specs.Prelude.{◌≡◌, IsOkUnless, vec_len};
 ghost use Rattle.gpkt.specs.Packets.{max_payload};
@@ -7,7 +7,7 @@ use crate::fault::LineFault;
 use crate::line::MAX_PAYLOAD;
 use std::alloc::{Allocator, Global};
 
-/// Room for one payload, made once.
+/// Room for one payload of up to 65,516 bytes, made once.
 #[derive(Drop)]
 pub struct LineBuffer<A: Allocator + Copy = Global> {
     pub(crate) bytes: Vec<u8, A>,

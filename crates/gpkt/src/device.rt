@@ -38,7 +38,7 @@ pub trait Source {
     // The names of the loans through which it is reached, the outermost first.
     ghost loans: { Self → List ℕ };
 
-    /// Reads bytes into the front of `buf`, and answers how many. It answers none only at the end of
+    /// Reads bytes into the front of `buf`, and answers how many. It answers 0 only at the end of
     /// the input, or where `buf` has no room.
     fn read(&mut self, buf: &mut [u8]) -> Result<usize, Down>
         ensures bound { ReadsAtMost result buf.new }
@@ -64,7 +64,7 @@ pub trait Sink {
     // The names of the loans through which it is reached, the outermost first.
     ghost loans: { Self → List ℕ };
 
-    /// Writes bytes from the front of `buf`, and answers how many. Of some bytes it never takes none.
+    /// Writes bytes from the front of `buf`, and answers how many: 0 only where `buf` has none.
     fn write(&mut self, buf: &[u8]) -> Result<usize, Down>
         ensures bound { WritesAtMost result buf.now }
         ensures some { TakesSome result buf.now }
@@ -143,7 +143,7 @@ impl Latch {
         self.down
     }
 
-    /// Notes that the device has failed, and answers so.
+    /// Notes that the device has failed, and reports so.
     pub(crate) fn fail<T>(&mut self) -> Result<T, Down>
         ensures down { self.new ≡ true }
         ensures err { IsErr result }

@@ -1,4 +1,4 @@
-//! Why a line was not read, or not written, and why a payload is of no band.
+//! Why a packet was not read, or not written, and why a payload is of no band.
 
 ghost use Rattle.std.specs.Prelude.{◌≡◌, Some};
 ghost use Rattle.gpkt.specs.Faults.{band_fault_row, band_fault_text, line_fault_row, line_fault_text, write_fault_row};
@@ -7,12 +7,12 @@ ghost use Rattle.gpkt.specs.Faults.{write_fault_text};
 use std::error::Error;
 use std::fmt;
 
-/// Why a line was not read.
+/// Why a packet was not read.
 #[derive(Clone, Copy, Debug, PartialEq, Eq)]
 pub enum LineFault {
     /// All four digits came, and one is no hexadecimal digit. Nothing after them is read.
     BadDigits,
-    /// The digits are `0003`, which no line has. Nothing after them is read.
+    /// The digits are `0003`, which no packet has. Nothing after them is read.
     Reserved,
     /// The digits announce more than 65,520 bytes. Nothing after them is read.
     TooLong,
@@ -22,7 +22,7 @@ pub enum LineFault {
     Io,
     /// An earlier call had failed. Nothing is read.
     Failed,
-    /// No memory for the buffer.
+    /// Out of memory for the buffer.
     Memory,
 }
 
@@ -75,7 +75,7 @@ impl fmt::Display for LineFault {
 
 impl Error for LineFault {}
 
-/// Why a line was not written.
+/// Why a packet was not written.
 #[derive(Clone, Copy, Debug, PartialEq, Eq)]
 pub enum WriteFault {
     /// An earlier call had failed. Nothing is written.

@@ -1,4 +1,4 @@
-//! The bytes of one line, read into a buffer.
+//! The bytes of one packet, read into a buffer.
 
 ghost use Rattle.std.specs.Prelude.{◌≡◌, ◌<◌, ◌≤◌, false, length, take, is_err, IfErr, IfOk, IfSome, OnErr};
 ghost use Rattle.std.specs.Io.KnownBytes.{Consumes, IsAtEnd};
@@ -11,7 +11,7 @@ use crate::device::{Down, Source};
 use crate::fault::LineFault;
 use crate::line::{DELIM, DIGITS, FLUSH, Line, MAX_PACKET, RESERVED, RESPONSE_END};
 
-/// What the four digits of a line announce.
+/// What the four digits of a packet announce.
 #[derive(Clone, Copy)]
 pub(crate) enum Head {
     /// A payload of so many bytes.
@@ -114,7 +114,7 @@ fn read_payload<S: Source>(source: &mut S, payload: &mut [u8]) -> Result<(), Lin
     }
 }
 
-/// Reads one line, its payload into the front of `buffer`, and nothing after it.
+/// Reads one packet, its payload into the front of `buffer`, and nothing after it.
 pub(crate) fn read_into<S: Source>(
     source: &mut S,
     buffer: &mut [u8],
@@ -134,7 +134,7 @@ pub(crate) fn read_into<S: Source>(
     Ok(found)
 }
 
-/// The line whose payload stands at the front of `buffer`.
+/// The packet whose payload stands at the front of `buffer`.
 pub(crate) fn line_in(head: Head, buffer: &[u8]) -> Line<'_>
     requires { payload_len head ≤ length buffer.now }
     ensures { packet_of result ≡ packet_in buffer.now head }

@@ -1,4 +1,4 @@
-//! Laws of packet lines. A call does nothing, and gives its caller's proof the law.
+//! Laws of packets. A call does nothing, and gives its caller's proof the law.
 
 ghost use Rattle.std.specs.Prelude.{◌≡◌};
 ghost use Rattle.gpkt.specs.Bands.{BandFits, BandIsPayload, BandIsRead, max_band};
@@ -15,12 +15,12 @@ pub fn limits_are_the_constants()
     ensures band { MAX_BAND ≡ max_band }
 {}
 
-/// At most one line is spelt at the front of some bytes, and in one way.
+/// At most one packet is spelt at the front of some bytes, and in one way.
 pub fn one_reading()
     ensures { OneReading }
 {}
 
-/// Where reading is refused no line is spelt, and there is one reason.
+/// Where reading is refused no packet is spelt, and there is one reason.
 pub fn refused_front()
     ensures no_line { RefusedIsNoLine }
     ensures one_fault { OneFault }
@@ -32,7 +32,7 @@ pub fn one_outcome()
     ensures { OneOutcome }
 {}
 
-/// Bytes are empty, or spell a line at their front, or there is a reason why they do not.
+/// Bytes are empty, or spell a packet at their front, or there is a reason why they do not.
 pub fn every_front()
     ensures { EveryFront }
 {}
@@ -42,39 +42,39 @@ pub fn has_four_bytes()
     ensures { HasFourBytes }
 {}
 
-/// What is written is a spelling of the line, and of the lines.
+/// What is written is a spelling of the packet, and of the packets.
 pub fn canonical_spells()
     ensures line { CanonicalSpells }
     ensures lines { CanonicalSpellsAll }
     ensures joins { CanonicalJoins }
 {}
 
-/// Two lists of lines are spelt one after the other exactly where the one list of both is spelt.
+/// Two lists of packets are spelt one after the other exactly where the one list of both is spelt.
 pub fn spellings_join()
     ensures join { SpellingsJoin }
     ensures split { SpellingsSplit }
 {}
 
-/// Of two lists of lines that are spelt at the front of the same bytes one begins the other.
+/// Of two lists of packets that are spelt at the front of the same bytes one begins the other.
 pub fn one_begins()
     ensures { OneBegins }
 {}
 
-/// A text line gives its text back.
+/// A text packet gives its text back.
 pub fn text_reads_back()
     ensures line { TextOfLine }
     ensures nothing_else { TextOrLine }
 {}
 
-/// A payload is read as a band exactly where it is that band's byte and bytes, and a line can carry
-/// it exactly where the bytes are few enough.
+/// A payload is read as a band exactly where it is that band's byte and bytes, and a packet can
+/// carry it exactly where the bytes are few enough.
 pub fn bands_are_read()
     ensures payload { BandIsRead }
     ensures nothing_else { BandIsPayload }
     ensures fits { BandFits }
 {}
 
-/// Lines that are read one after the other are a list of lines that is read.
+/// Packets that are read one after the other are a list of packets that is read.
 pub fn reads_join()
     ensures none { ReadsNone }
     ensures next { ReadsNext }

@@ -64,7 +64,7 @@ fn copy_front(from: &[u8], to: &mut [u8]) -> usize
     count
 }
 
-/// A sink that keeps what is written to it. It fails only where memory does.
+/// A sink that keeps what is written to it. It fails only where it is out of memory.
 #[derive(Drop)]
 pub struct VecSink<A: Allocator + Copy = Global> {
     written: Vec<u8, A>,
@@ -112,7 +112,7 @@ impl<A: Allocator + Copy> VecSink<A> {
         self.written.as_slice()
     }
 
-    /// What was written before the last flush.
+    /// What was passed on: all that was written before the last flush.
     pub fn passed_on(&self) -> &[u8]
         ensures { result.now ≡ self.now.passed_on }
     {
@@ -205,7 +205,7 @@ impl<D> Limited<D> {
         }
     }
 
-    /// Moves at most so many bytes a call, and one at least.
+    /// Moves at most so many bytes a call; 0 counts as 1.
     pub fn with_most(mut self, most: usize) -> Limited<D>
         ensures { result ≡ self }
     {
@@ -213,7 +213,7 @@ impl<D> Limited<D> {
         self
     }
 
-    /// Reads or writes so often, and fails at the next read or write.
+    /// Fails at the first read or write after so many; a flush is not counted.
     pub fn failing_after(mut self, calls: usize) -> Limited<D>
         ensures { result ≡ self }
     {

@@ -33,7 +33,7 @@ pub fn write_all<W: Sink>(sink: &mut W, bytes: &[u8]) -> Result<(), Down>
     Ok(())
 }
 
-/// Writes the digits of a line and then the pieces of its payload.
+/// Writes the digits of a packet and then the pieces of its payload.
 pub(crate) fn put_line<W: Sink>(
     sink: &mut W,
     digits: &[u8],
@@ -56,7 +56,7 @@ pub(crate) fn put_line<W: Sink>(
     write_all(sink, end)
 }
 
-/// How many bytes the three pieces of a payload have, where a line can carry them.
+/// How many bytes the three pieces of a payload have, where a packet can carry them.
 pub(crate) fn joined_len(first: &[u8], second: &[u8], end: &[u8]) -> Option<usize>
     ensures { MatchOption result
         (max_payload < length (first.now ++ second.now ++ end.now))

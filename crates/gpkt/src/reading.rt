@@ -1,4 +1,4 @@
-//! Reading lines.
+//! Reading packets.
 
 ghost use Rattle.std.specs.Prelude.{◌≡◌, ◌≤◌, ◌↔◌, true, false, length, IfOk, IfErr, IfSome, IsErrOf};
 ghost use Rattle.gpkt.specs.Packets.{max_payload, packet_of, payload_of};
@@ -12,7 +12,7 @@ use crate::line::Line;
 use std::alloc::{Allocator, Global};
 use std::marker::Model;
 
-/// Reads packet lines from a source, and never a byte more than a line has.
+/// Reads packets from a source, and never a byte more than a packet has.
 ///
 /// A payload is lent from the reader's one buffer until the next call.
 #[derive(Drop)]
@@ -52,7 +52,7 @@ impl<S: Source, A: Allocator + Copy> LineReader<S, A> {
         }
     }
 
-    /// A reader that has not failed. It takes no memory.
+    /// A reader over a buffer that is there. It has not failed, and takes no memory.
     pub fn with_buffer(buffer: LineBuffer<A>, source: S) -> LineReader<S, A>
         ensures source { result.source ≡ source }
         ensures failed { result.failed ≡ false }
@@ -64,8 +64,8 @@ impl<S: Source, A: Allocator + Copy> LineReader<S, A> {
         }
     }
 
-    /// Reads the next line: four digits, and then exactly the payload. `None` comes where the input
-    /// ends before the first digit.
+    /// Reads the next packet: four digits, and then exactly the payload. `None` comes where the
+    /// input ends before the first digit.
     ///
     /// Its faults: [`BadDigits`](LineFault::BadDigits) (all four came and one is no hexadecimal digit,
     /// of either case), [`Reserved`](LineFault::Reserved) (`0003`), [`TooLong`](LineFault::TooLong)

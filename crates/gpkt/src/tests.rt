@@ -87,7 +87,7 @@ fn a_read_that_fails_is_the_last(rt: HostRuntime) {
     }
 }
 
-// Catches a line reader that reads on after a fault, or that asks more often than for each byte of the line once.
+// Catches a packet reader that reads on after a fault, or that asks more often than for each byte of the packet once.
 #[test]
 fn a_line_is_read_in_as_many_calls_as_it_has_bytes(rt: HostRuntime) -> Result<(), Fail> {
     let mut device = Counted::failing_at(7, ErrorKind::Interrupted);
@@ -144,7 +144,7 @@ fn a_flush_that_fails_is_the_last(rt: HostRuntime) {
     }
 }
 
-// Catches a push that does not reach the writer, and a line that is flushed before it: what a writer passes on is not
+// Catches a push that does not reach the writer, and a packet that is flushed before it: what a writer passes on is not
 // known, so no clause says so.
 #[test]
 fn a_push_is_one_flush(rt: HostRuntime) -> Result<(), Fail> {
@@ -159,7 +159,7 @@ fn a_push_is_one_flush(rt: HostRuntime) -> Result<(), Fail> {
     Ok(())
 }
 
-// Catches a line writer that goes on after a push that failed.
+// Catches a packet writer that goes on after a push that failed.
 #[test]
 fn a_push_that_fails_is_the_last(rt: HostRuntime) {
     let mut device = Counted::failing_at(1, ErrorKind::Interrupted);

@@ -1,9 +1,10 @@
-//! Text lines.
+//! The text of a payload.
 
 ghost use Rattle.std.specs.Prelude.{◌≡◌};
 ghost use Rattle.gpkt.specs.Packets.{text};
 
-/// The payload without one line feed at its very end, if there is one (gitprotocol-common(5)).
+/// The payload without one line feed at its very end, if there is one (gitprotocol-common(5),
+/// "pkt-line Format").
 ///
 /// Only one is taken off: `a\n\n` gives `a\n`.
 pub fn text_of(payload: &[u8]) -> &[u8]

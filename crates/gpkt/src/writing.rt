@@ -1,4 +1,4 @@
-//! Writing lines.
+//! Writing packets.
 
 ghost use Rattle.std.specs.Prelude.{◌≡◌, ◌≢◌, ◌<◌, ◌≤◌, ◌↔◌, ◌++◌, [], ◌∷◌, true, false, length, codes, IfErr, IsErrOf};
 ghost use Rattle.gpkt.specs.Bands.{band_bytes, band_packet, band_payload, max_band};
@@ -13,9 +13,9 @@ use crate::line::DIGITS;
 use crate::put::{digits_of, joined_len, put_line};
 use std::marker::Model;
 
-/// Writes packet lines to a sink, with lower-case digits. It takes no memory.
+/// Writes packets to a sink, with lower-case digits. It takes no memory.
 ///
-/// At [`Io`](WriteFault::Io) a beginning of the line stands written, and every later call answers
+/// At [`Io`](WriteFault::Io) a beginning of the packet stands written, and every later call answers
 /// [`Failed`](WriteFault::Failed) and writes nothing. At [`Payload`](WriteFault::Payload), which comes
 /// where the payload with its line feed has more than 65,516 bytes, nothing is written and the writer
 /// goes on as before.
@@ -36,7 +36,7 @@ impl<W> Model for LineWriter<W> {
 }
 
 impl<W: Sink> LineWriter<W> {
-    /// A writer that has not failed.
+    /// A writer to this sink. It has not failed.
     pub fn new(sink: W) -> LineWriter<W>
         ensures sink { result.sink ≡ sink }
         ensures failed { result.failed ≡ false }
@@ -47,7 +47,7 @@ impl<W: Sink> LineWriter<W> {
         }
     }
 
-    /// Writes one data line. An empty payload is written as `0004`, which is no flush.
+    /// Writes one data packet. An empty payload is written as `0004`, which is no flush.
     pub fn put(&mut self, payload: &[u8]) -> Result<(), WriteFault>
         ensures written { HasWritten W.contents W.passed_on W.is_down W.loans self.old self.new result
             (canonical (packets.Data payload.now)) }
@@ -57,7 +57,7 @@ impl<W: Sink> LineWriter<W> {
         self.put_parts(payload, b"", b"")
     }
 
-    /// Writes one data line of both pieces.
+    /// Writes one data packet of both pieces.
     pub fn put2(&mut self, first: &[u8], second: &[u8]) -> Result<(), WriteFault>
         ensures written { HasWritten W.contents W.passed_on W.is_down W.loans self.old self.new result
             (canonical (packets.Data (first.now ++ second.now))) }
@@ -67,7 +67,7 @@ impl<W: Sink> LineWriter<W> {
         self.put_parts(first, second, b"")
     }
 
-    /// Writes one text line: the text and a line feed.
+    /// Writes one text packet: the text and a line feed.
     pub fn text(&mut self, text: &[u8]) -> Result<(), WriteFault>
         ensures written { HasWritten W.contents W.passed_on W.is_down W.loans self.old self.new result
             (canonical (packets.Data (text.now ++ line_feed ∷ []))) }
@@ -77,7 +77,7 @@ impl<W: Sink> LineWriter<W> {
         self.put_parts(text, b"", b"\n")
     }
 
-    /// Writes one text line: both pieces and a line feed.
+    /// Writes one text packet: both pieces and a line feed.
     pub fn text2(&mut self, first: &[u8], second: &[u8]) -> Result<(), WriteFault>
         ensures written { HasWritten W.contents W.passed_on W.is_down W.loans self.old self.new result
             (canonical (packets.Data (first.now ++ second.now ++ line_feed ∷ []))) }
@@ -87,7 +87,8 @@ impl<W: Sink> LineWriter<W> {
         self.put_parts(first, second, b"\n")
     }
 
-    /// Writes one data line of the band's byte and its bytes, which are at most [`MAX_BAND`](crate::MAX_BAND).
+    /// Writes one data packet of the band's byte and its bytes, which are at most
+    /// [`MAX_BAND`](crate::MAX_BAND).
     pub fn put_band(&mut self, band: &Band<'_>) -> Result<(), WriteFault>
         ensures written { HasWritten W.contents W.passed_on W.is_down W.loans self.old self.new result
             (canonical (packets.Data (band_payload (band_packet band.now)))) }
@@ -125,7 +126,8 @@ impl<W: Sink> LineWriter<W> {
         self.put_pieces(b"0002", b"", b"", b"")
     }
 
-    /// Flushes the sink, so that what was written is passed on. Where that fails, what was passed on before stays so.
+    /// Passes on what was written, by one flush of the sink. At [`Io`](WriteFault::Io) what was
+    /// passed on before stays so, and the writer has failed.
     pub fn push(&mut self) -> Result<(), WriteFault>
         ensures { HasPushed W.contents W.passed_on W.is_down W.loans self.old self.new result }
     {
@@ -149,7 +151,7 @@ impl<W: Sink> LineWriter<W> {
         sink
     }
 
-    // Writes one data line whose payload is the three pieces.
+    // Writes one data packet whose payload is the three pieces.
     fn put_parts(&mut self, first: &[u8], second: &[u8], end: &[u8]) -> Result<(), WriteFault>
         ensures written { HasWritten W.contents W.passed_on W.is_down W.loans self.old self.new result
             (canonical (packets.Data (first.now ++ second.now ++ end.now))) }

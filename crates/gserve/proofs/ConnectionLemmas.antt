@@ -209,7 +209,7 @@ module _ {A S W : Type 0} (server : Server A) (packs : Packs A) (fails : PackFai
 
   -- ---- before the first request
 
-  -- the line of a refusal stands in the advertisement's place
+  -- the packet of a refusal stands in the advertisement's place
   pub refused_first : (s : S) (a b : W) (cause : ServeFault) (last : End)
       → CannotBegin (input_of remaining source_down s s) cause → RefusesFirst cause (output_of contents passed_on sink_down a b) last
       → Serves server packs fails ends (input_of remaining source_down s s) (output_of contents passed_on sink_down a b) 0 last

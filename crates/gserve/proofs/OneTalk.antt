@@ -111,7 +111,7 @@ module _ {A : Type 0} (server : Server A) (packs : Packs A) (fails : PackFails A
 
 -- ---- refusals for a reason in the bytes
 
--- the reason is in the bytes where the source is well and there was memory
+-- the reason is in the bytes where the source is well and it was not out of memory
 of_bytes : (cause : Why) → IsReadFailure false false cause → ¬ (cause ≡ why.Memory) → IsOfBytes cause
 of_bytes (why.Line line.Io) h other = absurd (false≢true h.1)
 of_bytes (why.Line line.Failed) h other = absurd (false≢true h)
@@ -374,7 +374,7 @@ module _ {A : Type 0} (packs : Packs A) (fails : PackFails A) (server : Server A
         h.read k.read h.stops k.stops own next in
         (h.all ∙ (last_of h.turns k.turns ended last all.0 all.1 ∙ sym k.all), all.1)
 
-    -- there is no memory to begin with
+    -- it is out of memory at the start
     begins : (bytes written : List ℕ) (ended : End) → HoldsNone bytes written ended → ¬ EndsByOwnFault ended → ⊥
     begins bytes written (end.Refused serve.Memory) h own = own tt
     begins bytes written (end.Refused (serve.Reader cause)) h own = own tt

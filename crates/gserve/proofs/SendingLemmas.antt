@@ -15,7 +15,7 @@ use Rattle.ggrammar.proofs.PassingLemmas.{push_fails, pushed_passes, write_fails
 use Rattle.gserve.specs.Refusals.{err_packets, err_text, max_err_text}
 use Rattle.gserve.specs.Steps.{PassesPackets}
 
--- ---- the line of a refusal
+-- ---- the packet of a refusal
 
 pub err_line : (text : List ℕ) (fault : ServeFault) → text ≡ err_text fault
     → (Data (codes "ERR " ++ (text ++ line_feed ∷ [])) ∷ []) ≡ err_packets fault

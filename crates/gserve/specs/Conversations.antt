@@ -35,12 +35,12 @@ talk_bytes format ends turns = canonical_all (talk format ends turns)
 
 -- ---- before the first request
 
--- there is no memory to begin, and nothing is read
+-- it is out of memory at the start, and nothing is read
 abbrev pub CannotBegin : Input → ServeFault → Type 0
 CannotBegin input serve.Memory = IsUnread input
 CannotBegin input fault = LacksBuffer input fault
 
--- what is due then: the advertisement, or the line of a refusal in its place
+-- what is due then: the advertisement, or the packet of a refusal in its place
 pub data IsDueFirst (format : Format) (input : Input) : List Packet → Type 0 where
   advert : IsUnread input → IsDueFirst format input (advert_packets format)
   refusal : (fault : ServeFault) → CannotBegin input fault → IsDueFirst format input (err_packets fault)

@@ -81,7 +81,7 @@ pub record RefusesToRead (format : Format) (input : Input) (cause : MessageFault
   pub source : IsReadFailure false input.is_down cause.why
   pub begun : cause.why ≡ EndedEarly → cause.frame ≢ 0
 
--- Why a request that was read is refused: as fetch refuses it. The lines of refs are written as they stand in the
+-- Why a request that was read is refused: as fetch refuses it. The packets of refs are written as they stand in the
 -- server, which takes no memory: a request for refs is always answered.
 abbrev pub Declines : {A : Type 0} → Server A → PackFails A → Asked → ServeFault → Type 0
 Declines server fails (Fetches asked) fault = FetchRefuses server fails asked fault
@@ -105,7 +105,7 @@ module _ {A : Type 0} (server : Server A) (fails : PackFails A) where
 -- ---- one request
 
 module _ {A : Type 0} (server : Server A) (packs : Packs A) (fails : PackFails A) (ends : Ends) where
-  -- what is due for a request: its reply, or the line of a refusal
+  -- what is due for a request: its reply, or the packet of a refusal
   pub data IsDue (input : Input) : List Packet → Type 0 where
     reply : (turn : Turn) → ReadsTurn server packs input turn → IsDue input (reply_packets ends turn.answer)
     refusal : (fault : ServeFault) → IsRefused server fails input fault → IsDue input (err_packets fault)
@@ -125,7 +125,7 @@ module _ {A : Type 0} (server : Server A) (packs : Packs A) (fails : PackFails A
 
 -- ---- one request of a source that is read for the first time
 
--- there is no memory for the buffer of a reader, and nothing is read
+-- it is out of memory for the buffer of a reader, and nothing is read
 abbrev pub LacksBuffer : Input → ServeFault → Type 0
 LacksBuffer input (serve.Reader NoBuffer) = IsUnread input
 LacksBuffer input _ = ⊥
@@ -138,7 +138,7 @@ RefusesAtOnce input output end.WriteFailed = (fault : ServeFault) × LacksBuffer
     × SendsSome output (canonical_all (err_packets fault)) × KeepsPassed output.passed_on
 RefusesAtOnce input output _ = ⊥
 
--- one request is read and answered, or there is no memory to begin
+-- one request is read and answered, or it is out of memory at the start
 abbrev pub ServesOne : {A : Type 0} → Server A → Packs A → PackFails A → Ends → Input → Output → ExchangeEnd → Type 0
 ServesOne server packs fails ends input output ended =
     Exchanges server packs fails ends input output ended ⊎ RefusesAtOnce input output ended

@@ -10,8 +10,7 @@ use Rattle.gserve.specs.declared.connection.End.{End}
 use Rattle.gserve.specs.declared.connection.End.TheVariants as end
 
 -- a connection with known bytes, whose source is well and which did not end by its sink, is a conversation over
--- these bytes, and all that is
--- written in it is passed on
+-- these bytes, and all that is written in it is passed on
 abbrev pub ServingIsTalking : (A : Type 0) → Packs A → PackFails A → Type 0
 ServingIsTalking A packs fails =
     (server : Server A) (ends : Ends) (input : Input) (output : Output) (requests : ℕ) (ended : End) (bytes : List ℕ)

@@ -30,6 +30,6 @@ detail_of _ = []
 unfoldable pub err_text : ServeFault → List ℕ
 err_text fault = codes "upload-pack: " ++ (serve_fault_row fault).phrase ++ detail_of fault
 
--- its line
+-- its packet
 unfoldable pub err_packets : ServeFault → List Packet
 err_packets fault = text_packet (codes "ERR " ++ err_text fault) ∷ []

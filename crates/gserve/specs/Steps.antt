@@ -41,7 +41,7 @@ RefusesFirst fault output end.WriteFailed =
     SendsSome output (canonical_all (err_packets fault)) × KeepsPassed output.passed_on
 RefusesFirst fault output _ = ⊥
 
--- the advertisement is sent, or the line that says that there is no memory for it
+-- the advertisement is sent, or the packet that reports out of memory for it
 abbrev pub Advertises : Format → Output → Result (Unit {0}) End → Type 0
 Advertises format output (Ok done) = Passes output (canonical_all (advert_packets format))
 Advertises format output (Err (end.Refused reported)) = RefusesFirst serve.Memory output (end.Refused reported)

@@ -20,7 +20,7 @@ use Rattle.gserve.specs.declared.connection.End.TheVariants as end
 abbrev pub giving : List ℕ → List ℕ → Input
 giving bytes rest = record { read = known bytes rest; was_down = false; is_down = false }
 
--- what is written last: the line of a refusal
+-- what is written last: the packet of a refusal
 abbrev pub last_packets : End → List Packet
 last_packets (end.Refused fault) = err_packets fault
 last_packets _ = []
@@ -36,7 +36,7 @@ module _ {A : Type 0} (server : Server A) (fails : PackFails A) where
       (requests < max_requests) × (rest : List ℕ) × IsRefused server fails (giving left rest) fault
   Stops requests left end.WriteFailed = ⊥
 
--- there is no memory to begin with, and the line that says so is all that is written
+-- it is out of memory at the start, and the packet that reports so is all that is written
 abbrev pub HoldsNone : List ℕ → List ℕ → End → Type 0
 HoldsNone bytes written (end.Refused fault) =
     CannotBegin (giving bytes bytes) fault × (written ≡ canonical_all (err_packets fault))
@@ -44,7 +44,7 @@ HoldsNone bytes written _ = ⊥
 
 module _ {A : Type 0} (server : Server A) (packs : Packs A) (fails : PackFails A) (ends : Ends) where
   -- These turns are held: the bytes begin with their requests, and what is left stops them. The advertisement is
-  -- written, their replies, and the line of a refusal where one ends it.
+  -- written, their replies, and the packet of a refusal where one ends it.
   pub record HoldsTurns (bytes written : List ℕ) (ended : End) : Type 0 where
     pub turns : List Turn
     pub left : List ℕ
@@ -58,7 +58,7 @@ module _ {A : Type 0} (server : Server A) (packs : Packs A) (fails : PackFails A
 
 -- ---- the server's own faults
 
--- there is no memory, or the packer fails: nothing that the client sent is to blame
+-- it is out of memory, or the packer fails: nothing that the client sent is to blame
 abbrev pub IsOwnFault : ServeFault → Type 0
 IsOwnFault (serve.Reader cause) = ⊤
 IsOwnFault (serve.Request cause) = cause.why ≡ why.Memory

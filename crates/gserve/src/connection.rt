@@ -27,7 +27,7 @@ pub enum End {
     Closed,
     /// The input ended before a request, or there were [`MAX_REQUESTS`] of them.
     Ended,
-    /// The line that reports the refusal is the last thing written, and is passed on.
+    /// The packet that reports the refusal is the last thing written, and is passed on.
     Refused(ServeFault),
     /// 27: the sink failed. A beginning of what was to be written stands.
     WriteFailed,
@@ -38,16 +38,17 @@ pub enum End {
 pub struct Served {
     /// How many replies were written and passed on.
     pub requests: u32,
+    /// How it ended.
     pub end: End,
 }
 
 /// Serves one connection: writes the advertisement, and then reads and answers one request after the other
 /// (gitprotocol-v2(5), "Capability Advertisement", "Command Request"). What is written is passed on after the
-/// advertisement, after each reply and after the line of a refusal. The server stays as it is.
+/// advertisement, after each reply and after the packet of a refusal. The server stays as it is.
 ///
-/// It ends where the client ends it, where the input ends before a request, at the first refusal, whose line is
-/// written last, or where the sink fails. Where there is no memory to begin with, the line that says so is all that is
-/// written, and nothing is read.
+/// It ends where the client ends it, where the input ends before a request, at the first refusal,
+/// whose packet is written last, or where the sink fails. Where it is out of memory at the start,
+/// the packet that reports so is all that is written, and nothing is read.
 pub fn serve<S: Source, W: Sink, A: Allocator + Copy, K: Packer<A>>(
     server: &Server<A>,
     packer: &K,
@@ -65,8 +66,9 @@ pub fn serve<S: Source, W: Sink, A: Allocator + Copy, K: Packer<A>>(
     serve_with(server, &mut packer, ends, source, sink)
 }
 
-/// As [`serve`], by a packer of which is known what it answered: where it fails its fault is the one that is reported, and
-/// no other stands in for it. It shows in the packer afterwards, which else has not failed.
+/// As [`serve`], by a packer that was not asked yet, and of which is known what it answered: where
+/// it fails its fault is the one that is reported, and no other stands in for it. It shows in the
+/// packer afterwards, which else has not failed.
 pub fn serve_with<S: Source, W: Sink, A: Allocator + Copy, K: Packer<A>>(
     server: &Server<A>,
     packer: &mut OnePack<'_, K>,
@@ -193,7 +195,7 @@ fn end_after(exchange: ExchangeEnd) -> Option<End>
     }
 }
 
-// Makes and sends the advertisement, or the line of a refusal in its place.
+// Makes and sends the advertisement, or the packet of a refusal in its place.
 fn advertise<W: Sink, A: Allocator + Copy>(
     server: &Server<A>,
     writer: &mut LineWriter<W>,
@@ -214,7 +216,7 @@ fn advertise<W: Sink, A: Allocator + Copy>(
     }
 }
 
-// Reports that there is no memory to begin with.
+// Reports that it is out of memory at the start.
 fn refuse_first<W: Sink>(fault: ServeFault, writer: &mut LineWriter<W>) -> End
     requires { writer.old.failed ≡ false }
     ensures refused { RefusesFirst fault (output_of W.contents W.passed_on W.is_down writer.old.sink writer.new.sink) result }

@@ -25,15 +25,16 @@ pub enum ExchangeEnd {
     Closed,
     /// The input ended before the request; nothing is written.
     Ended,
-    /// The line that reports the refusal is written and passed on.
+    /// The packet that reports the refusal is written and passed on.
     Refused(ServeFault),
     /// 27: the sink failed. A beginning of what was to be written stands.
     WriteFailed,
 }
 
-/// Reads one request and writes what answers it, with no advertisement before it (gitprotocol-v2(5), "Command Request").
-/// Nothing after the request's last packet is read. Where there is no memory for the reader's buffer nothing is read.
-/// A request for refs takes no memory once it is read, and is answered.
+/// Reads one request and writes what answers it, with no advertisement before it
+/// (gitprotocol-v2(5), "Command Request"). Nothing after the request's last packet is read. Where
+/// it is out of memory for the reader's buffer nothing is read, and that is reported. A request for
+/// refs takes no memory once it is read, and is answered.
 ///
 /// The source is well where the request was answered, and where there was none.
 pub fn serve_one<S: Source, W: Sink, A: Allocator + Copy, K: Packer<A>>(
@@ -53,8 +54,8 @@ pub fn serve_one<S: Source, W: Sink, A: Allocator + Copy, K: Packer<A>>(
     serve_one_with(server, &mut packer, ends, source, sink)
 }
 
-/// As [`serve_one`], by a packer of which is known what it answered: where it fails its fault is the one that is reported,
-/// and no other stands in for it.
+/// As [`serve_one`], by a packer that was not asked yet, and of which is known what it answered:
+/// where it fails its fault is the one that is reported, and no other stands in for it.
 pub fn serve_one_with<S: Source, W: Sink, A: Allocator + Copy, K: Packer<A>>(
     server: &Server<A>,
     packer: &mut OnePack<'_, K>,

@@ -25,9 +25,10 @@ pub fn serving_is_talking<A: Allocator + Copy, K: Packer<A>>()
     ensures { (packer : K) → ServingIsTalking A (K.packs packer) (K.pack_fails packer) }
 {}
 
-/// What a client sends to a server that packs by a faithful packer says what is written to it, and how the conversation
-/// ends, unless memory or the packer fails. (Another packer may have several packs for the same objects, and the bytes
-/// of a client do not say which of them is sent.)
+/// What a client sends to a server that packs by a faithful packer says what is written to it, and
+/// how the conversation ends, unless it is out of memory or the packer fails. (Another packer may
+/// have several packs for the same objects, and the bytes of a client do not say which of them is
+/// sent.)
 pub fn talks_are_one<A: Allocator + Copy, K: Faithful<A>>(packer: &K)
     ensures { TalksAreOne A (K.packs packer.now) (K.pack_fails packer.now) }
 {

@@ -10,41 +10,44 @@
 //!   [`Served::requests`](Served) counts the replies.
 //! - All that is due is passed on before anything more is read: where the sink fails, also as it passes a reply on,
 //!   nothing after the request of that reply was read, and before the first request nothing at all.
-//! - It ends with the client's lone flush; where the input ends before a request, or there were [`MAX_REQUESTS`]; at
-//!   the first request that is refused, whose line is then the last thing written, and is passed on; or where the sink
-//!   fails. The fault is the one of the request's grammar, of the server's answer, or the source's.
+//! - It ends with the client's lone flush; where the input ends before a request, or there were
+//!   [`MAX_REQUESTS`]; at the first request that is refused, whose packet is then the last thing
+//!   written, and is passed on; or where the sink fails. The fault is the one of the request's
+//!   grammar, of the server's answer, or the source's.
 //! - [`serve_with`] and [`serve_one_with`] do the same by a packer of which is known what it answered: where it fails
 //!   its fault is the one that is reported, and out of memory never in its place (`specs/Packings.antt`).
-//! - Where there is no memory for the buffer or for the advertisement, the line that says so stands in the
-//!   advertisement's place, and nothing is read.
-//! - Where the sink fails a beginning of what was due stands written: of the advertisement, of a reply, or of the line
-//!   of a refusal that was due. Each reply that counts was passed on, and stays so.
+//! - Where it is out of memory for the buffer or for the advertisement, the packet that reports so
+//!   stands in the advertisement's place, and nothing is read.
+//! - Where the sink fails a beginning of what was due stands written: of the advertisement, of a
+//!   reply, or of the packet of a refusal that was due. Each reply that counts was passed on, and
+//!   stays so.
 //! - At each end it is known whether the source and the sink have failed.
 //! - [`serve_one`] does the same for one request, with no advertisement (`specs/Exchanges.antt`).
 //! - [`write_reply`] writes a reply in its one list of packets, or a beginning of it where the sink fails.
 //! - [`err_text`] writes the text of a fault, at most 128 bytes, and nothing after it.
-//! - [`laws`]: where bytes are known, the source is well and the connection did not end by its sink, it is a
-//!   conversation over the bytes alone (`specs/Talks.antt`). Where the packer is faithful, the bytes of a client say what
-//!   is written to it and how the conversation ends, unless memory or the packer fails.
+//! - [`laws`]: where bytes are known, the source is well and the connection did not end by its
+//!   sink, it is a conversation over the bytes alone (`specs/Talks.antt`). Where the packer is
+//!   faithful, the bytes of a client say what is written to it and how the conversation ends,
+//!   unless it is out of memory or the packer fails.
 //! - No call panics, overflows or reads out of bounds, and each returns where each call of its devices does.
 //!
 //! # Only tested
 //!
 //! By the cases of `conformance`: that memory which is there is used.
 //!
-//! # Neither proved nor tested
-//!
-//! That each part of a packet is written in one call, also the digits of an id.
-//!
 //! # What the contracts do not rule out
 //!
-//! Where the bytes of a source or of a sink are not known, nothing is said of those that were read or written; how
-//! many requests were answered, how it ended, and whether a device has failed is said all the same. Where the sink
-//! fails, a shorter beginning may stand written, and more than the replies that count may have been passed on. It may
-//! report out of memory in the place of the reply to a fetch whose wants are all here, where the packer was not asked;
-//! while it reads a request, at a packet that brings something to keep; and in the place of the advertisement. Where
-//! there is no memory to begin, faults 64 and 28 may stand for each other: both say that nothing was read. It may take
-//! as long as it likes, and flush more often.
+//! - Where the bytes of a source or of a sink are not known, nothing is said of those that were
+//!   read or written; how many requests were answered, how it ended, and whether a device has
+//!   failed is said all the same.
+//! - Where the sink fails, a shorter beginning may stand written, and more than the replies that
+//!   count may have been passed on.
+//! - It may report out of memory without need in place of the reply to a fetch whose wants are all
+//!   held, where the packer was not asked; while it reads a request, at a packet that brings
+//!   something to keep; and in place of the advertisement. At the start, faults 64 and 28 may stand
+//!   for each other: both say that nothing was read.
+//! - It may take as long as it likes, pass on more often, and write a part of a packet, such as the
+//!   digits of an id, in several calls.
 //!
 //! # Stands on
 //!

@@ -82,7 +82,7 @@ fn add(piece: &[u8], text: &mut ArrayVec<u8, MAX_ERR_TEXT>)
     text.try_extend_from_slice(piece).unwrap()
 }
 
-/// Writes the line of a refusal. It takes no memory.
+/// Writes the packet of a refusal. It takes no memory.
 pub(crate) fn write_refusal<W: Sink>(
     fault: &ServeFault,
     writer: &mut LineWriter<W>,

@@ -1,5 +1,5 @@
-//! What is written and passed on: a reply, the advertisement, and the line of a refusal. Each call leaves the writer well,
-//! or its sink is down.
+//! What is written and passed on: a reply, the advertisement, and the packet of a refusal. Each
+//! call leaves the writer well, or its sink is down.
 
 ghost use Rattle.std.specs.Prelude.{◌≡◌, false, OnOk};
 ghost use Rattle.gpkt.specs.Sending.{output_of};
@@ -74,7 +74,7 @@ pub(crate) fn send_advert<W: Sink, A: Allocator + Copy>(
     writer.push()
 }
 
-/// Writes the line of a refusal, and passes it on.
+/// Writes the packet of a refusal, and passes it on.
 pub(crate) fn send_refusal<W: Sink>(
     fault: &ServeFault,
     writer: &mut LineWriter<W>,
