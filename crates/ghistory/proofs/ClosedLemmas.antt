@@ -40,7 +40,7 @@ pub each_from_closed : {A : Type 0} (g : List (Entry A)) → IdsDiffer g → IsC
 each_from_closed {A} g differ closed =
     holds_of_each (λ (node : Node A). All (Holds g) node.parents) g differ (λ a node is k d inside. closed a _ (node, is, All-contains_itself node.parents k d inside))
 
--- ---- the parents of the entry at a place
+-- ---- the parents of the entry at a position
 
 pub parents_entry : {A : Type 0} (g : List (Entry A)) (p : ℕ) (parents : List (List ℕ)) → option_map (λ entry. entry.node.parents) (slice_get g p) ≡ Some parents → (entry : Entry A) × (slice_get g p ≡ Some entry) × (entry.node.parents ≡ parents)
 parents_entry {A} g p parents at = by (slice_get g p) refl
@@ -49,14 +49,14 @@ parents_entry {A} g p parents at = by (slice_get g p) refl
     by None none = absurd (none-some parents (ap (option_map (λ (entry : Entry A). entry.node.parents)) (sym none) ∙ at))
     by (Some entry) here = (entry, here, same_Some entry.node.parents parents (ap (option_map (λ (entry : Entry A). entry.node.parents)) (sym here) ∙ at))
 
--- where each entry's parents are held, those at a place are
+-- where each entry's parents are held, those at a position are
 pub holds_at : {A : Type 0} (g : List (Entry A)) (p : ℕ) (parents : List (List ℕ)) → option_map (λ entry. entry.node.parents) (slice_get g p) ≡ Some parents → All (HoldsParents g) g → All (Holds g) parents
 holds_at {A} g p parents at each =
     let e = parents_entry g p parents at in
     let P : Entry A → Type 0 = λ entry. All (Holds g) entry.node.parents in
     subst (All (Holds g)) e.2 (subst P (get_or_from_slice_get g p e.0 e.0 e.1) (each p e.0 (slice_get_within g p e.0 e.1)))
 
--- and one place more
+-- and one position more
 pub holds_more : {A : Type 0} (g : List (Entry A)) (p : ℕ) (parents : List (List ℕ)) → option_map (λ entry. entry.node.parents) (slice_get g p) ≡ Some parents → All (HoldsParents g) (take p g) → All (Holds g) parents → All (HoldsParents g) (take (p + 1) g)
 holds_more {A} g p parents at each here =
     let e = parents_entry g p parents at in

@@ -96,7 +96,7 @@ keeps_reaching g h keeps a b here = here
 keeps_reaching g h keeps a b (onward {b = m} p r) =
     onward (p.0, keeps a p.0 p.1, p.2) (keeps_reaching g h keeps m b r)
 
--- nothing new is reached from an id that was full
+-- nothing new is reached from an id that was connected
 pub reached_before : {A : Type 0} (g h : List (Entry A)) → Keeps g h → (a : List ℕ) → IsFull g a → (b c : List ℕ) → Reaches g a b → HasParent h b c → Reaches g a c
 reached_before {A} g h keeps a full b c r p =
     let n = held_node g b (full b r) in
@@ -152,7 +152,7 @@ inserts_more {A} format old [] entry mid new is c =
     let P : List (Entry A) → Type 0 = λ x. ComesIn format x entry new in (new, subst P is c, refl)
 inserts_more format old (first ∷ entries) entry mid new (next, c, rest) d = (next, c, inserts_more format next entries entry mid new rest d)
 
--- what holds of a list holds of what stands at a place of it
+-- what holds of a list holds of what stands at a position of it
 pub all_standing : {X : Type 0} (P : X → Type 0) (xs : List X) (k : ℕ) (x : X) → slice_get xs k ≡ Some x → All P xs → P x
 all_standing P xs k x at all = subst P (get_or_from_slice_get xs k x x at) (all k x (slice_get_within xs k x at))
 

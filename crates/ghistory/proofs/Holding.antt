@@ -43,7 +43,7 @@ absent_at (first ∷ g) a zero entry none at same =
     false≢true (sym (absent_head first g a none) ∙ is_has_id a first (ap (λ x. x.id) is ∙ same))
 absent_at (first ∷ g) a (suc k) entry none at same = absent_at g a k entry (absent_tail first g a none) at same
 
--- where ids differ, the place of an entry's id is the entry's own
+-- where ids differ, the position of an entry's id is the entry's own
 own_place_from : {A : Type 0} (g : List (Entry A)) (k : ℕ) (entry : Entry A) → IdsDiffer g → slice_get g k ≡ Some entry → (position_or_len (has_id entry.id) g ≡ k) × (k < length g)
 own_place_from [] k entry differ at = absurd (none-some entry at)
 own_place_from (first ∷ g) zero entry differ at =

@@ -15,7 +15,7 @@ module _ {A : Type 0} (g : List (Entry A)) (tips : List (List ℕ)) where
   steps_on b a here j path = (j, path)
   steps_on b a (onward {b = c} parent more) j path = steps_on c a more (suc j) (b, path, parent)
 
-  -- what is at a place down to the empty level is before it
+  -- what is at a position down to the empty level is before it
   settled : (count : ℕ) → level g tips count ≡ [] → (j : ℕ) (a : List ℕ) → j ≤ count → Steps g tips j a → Contains (levels_below g tips count) a
   settled count last j a h path =
       let exact = exact_at g tips count in

@@ -64,7 +64,7 @@ module _ {A : Type 0} (g : List (Entry A)) (entry : Entry A) where
       let P : List (Entry A) → Type 0 = λ xs. All (Holds xs) entry.node.parents in
       subst P (take-append_seam g (entry ∷ [])) (ordered (length g) entry (at_end g entry))
 
--- ---- places
+-- ---- positions
 
 in_take : {X : Type 0} (xs : List X) (n p : ℕ) (x : X) → slice_get (take n xs) p ≡ Some x → (slice_get xs p ≡ Some x) × (p < n)
 in_take [] zero p x at = absurd (none-some x at)
@@ -73,7 +73,7 @@ in_take (first ∷ xs) zero p x at = absurd (none-some x at)
 in_take (first ∷ xs) (suc n) zero x at = (at, omega arith)
 in_take (first ∷ xs) (suc n) (suc p) x at = let h = in_take xs n p x at in (h.0, let l = h.1 in omega arith)
 
--- what the entries before a place hold has a smaller place
+-- what the entries before a position hold has a smaller position
 pub place_before : {A : Type 0} (g : List (Entry A)) (p : ℕ) (a : List ℕ) → IdsDiffer g → Holds (take p g) a → (q : ℕ) × (place_of g a ≡ Some q) × (q < p)
 place_before {A} g p a differ held =
     let at = place_at (take p g) a held in
@@ -81,7 +81,7 @@ place_before {A} g p a differ held =
     let P : List ℕ → Type 0 = λ x. place_of g x ≡ Some at.0 in
     (at.0, subst P at.3 (own_place g at.0 at.1 differ inside.0), inside.1)
 
--- an id's node is that of the entry at its place
+-- an id's node is that of the entry at its position
 pub entry_at_place : {A : Type 0} (g : List (Entry A)) (a : List ℕ) (p : ℕ) (node : Node A) → place_of g a ≡ Some p → IsNode g a node → (entry : Entry A) × (slice_get g p ≡ Some entry) × (entry.node ≡ node)
 entry_at_place {A} g a p node place is = by (slice_get g p) refl (sym (node_at_place g a p place) ∙ is)
   where
@@ -89,7 +89,7 @@ entry_at_place {A} g a p node place is = by (slice_get g p) refl (sym (node_at_p
     by None at e = absurd (none-some node (ap (option_map (λ (entry : Entry A). entry.node)) (sym at) ∙ e))
     by (Some entry) at e = (entry, at, same_Some entry.node node (ap (option_map (λ (entry : Entry A). entry.node)) (sym at) ∙ e))
 
--- the parents of the entry at a place have smaller places
+-- the parents of the entry at a position have smaller positions
 pub parent_place : {A : Type 0} (g : List (Entry A)) (p : ℕ) (entry : Entry A) (b : List ℕ) → IdsDiffer g → IsOrdered g → slice_get g p ≡ Some entry → Contains entry.node.parents b → (q : ℕ) × (place_of g b ≡ Some q) × (q < p)
 parent_place g p entry b differ ordered at among =
     place_before g p b differ (All-contains (Holds (take p g)) entry.node.parents b (ordered p entry at) among)

@@ -39,7 +39,7 @@ first_place : {A : Type 0} (pairs : List (List ℕ × Node A)) (a : List ℕ) �
 first_place [] a = refl
 first_place (pair ∷ pairs) a = rw (same_test a pair.0, first_place pairs a) refl
 
--- and the index of an id is the place of its entry
+-- and the index of an id is the position of its entry
 pub place_of_pairs : {A : Type 0} (pairs : List (List ℕ × Node A)) (a : List ℕ) → position (pointwise nat_eq a) (keys_of pairs) ≡ place_of (entries_of pairs) a
 place_of_pairs pairs a = rw (first_place pairs a, length_keys pairs) refl
 
@@ -48,7 +48,7 @@ pub pairs_again : {A : Type 0} (pairs : List (List ℕ × Node A)) → pairs_of 
 pairs_again [] = refl
 pairs_again (pair ∷ pairs) = ap (λ rest. pair ∷ rest) (pairs_again pairs)
 
--- the entry at a place is made of the pair there
+-- the entry at a position is made of the pair there
 pub entry_at_pair : {A : Type 0} (pairs : List (List ℕ × Node A)) (k : ℕ) → slice_get (entries_of pairs) k ≡ option_map (λ pair. entry_of pair.0 pair.1) (slice_get pairs k)
 entry_at_pair pairs k = slice_get-map (λ pair. entry_of pair.0 pair.1) pairs k
 
@@ -69,7 +69,7 @@ past [] k none = omega arith
 past (x ∷ xs) zero none = absurd (none-some x none)
 past (x ∷ xs) (suc k) none = let h = past xs k none in omega arith
 
--- what a look-up by place finds, as an entry
+-- what a look-up by position finds, as an entry
 pub at_pair : {A : Type 0} (pairs : List (List ℕ × Node A)) (k : ℕ) (found : Option (Bor (List ℕ) × Bor (Node A))) → option_map deref_pair found ≡ slice_get pairs k → MatchOption found (length (entries_of pairs) ≤ k) (λ pair. slice_get (entries_of pairs) k ≡ Some (entry_of pair.0.now pair.1.now))
 at_pair pairs k None is = let n = length_pairs pairs in let h = past pairs k is in omega arith
 at_pair pairs k (Some pair) is = entry_at_pair pairs k ∙ ap (option_map (λ pair. entry_of pair.0 pair.1)) (sym is)

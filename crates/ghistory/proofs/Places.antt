@@ -1,4 +1,4 @@
--- The nodes, the places and the entries of ids are one.
+-- The nodes, the positions and the entries of ids are one.
 use Rattle.std.proofs.Common.{◌≡◌, ℕ, true, List, [], ◌∷◌, get_or, Some, refl, ap, ◌∙◌, subst}
 use Rattle.std.specs.List.{slice_get}
 use Rattle.std.proofs.lemmas.Option.{none-some, slice_get-get_or, get_or_from_slice_get}

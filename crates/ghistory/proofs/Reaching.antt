@@ -1,4 +1,4 @@
--- Reachability, and places of ids.
+-- Reachability, and positions of ids.
 use Rattle.std.proofs.Common.{◌≡◌, ℕ, ◌<◌, ◌≤◌, List, [], ◌∷◌, length, get_or, Option, Some, None, refl, sym, ap, ◌∙◌, arith}
 use Rattle.std.specs.List.{position_or_len, slice_get}
 use Rattle.std.specs.Option.{option_map}
@@ -29,20 +29,20 @@ pub kept_along : {A : Type 0} (g : List (Entry A)) (P : List ℕ → Type 0) →
 kept_along g P step a b here h = h
 kept_along g P step a b (onward {b = m} q r) h = kept_along g P step m b r (step a m h q)
 
--- where no parent is missing, each id that is held is full
+-- in a closed graph each id that is held is connected
 pub full_in_closed : {A : Type 0} (g : List (Entry A)) → IsClosed g → (a : List ℕ) → Holds g a → IsFull g a
 full_in_closed g closed a held b r = kept_along g (Holds g) (λ x y _ p. closed x y p) a b r held
 
 pub some_reaches : {A : Type 0} (g : List (Entry A)) (ids : List (List ℕ)) (a b : List ℕ) → SomeReaches g ids a → HasParent g a b → SomeReaches g ids b
 some_reaches g ids a b s p = (s.0, s.1, reaches_parent g s.0 a b s.2 p)
 
--- ---- places
+-- ---- positions
 
 pub place_inside : {A : Type 0} (g : List (Entry A)) (a : List ℕ) (p : ℕ) → place_of g a ≡ Some p → p < length g
 place_inside [] a p e = absurd (none-some p e)
 place_inside (entry ∷ g) a p e = (position-Some (has_id a) (entry ∷ g) p entry e).0
 
--- a place is that of one id
+-- a position is that of one id
 pub place_same : {A : Type 0} (g : List (Entry A)) (a b : List ℕ) (p : ℕ) → place_of g a ≡ Some p → place_of g b ≡ Some p → a ≡ b
 place_same [] a b p e f = absurd (none-some p e)
 place_same (entry ∷ g) a b p e f =
@@ -57,21 +57,21 @@ pub node_at_place : {A : Type 0} (g : List (Entry A)) (a : List ℕ) (p : ℕ) �
 node_at_place g a p e =
     ap (option_map (λ entry. entry.node)) (find_at (has_id a) g ∙ ap (slice_get g) (place_is g a p e))
 
--- an id without a place is not held
+-- an id without a position is not held
 pub node_at_none : {A : Type 0} (g : List (Entry A)) (a : List ℕ) → place_of g a ≡ None → node_at g a ≡ None
 node_at_none {A} g a e =
     let n = position_or_len (has_id a) g in
     let past : length g ≤ n = grind (arith, nat_tests) in
     ap (option_map (λ (entry : Entry A). entry.node)) (find_at (has_id a) g ∙ slice_get_past g n past)
 
--- an id with a place is held
+-- an id with a position is held
 pub held_at_place : {A : Type 0} (g : List (Entry A)) (a : List ℕ) (p : ℕ) → place_of g a ≡ Some p → Holds g a
 held_at_place [] a p e = absurd (none-some p e)
 held_at_place {A} (entry ∷ g) a p e =
     let at = slice_get-get_or (entry ∷ g) p entry (place_inside (entry ∷ g) a p e) in
     rw (node_at_place (entry ∷ g) a p e, at) refl
 
--- an id that is held has a place
+-- an id that is held has a position
 pub place_of_node : {A : Type 0} (g : List (Entry A)) (a : List ℕ) (node : Node A) → IsNode g a node → (p : ℕ) × (place_of g a ≡ Some p)
 place_of_node {A} g a node is = by (place_of g a) refl
   where

@@ -54,7 +54,7 @@ no_other : {A : Type 0} (old : List (Entry A)) (entry : Entry A) (new : List (En
 no_other old entry new other (inl a) held = same_Some other entry.node (sym held ∙ a.0)
 no_other old entry new other (inr a) held = absurd (none-some other (sym a.0 ∙ held))
 
--- and it is refused for want of memory alone
+-- and it is refused as out of memory alone
 comes_refused : {A : Type 0} (format : Format) (old : List (Entry A)) (entry : Entry A) (new : List (Entry A)) (fault : GraphFault) → ComesIn format old entry new → IsCause format old entry fault → fault ≡ Memory
 comes_refused format old entry new (OtherFormat a) comes cause = absurd (cause.1 comes.ids)
 comes_refused format old entry new TooManyParents comes cause = absurd (too_many cause.1 comes.shaped.few)

@@ -29,7 +29,7 @@ use Rattle.ghistory.proofs.Growing.{grows_keeps, comes_grows, inserts_grows, ins
 pub holds_node : {A : Type 0} (g : List (Entry A)) (a : List ℕ) (node : Node A) → IsNode g a node → Holds g a
 holds_node g a node is = ap is_some is
 
--- ---- closed, full, reached before
+-- ---- closed, connected, reached before
 
 pub closed_from_full : {A : Type 0} (g : List (Entry A)) → ((a : List ℕ) → Holds g a → IsFull g a) → IsClosed g
 closed_from_full g full a b parent = full a (holds_node g a parent.0 parent.1) b (onward parent here)
@@ -94,7 +94,7 @@ adds_only_parents old entries new only a b parent =
       | inr listed ↦ inr (parent.0, listed, parent.2)
     ]
 
--- where no parent is missing, none is after an entry came in whose parents are held
+-- a closed graph stays so as an entry comes in whose parents are held
 pub closed_stays : {A : Type 0} (format : Format) (g : List (Entry A)) (entry : Entry A) (h : List (Entry A)) → IsClosed g → HoldsParents g entry → ComesIn format g entry h → IsClosed h
 closed_stays {A} format g entry h closed held comes a b parent =
     let keeps = grows_keeps g h (comes_grows format g entry h comes) in

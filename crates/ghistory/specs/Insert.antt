@@ -38,7 +38,7 @@ pub record IsFit {A : Type 0} (format : Format) (entry : Entry A) : Type 0 where
   pub shaped : IsShaped entry.node
 
 -- why an entry can't come in: an id of another format; then its node's shape; then another node under its id; then,
--- where its id is new, that there is no room for it, or no memory
+-- where its id is new, that there is no room for it, or out of memory
 abbrev pub IsCause : {A : Type 0} → Format → List (Entry A) → Entry A → GraphFault → Type 0
 IsCause format g entry (OtherFormat id) = (id ≡ entry.id) × ¬ (HasIdsOf format entry)
 IsCause format g entry TooManyParents = HasIdsOf format entry × IsMisshapen entry.node TooManyParents

@@ -45,7 +45,7 @@ OneRefusal A =
     → IsRefused format old entries fault → IsRefused format old entries other
     → fault ≢ Memory → other ≢ Memory → fault ≡ other
 
--- a list that comes in whole is refused for want of memory alone, and the graph that it makes is one
+-- a list that comes in whole is refused as out of memory alone, and the graph that it makes is one
 abbrev pub WholeListsComeIn : Type 0 → Type 0
 WholeListsComeIn A =
     (format : Format) (old entries new : List (Entry A))
@@ -53,7 +53,7 @@ WholeListsComeIn A =
     → ((fault : GraphFault) → IsRefused format old entries fault → fault ≡ Memory)
     × ((other : List (Entry A)) → Inserts format old entries other → new ≡ other)
 
--- a graph is closed exactly where the whole ancestry of each id that it holds is held
+-- a graph is closed exactly where each id that it holds is connected
 abbrev pub ClosedIsFull : Type 0 → Type 0
 ClosedIsFull A = (g : List (Entry A)) → IsClosed g ↔ ((a : List ℕ) → Holds g a → IsFull g a)
 
@@ -61,13 +61,13 @@ ClosedIsFull A = (g : List (Entry A)) → IsClosed g ↔ ((a : List ℕ) → Hol
 abbrev pub ReachingGoesOn : Type 0 → Type 0
 ReachingGoesOn A = (g : List (Entry A)) (a b c : List ℕ) → Reaches g a b → Reaches g b c → Reaches g a c
 
--- where a graph keeps what it held, an id that was full is full, and reaches nothing new
+-- where a graph keeps what it held, an id that was connected is so, and reaches nothing new
 abbrev pub FullStaysFull : Type 0 → Type 0
 FullStaysFull A =
     (g h : List (Entry A)) (a : List ℕ) → Keeps g h → IsFull g a
     → IsFull h a × ((b : List ℕ) → Reaches h a b → Reaches g a b)
 
--- where two graphs agree, a path in the one from an id that is full in the other is a path in the other
+-- where two graphs agree, a path in the one from an id that is connected in the other is a path in the other
 abbrev pub PathsAreShared : Type 0 → Type 0
 PathsAreShared A = (g h : List (Entry A)) (a b : List ℕ) → Agree g h → IsFull h a → Reaches g a b → Reaches h a b
 
@@ -106,7 +106,7 @@ AgreeingStays A =
     (g h entries new : List (Entry A)) (format : Format)
     → Agree g h → All (AgreesWith g) entries → Inserts format h entries new → Agree g new
 
--- entries of a graph are refused by one that agrees with it only where there is no room or no memory
+-- entries of a graph are refused by one that agrees with it only for lack of room, or as out of memory
 abbrev pub AgreeingEntriesFit : Type 0 → Type 0
 AgreeingEntriesFit A =
     (g h entries : List (Entry A)) (format : Format) (fault : GraphFault)
@@ -134,17 +134,17 @@ ReachingGoesDown A =
     (g : List (Entry A)) (a b : List ℕ) (p : ℕ)
     → IdsDiffer g → IsOrdered g → Reaches g a b → place_of g a ≡ Some p → (q : ℕ) × (place_of g b ≡ Some q) × (q ≤ p)
 
--- where no parent is missing, none is once an entry came in whose parents were held
+-- a closed graph stays so as an entry comes in whose parents are held
 abbrev pub ClosedStays : Type 0 → Type 0
 ClosedStays A =
     (format : Format) (g : List (Entry A)) (entry : Entry A) (h : List (Entry A))
     → IsClosed g → HoldsParents g entry → ComesIn format g entry h → IsClosed h
 
--- the id and its node stand at the place of the store order
+-- the id and its node stand at the position in store order
 abbrev pub IsAt : {A : Type 0} → List (Entry A) → ℕ → List ℕ → Node A → Type 0
 IsAt g place a node = slice_get g place ≡ Some (entry_of a node)
 
--- an id has a node exactly where it stands at some place with that node, and that place is its number
+-- an id has a node exactly where it stands at some position with that node, and it has one position
 abbrev pub PlacesAreNodes : Type 0 → Type 0
 PlacesAreNodes A =
     (g : List (Entry A)) → IdsDiffer g
@@ -166,20 +166,20 @@ SentAreEntries A =
     → IsGraph (record { format = g.format; entries = list }) × AreEntries list
     × All (λ entry. IsNode g.entries entry.id entry.node) list
 
--- the ids are full, and all that they reach in another graph is held
+-- the ids are connected, and all that they reach in another graph is held
 abbrev pub HasAll : {A : Type 0} → List (Entry A) → List (List ℕ) → List (Entry A) → Type 0
 HasAll s wants h = All (λ want. IsFull h want × ((a : List ℕ) → Reaches s want a → Holds h a)) wants
 
--- what a server's graph `s` sends to a client's graph `c` completes the ancestries of the wants there. No parent is
--- missing in `s`, the two agree, `s` holds the wants, and the common ids are full in `c`: once a list to send comes in,
--- the wants are full, and all that they reach in `s` is held
+-- what a server's graph `s` sends to a client's graph `c` makes the wants connected there. `s` is closed, the two
+-- agree, `s` holds the wants, and the common ids are connected in `c`: once a list to send comes in, the wants are
+-- connected, and all that they reach in `s` is held
 abbrev pub SendingIsEnough : Type 0 → Type 0
 SendingIsEnough A =
     (s c list new : List (Entry A)) (wants commons tips : List (List ℕ)) (format : Format)
     → IdsDiffer s → IsClosed s → Agree s c → All (Holds s) wants → All (IsFull c) commons
     → IsListToSend s wants commons tips list → Inserts format c list new → HasAll s wants new
 
--- what completes the wants of a closed graph still does once that graph has more: the wants reach nothing new there
+-- what connects the wants of a closed graph still does once that graph has more: the wants reach nothing new there
 abbrev pub KeepingHasAll : Type 0 → Type 0
 KeepingHasAll A =
     (s t h : List (Entry A)) (wants : List (List ℕ))
@@ -194,7 +194,7 @@ ReachedAreCounted A =
     → CountsReached g tips held parents → IsDistinct bytes_eq ids
     → All (λ a. Holds g a × SomeReaches g tips a) ids → length ids ≤ held
 
--- the counts about full tips stay as the graph grows
+-- the counts about connected tips stay as the graph grows
 abbrev pub CountsStay : Type 0 → Type 0
 CountsStay A =
     (g h : List (Entry A)) (tips : List (List ℕ)) (held parents : ℕ)

@@ -14,11 +14,11 @@ pub data Reaches {A : Type 0} (g : List (Entry A)) : List ℕ → List ℕ → T
 abbrev pub SomeReaches : {A : Type 0} → List (Entry A) → List (List ℕ) → List ℕ → Type 0
 SomeReaches g ids b = (a : List ℕ) × Contains ids a × Reaches g a b
 
--- the id's whole ancestry is held, the id itself too
+-- the id is connected: it is held, and so is all that it reaches
 abbrev pub IsFull : {A : Type 0} → List (Entry A) → List ℕ → Type 0
 IsFull g a = (b : List ℕ) → Reaches g a b → Holds g b
 
--- no parent is missing: each one of a held object is held
+-- the graph is closed: it holds each parent of each object
 abbrev pub IsClosed : {A : Type 0} → List (Entry A) → Type 0
 IsClosed g = (a b : List ℕ) → HasParent g a b → Holds g b
 

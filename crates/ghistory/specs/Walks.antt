@@ -7,7 +7,7 @@ use Rattle.ghistory.specs.Reach.{Reaches, SomeReaches, IsFull}
 use Rattle.ghistory.specs.Levels.{distinct_of}
 use Rattle.ghistory.specs.Selecting.{Selects}
 
--- what is missing of the ancestries of some ids: nothing, and each of them is full; or an id that one of them
+-- what is missing of the ancestries of some ids: nothing, and each of them is connected; or an id that one of them
 -- reaches and that is not held
 abbrev pub Misses : {A : Type 0} → List (Entry A) → List (List ℕ) → Option (List ℕ) → Type 0
 Misses g ids None = All (IsFull g) ids

@@ -1,4 +1,4 @@
-//! Whether no parent is missing.
+//! Whether a graph is closed.
 #![tactic(auto)]
 
 ghost use Rattle.std.specs.Prelude.{◌↔◌, All, IsTrue};
@@ -9,7 +9,7 @@ use crate::graph::Graph;
 use std::alloc::Allocator;
 
 impl<A: Allocator + Copy> Graph<A> {
-    /// Whether each parent of an object that the graph holds is held, too. It takes no memory.
+    /// Whether the graph is closed: it holds each parent of each object. It takes no memory.
     pub fn is_closed(&self) -> bool
         ensures { IsTrue result ↔ IsClosed self.now.entries }
     {

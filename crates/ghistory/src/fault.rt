@@ -23,7 +23,7 @@ pub enum GraphFault {
     TooManyParents,
     /// A tag whose parents are not exactly one.
     TagShape,
-    /// There is no memory.
+    /// Out of memory.
     Memory,
 }
 

@@ -64,7 +64,7 @@ impl<A: Allocator + Copy> Graph<A> {
     }
 
     /// Makes room for so many more nodes, so that adding them moves none. Where there is no memory for that, it gives
-    /// back what it took.
+    /// back what it took. The graph is the same.
     pub fn make_room(&mut self, more: usize)
         ensures { self.new ≡ self.old }
     {
@@ -96,8 +96,8 @@ impl<A: Allocator + Copy> Graph<A> {
         self.nodes.is_empty()
     }
 
-    /// Whether each node came after all its parents. Then no parent is missing, and an id reaches only ids with
-    /// lower numbers. It takes no memory.
+    /// Whether each node came after all its parents. Then the graph is closed, and an id reaches no
+    /// id at a higher position. It takes no memory.
     pub fn is_ordered(&self) -> bool
         ensures graph { IsGraph self.now }
         ensures ordered { IsTrue result ↔ IsOrdered self.now.entries }
@@ -105,7 +105,7 @@ impl<A: Allocator + Copy> Graph<A> {
         self.ordered
     }
 
-    /// Whether the id is one of the graph's.
+    /// Whether the id is held. It takes no memory.
     pub fn contains(&self, id: &Oid) -> bool
         ensures { IsTrue result ↔ Holds self.now.entries id.now }
     {
@@ -131,21 +131,21 @@ impl<A: Allocator + Copy> Graph<A> {
         None
     }
 
-    /// The node under the id.
+    /// The node under the id; `None` where it is not held.
     pub fn node(&self, id: &Oid) -> Option<&Node<A>>
         ensures { option_copied result ≡ node_at self.now.entries id.now }
     {
         self.nodes.get(id)
     }
 
-    /// The number of the id: its place in store order, which counts from 0.
+    /// The position of the id in store order, counted from 0; `None` where it is not held.
     pub fn number(&self, id: &Oid) -> Option<usize>
         ensures { result ≡ place_of self.now.entries id.now }
     {
         self.nodes.get_index_of(id)
     }
 
-    /// The id and the node at a place of the store order, which counts from 0.
+    /// The id and the node at a position in store order, counted from 0; `None` past the end.
     pub fn at(&self, place: usize) -> Option<(&Oid, &Node<A>)>
         ensures at { MatchOption result (length self.now.entries ≤ place) (λ pair.
             slice_get self.now.entries place ≡ Some (entry_of pair.0.now pair.1.now)) }
@@ -166,7 +166,7 @@ impl<A: Allocator + Copy> Graph<A> {
         *self.nodes.allocator()
     }
 
-    /// The parents of the node at a place of the store order, in the order of the object.
+    /// The parents of the node at a position in store order, in the order of the object.
     pub fn parents(&self, place: usize) -> &[Oid]
         requires { place < length self.now.entries }
         ensures { option_map (λ entry. entry.node.parents) (slice_get self.now.entries place) ≡ Some result.now }
@@ -174,7 +174,7 @@ impl<A: Allocator + Copy> Graph<A> {
         self.nodes[place].parents.as_slice()
     }
 
-    /// The id at a place of the store order.
+    /// The id at a position in store order.
     pub fn id_at(&self, place: usize) -> &Oid
         requires { place < length self.now.entries }
         ensures { option_map (λ entry. entry.id) (slice_get self.now.entries place) ≡ Some result.now }
@@ -182,7 +182,7 @@ impl<A: Allocator + Copy> Graph<A> {
         self.at(place).unwrap().0
     }
 
-    /// A copy of the entry at a place of the store order. It fails where there is no memory.
+    /// A copy of the entry at a position in store order. It fails where there is no memory.
     pub fn entry_in(&self, place: usize, alloc: A) -> Result<Entry<A>, AllocError>
         requires { place < length self.now.entries }
         ensures { IfOk result (λ entry. slice_get self.now.entries place ≡ Some entry) }

@@ -28,12 +28,12 @@ pub fn one_refusal<A: Allocator + Copy>()
     ensures { OneRefusal A }
 {}
 
-/// A list of entries that can come in whole is refused for want of memory alone, and makes one graph.
+/// A list of entries that can come in whole is refused as out of memory alone, and makes one graph.
 pub fn whole_lists_come_in<A: Allocator + Copy>()
     ensures { WholeListsComeIn A }
 {}
 
-/// No parent is missing exactly where the whole ancestry of each id that is held is held.
+/// A graph is closed exactly where each id that it holds is connected.
 pub fn closed_is_full<A: Allocator + Copy>()
     ensures { ClosedIsFull A }
 {}
@@ -43,12 +43,13 @@ pub fn reaching_goes_on<A: Allocator + Copy>()
     ensures { ReachingGoesOn A }
 {}
 
-/// Where a graph keeps what it held, an id whose whole ancestry was held keeps it, and reaches nothing new.
+/// Where a graph keeps what it held, an id that was connected is so, and reaches nothing new.
 pub fn full_stays_full<A: Allocator + Copy>()
     ensures { FullStaysFull A }
 {}
 
-/// Where two graphs agree, a path in the one from an id whose whole ancestry the other holds is a path there.
+/// Where two graphs agree, a path in the one from an id that is connected in the other is a path
+/// there.
 pub fn paths_are_shared<A: Allocator + Copy>()
     ensures { PathsAreShared A }
 {}
@@ -104,23 +105,23 @@ pub fn peels_along_tags<A: Allocator + Copy>()
     ensures { PeelsAlongTags A }
 {}
 
-/// A graph in which parents come first misses none.
+/// A graph in which parents come first is closed.
 pub fn ordered_is_closed<A: Allocator + Copy>()
     ensures { OrderedIsClosed A }
 {}
 
-/// In a graph in which parents come first an id reaches no id with a higher number.
+/// In a graph in which parents come first an id reaches no id at a higher position.
 pub fn reaching_goes_down<A: Allocator + Copy>()
     ensures { ReachingGoesDown A }
 {}
 
-/// Where no parent is missing, none is once an entry came in whose parents were held.
+/// A closed graph stays so as an entry comes in whose parents are held.
 pub fn closed_stays<A: Allocator + Copy>()
     ensures { ClosedStays A }
 {}
 
 /// What `Graph::node`, `Graph::number` and `Graph::at` answer agrees: an id has a node exactly where it stands
-/// at some place with that node, and that place is its number.
+/// at some position with that node, and it has one position.
 pub fn places_are_nodes<A: Allocator + Copy>()
     ensures { PlacesAreNodes A }
 {}
@@ -138,16 +139,16 @@ pub fn sent_are_entries<A: Allocator + Copy>()
     gname::laws::ids_have_one_format();
 }
 
-/// What a server sends completes the ancestries of the wants at the client. No parent is missing in the
-/// server's graph, the graphs agree, the server's holds the wants, and the client's holds the whole ancestries of the common
-/// ids. Once a list to send is inserted into the client's graph, it holds the whole ancestries of the
-/// wants, and all that they reach in the server's.
+/// What a server sends makes the wants connected at the client. The server's graph is closed and
+/// holds the wants, the graphs agree, and the common ids are connected in the client's. Once a list
+/// to send is inserted into the client's graph, the wants are connected there, and it holds all
+/// that they reach in the server's.
 pub fn sending_is_enough<A: Allocator + Copy>()
     ensures { SendingIsEnough A }
 {}
 
-/// What completes the wants of a server's graph still does once that graph has more. Each parent was held there, and so
-/// were the wants: they reach nothing new.
+/// What connects the wants of a server's graph still does once that graph has more. It was closed
+/// and held the wants: they reach nothing new.
 pub fn keeping_has_all<A: Allocator + Copy>()
     ensures { KeepingHasAll A }
 {}
@@ -157,8 +158,8 @@ pub fn reached_are_counted<A: Allocator + Copy>()
     ensures { ReachedAreCounted A }
 {}
 
-/// How many held ids some tips reach, and how many parents these have, stays as objects come, where the whole
-/// ancestries of the tips were held.
+/// How many held ids some tips reach, and how many parents these have, stays as objects come, where
+/// the tips were connected.
 pub fn counts_stay<A: Allocator + Copy>()
     ensures { CountsStay A }
 {}
@@ -175,8 +176,8 @@ pub fn levels_are_reached<A: Allocator + Copy>()
     ensures { LevelsAreReached A }
 {}
 
-/// There is one offer for each request for haves. It has at most so many ids as were asked for, each
-/// once: ids that may be offered and that a tip reaches. Where it has fewer, it has all of these.
+/// There is one offer of so many ids. It has at most as many, each once: ids that may be offered
+/// and that a tip reaches. Where it has fewer, it has all of these.
 pub fn offers_are_exact<A: Allocator + Copy>()
     ensures { OffersAreExact A }
 {}

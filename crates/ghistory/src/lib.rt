@@ -3,29 +3,33 @@
 //!
 //! # Proved
 //!
-//! - A `Graph` holds each id once, `MAX_NODES` of them at most, all of one object format, each node with
-//!   `MAX_PARENTS` parents at most and a tag with exactly one. Its look-ups, by id and by place, and the map
-//!   that it lends read what it holds, and take no memory. `make_room` leaves it as it is.
+//! - A `Graph` holds each id once, `MAX_NODES` of them at most, all of one object format, each node
+//!   with `MAX_PARENTS` parents at most and a tag with exactly one. Its look-ups, by id and by
+//!   position, and the map that it lends read what it holds, and take no memory. `make_room` leaves
+//!   it as it is.
 //! - It knows exactly whether each object came after all its parents.
-//! - `insert` and `insert_all` add each new object after the others, and nothing else; they refuse an entry
-//!   for its first cause alone, in a fixed order, and then the graph is as it was. Memory is a cause only
-//!   where an object is new and there is room for it. A list is refused in one way, out of memory aside: by
-//!   its first entry that can't come in; a list that can come in whole is refused for want of memory alone.
-//! - `is_closed` answers whether no parent is missing. `peel` answers the commit at the end of a chain of
-//!   tags exactly where there is one. Neither takes memory.
+//! - `insert` and `insert_all` add each new object after the others, and nothing else; they refuse
+//!   an entry for its first cause alone, in a fixed order, and then the graph is as it was. Out of
+//!   memory is a cause only where an object is new and there is room for it. A list is refused in
+//!   one way, out of memory aside: by its first entry that can't come in; one that can come in
+//!   whole as out of memory alone.
+//! - `is_closed` answers whether the graph is closed. `peel` answers the commit at the end of a
+//!   chain of tags exactly where there is one. Neither takes memory.
 //! - `first_absent` answers the first of some ids that is not held.
 //! - `distinct_ids` answers the distinct ids of a list, in the order in which each comes first.
-//! - `laws` speak of all graphs and lists: of reaching, of whole ancestries, of graphs that grow, of graphs
-//!   that agree and what they refuse of each other, of places, of peeling, of how many ids are reached, of
-//!   the levels about some tips, of the ids to offer, of distinct ids, and that a list to send, once it is
-//!   inserted, completes the ancestries of the wants at the client.
+//! - `laws` speak of all graphs and lists: of reaching, of connected ids, of graphs that grow, of
+//!   graphs that agree and what they refuse of each other, of positions, of peeling, of how many
+//!   ids are reached, of the levels about some tips, of the ids to offer, of distinct ids, and that
+//!   a list to send, once it is inserted, makes the wants connected at the client.
 //!
 //! # What the contracts do not rule out
 //!
-//! It may take as long as it likes, and more memory than it needs. It may report out of memory of any new
-//! object for which there is room, of any copy and of any list of distinct ids. A copy by `entry_in` may take
-//! its memory from the graph's own allocator and not from the one that is given: no clause says where memory
-//! comes from. `make_room` may make none. A fault may be shown as another text.
+//! It may take as long as it likes, and more memory than it needs. It may report out of memory of
+//! any new object for which there is room, of any copy and of any list of distinct ids. A copy by
+//! `entry_in` may take its memory from the graph's own allocator and not from the one that is
+//! given: no clause says where memory comes from. `make_room` may make none. Formatting a fault may
+//! answer an error (`fmt::Error`) where the text would be right, and with options, such as a width,
+//! write another text.
 //!
 //! There are no tests here. The program `conformance` loads, fetches and walks histories, with each allocation
 //! refused in turn.

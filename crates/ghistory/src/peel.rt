@@ -11,7 +11,8 @@ use std::alloc::Allocator;
 
 impl<A: Allocator + Copy> Graph<A> {
     /// The commit at the end of the chain of tags that begins at the id, or the id itself where it
-    /// is a commit. `None` where the chain leaves the graph or never ends. It takes no memory.
+    /// is a commit (gitrevisions(7), `<rev>^{}`). `None` where the chain leaves the graph or never
+    /// ends. It takes no memory.
     pub fn peel(&self, id: &Oid) -> Option<Oid>
         ensures found { IfSome result (PeelsTo self.now.entries id.now) }
         ensures only { (c : List ℕ) → PeelsTo self.now.entries id.now c → result ≡ Some c }

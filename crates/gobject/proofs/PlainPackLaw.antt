@@ -1,4 +1,4 @@
--- A plain pack has one reading, a bad line has one place, and nothing is lost.
+-- A plain pack has one reading, bytes have one bad line at most, and nothing is lost.
 use Rattle.std.proofs.Common.{ap₂, ◌≡◌, ◌⊎◌, inl, inr, ℕ, ◌+◌, List, [], ◌∷◌, ◌++◌, length, decimal, map, refl, ap, sym, subst, ◌∙◌, append_assoc, arith}
 use Rattle.std.specs.List.{All}
 use Rattle.std.proofs.lemmas.List.Elements.{All-append, All-cons, All-head, All-nil, All-tail}
@@ -225,7 +225,7 @@ module _ (digits_law : IdTextsAreDigits) (one_law : TextsSpellOneId) where
       ap (λ (ls : List (List ℕ)). ls ++ h.more) on.3 ∙ simp append_assoc in
       s.never on.0 on.2 in_line on.4 (record { list = h.list; more = on.1 ++ h.more; are = subst P same h.are })
 
-  -- a bad line has one place
+  -- bytes have one bad line at most
   pub IsBadLine-one : {A : Type 0} (bytes : List ℕ) (a b : ℕ) → IsBadLine A bytes a → IsBadLine A bytes b → a ≡ b
   IsBadLine-one {A} bytes a b h k =
       let f : Stops A bytes a = Stops-of bytes a h in

@@ -285,7 +285,7 @@ module _ (digits_law : IdTextsAreDigits) where
       let first : letter entry.node.kind ≡ 101 = cc in
       absurd (letter_no_end entry.node.kind first)
 
-  -- the number of entries
+  -- the count of entries
   may_count : {A : Type 0} (list : List (Entry A)) (text x t more : List ℕ) → text ≡ codes "end " → MayStand A (length list) t
       → text ++ x ≡ line t ++ more → Follows Count list x
   may_count list text x t more opens (inl h) same =

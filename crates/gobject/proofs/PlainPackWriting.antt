@@ -9,7 +9,7 @@ use Rattle.gobject.specs.PlainPackText.{line, text_of, ids_text, ids_of, header,
 use Rattle.gobject.specs.PlainPackWriting.{nodes_text}
 use Rattle.gobject.proofs.PlainPackLines.{text_of-push}
 
--- the pieces of a list up to a place, and the piece at that place
+-- the pieces of a list up to a position, and the piece at that position
 pub pieces_more : {X : Type 0} (f : X → List ℕ) (xs : List X) (i : ℕ) (x : X) (old : List ℕ) → i < length xs → x ≡ get_or xs i x
     → (old ++ flat_map f (take i xs)) ++ f x ≡ old ++ flat_map f (take (i + 1) xs)
 pieces_more f xs i x old lt is =

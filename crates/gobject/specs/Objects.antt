@@ -24,7 +24,7 @@ has_id a entry = bytes_eq entry.id a
 abbrev pub node_at : {A : Type 0} → List (Entry A) → List ℕ → Option (Node A)
 node_at g a = option_map (λ entry. entry.node) (find (has_id a) g)
 
--- the place of that entry
+-- the position of that entry
 abbrev pub place_of : {A : Type 0} → List (Entry A) → List ℕ → Option ℕ
 place_of g a = position (has_id a) g
 

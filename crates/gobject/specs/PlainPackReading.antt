@@ -78,7 +78,7 @@ IsKept _ part end = ⊥
 
 -- ---- what was read
 
--- the number of the line that the next part stands in, after so many entries
+-- which line, counted from 1, the next part stands in, after so many entries
 abbrev pub line_number : {A : Type 0} → Next A → ℕ → ℕ
 line_number Header n = 1
 line_number Nothing n = n + 3

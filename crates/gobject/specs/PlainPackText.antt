@@ -58,7 +58,7 @@ pack_lines list = header ∷ (map node_text list ++ end_text (length list) ∷ [
 unfoldable pub pack_text : {A : Type 0} → List (Entry A) → List ℕ
 pack_text list = text_of (pack_lines list)
 
--- why a text is not packed: it has too many bytes, or it has not, and there is no memory
+-- why a text is not packed: it has too many bytes, or it has not, and it is out of memory
 abbrev pub PackRefuses : List ℕ → PackFault → Type 0
 PackRefuses text pack_faults.Memory = length text ≤ max_pack
 PackRefuses text pack_faults.TooLarge = max_pack < length text
@@ -124,7 +124,7 @@ abbrev pub EndsEarly : (A : Type 0) → List ℕ → List (List ℕ) → Type 0
 EndsEarly A bytes lines =
     (rest : List ℕ) × (bytes ≡ text_of lines ++ rest) × IsInLine rest × (rest ≡ [] → ¬ (IsWholePack A lines))
 
--- the number, counted from 1, of the first line that is wrong, or is not there: the lines before it begin a pack
+-- which line, counted from 1, is the first that is wrong, or is not there: the lines before it begin a pack
 abbrev pub IsBadLine : (A : Type 0) → List ℕ → ℕ → Type 0
 IsBadLine A bytes at =
     (lines : List (List ℕ)) × (at ≡ length lines + 1) × BeginsPack A lines
@@ -144,7 +144,7 @@ pub record TakesMemory (A : Type 0) (bytes : List ℕ) : Type 0 where
   pub node : IsNodeText text entry
   pub ends : ((end ≡ 32) × (entry.node.parents ≢ [])) ⊎ (end ≡ 10)
 
--- why bytes are not read: a line is wrong, or there is no memory for an entry
+-- why bytes are not read: a line is wrong, or out of memory for an entry
 abbrev pub IndexRefuses : (A : Type 0) → List ℕ → IndexFault → Type 0
 IndexRefuses A bytes index_faults.Memory = TakesMemory A bytes
 IndexRefuses A bytes (index_faults.Bad at) = IsBadLine A bytes at

@@ -13,7 +13,7 @@ use std::fmt;
 /// Why a list of entries was not packed.
 #[derive(Clone, Copy, Debug, PartialEq, Eq, Drop)]
 pub enum PackFault {
-    /// There is no memory.
+    /// Out of memory.
     Memory,
     /// The pack would have more than `gname::MAX_PACK` bytes.
     TooLarge,
@@ -63,7 +63,7 @@ impl Error for PackFault {}
 /// Why bytes were not read as a pack.
 #[derive(Clone, Copy, Debug, PartialEq, Eq, Drop)]
 pub enum IndexFault {
-    /// There is no memory.
+    /// Out of memory.
     Memory,
     /// The first line, counted from 1, that is not as the format says.
     Bad { line: usize },

@@ -1,5 +1,4 @@
-//! What follows from the definitions of plain packs, of all of them. Each call does nothing: its
-//! contract gives the law to callers.
+//! The laws of plain packs: functions without effect, whose contracts they are.
 #![tactic(auto)]
 
 ghost use Rattle.std.specs.Prelude.{◌≡◌};

@@ -3,7 +3,7 @@
 //!
 //! # Proved
 //!
-//! - A copy of a node or an entry is the same node or entry. [`Node::is_same`] compares kind and
+//! - A copy of a node or an entry equals it. [`Node::is_same`] compares kind and
 //!   parents, in order; [`Node::is_shaped`] holds exactly of nodes with at most [`MAX_PARENTS`]
 //!   parents, and exactly one where it is a tag.
 //! - [`PlainPack`] writes the one text of a list, of at most `gname::MAX_PACK` bytes, and refuses as
@@ -19,13 +19,14 @@
 //! - Each fault has the number, the name and the text of its row.
 //! - No call panics, overflows or reads out of bounds, and each returns.
 //!
-//! # What a body can still get away with
+//! # What the contracts do not rule out
 //!
 //! It may report out of memory of any list whose text is not too long, of any bytes in which an entry is
 //! there to keep, and of any copy, as often as it likes: so where a line is bad and an entry stands before
 //! it, it may report out of memory in place of the bad line. A copy may take its memory from another
 //! allocator of the same type than the one that is given. It may take as long as it likes, and more memory
-//! than it needs. A fault may be shown as another text.
+//! than it needs. Formatting a fault may answer an error (`fmt::Error`) where the text would be
+//! right, and with options, such as a width, write another text.
 //!
 //! There are no tests here. The program `conformance` reads and writes packs, whole and in pieces, with each
 //! allocation refused in turn.

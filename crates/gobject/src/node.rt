@@ -1,4 +1,4 @@
-// Nodes and entries of a graph.
+//! Nodes and entries of a graph.
 #![tactic(auto)]
 
 ghost use Rattle.std.specs.Prelude.{◌≡◌, ◌++◌, ◌∷◌, [], OnOk, OnErr, IfOk, IsTrue, ◌↔◌};
@@ -10,7 +10,8 @@ use std::marker::Model;
 /// The most parents that a node of a graph has.
 pub const MAX_PARENTS: usize = 64;
 
-/// What an object is: a commit, or a tag, whose one parent is the object that it names.
+/// What an object is (gitglossary(7), "object type"): a commit, or a tag, whose one parent is the
+/// object that it names.
 #[derive(Clone, Copy, Debug, PartialEq, Eq)]
 pub enum Kind {
     Commit,
@@ -41,7 +42,7 @@ impl<A: Allocator + Copy> Parents<A> {
         }
     }
 
-    /// These parents, in this order. It fails where there is no memory.
+    /// These parents, in this order, in memory of `alloc`. It fails where there is no memory.
     pub fn from_slice(alloc: A, ids: &[Oid]) -> Result<Parents<A>, AllocError>
         ensures { IfOk result (λ parents. parents ≡ ids.now) }
     {
@@ -69,7 +70,9 @@ impl<A: Allocator + Copy> Parents<A> {
 /// An object: what it is, and its parents.
 #[derive(Debug, Drop)]
 pub struct Node<A: Allocator + Copy = Global> {
+    /// What it is.
     pub kind: Kind,
+    /// Its parents; of a tag, the object that it names.
     pub parents: Parents<A>,
 }
 
@@ -109,7 +112,9 @@ impl<A: Allocator + Copy> Node<A> {
 /// An object under its id, as a graph holds it.
 #[derive(Debug, Drop)]
 pub struct Entry<A: Allocator + Copy = Global> {
+    /// The id that the object is found by.
     pub id: Oid,
+    /// The object.
     pub node: Node<A>,
 }
 

@@ -1,4 +1,4 @@
-// Packers, which write entries as bytes, and indexers, which read them.
+//! Packers, which write entries as bytes, and indexers, which read them.
 #![tactic(auto)]
 
 ghost use Rattle.std.specs.Prelude.{◌≡◌, ◌++◌, [], ℕ, List, MatchResult};
@@ -19,7 +19,7 @@ pub trait Packer<A: Allocator + Copy> {
 
     ghost pack_fails: { Self → List (Entry A) → PackFault → Type 0 };
 
-    /// The pack of the entries, of at most `gname::MAX_PACK` bytes.
+    /// The pack of the entries, of at most `gname::MAX_PACK` bytes, in memory of `alloc`.
     fn pack(&self, alloc: A, entries: &[Entry<A>]) -> Result<Vec<u8, A>, PackFault>
         ensures { MatchResult result
             (λ pack. MayPack (packs self.now) entries.now pack.items)
@@ -54,13 +54,13 @@ pub trait Indexer<A: Allocator + Copy> {
             (λ fault. ((given more : List ℕ) → fed self.now feed.old given
             → index_fails self.now ((given ++ piece.now) ++ more) fault)) };
 
-    /// The entries of the pack whose pieces were fed, in its order.
+    /// The entries of the pack whose pieces were fed, in order. A fault here is of these pieces.
     fn finish(&self, feed: Self::Feed) -> Result<Vec<Entry<A>, A>, IndexFault>
         ensures { MatchResult result
             (λ entries. ((given : List ℕ) → fed self.now feed given → indexes self.now given entries.items))
             (λ fault. ((given : List ℕ) → fed self.now feed given → index_fails self.now given fault)) };
 
-    /// The entries of a pack that is given whole, in its order.
+    /// The entries of a pack that is given whole, in its order. It fails as the calls on a feed do.
     fn index(&self, alloc: A, bytes: &[u8]) -> Result<Vec<Entry<A>, A>, IndexFault>
         ensures { MatchResult result (λ entries. indexes self.now bytes.now entries.items)
             (λ fault. index_fails self.now bytes.now fault) }
@@ -79,7 +79,7 @@ pub trait Indexer<A: Allocator + Copy> {
 pub trait Faithful<A: Allocator + Copy>: Packer<A> + Indexer<A> {
     ghost image: { Self → List (Entry A) → List ℕ };
 
-    /// The law of the image. The call does nothing: its contract gives the law to generic callers.
+    /// The law of the image, for generic callers. The call does nothing.
     fn loses_nothing(&self)
         ensures { LosesNothing (Self.packs self.now) (Self.pack_fails self.now)
             (Self.indexes self.now) (Self.index_fails self.now) (image self.now) };

@@ -1,4 +1,4 @@
-// A pack in plain text: a line for each entry.
+//! A pack in plain text: a line for each entry.
 #![tactic(auto)]
 
 mod feed;
@@ -19,7 +19,7 @@ use std::alloc::Allocator;
 /// Packs as plain text.
 ///
 /// The lines are `GPK1`; for each entry `c` (a commit) or `t` (a tag), its id and the ids of its
-/// parents; and `end` and the number of entries, in decimal without leading zeros. Parts are
+/// parents; and `end` and the count of entries, in decimal without leading zeros. Parts are
 /// separated by one space, and each line is ended by a line feed.
 ///
 /// `pack` writes the entries in the order given, ids in lower case. It fails with `TooLarge` where
@@ -29,9 +29,9 @@ use std::alloc::Allocator;
 /// many parents an entry has, and whether an id comes again, it does not judge. It fails with `Bad`
 /// at the first line that has not this form: a line that is none of an entry and not the right end,
 /// the line after the end where bytes follow, and where the input ends early the line that it ends
-/// in, whose number is one more than that of the line feeds.
+/// in, which is one more than there are line feeds.
 ///
-/// Both fail with `Memory` where there is no memory: `pack` for no list whose pack is too large, and
+/// Both fail with `Memory` when out of memory: `pack` for no list whose pack is too large, and
 /// `index` only after right lines and an id of one more entry.
 #[derive(Clone, Copy, Debug, PartialEq, Eq, Drop)]
 pub struct PlainPack;

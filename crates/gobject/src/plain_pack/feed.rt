@@ -1,4 +1,4 @@
-// A plain pack that is read in pieces.
+//! A plain pack that is read in pieces.
 #![tactic(auto)]
 
 ghost use Rattle.std.specs.Prelude.{[], ◌++◌, ◌∷◌, ℕ, List, MatchResult};
@@ -59,7 +59,8 @@ impl<A: Allocator + Copy> PlainFeed<A> {
         self.lines.take(part.as_slice(), separator)
     }
 
-    /// Reads the next piece.
+    /// Reads the next piece. It fails with `Bad` at the first line that is wrong, and with `Memory`
+    /// where there is none for an entry; the feed is then of no use.
     pub fn feed(&mut self, piece: &[u8]) -> Result<(), IndexFault>
         ensures { Feeds self.old self.new result piece.now }
     {
@@ -71,7 +72,7 @@ impl<A: Allocator + Copy> PlainFeed<A> {
         self.keep(rest)
     }
 
-    /// The entries, if what was fed is a whole pack.
+    /// The entries, if what was fed is a whole pack; else it fails with `Bad`.
     pub fn finish(self) -> Result<Vec<Entry<A>, A>, IndexFault>
         ensures { MatchResult result
             (λ entries. ((given : List ℕ) → Fed self given → IsPack given entries.items))

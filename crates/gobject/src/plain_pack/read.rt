@@ -1,4 +1,4 @@
-// Reading a plain pack part by part.
+//! Reading a plain pack part by part.
 #![tactic(auto)]
 
 ghost use Rattle.std.specs.Prelude.{◌≡◌, [], ℕ, ◌+◌, List, length, decimal, MatchOption, IfOk, OnErr, IsTrue, ◌↔◌};
@@ -33,7 +33,7 @@ pub enum Next<A: Allocator + Copy> {
     Id(Kind),
     /// One more parent of this entry.
     Parent(Entry<A>),
-    /// The number of entries.
+    /// How many entries there are.
     Count,
     /// No part: the pack has ended.
     Nothing,
@@ -110,7 +110,7 @@ fn after_word<A: Allocator + Copy>(part: &[u8], separator: Separator) -> Option<
     }
 }
 
-/// Whether a part is the number of entries.
+/// Whether a part is the count of entries.
 fn is_count(part: &[u8], count: usize) -> bool
     ensures { IsTrue result ↔ (part.now ≡ decimal count) }
 {
@@ -234,7 +234,8 @@ impl<A: Allocator + Copy> Lines<A> {
         IndexFault::Bad { line: self.line() }
     }
 
-    /// Reads a part and what ends it.
+    /// Reads a part and what ends it. It fails with `Bad` where the part may not come next, and
+    /// with `Memory` where there is none for an entry; the lines are then of no use.
     pub fn take(&mut self, part: &[u8], separator: Separator) -> Result<(), IndexFault>
         ensures { Reads self.old self.new result part.now separator }
     {
@@ -257,7 +258,7 @@ impl<A: Allocator + Copy> Lines<A> {
         matches!(self.next, Next::Nothing) && part.is_empty()
     }
 
-    /// The entries, if the pack has ended, and no byte of a part comes after.
+    /// The entries, if the pack has ended, and no byte of a part comes after; else a `Bad` fault.
     pub fn finish(self, part: &[u8]) -> Result<Vec<Entry<A>, A>, IndexFault>
         ensures { Finishes self result part.now }
     {
