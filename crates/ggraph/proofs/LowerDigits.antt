@@ -22,7 +22,7 @@ NotUpper c = is_ascii_uppercase c ≡ false
 abbrev glyph : ℕ → ℕ
 glyph v = if nat_lt v 10 then 48 + v else 87 + v
 
--- the table has it at its place
+-- the table has it at its position
 abbrev stands : ℕ → Bool
 stands v = slice_index lower_digits v == glyph v
 

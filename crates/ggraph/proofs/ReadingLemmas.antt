@@ -60,7 +60,7 @@ head_on_line format line text (Ok (Some (heads_of.Symref target))) is facts =
     (is ∙ ap (λ (t : List ℕ). codes "h ref " ++ t) (sym facts.0), subst IsBelowRefs (sym facts.0) facts.1)
 head_on_line format line text (Err e) is below = (text, below, is)
 
--- ---- HEAD on a ref for whose name there is no memory
+-- ---- HEAD on a ref, out of memory for the name
 
 pub symref_short : {A : Type 0} (order : Order) (old : Reading A) (line : List ℕ) (number : ℕ) → RefMayCome old.stage → IsSymrefLine A line → RefusesLine order old line number faults.Memory
 symref_short order old line number due (target, below, is) = (heads (heads_of.Symref target), is, (due, below), tt)

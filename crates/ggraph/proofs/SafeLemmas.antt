@@ -14,7 +14,7 @@ use Rattle.grefs.specs.RefLists.{RefList}
 use Rattle.ggraph.specs.SafeRefs.{IsSafe, SafeStays, SettingStaysSafe}
 
 module _ {A : Type 0} where
-  -- the ids are full exactly where nothing of their ancestries is missing
+  -- the ids are connected exactly where nothing of their ancestries is missing
   pub full_missing : (g : List (Entry A)) (ids : List (List ℕ)) (missing : Option (List ℕ)) (none : Bool) → Misses g ids missing → is_some missing ≡ not none → IsTrue none ↔ All (IsFull g) ids
   full_missing g ids None true misses is = (λ _. misses, λ _. refl)
   full_missing g ids None false misses is = absurd (false≢true is)
@@ -34,7 +34,7 @@ module _ {A : Type 0} where
   pub safe_stays : FullStaysFull A → SafeStays A
   safe_stays law g h refs keeps safe = all_full g h law keeps (values_of refs) safe
 
-  -- the id of each ref is full
+  -- the id of each ref is connected
   each_full : (g : List (Entry A)) (refs : RefList) → IsSafe g refs → All (λ (ref : List ℕ × List ℕ). IsFull g ref.1) refs
   each_full g [] safe = All-nil (λ (ref : List ℕ × List ℕ). IsFull g ref.1)
   each_full g (ref ∷ refs) safe =
@@ -56,7 +56,7 @@ module _ {A : Type 0} where
   pub setting_stays_safe : SettingStaysSafe A
   setting_stays_safe g old new name id safe full sets = from_each g old name id safe full new sets.each
 
--- a list at one of its places
+-- a list at one of its positions
 pub split_there : {X : Type 0} (xs : List X) (place : ℕ) (x : X) → slice_get xs place ≡ Some x → xs ≡ take place xs ++ x ∷ drop (suc place) xs
 split_there {X} [] place x at = absurd (none-some x at)
 split_there {X} (y ∷ xs) zero x at = ap (λ (z : X). z ∷ xs) (same_Some y x at)

@@ -34,7 +34,7 @@ ids_more old ids id =
 pub next_seen : {X : Type 0} (xs : List X) (i : ℕ) (x : X) → i < length xs → x ≡ get_or xs i x → take i xs ++ x ∷ [] ≡ take (i + 1) xs
 next_seen {X} xs i x lt is = ap (λ (y : X). take i xs ++ y ∷ []) is ∙ sym (take_more xs i x lt)
 
--- an entry at a place within a list
+-- an entry at a position within a list
 entry_at : {X : Type 0} (xs : List X) (i : ℕ) → i < length xs → (x : X) × (slice_get xs i ≡ Some x) × (take i xs ++ x ∷ [] ≡ take (i + 1) xs)
 entry_at [] i lt = absurd (grind (arith, lt))
 entry_at (x ∷ xs) i lt = (get_or (x ∷ xs) i x, slice_get-get_or (x ∷ xs) i x lt, sym (take_more (x ∷ xs) i x lt))
@@ -65,7 +65,7 @@ whole_text {A} g refs head =
 
 -- ---- the first id of another format
 
--- each ref up to a place, and the one at it, stand at ids of the format
+-- each ref up to a position, and the one at it, stand at ids of the format
 pub ids_push : (format : Format) (refs : RefList) (i : ℕ) (ref : List ℕ × List ℕ) → i < length refs → ref ≡ get_or refs i ref → All (IsIdOf format) (ref_ids (take i refs)) → IsIdOf format ref.1 → All (IsIdOf format) (ref_ids (take (i + 1) refs))
 ids_push format refs i ref lt is all this =
     subst (λ (rs : RefList). All (IsIdOf format) (ref_ids rs)) (next_seen refs i ref lt is)

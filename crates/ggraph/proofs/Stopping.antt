@@ -60,7 +60,7 @@ module _ (laws : TextLaws) where
         let same = same_reading laws order order nothing_read old (whole_reading laws all.graph all.refs all.head) items (whole_items laws all.graph all.refs all.head) reads (reads_whole laws order all.graph all.refs all.head all.loadable) (sym all.parts ∙ sym (lines_whole laws all.graph all.refs all.head)) in
         early (ap (λ (r : Reading A). r.stage) same)
 
-  -- ---- what is told
+  -- ---- what is reported
 
   goes_on : {A : Type 0} (order : Order) (text rest this after_it : List ℕ) (items : List (Item A)) (old : Reading A) → HasRead order text items rest old → rest ≡ line this ++ after_it → IsInLine this → GoesOn text (map line_of items) this
   goes_on order text rest this after_it items old so_far next clean = (
@@ -158,7 +158,7 @@ module _ (laws : TextLaws) where
     not_stopped (faults.ParentLater at) (first, (lines, counted, begun, (line, goes, never, may))) =
         absurd (never (subst (λ (o : Order). BeginsText A o (lines ++ line ∷ [])) first (goes_on_begins lines line begun goes)))
 
-  -- a text of a repository is loaded as that repository, or there is no memory
+  -- a text of a repository is loaded as that repository, or out of memory
   pub accepts_err : {A : Type 0} (order : Order) (text : List ℕ) (fault : LoadFault) → StopsAt A order text fault → AcceptsText A order text (Err fault)
   accepts_err order text fault stops g refs head valid e = not_stopped order text g refs head valid e fault stops
 

@@ -56,7 +56,7 @@ map_push f [] x = refl
 map_push {X} {Y} f (y ∷ xs) x = ap (λ (ys : List Y). f y ∷ ys) (map_push f xs x)
 
 module _ {A : Type 0} (order : Order) (r : Reading A) (lines : List (List ℕ)) where
-  -- the lines of nodes and refs, at either place where a ref may come
+  -- the lines of nodes and refs, at either stage where a ref may come
   so_far : RefMayCome r.stage → ShapeAt r.stage r lines → lines ≡ first_line r.graph.format ∷ (map node_text r.graph.entries ++ map ref_line r.refs)
   so_far (inl here) shape =
       let at_nodes = subst (λ (s : Stage). ShapeAt s r lines) here shape in

@@ -68,7 +68,7 @@ StopsAt A order text (ParentLater number) =
     (order ≡ ParentsFirst)
     × ((lines : List (List ℕ)) × (number ≡ length lines + 1) × BeginsText A order lines × NamesLaterParent A text lines)
 
--- a text of a repository that may be loaded is read as that one, where there is memory
+-- a text of a repository that may be loaded is read as that one, unless out of memory
 abbrev pub AcceptsText : (A : Type 0) → Order → List ℕ → Result (Repository A) LoadFault → Type 0
 AcceptsText A order text result =
     (graph : History A) (refs : RefList) (head : Head A) → IsLoadable order graph refs head
@@ -81,7 +81,7 @@ ParentsFirstIsOrdered A =
     (graph : History A) (refs : RefList) (head : Head A) → IsLoadable ParentsFirst graph refs head
     → IsOrdered graph.entries
 
--- a text is refused at one line and for one reason, but for want of memory
+-- a text is refused at one line and for one reason, unless out of memory
 abbrev pub TextsStopOnce : Type 0 → Type 0
 TextsStopOnce A =
     (order : Order) (text : List ℕ) (a b : LoadFault) → StopsAt A order text a → StopsAt A order text b

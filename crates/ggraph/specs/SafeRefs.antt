@@ -1,19 +1,19 @@
--- Refs over a graph.
+-- Whether refs are connected in a graph.
 use Rattle.std.specs.Prelude.{List, ℕ, All}
 use Rattle.std.specs.Map.{values_of}
 use Rattle.gobject.specs.declared.node.Entry.{Entry}
 use Rattle.ghistory.specs.Reach.{IsFull, Keeps}
 use Rattle.grefs.specs.RefLists.{RefList, SetsRef}
 
--- the whole ancestry of the id at which each ref stands is held
+-- each ref is connected
 abbrev pub IsSafe : {A : Type 0} → List (Entry A) → RefList → Type 0
 IsSafe g refs = All (IsFull g) (values_of refs)
 
--- refs stay safe where a graph keeps what it held
+-- refs stay connected where a graph keeps what it held
 abbrev pub SafeStays : Type 0 → Type 0
 SafeStays A = (g h : List (Entry A)) (refs : RefList) → Keeps g h → IsSafe g refs → IsSafe h refs
 
--- and where one is set to an id whose whole ancestry is held
+-- and where one is set to a connected id
 abbrev pub SettingStaysSafe : Type 0 → Type 0
 SettingStaysSafe A =
     (g : List (Entry A)) (old new : RefList) (name id : List ℕ)

@@ -1,4 +1,4 @@
-//! What loading and saving a repository text refuse.
+//! Why a repository text is not loaded, or a repository not saved.
 #![tactic(auto)]
 
 ghost use Rattle.std.specs.Prelude.{◌≡◌, Some};
@@ -14,11 +14,12 @@ use std::fmt;
 /// Why a repository text was not loaded.
 #[derive(Clone, Copy, Debug, PartialEq, Eq, Drop)]
 pub enum LoadFault {
-    /// The line of a repository text, counted from 1, that is not as its format says.
+    /// The line of a repository text, counted from 1, that is not as its format says, passes a
+    /// limit or is not there.
     Text { line: usize },
-    /// The line of a repository text with a parent that is on no earlier line.
+    /// The line of a repository text, counted from 1, with a parent that is on no earlier line.
     ParentLater { line: usize },
-    /// There is no memory.
+    /// Out of memory.
     Memory,
 }
 
@@ -79,7 +80,7 @@ impl From<AllocError> for LoadFault {
 pub enum SaveFault {
     /// A ref or HEAD stands at this id, which is of another object format than the graph.
     OtherFormat { id: Oid },
-    /// There is no memory.
+    /// Out of memory.
     Memory,
 }
 

@@ -7,14 +7,14 @@ use crate::text::text_laws;
 use ghistory::laws::full_stays_full;
 use std::alloc::Allocator;
 
-/// Refs stay safe where a graph keeps what it held.
+/// Refs stay connected where a graph keeps what it held.
 pub fn safe_stays<A: Allocator + Copy>()
     ensures { SafeStays A }
 {
     full_stays_full::<A>();
 }
 
-/// Refs stay safe where one is set to an id whose whole ancestry is held.
+/// Refs stay connected where one is set to a connected id.
 pub fn setting_stays_safe<A: Allocator + Copy>()
     ensures { SettingStaysSafe A }
 {}
@@ -24,7 +24,7 @@ pub fn parents_first_is_ordered<A: Allocator + Copy>()
     ensures { ParentsFirstIsOrdered A }
 {}
 
-/// A text is refused at one line and for one reason, but for want of memory: what [`load`](crate::load) reports
+/// A text is refused at one line and for one reason, unless out of memory: what [`load`](crate::load) reports
 /// is the first line that is wrong.
 pub fn texts_stop_once<A: Allocator + Copy>()
     ensures { TextsStopOnce A }

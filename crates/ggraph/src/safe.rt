@@ -1,4 +1,4 @@
-//! Refs over a graph.
+//! Whether the refs are connected in a graph.
 
 ghost use Rattle.std.specs.Prelude.{◌≡◌, ◌↔◌, IfErr, IfOk, IsTrue};
 ghost use Rattle.ghistory.specs.declared.fault.GraphFault.TheVariants.{Memory};
@@ -9,7 +9,7 @@ use grefs::Refs;
 use gwalk::missing;
 use std::alloc::Allocator;
 
-/// Whether the graph holds the whole ancestry of the id at which each ref stands.
+/// Whether each ref is connected: the graph holds the whole ancestry of its id.
 ///
 /// It fails with `Memory` alone.
 pub fn is_safe<A: Allocator + Copy>(graph: &Graph<A>, refs: &Refs<A>) -> Result<bool, GraphFault>

@@ -1,4 +1,4 @@
-//! The text that keeps a repository.
+//! The text that keeps a repository, and what it keeps.
 #![tactic(auto)]
 
 mod laws;
@@ -25,10 +25,13 @@ pub enum Order {
     ParentsFirst,
 }
 
-/// What a text keeps: the commits and tags, the refs, and what HEAD stands at.
+/// What a text keeps.
 #[derive(Debug, Drop)]
 pub struct Repository<A: Allocator + Copy = Global> {
+    /// The commits and tags, in store order.
     pub graph: Graph<A>,
+    /// The refs, in name order.
     pub refs: Refs<A>,
+    /// What HEAD stands at.
     pub head: Head<A>,
 }

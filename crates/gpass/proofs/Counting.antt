@@ -1,4 +1,4 @@
--- How many places are open.
+-- How many positions are open.
 use Rattle.std.proofs.Common.{◌≡◌, inl, inr, ℕ, zero, suc, ◌+◌, ◌-◌, ◌<◌, ◌≤◌, Bool, true, false, not, ◌&&◌, List, length, replicate, set, refl, sym, ap, ◌∙◌, arith, add-one}
 use Rattle.std.proofs.lemmas.List.{length-set, length-replicate}
 use Rattle.std.proofs.lemmas.Bool.{cases_eq, cases_Bool, and_from, and_left, and_right, not_from_true, not_from_false, false_from_ne_true}
@@ -14,7 +14,7 @@ module _ (wanted known wanted' known' : List Bool) where
       let here = ap one (same n (omega arith)) in
       omega (arith, before, here)
 
-  -- one place changes
+  -- one position changes
   pub changed_at : (q n : ℕ) → q < n → ((p : ℕ) → (p ≡ q → ⊥) → is_open wanted known p ≡ is_open wanted' known' p) → open_below wanted' known' n + one (is_open wanted known q) ≡ open_below wanted known n + one (is_open wanted' known' q)
   unfolding open_below
   changed_at q zero below same = absurd (omega arith)
@@ -56,7 +56,7 @@ module _ (wanted known : List Bool) where
   unfolding open_below
   next_suc n = refl
 
-  -- the place that comes next
+  -- the position that comes next
   pub open_next : (n : ℕ) → open_below wanted known (n + 1) ≡ open_below wanted known n + one (is_open wanted known n)
   open_next n = rw add-one (next_suc n)
 
@@ -64,9 +64,9 @@ module _ (wanted known : List Bool) where
   unfolding open_below
   open_none = refl
 
--- ---- one place is marked
+-- ---- one position is marked
 
--- a place below `next` is in the count
+-- a position below `next` is in the count
 pub in_count : (wanted known : List Bool) (next pending place : ℕ) → IsCounted wanted known next pending → place < next → one (is_open wanted known place) ≤ pending
 in_count wanted known next pending place counted below =
     let count = counted.count in
@@ -102,9 +102,9 @@ pub count_fits : (wanted known : List Bool) (next pending : ℕ) → IsCounted w
 count_fits wanted known next pending counted =
     let most = open_most wanted known next in let count = counted.count in let inside = counted.inside in omega arith
 
--- ---- the next place down
+-- ---- the next position down
 
--- the count below the next place, by what that place is
+-- the count below the next position, by what that position is
 module _ (wanted known : List Bool) (next place pending : ℕ) (counted : IsCounted wanted known next pending) (is : next ≡ place + 1) where
   step_count : pending ≡ open_below wanted known place + one (is_open wanted known place)
   step_count = counted.count ∙ ap (open_below wanted known) is ∙ open_next wanted known place
@@ -121,7 +121,7 @@ module _ (wanted known : List Bool) (next place pending : ℕ) (counted : IsCoun
       let c : one (is_open wanted known place) ≡ 0 = ap one shut in
       record { long = counted.long; inside = omega arith; count = omega (arith, count, c) }
 
--- where something is open below, a place comes next
+-- where something is open below, a position comes next
 pub some_next : (wanted known : List Bool) (next pending : ℕ) → IsCounted wanted known next pending → 0 < pending → 1 ≤ next
 some_next wanted known zero pending counted some = let n = open_none wanted known in let count = counted.count in absurd (omega (arith, n))
 some_next wanted known (suc next) pending counted some = omega arith

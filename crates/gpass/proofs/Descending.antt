@@ -14,7 +14,7 @@ use Rattle.gpass.proofs.Counting.{open_least, open_if}
 
 -- ---- reaching
 
--- ---- what is reached, place by place
+-- ---- what is reached, position by position
 
 pub reached_start : {A : Type 0} (g : List (Entry A)) (ids : List (List ℕ)) (p : ℕ) → IsPlaceOf g ids p → IsReachedAt g ids p
 reached_start g ids p x = record { id = x.id; at = x.at; reached = (x.id, x.among, here) }
@@ -25,7 +25,7 @@ reached_edge g ids p q r e =
     let P : List ℕ → Type 0 = λ a. SomeReaches g ids a in
     record { id = e.parent; at = e.parent_at; reached = some_reaches g ids e.child e.parent (subst P same r.reached) e.edge }
 
--- what holds at the places of the ids and goes on along edges holds at each place that they reach
+-- what holds at the positions of the ids and goes on along edges holds at each position that they reach
 pub at_reached : {A : Type 0} (g : List (Entry A)) (ids : List (List ℕ)) (P : ℕ → Type 0) → ((p : ℕ) → IsPlaceOf g ids p → P p) → ((p q : ℕ) → IsEdge g p q → P p → P q) → (p : ℕ) → IsReachedAt g ids p → P p
 at_reached g ids P start step p r =
     let Q : List ℕ → Type 0 = λ a. (k : ℕ) → place_of g a ≡ Some k → P k in
@@ -57,10 +57,10 @@ module _ {A : Type 0} (g : List (Entry A)) (wants commons : List (List ℕ)) (en
     known_ahead = λ p q e past m. (let h = start_inside commons known k long p m in absurd (omega arith));
   }
 
--- ---- one place down
+-- ---- one position down
 
 module _ {A : Type 0} (g : List (Entry A)) (wants commons : List (List ℕ)) (wanted known : List Bool) (next place : ℕ) (is : next ≡ place + 1) (old : IsPassed g wants commons wanted known next) (ordered : HasParentsFirst g) (parents : List (List ℕ)) (are : option_map (λ entry. entry.node.parents) (slice_get g place) ≡ Some parents) where
-  -- a later place is not marked by the parents
+  -- a later position is not marked by the parents
   not_ahead : (ids : List (List ℕ)) (marks marks' : List Bool) → MarksAll g parents marks marks' → ((q : ℕ) → IsPlaceOf g parents q → q < place) → (p : ℕ) → place ≤ p → is_marked marks' p ≡ true → is_marked marks p ≡ true
   not_ahead ids marks marks' more below p past m =
       elim (more.only p m) [ inl before ↦ before | inr x ↦ (let h = below p x in absurd (omega arith)) ]
@@ -116,7 +116,7 @@ module _ {A : Type 0} (g : List (Entry A)) (wants commons : List (List ℕ)) (wa
           ];
         }
 
--- an idle place
+-- an idle position
 module _ {A : Type 0} (g : List (Entry A)) (wants commons : List (List ℕ)) (wanted known : List Bool) (next place : ℕ) (is : next ≡ place + 1) (old : IsPassed g wants commons wanted known next) where
   pub goes_by : is_marked wanted place ≡ false → is_marked known place ≡ false → IsPassed g wants commons wanted known place
   goes_by idle free = record {

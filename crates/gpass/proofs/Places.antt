@@ -1,4 +1,4 @@
--- Places of ids, the parents at a place, and marks by place.
+-- Positions of ids, the parents at a position, and marks by position.
 use Rattle.std.proofs.Common.{◌≡◌, ◌⊎◌, inl, inr, ℕ, zero, suc, ◌+◌, ◌<◌, ◌≤◌, Bool, true, false, List, [], ◌∷◌, ◌++◌, length, get_or, set, take, Contains, Option, Some, None, IsSome, rules, max, refl, sym, ap, ◌∙◌, subst, arith, replicate}
 use Rattle.std.specs.List.{slice_get}
 use Rattle.std.specs.Option.{option_map}
@@ -25,7 +25,7 @@ contains_none x h = let k : h.0 < 0 = h.1 in omega arith
 
 -- ---- parents
 
--- the parents at the place of an id are those of its node
+-- the parents at the position of an id are those of its node
 pub parents_are : {A : Type 0} (g : List (Entry A)) (a : List ℕ) (p : ℕ) (parents : List (List ℕ)) → place_of g a ≡ Some p → option_map (λ entry. entry.node.parents) (slice_get g p) ≡ Some parents → (node : Node A) × IsNode g a node × (node.parents ≡ parents)
 parents_are {A} g a p parents e are =
     let there = entry_there g p (place_inside g a p e) in
@@ -35,7 +35,7 @@ parents_are {A} g a p parents e are =
     (node, is, same_Some node.parents parents same)
 
 module _ {A : Type 0} (g : List (Entry A)) (p : ℕ) (parents : List (List ℕ)) (are : option_map (λ entry. entry.node.parents) (slice_get g p) ≡ Some parents) where
-  -- a parent's place is one of those of the parents
+  -- a parent's position is one of those of the parents
   pub edge_place : (q : ℕ) → IsEdge g p q → IsPlaceOf g parents q
   edge_place q e =
       let n = parents_are g e.child p parents e.child_at are in
@@ -55,7 +55,7 @@ module _ {A : Type 0} (g : List (Entry A)) (p : ℕ) (parents : List (List ℕ))
 pub in_order : {A : Type 0} (g : History A) → IsGraph g → IsOrdered g.entries → IsInOrder g.entries
 in_order g graph ordered = record { differ = graph.differ; shaped = graph.shaped; few = graph.few; ordered = ordered }
 
--- parents come first, place by place
+-- parents come first, position by position
 abbrev pub HasParentsFirst : {A : Type 0} → List (Entry A) → Type 0
 HasParentsFirst g = (a b : List ℕ) (p : ℕ) → place_of g a ≡ Some p → HasParent g a b → (q : ℕ) × (place_of g b ≡ Some q) × (q < p)
 
@@ -65,7 +65,7 @@ taken [] (suc n) p x at = absurd (none-some x at)
 taken (y ∷ xs) (suc n) zero x at = (omega arith, at)
 taken (y ∷ xs) (suc n) (suc p) x at = let h = taken xs n p x at in let low = h.0 in (omega arith, h.1)
 
--- an id that the first entries hold has one of their places
+-- an id that the first entries hold has one of their positions
 held_before : {A : Type 0} (g : List (Entry A)) (n : ℕ) (b : List ℕ) (o : Option (Node A)) → node_at (take n g) b ≡ o → IsSome o → IdsDiffer g → (q : ℕ) × (place_of g b ≡ Some q) × (q < n)
 held_before g n b None e held differ = absurd (search (rules, held))
 held_before {A} g n b (Some node) e held differ =
@@ -157,7 +157,7 @@ module _ {A : Type 0} (g : List (Entry A)) (ids : List (List ℕ)) (old new : Li
   only_wider p (inl m) = inl m
   only_wider p (inr x) = inr (wider p x)
 
-  -- the marks stay where the id has no place that is to be marked
+  -- the marks stay where the id has no position that is to be marked
   pub marks_stay : ((p : ℕ) → place_of g a ≡ Some p → p < length old → ⊥) → MarksAll g (ids ++ a ∷ []) old new
   marks_stay never = record {
     long = before.long;
@@ -183,7 +183,7 @@ module _ {A : Type 0} (g : List (Entry A)) (ids : List (List ℕ)) (old new : Li
 -- ---- one id after the other
 
 module _ {A : Type 0} (g : List (Entry A)) (ids : List (List ℕ)) (i : ℕ) (a : List ℕ) (inside : i < length ids) (is : a ≡ get_or ids i a) where
-  -- the place of an item
+  -- the position of an item
   pub item_place : (p : ℕ) → place_of g a ≡ Some p → IsPlaceOf g ids p
   item_place p at = record { id = a; among = (i, inside, sym is); at = at }
 
@@ -193,7 +193,7 @@ module _ {A : Type 0} (g : List (Entry A)) (ids : List (List ℕ)) (i : ℕ) (a 
   pub marks_past : (old new : List Bool) → MarksAll g (take i ids) old new → place_of g a ≡ None → MarksAll g (take (i + 1) ids) old new
   marks_past old new before absent = rw (take_one ids i a inside is) (marks_stay g (take i ids) old new a before (λ p e _. none-some p (sym absent ∙ e)))
 
-  -- a place of the ids so far
+  -- a position of the ids so far
   pub place_next : (p : ℕ) → IsPlaceOf g (take (i + 1) ids) p → IsPlaceOf g (take i ids) p ⊎ (place_of g a ≡ Some p)
   place_next p x =
       let P : List (List ℕ) → Type 0 = λ xs. IsPlaceOf g xs p in
@@ -220,6 +220,6 @@ read_mark marks slice p r b same read is = ap (λ xs. is_marked xs p) (sym same)
 pub max_is : (a b m : ℕ) → m ≡ ord_max nat_cmp a b → m ≡ max a b
 max_is a b m e = grind (arith, nat_tests)
 
--- a place of one id
+-- a position of one id
 pub one_item : {A : Type 0} (g : List (Entry A)) (a : List ℕ) (p : ℕ) → IsPlaceOf g (a ∷ []) p → place_of g a ≡ Some p
 one_item g a p x = ap (place_of g) (sym (only_one a x.id x.among)) ∙ x.at

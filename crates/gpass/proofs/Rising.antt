@@ -26,7 +26,7 @@ goal_of g goals a (k, b, inside, is, way) = (b, (k, inside, is), way)
 pub any_goal : {A : Type 0} (g : List (Entry A)) (goals : List (List ℕ)) (a b : List ℕ) → Contains goals b → Reaches g a b → Any (Reaches g a) goals
 any_goal g goals a b (k, inside, is) way = (k, b, inside, is, way)
 
--- ---- place by place
+-- ---- position by position
 
 module _ {A : Type 0} (g : List (Entry A)) (goals : List (List ℕ)) where
   pub reaching_goal : (p : ℕ) → IsPlaceOf g goals p → IsReachingAt g goals p
@@ -67,7 +67,7 @@ module _ {A : Type 0} (g : List (Entry A)) (goals : List (List ℕ)) where
 
 -- ---- the pass as it goes
 
--- what holds each time the next place is looked at
+-- what holds each time the next position is looked at
 pub record IsRising {A : Type 0} (g : List (Entry A)) (goals : List (List ℕ)) (end place : ℕ) (good : List Bool) : Type 0 where
   pub long : length good ≡ end
   pub goals_in : (p : ℕ) → IsPlaceOf g goals p → p < end → is_marked good p ≡ true

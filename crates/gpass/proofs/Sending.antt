@@ -81,7 +81,7 @@ module _ {A : Type 0} (g : List (Entry A)) (wants commons tips : List (List ℕ)
         let l = commit_below g (parents_first g order) x.start p x.commit x.chain x.peeled in
         omega arith
 
--- ---- one place after the other
+-- ---- one position after the other
 
 take_there : {X : Type 0} (xs : List X) (i : ℕ) (x : X) → slice_get xs i ≡ Some x → take (i + 1) xs ≡ take i xs ++ x ∷ []
 take_there [] i x at = absurd (none-some x at)

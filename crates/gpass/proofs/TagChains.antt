@@ -1,4 +1,4 @@
--- Chains of tags, place by place.
+-- Chains of tags, position by position.
 use Rattle.std.proofs.Common.{◌≡◌, ◌⊎◌, inl, inr, ℕ, zero, suc, ◌+◌, ◌<◌, ◌≤◌, Bool, true, false, List, [], ◌∷◌, length, get_or, set, take, replicate, Contains, Some, None, MatchOption, refl, sym, ap, ◌∙◌, subst, arith}
 use Rattle.std.specs.List.{slice_get}
 use Rattle.std.specs.Option.{option_map}
@@ -29,7 +29,7 @@ contains_get [] p x at = absurd (none-some x at)
 contains_get (y ∷ xs) zero x at = (0, omega arith, same_Some y x at)
 contains_get (y ∷ xs) (suc p) x at = let h = contains_get xs p x at in let inside = h.1 in (suc h.0, omega arith, h.2)
 
--- ---- what stands at a place
+-- ---- what stands at a position
 
 module _ {A : Type 0} (g : List (Entry A)) (order : IsInOrder g) (p : ℕ) (inside : p < length g) where
   pub led_none : IsLedTo g p p

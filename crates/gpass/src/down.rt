@@ -1,5 +1,5 @@
-//! The pass down: from the last place at which something is wanted or known to the first below which nothing is
-//! new.
+//! The pass down: from the last position at which something is wanted or known to the first below which
+//! nothing is new.
 #![tactic(auto)]
 
 ghost use Rattle.std.specs.Prelude.{◌≡◌, ◌≤◌, ◌<◌, ◌+◌, ℕ, List, IfErr, IfOk, ◌||◌, length, slice_set, true};
@@ -41,21 +41,21 @@ pub(crate) fn pass_down<A: Allocator + Copy>(
     Ok(pass)
 }
 
-// A pass down the places.
+// A pass down the positions.
 #[derive(Drop)]
 pub(crate) struct Pass<A: Allocator + Copy> {
     // Where a want reaches the object, as far as the pass knows.
     wanted: Vec<bool, A>,
     // Where a common id reaches it.
     known: Vec<bool, A>,
-    // The places below this one are still to come.
+    // The positions below this one are still to come.
     pub(crate) next: usize,
     // How many of them are wanted and not known.
     pending: usize,
 }
 
 impl<A: Allocator + Copy> Pass<A> {
-    // Whether the place is wanted and not known.
+    // Whether the position is wanted and not known.
     pub(crate) fn is_open(&self, place: usize) -> bool
         ensures { result ≡ is_open self.now.wanted.items self.now.known.items place }
     {
@@ -69,21 +69,21 @@ impl<A: Allocator + Copy> Pass<A> {
         self.wanted.len()
     }
 
-    // Whether the place is open or tagged.
+    // Whether the position is open or tagged.
     pub(crate) fn is_sent(&self, tagged: &[bool], place: usize) -> bool
         ensures { result ≡ (is_open self.now.wanted.items self.now.known.items place || is_marked tagged.now place) }
     {
         self.is_open(place) || is_marked(tagged, place)
     }
 
-    // What the place adds to the count.
+    // What the position adds to the count.
     fn count_at(&self, place: usize) -> usize
         ensures { result ≡ one (is_open self.now.wanted.items self.now.known.items place) }
     {
         if self.is_open(place) { 1 } else { 0 }
     }
 
-    // Goes on to the next place down. What is left below must be open somewhere.
+    // Goes on to the next position down. What is left below must be open somewhere.
     fn step(&mut self, graph: &Graph<A>)
         requires order { IsInOrder graph.now.entries }
         requires counted { IsCounted self.old.wanted.items self.old.known.items self.old.next self.old.pending }
@@ -106,7 +106,7 @@ impl<A: Allocator + Copy> Pass<A> {
         }
     }
 
-    // Marks the places of the ids as wanted.
+    // Marks the positions of the ids as wanted.
     fn want_all(&mut self, graph: &Graph<A>, ids: &[Oid])
         requires counted { IsCounted self.old.wanted.items self.old.known.items self.old.next self.old.pending }
         requires below { (p : ℕ) → IsPlaceOf graph.now.entries ids.now p → p < self.old.next }
@@ -122,7 +122,7 @@ impl<A: Allocator + Copy> Pass<A> {
         }
     }
 
-    // Marks the places of the ids as known.
+    // Marks the positions of the ids as known.
     fn know_all(&mut self, graph: &Graph<A>, ids: &[Oid])
         requires counted { IsCounted self.old.wanted.items self.old.known.items self.old.next self.old.pending }
         requires below { (p : ℕ) → IsPlaceOf graph.now.entries ids.now p → p < self.old.next }
@@ -138,7 +138,7 @@ impl<A: Allocator + Copy> Pass<A> {
         }
     }
 
-    // Marks a place that is still to come as wanted.
+    // Marks a position that is still to come as wanted.
     fn want(&mut self, place: usize)
         requires counted { IsCounted self.old.wanted.items self.old.known.items self.old.next self.old.pending }
         requires below { place < self.old.next }
@@ -152,7 +152,7 @@ impl<A: Allocator + Copy> Pass<A> {
         self.pending += self.count_at(place);
     }
 
-    // Marks a place that is still to come as known.
+    // Marks a position that is still to come as known.
     fn know(&mut self, place: usize)
         requires counted { IsCounted self.old.wanted.items self.old.known.items self.old.next self.old.pending }
         requires below { place < self.old.next }

@@ -3,7 +3,7 @@
 //!
 //! # Proved
 //!
-//! - `send_list` answers the objects to send in store order: what some want reaches and no common id does, and
+//! - `send_list` answers the list to send in store order: what some want reaches and no common id does, and
 //!   the tags on the chains of tags that lead from the tips to such commits.
 //! - `ready` answers whether there are common ids and each want reaches one of them. Without common ids it takes
 //!   no memory.

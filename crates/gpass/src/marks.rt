@@ -1,4 +1,4 @@
-//! Marks by place, and the places of some ids.
+//! Marks by position, and the positions of some ids.
 #![tactic(auto)]
 
 ghost use Rattle.std.specs.Prelude.{◌≡◌, ◌≤◌, ◌<◌, ℕ, IfErr, IfOk, false, length, replicate, slice_set, true};
@@ -9,14 +9,14 @@ use ghistory::{Graph, GraphFault};
 use gname::Oid;
 use std::alloc::Allocator;
 
-// Whether the place has a mark. None is past the end of the marks.
+// Whether the position has a mark. None is past the end of the marks.
 pub(crate) fn is_marked(marks: &[bool], place: usize) -> bool
     ensures { result ≡ is_marked marks.now place }
 {
     marks.get(place).copied().unwrap_or(false)
 }
 
-// Marks for the places below the end, none of them set.
+// Marks for the positions below the end, none of them set.
 pub(crate) fn no_marks<A: Allocator + Copy>(
     alloc: A,
     end: usize,
@@ -28,7 +28,7 @@ pub(crate) fn no_marks<A: Allocator + Copy>(
     Ok(marks)
 }
 
-// Marks the places of the ids that are below the end of the marks.
+// Marks the positions of the ids that are below the end of the marks.
 pub(crate) fn mark_all<A: Allocator + Copy>(graph: &Graph<A>, ids: &[Oid], marks: &mut Vec<bool, A>)
     ensures { MarksAll graph.now.entries ids.now marks.old.items marks.new.items }
 {
@@ -39,7 +39,7 @@ pub(crate) fn mark_all<A: Allocator + Copy>(graph: &Graph<A>, ids: &[Oid], marks
     }
 }
 
-// Marks the place where it is below the end of the marks.
+// Marks the position where it is below the end of the marks.
 fn mark<A: Allocator + Copy>(marks: &mut Vec<bool, A>, place: usize)
     ensures { marks.new.items ≡ slice_set marks.old.items place true }
 {
@@ -48,7 +48,7 @@ fn mark<A: Allocator + Copy>(marks: &mut Vec<bool, A>, place: usize)
     }
 }
 
-// The place after the last of the ids' places, and 0 where none of them is held.
+// The position after the last of the ids' positions, and 0 where none of them is held.
 pub(crate) fn end_of<A: Allocator + Copy>(graph: &Graph<A>, ids: &[Oid]) -> usize
     requires { IsInOrder graph.now.entries }
     ensures below { (p : ℕ) → IsPlaceOf graph.now.entries ids.now p → p < result }
@@ -63,7 +63,7 @@ pub(crate) fn end_of<A: Allocator + Copy>(graph: &Graph<A>, ids: &[Oid]) -> usiz
     end
 }
 
-// The first of the ids' places, and the end where none is below it.
+// The first of the ids' positions, and the end where none is below it.
 pub(crate) fn first_of<A: Allocator + Copy>(graph: &Graph<A>, ids: &[Oid], end: usize) -> usize
     ensures first { (p : ℕ) → IsPlaceOf graph.now.entries ids.now p → result ≤ p }
     ensures most { result ≤ end }

@@ -13,14 +13,14 @@ use gname::Oid;
 use gobject::Entry;
 use std::alloc::Allocator;
 
-/// The objects to send for the wants to one who has the common ids with their ancestries, in store order: each
+/// The list to send for the wants to one for whom the common ids are connected, in store order: each
 /// object that some want reaches and no common id does, and each tag on the chains of tags that lead from the
 /// tips to such commits (gitprotocol-v2(5), "fetch": `want`, `have`, `include-tag`). Without `include-tag` give
 /// no tips. An id that the graph does not hold adds nothing.
 ///
 /// Each object of the graph must have come after its parents, as `Graph::is_ordered` says. The call goes down the
 /// store from the last of the wants and common ids, and stops where nothing is left that is wanted and not known
-/// to be common.
+/// to be reached by a common id.
 ///
 /// It fails with `Memory` alone. It takes memory from the graph's allocator for the list, and for up to three bytes
 /// an object, as far as the last of the ids.

@@ -37,7 +37,7 @@ pub(crate) fn tags_of<A: Allocator + Copy>(
     Ok(tagged)
 }
 
-// Marks the tags on the chain that begins at the place.
+// Marks the tags on the chain that begins at the position.
 fn mark_chain<A: Allocator + Copy>(graph: &Graph<A>, start: usize, tagged: &mut Vec<bool, A>)
     requires order { IsInOrder graph.now.entries }
     requires held { start < length graph.now.entries }
@@ -51,7 +51,7 @@ fn mark_chain<A: Allocator + Copy>(graph: &Graph<A>, start: usize, tagged: &mut 
     }
 }
 
-// The place of the commit at the end of the chain of tags that begins at the place.
+// The position of the commit at the end of the chain of tags that begins at the position.
 fn peeled<A: Allocator + Copy>(graph: &Graph<A>, start: usize) -> usize
     requires order { IsInOrder graph.now.entries }
     requires held { start < length graph.now.entries }
@@ -64,7 +64,7 @@ fn peeled<A: Allocator + Copy>(graph: &Graph<A>, start: usize) -> usize
     at
 }
 
-// The place of the object that the tag at the place names. `None` where a commit stands there.
+// The position of the object that the tag at the position names. `None` where a commit stands there.
 fn named<A: Allocator + Copy>(graph: &Graph<A>, place: usize) -> Option<usize>
     requires order { IsInOrder graph.now.entries }
     requires held { place < length graph.now.entries }

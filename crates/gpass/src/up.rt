@@ -1,4 +1,4 @@
-//! Reaching: one pass from the first place of some ids up, over the objects that reach them.
+//! Reaching: one pass from the first position of some ids up, over the objects that reach them.
 #![tactic(auto)]
 
 ghost use Rattle.std.specs.Prelude.{◌≡◌, ◌↔◌, ◌≤◌, ◌<◌, ◌∷◌, [], ℕ, IfErr, IfOk, IsTrue, Ok, false, length, true};
@@ -62,7 +62,7 @@ pub fn reaches<A: Allocator + Copy>(graph: &Graph<A>, a: &Oid, b: &Oid) -> Resul
     Ok(is_good(graph, a, &[*b], good.as_slice()))
 }
 
-// Whether the id reaches one of the goals, by the marks of the places that do.
+// Whether the id reaches one of the goals, by the marks of the positions that do.
 fn is_good<A: Allocator + Copy>(graph: &Graph<A>, id: &Oid, goals: &[Oid], good: &[bool]) -> bool
     requires order { IsInOrder graph.now.entries }
     requires good { MarksReaching graph.now.entries goals.now (length good.now) good.now }
@@ -75,7 +75,7 @@ fn is_good<A: Allocator + Copy>(graph: &Graph<A>, id: &Oid, goals: &[Oid], good:
     }
 }
 
-// Marks at the places below the end whose objects reach one of the goals.
+// Marks at the positions below the end whose objects reach one of the goals.
 fn reaching<A: Allocator + Copy>(
     graph: &Graph<A>,
     goals: &[Oid],
@@ -97,7 +97,7 @@ fn reaching<A: Allocator + Copy>(
     Ok(good)
 }
 
-// Whether the place of one of the ids is marked.
+// Whether the position of one of the ids is marked.
 fn has_marked<A: Allocator + Copy>(graph: &Graph<A>, ids: &[Oid], marks: &[bool]) -> bool
     ensures { IsTrue result ↔ HasMarked graph.now.entries ids.now marks.now }
 {

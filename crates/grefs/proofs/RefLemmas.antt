@@ -1,4 +1,4 @@
--- Refs in order: what a search finds, and what an edit at that place does.
+-- Refs in order: what a search finds, and what an edit at that position does.
 use Rattle.std.proofs.Common.{ap₂, ◌≡◌, ◌≢◌, ℕ, zero, suc, ◌<◌, ◌≤◌, List, [], ◌∷◌, ◌++◌, length, get_or, set, Bool, true, false, cond, Option, Some, None, Result, Ok, Err, MatchResult, ◌⊎◌, inl, inr, ◌+◌, refl, sym, ◌∙◌, ap, subst, arith, take, drop, ◌-◌}
 use Rattle.std.specs.Str.{bytes_eq}
 use Rattle.std.specs.List.{All, AllByRecursion, AllWithin, Contains, insert, find, slice_get}
@@ -144,7 +144,7 @@ alike_same (x ∷ a) (y ∷ b) here there alike =
     alike_met x a b y (order x.0 y.0) refl here there alike
     (λ tails. alike_same a b (sorted_tail order x.0 (keys_of a) here) (sorted_tail order y.0 (keys_of b) there) tails)
 
--- ---- what is at a place
+-- ---- what is at a position
 
 pub ref_at-gap : (refs : RefList) (name : List ℕ) (place : ℕ) → IsStrictlySortedBy order (keys_of refs) → IsGap refs name place → ref_at refs name ≡ None
 ref_at-gap [] name zero sorted gap = refl

@@ -38,7 +38,7 @@ StandsAtId ref = IsId ref.1
 abbrev pub AreBelow : RefList → List ℕ → Type 0
 AreBelow refs name = AllByRecursion (λ other. slice_cmp nat_cmp other name ≡ Less) (keys_of refs)
 
--- the most refs beside HEAD
+-- the most refs, HEAD not counted
 abbrev pub max_refs : ℕ
 max_refs = 65536
 

@@ -1,4 +1,4 @@
-//! What a call on refs refuses.
+//! Why a call on refs is refused.
 #![tactic(auto)]
 
 ghost use Rattle.std.specs.Prelude.{◌≡◌, Some};
@@ -12,9 +12,9 @@ use std::fmt;
 /// Why a ref was not set.
 #[derive(Clone, Copy, Debug, PartialEq, Eq, Drop)]
 pub enum RefsFault {
-    /// A ref that can't be set: its name is `HEAD`, or there would be more than `MAX_REFS` refs.
+    /// The ref can't be set: its name is `HEAD`, or there would be more than `MAX_REFS` refs.
     Refs,
-    /// There is no memory.
+    /// Out of memory.
     Memory,
 }
 

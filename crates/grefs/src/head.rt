@@ -10,7 +10,7 @@ use gname::{Oid, RefName};
 use std::alloc::{AllocError, Allocator, Global};
 use std::marker::Model;
 
-/// A name that HEAD can point at: any below `refs/`.
+/// A name at which HEAD can point, a symref's target (gitglossary(7)): any below `refs/`.
 #[derive(Debug, Drop)]
 pub struct Target<A: Allocator + Copy = Global> {
     name: RefName<A>,
@@ -39,7 +39,7 @@ impl<A: Allocator + Copy> Target<A> {
         Some(Target { name })
     }
 
-    /// A target like this one. It fails where there is no memory.
+    /// A target like this one. It fails where out of memory.
     pub fn copy_in(&self, alloc: A) -> Result<Target<A>, AllocError>
         ensures { IfOk result (λ target. target ≡ self.now) }
     {
@@ -56,16 +56,19 @@ impl<A: Allocator + Copy> Target<A> {
     }
 }
 
-/// What HEAD stands at: nothing, an id, or a ref's name, whether there is such a ref or not.
+/// What HEAD stands at.
 #[derive(Debug, Drop)]
 pub enum Head<A: Allocator + Copy = Global> {
+    /// Nothing: there is no HEAD.
     None,
+    /// An id: HEAD is detached.
     Id(Oid),
+    /// A ref's name. HEAD is unborn where there is no such ref.
     Symref(Target<A>),
 }
 
 impl<A: Allocator + Copy> Head<A> {
-    /// A head like this one. It fails where there is no memory.
+    /// A head like this one. It fails where out of memory.
     pub fn copy_in(&self, alloc: A) -> Result<Head<A>, AllocError>
         ensures { IfOk result (λ head. head ≡ self.now) }
     {

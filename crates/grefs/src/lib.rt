@@ -27,6 +27,8 @@
 //! is given: no clause says where memory comes from. Each call may take as long as it likes, and more memory
 //! than it needs.
 //!
+//! Formatting a fault may answer an error (`fmt::Error`) where the text would be right.
+//!
 //! # Stands on
 //!
 //! `gname` for names and ids.

@@ -1,4 +1,4 @@
-//! Refs, and what HEAD stands at.
+//! Refs: names below `refs/` with the ids at which they stand.
 #![tactic(auto)]
 
 ghost use Rattle.std.specs.Prelude.{◌≡◌, ◌≤◌, ◌↔◌, [], length, IsTrue, IsErrOf, OnOk, OnErr, IfOk, IfErr, ◌⊎◌, ◌≢◌, None, is_ok, MatchOption, MatchResult, slice_get, ◌<◌, ◌++◌, ◌∷◌};
@@ -12,7 +12,7 @@ use gname::{Oid, RefName};
 use std::alloc::{AllocError, Allocator, Global};
 use std::marker::Model;
 
-/// The most refs beside HEAD.
+/// The most refs that there can be, HEAD not counted.
 pub const MAX_REFS: usize = 65_536;
 
 /// Names below `refs/` with the ids at which they stand, in the byte order of the names.
@@ -58,7 +58,7 @@ impl<A: Allocator + Copy> Refs<A> {
 
     /// The ids at which the refs stand, in the order of their names.
     ///
-    /// It fails where there is no memory for them.
+    /// It fails where out of memory.
     pub fn ids(&self, alloc: A) -> Result<Vec<Oid, A>, AllocError>
         ensures { IfOk result (λ ids. ids.items ≡ values_of self.now) }
     {
@@ -73,7 +73,7 @@ impl<A: Allocator + Copy> Refs<A> {
         self.refs.as_slice()
     }
 
-    /// Refs like these. It fails where there is no memory.
+    /// Refs like these. It fails where out of memory.
     pub fn copy_in(&self, alloc: A) -> Result<Refs<A>, AllocError>
         ensures { IfOk result (λ refs. refs ≡ self.now) }
     {
@@ -81,7 +81,7 @@ impl<A: Allocator + Copy> Refs<A> {
         Ok(Refs { refs })
     }
 
-    /// The id at which a name stands.
+    /// The id at which a name stands, or `None` where there is no such ref.
     pub fn get(&self, name: &RefName<A>) -> Option<Oid>
         ensures { result ≡ ref_at self.now name.now }
     {
@@ -91,7 +91,7 @@ impl<A: Allocator + Copy> Refs<A> {
         }
     }
 
-    /// The ref at a place of the names' order, which counts from 0.
+    /// The ref at a position in the order of the names, from 0, or `None` past the last.
     pub fn at(&self, place: usize) -> Option<(&RefName<A>, Oid)>
         ensures pair { MatchOption result (length self.now ≤ place) (λ pair.
             slice_get self.now place ≡ Some (pair.0.now, pair.1)) }
@@ -111,7 +111,7 @@ impl<A: Allocator + Copy> Refs<A> {
         }
     }
 
-    /// Adds a ref after the others. Where there is no memory the refs stay as they were.
+    /// Adds a ref after the others. Where out of memory the refs stay as they were.
     pub fn push(&mut self, name: RefName<A>, id: Oid) -> Result<(), AllocError>
         requires name { IsBelowRefs name }
         requires above { AreBelow self.old name }
@@ -127,8 +127,8 @@ impl<A: Allocator + Copy> Refs<A> {
     /// Puts a name at an id.
     ///
     /// It fails with `Refs` where the name is HEAD, or is new where there are `MAX_REFS` refs, and
-    /// with `Memory` where there is none for another new name. The refs are then as before. A name
-    /// that is there takes no memory.
+    /// with `Memory` where out of memory. The refs are then as before. A name that is there takes
+    /// no memory.
     pub fn set(&mut self, name: RefName<A>, id: Oid) -> Result<(), RefsFault>
         ensures ok { OnOk result (SetsRef self.old self.new name id) }
         ensures held { ref_at self.old name ≢ None → IsTrue (is_ok result) }
@@ -165,7 +165,7 @@ pub fn is_below_refs<A: Allocator + Copy>(name: &RefName<A>) -> bool
     name.as_bytes().starts_with(b"refs/")
 }
 
-/// Refs like these. It fails where there is no memory.
+// Refs like these.
 fn copy_refs<A: Allocator + Copy>(
     alloc: A,
     refs: &[(RefName<A>, Oid)],
@@ -180,7 +180,7 @@ fn copy_refs<A: Allocator + Copy>(
     Ok(copies)
 }
 
-// Where the name is, or where it would go.
+// The position of the name, or the one at which it would go.
 fn place_of<A: Allocator + Copy>(
     refs: &[(RefName<A>, Oid)],
     name: &RefName<A>,

@@ -57,7 +57,7 @@ module _ {A : Type 0} where
 
   -- ---- why none are added
 
-  -- an ask that is named, behind others that are
+  -- an ask that is named, after others that are
   named_to : (before more rest whole : List (Ask A)) → whole ≡ (before ++ more) ++ rest → AreNamed before
       → AreNamedTo more → AreNamedTo whole
   named_to before more rest whole is first to = record {
@@ -150,7 +150,7 @@ module _ {A : Type 0} where
             (All-nil (λ (ask : Ask A). IsRefName ask.name)),
       )
 
-  -- or its destination is no ref name; or it is one, and there is no memory for it
+  -- or its destination is no ref name; or it is one, out of memory
   pub fails_one : RulesNeverReportMemory → (spec : Refspec) (line : RefLine) (a b : List (Ask A)) (fault : NameFault)
       → matches spec line.name ≡ true
       → Owns name_fault (destination_of spec line.name) (Err fault)
@@ -175,7 +175,7 @@ module _ {A : Type 0} where
 
   -- ---- many
 
-  -- what the lines up to a place ask for, and the line at it
+  -- what the lines up to a position ask for, and the line at it
   pub asks_by-more : (spec : Refspec) (lines : List RefLine) (i : ℕ) (line : RefLine) → i < length lines
       → get_or lines i line ≡ line
       → asks_by {A = A} spec (take (i + 1) lines) ≡ asks_by spec (take i lines) ++ asks_by spec (line ∷ [])
@@ -193,7 +193,7 @@ module _ {A : Type 0} where
       ∙ ap (λ (l : List (Ask A)). l ++ asks_by spec (drop (i + 1) lines))
       (asks_by-append spec (take i lines) (line ∷ []))
 
-  -- what the refspecs up to a place ask for, and the one at it
+  -- what the refspecs up to a position ask for, and the one at it
   pub asks_by_all-more : (specs : List Refspec) (lines : List RefLine) (i : ℕ) (spec : Refspec) → i < length specs
       → get_or specs i spec ≡ spec
       → asks_by_all {A = A} (take (i + 1) specs) lines ≡ asks_by_all (take i specs) lines ++ asks_by spec lines

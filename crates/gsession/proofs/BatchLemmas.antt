@@ -118,7 +118,7 @@ module _ {A : Type 0} where
   none_waits None none = refl
   none_waits (Some request) none = absurd (false≢true (sym none))
 
-  -- the request that was made is the one that was due; or there was no memory for it
+  -- the request that was made is the one that was due; or out of memory
   pub made_next : (old new : SessionState A) (g : List (Entry A)) (result : Result (Request A) (ClientFault A))
       → is_due old.stage old.pending ≡ true
       → MatchResult result (λ request. MakesNext old g new (asked_by_request request))

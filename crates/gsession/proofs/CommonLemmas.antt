@@ -33,7 +33,7 @@ all_distinct law P ids all =
     All-weaker (Contains (distinct_of ids)) P (λ a there. All-contains P ids a all (((law ids).same a).0 there))
     (distinct_of ids) (All-contains_itself (distinct_of ids))
 
--- something stands at each place of a list
+-- something stands at each position of a list
 pub none_inside : {X : Type 0} (xs : List X) (i : ℕ) → i < length xs → slice_get xs i ≢ None
 none_inside xs i low empty =
     elim (slice_get_cases xs i).1 [

@@ -137,7 +137,7 @@ module _ {A : Type 0} where
   held_or_not None twice = absurd (twice (λ held. false≢true held))
   held_or_not (Some node) twice = refl
 
-  -- what can't fail to be full is full
+  -- what can't fail to be connected is connected
   full_or_not : (g : List (Entry A)) (a : List ℕ) → ¬ (¬ (IsFull g a)) → IsFull g a
   full_or_not g a twice b path = held_or_not (node_at g b) (λ lost. twice (λ full. lost (full b path)))
 

@@ -24,7 +24,7 @@ all_right P xs ys all =
     All-weaker (Contains ys) P (λ x there. All-contains P (xs ++ ys) x all (Contains-append_right xs ys x there)) ys
     (All-contains_itself ys)
 
--- a list is what comes before a place, what stands there, and the rest
+-- a list is what comes before a position, what stands there, and the rest
 pub split_at : {X : Type 0} (xs : List X) (i : ℕ) (x : X) → i < length xs → get_or xs i x ≡ x
     → xs ≡ (take i xs ++ x ∷ []) ++ drop (i + 1) xs
 split_at {X} xs i x low at =
@@ -69,7 +69,7 @@ with_prefix_few prefixes prefix =
       | false ↦ omega (arith, length-append prefixes (prefix ∷ []))
     ]
 
--- the distinct prefixes of the refspecs up to a place, and of the one at it
+-- the distinct prefixes of the refspecs up to a position, and of the one at it
 pub prefixes_more : (specs : List Refspec) (i : ℕ) (spec : Refspec) → i < length specs → get_or specs i spec ≡ spec
     → distinct_of (map (λ s. s.source) (take (i + 1) specs))
     ≡ with_prefix (distinct_of (map (λ s. s.source) (take i specs))) spec.source

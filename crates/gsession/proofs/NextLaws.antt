@@ -85,7 +85,7 @@ module _ {A : Type 0} where
         made.2 ∙ ap (λ (r : Asked). waiting_for old r made.0) same.0 ∙ ap (waiting_for old also) same.1 ∙ sym too.2,
       )
 
-  -- the whole ancestry of each tip is held
+  -- each tip is connected
   pub tips_are_full : DistinctAreOnce → (r : RepoState A) → IsWhole r
       → All (IsFull r.graph.entries) (distinct_of (values_of r.refs))
   tips_are_full once r whole = all_distinct once (IsFull r.graph.entries) (values_of r.refs) whole.safe

@@ -1,4 +1,4 @@
--- Which ids have their whole ancestry held.
+-- Which ids are connected.
 use Rattle.std.proofs.Common.{◌≡◌, ◌↔◌, ℕ, Bool, true, false, List, [], ◌∷◌, All, Option, Some, None}
 use Rattle.std.proofs.Common.{true≢false, not, refl, sym, ap, subst, ◌∙◌}
 use Rattle.std.specs.Bool.{IsTrue}

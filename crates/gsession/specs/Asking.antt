@@ -51,7 +51,7 @@ pub record AreNamedTo {A : Type 0} (asks : List (Ask A)) : Type 0 where
   pub parts : asks ≡ front ++ ask ∷ rest
   pub named : AreNamed (front ++ ask ∷ [])
 
--- the wants: the distinct asked ids whose whole ancestry is not held, in order
+-- the wants: the distinct asked ids that are not connected, in order
 abbrev pub AreWants : {A : Type 0} → List (Entry A) → List (Ask A) → List (List ℕ) → Type 0
 AreWants g asks wants = Selects (λ a. ¬ (IsFull g a)) (distinct_of (asked_ids asks)) wants
 
@@ -59,6 +59,6 @@ AreWants g asks wants = Selects (λ a. ¬ (IsFull g a)) (distinct_of (asked_ids 
 abbrev pub takes_head : List Refspec → Bool
 takes_head specs = list_any (λ spec. bytes_eq spec.source head_name) specs
 
--- the target of an unborn HEAD is told where a refspec fetches HEAD
+-- the target of an unborn HEAD is reported where a refspec fetches HEAD
 abbrev pub unborn_told : List Refspec → Option (List ℕ) → Option (List ℕ)
 unborn_told specs target = if takes_head specs then target else None

@@ -21,13 +21,12 @@ use Rattle.gsession.specs.declared.fault.ClientFault.{ClientFault}
 
 -- ---- the graph on which a session began
 
--- the session began on this graph: the whole ancestries of its tips are held, and only ids were offered that the tips
--- reach there
+-- the session began on this graph: its tips are connected, and only ids were offered that the tips reach there
 pub record BeganOn {A : Type 0} (g : List (Entry A)) (s : SessionState A) : Type 0 where
   pub full : All (IsFull g) s.tips
   pub sent : All (λ a. Holds g a × SomeReaches g s.tips a) s.sent
 
--- a session that begins on a whole repository begins on its graph
+-- a session that begins on a connected repository begins on its graph
 abbrev pub BeganBegins : Type 0 → Type 0
 BeganBegins A =
     (r : RepoState A) (refspecs : List Refspec) (limit : ℕ) (ends : Ends) (session : SessionState A)

@@ -85,7 +85,7 @@ pub record FirstIsAsked (A : Type 0) : Type 0 where
   pub first : (specs : List Refspec) (lines : List RefLine) (spec : Refspec) (line : RefLine) →
       IsFirstFor specs lines spec line → Contains {X = Ask A} (asked_of specs lines) (ask_of spec line)
 
--- each want is an asked id whose whole ancestry is not held, and each other asked id's is held
+-- each want is an asked id that is not connected, and each other asked id is
 pub record AreExactWants {A : Type 0} (g : List (Entry A)) (asks : List (Ask A)) (wants : List (List ℕ)) : Type 0 where
   pub asked : All (Contains (asked_ids asks)) wants
   pub missing : All (λ a. ¬ (IsFull g a)) wants
@@ -112,7 +112,7 @@ OneNext A =
 
 -- ---- haves
 
--- the whole ancestry of each have is held, where those of the tips and of the common ids are
+-- each have is connected, where the tips and the common ids are
 abbrev pub HavesAreFull : Type 0 → Type 0
 HavesAreFull A =
     (g : List (Entry A)) (old new : SessionState A) (asked : FetchAsked) → All (IsFull g) old.tips

@@ -16,7 +16,7 @@ use Rattle.gsession.specs.declared.fault.ClientFault.{ClientFault}
 use Rattle.gsession.specs.declared.fault.ClientFault.TheVariants.{NoOpenRequest, Repo}
 
 -- the request for refs: those whose names begin with the source of a refspec, or of a pattern with what stands before
--- its `*`; and the target of an unborn HEAD where the server offers to tell it
+-- its `*`; and the target of an unborn HEAD where the server offers to report it
 abbrev pub ls_request : List Refspec → Bool → LsRefsAsked
 ls_request specs unborn = record {
   agent = None;
@@ -83,7 +83,7 @@ is_due Fetching None = true
 is_due _ _ = false
 
 -- what asking for the next request answers: the one that is due, and it waits for its reply; or that none is due; or
--- that there is no memory, and the session is over
+-- that it is out of memory, and the session is over
 abbrev pub Requests : {A : Type 0} → SessionState A → List (Entry A) → SessionState A
     → Result Asked (ClientFault A) → Type 0
 Requests old g new (Ok asked) = (is_due old.stage old.pending ≡ true) × MakesNext old g new asked

@@ -25,7 +25,7 @@ use Rattle.gsession.specs.declared.fault.ClientFault.{ClientFault}
 use Rattle.gsession.specs.declared.fault.ClientFault.TheVariants.{Message, NoOpenRequest, TooManySpecs, Repo}
 
 -- what a session knows: what it fetches and how; the tips, which are the distinct ids of the refs when it began;
--- whether the server offers to tell of an unborn HEAD; how far it is, and the request that waits for its reply; what
+-- whether the server offers to report an unborn HEAD; how far it is, and the request that waits for its reply; what
 -- is asked for, and which objects are wanted for it; the ids that the server has acknowledged, those that were
 -- offered to it, and how many times objects were asked for
 pub record SessionState (A : Type 0) : Type 0 where
@@ -133,7 +133,7 @@ new_session format refspecs limit ends tips = record {
   rounds = 0;
 }
 
--- what beginning answers: a session; or that there are too many refspecs; or that there is no memory
+-- what beginning answers: a session; or that there are too many refspecs; or that it is out of memory
 abbrev pub Begins : {A : Type 0} → RepoState A → List Refspec → ℕ → Ends
     → Result (SessionState A) (ClientFault A) → Type 0
 Begins r refspecs limit ends (Ok session) =
@@ -149,11 +149,11 @@ Begins r refspecs limit ends (Err _) = ⊥
 abbrev pub IsBegun : {A : Type 0} → SessionState A → Type 0
 IsBegun s = (s.stage ≡ Listing) × (s.pending ≡ None)
 
--- whether a server tells of an unborn HEAD (gitprotocol-v2(5), "ls-refs": `unborn`)
+-- whether a server reports an unborn HEAD (gitprotocol-v2(5), "ls-refs": `unborn`)
 abbrev pub tells_unborn : List Capability → Bool
 tells_unborn capabilities = has_feature (codes "ls-refs") (codes "unborn") capabilities
 
--- what hearing the server's advertisement answers: it is kept whether the server tells of an unborn HEAD; or it comes
+-- what hearing the server's advertisement answers: it is kept whether the server reports an unborn HEAD; or it comes
 -- too late
 abbrev pub Hears : {A : Type 0} → SessionState A → List Capability → SessionState A → Result Unit (ClientFault A)
     → Type 0

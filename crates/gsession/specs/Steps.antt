@@ -32,14 +32,14 @@ use Rattle.gsession.specs.declared.taken.Taken.{Taken}
 
 -- ---- asking
 
--- what adding asks answers: they are added, and each is for a ref name; or one is not; or there is no memory for one,
+-- what adding asks answers: they are added, and each is for a ref name; or one is not; or it is out of memory for one,
 -- and it and those before it are
 abbrev pub AddsAsks : {A : Type 0} → List (Ask A) → List (Ask A) → List (Ask A) → Result Unit NameFault → Type 0
 AddsAsks old more new (Ok _) = (new ≡ with_asks old more) × AreNamed more
 AddsAsks old more new (Err name.Memory) = AreNamedTo more
 AddsAsks old more new (Err _) = ¬ (AreNamed more)
 
--- what asking answers: the asks; or that one is for no ref name; or that there is no memory for one, where it and
+-- what asking answers: the asks; or that one is for no ref name; or that it is out of memory for one, where it and
 -- those before it are
 abbrev pub FindsAsks : {A : Type 0} → List Refspec → List RefLine → Result (List (Ask A)) NameFault → Type 0
 FindsAsks {A} specs lines (Ok asks) = (asks ≡ asked_of specs lines) × AreNamed {A = A} (asks_by_all specs lines)
@@ -79,8 +79,8 @@ abbrev pub MayHaveFed : {F : Type 0} → (F → List ℕ → Type 0) → IndexFa
 MayHaveFed fed index_fails (Ok feed) bytes = fed feed bytes
 MayHaveFed fed index_fails (Err fault) bytes = (more : List ℕ) → index_fails (bytes ++ more) fault
 
--- why acknowledgments are not taken: one is of an id that the request did not name; or each is of a have, and there is
--- no memory
+-- why acknowledgments are not taken: one is of an id that the request did not name; or each is of a have, and it is
+-- out of memory
 abbrev pub IsAcksFault : {A : Type 0} → List (List ℕ) → List (List ℕ) → ClientFault A → Type 0
 IsAcksFault haves acks (StrangeAck id) = IsFirstStrange haves acks id
 IsAcksFault haves acks (Repo (repo.Graph graph.Memory)) = All (Contains haves) acks

@@ -60,8 +60,8 @@ pub record WantsTooMuch {A : Type 0} (s : SessionState A) (g : List (Entry A)) (
   pub wanted : AreWants {A = A} g (asked_of s.refspecs reply.lines) wants
   pub many : max_wants < length wants
 
--- why the refs of a reply are not taken: a ref can't have its name; or too much is wanted; or there is no memory. Want
--- of memory is met at an ask, where this and those before it are for ref names, or after all of them are
+-- why the refs of a reply are not taken: a ref can't have its name; or too much is wanted; or it is out of memory. That
+-- is met at an ask, where this and those before it are for ref names, or after all of them are
 abbrev pub IsRefsFault : {A : Type 0} → SessionState A → List (Entry A) → LsReply → ClientFault A → Type 0
 IsRefsFault s g reply (Message fault) = IsMisnamed s reply fault
 IsRefsFault s g reply TooManyWants = WantsTooMuch s g reply
@@ -69,7 +69,7 @@ IsRefsFault {A} s g reply (Repo (repo.Graph graph.Memory)) =
     AreNamed {A = A} (asks_by_all s.refspecs reply.lines) ⊎ AreNamedTo {A = A} (asks_by_all s.refspecs reply.lines)
 IsRefsFault s g reply _ = ⊥
 
--- a whole reply is read
+-- a complete reply is read
 abbrev pub ReadsRefs : {A : Type 0} → SessionState A → Change → LsReply → Type 0
 ReadsRefs s change reply = ReadsMessage (judge s.format s.ends) (Says s.format s.ends) change reply
 
@@ -78,12 +78,12 @@ abbrev pub RefusesRefs : {A : Type 0} → SessionState A → Change → MessageF
 RefusesRefs s change fault =
     (front : List Packet) × ReadsRefused (judge s.format s.ends) brings front change fault
 
--- a whole reply is read, and its refs are not taken
+-- a complete reply is read, and its refs are not taken
 abbrev pub ReadsUntaken : {A : Type 0} → SessionState A → List (Entry A) → Change → ClientFault A → Type 0
 ReadsUntaken s g change fault = (reply : LsReply) × ReadsRefs s change reply × IsRefsFault s g reply fault
 
--- why no reply to ls-refs is taken: none is due, and nothing is read; or it is refused; or a whole one is read, and a
--- ref can't have its name, too much is wanted, or there is no memory
+-- why no reply to ls-refs is taken: none is due, and nothing is read; or it is refused; or a complete one is read, and
+-- a ref can't have its name, too much is wanted, or it is out of memory
 abbrev pub IsLsFault : {A : Type 0} → SessionState A → List (Entry A) → Change → ClientFault A → Type 0
 IsLsFault s g change NoOpenRequest = ¬ (AwaitsRefs s) × (change.new ≡ change.old)
 IsLsFault s g change (Message fault) =
@@ -92,7 +92,7 @@ IsLsFault s g change TooManyWants = AwaitsRefs s × ReadsUntaken s g change TooM
 IsLsFault s g change (Repo fault) = AwaitsRefs s × ReadsUntaken s g change (Repo fault)
 IsLsFault s g change _ = ⊥
 
--- what taking a reply answers: a whole one is read, and its refs are taken; or why not
+-- what taking a reply answers: a complete one is read, and its refs are taken; or why not
 abbrev pub TakesLs : {A : Type 0} → SessionState A → List (Entry A) → Change → SessionState A
     → Result (LsTaken A) (ClientFault A) → Type 0
 TakesLs old g change new (Ok taken) =

@@ -63,7 +63,7 @@ module _ {A : Type 0} (indexes : Indexes A) (index_fails : IndexFails) where
       (entries : List (Entry A)) × indexes pack entries × IsRefused repo.graph.format repo.graph.entries entries fault
 
   -- why a reply is not taken that was read: an id is acknowledged that the request did not name; or else the indexer
-  -- refuses its pack, or the graph the pack's objects, or there is no memory
+  -- refuses its pack, or the graph the pack's objects, or it is out of memory
   abbrev pub IsReplyFault : List (List ℕ) → RepoState A → FetchReply → ClientFault A → Type 0
   IsReplyFault haves repo reply (StrangeAck id) = IsFirstStrange haves (acknowledged_by reply) id
   IsReplyFault haves repo reply (Index fault) =
@@ -95,7 +95,7 @@ module _ {A : Type 0} (indexes : Indexes A) (index_fails : IndexFails) where
 abbrev pub reading_for : {A : Type 0} → SessionState A → FetchAsked → Reading
 reading_for s asked = record { format = s.format; direct = is_direct asked; limit = s.limit; ends = s.ends }
 
--- a whole reply is read
+-- a complete reply is read
 abbrev pub ReadsFetch : Reading → Change → FetchReply → Type 0
 ReadsFetch reading change reply = ReadsMessage (judge reading) (Says reading) change reply
 
@@ -114,16 +114,16 @@ abbrev pub AwaitsObjects : {A : Type 0} → SessionState A → Type 0
 AwaitsObjects s = (asked : FetchAsked) × Awaits s asked
 
 module _ {A : Type 0} (indexes : Indexes A) (index_fails : IndexFails) where
-  -- a whole reply is read to the request that waits, and not taken
+  -- a complete reply is read to the request that waits, and not taken
   abbrev pub DeclinesFetch : SessionState A → RepoState A → Change → ClientFault A → Type 0
   DeclinesFetch s repo change fault =
       (asked : FetchAsked) × Awaits s asked
       × ((reply : FetchReply) × ReadsFetch (reading_for s asked) change reply
       × IsReplyFault indexes index_fails asked.haves repo reply fault)
 
-  -- why no reply to fetch is taken: none is due, and nothing is read; or it is refused before its end; or a whole one
-  -- is read, and an id that it acknowledges is strange, or the indexer or the graph refuses its pack, or there is no
-  -- memory
+  -- why no reply to fetch is taken: none is due, and nothing is read; or it is refused before its end; or a complete
+  -- one is read, and an id that it acknowledges is strange, or the indexer or the graph refuses its pack, or it is
+  -- out of memory
   abbrev pub IsTakeFault : SessionState A → RepoState A → Change → ClientFault A → Type 0
   IsTakeFault s repo change NoOpenRequest = ¬ (AwaitsObjects s) × (change.new ≡ change.old)
   IsTakeFault s repo change (Message fault) =
@@ -133,7 +133,7 @@ module _ {A : Type 0} (indexes : Indexes A) (index_fails : IndexFails) where
   IsTakeFault s repo change (Repo (Graph fault)) = DeclinesFetch s repo change (Repo (Graph fault))
   IsTakeFault s repo change _ = ⊥
 
-  -- what taking a reply answers: a whole one is read and taken; or why not, and the repository stays
+  -- what taking a reply answers: a complete one is read and taken; or why not, and the repository stays
   abbrev pub TakesReply : SessionState A → RepoState A → Change → SessionState A → RepoState A
       → Result Taken (ClientFault A) → Type 0
   TakesReply old repo_old change new repo_new (Ok taken) =

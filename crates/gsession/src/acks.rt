@@ -12,8 +12,8 @@ use gname::Oid;
 use indexmap::IndexSet;
 use std::alloc::{AllocError, Allocator};
 
-/// The first acknowledged id that is none of the haves. Each is looked up in a set of these; where there is no memory
-/// for the set, it is searched for, so that want of memory hides no strange id.
+/// The first acknowledged id that is none of the haves. Each is looked up in a set of these; where out of memory
+/// for the set, it is searched for, so that no strange id is hidden.
 pub(crate) fn first_strange<A: Allocator + Copy>(
     alloc: A,
     haves: &[Oid],

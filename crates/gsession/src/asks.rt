@@ -74,7 +74,7 @@ fn add_line<A: Allocator + Copy>(
     Ok(())
 }
 
-/// The distinct asked ids whose whole ancestry is not held, in order. It fails with `Memory` alone.
+/// The distinct asked ids that are not connected, in order. It fails with `Memory` alone.
 pub(crate) fn wants_of<A: Allocator + Copy>(
     repo: &Repo<A>,
     asks: &Asks<A>,
@@ -97,7 +97,7 @@ pub(crate) fn wants_of<A: Allocator + Copy>(
     Ok(wants)
 }
 
-// Whether the whole ancestry of an id is held. An id that is not held, and one that the refs here reach, need no walk.
+// Whether an id is connected. An id that is not held, and one that the refs here reach, need no walk.
 fn is_full<A: Allocator + Copy>(repo: &Repo<A>, id: &Oid) -> Result<bool, GraphFault>
     ensures full { IfOk result (λ full. IsTrue full ↔ IsFull repo.now.graph.entries id.now) }
     ensures fault { IfErr result (λ fault. fault ≡ Memory) }
@@ -125,7 +125,7 @@ fn missing_of<A: Allocator + Copy>(repo: &Repo<A>, id: &Oid) -> Result<Option<Oi
     }
 }
 
-// Whether the id is marked as one whose whole ancestry is held.
+// Whether the id is marked, and so connected.
 fn is_known<A: Allocator + Copy>(repo: &Repo<A>, id: &Oid) -> bool
     ensures { result ≡ true → IsFull repo.now.graph.entries id.now }
 {

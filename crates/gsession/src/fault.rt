@@ -1,4 +1,4 @@
-//! What a call of a session refuses.
+//! Why a call of a session is refused.
 #![tactic(auto)]
 
 ghost use Rattle.std.specs.Prelude.{◌≡◌, Some};
@@ -16,7 +16,7 @@ use std::alloc::{AllocError, AllocFailed, Allocator, Global};
 use std::error::Error;
 use std::fmt;
 
-/// Why a call of a session was refused. Its number tells it apart.
+/// Why a call of a session was refused.
 #[derive(Debug, Drop)]
 pub enum ClientFault<A: Allocator + Copy = Global> {
     /// 20 to 25, 29, 30 and 41 to 54: the reply was refused, at one of its packets.
@@ -31,7 +31,7 @@ pub enum ClientFault<A: Allocator + Copy = Global> {
     StrangeAck { id: Oid },
     /// 86: more objects are wanted than a request takes.
     TooManyWants,
-    /// 60 to 64, 69, 75 and 85: the repository refused it, or there is no memory (64).
+    /// 60 to 64, 69, 75 and 85: the repository refused it, or it is out of memory (64).
     Repo(RepoFault<A>),
 }
 

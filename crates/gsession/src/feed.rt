@@ -80,7 +80,7 @@ impl<K: Indexer<A>, A: Allocator + Copy> PackSink for PackFeed<'_, K, A> {
 
     ghost same = { λ one other. one.indexer.now ≡ other.indexer.now };
 
-    // Each piece is taken: the indexer's fault is told once the reply is read.
+    // Each piece is taken: the indexer's fault is reported once the reply is read.
     ghost refuses = { false };
 
     fn piece(&mut self, bytes: &[u8]) -> bool

@@ -29,7 +29,7 @@ pub fn limits_are_the_constants()
 
 // ---- how often objects are asked for
 
-/// A session that begins on a whole repository begins on its graph: the whole ancestries of its tips are held there.
+/// A session that begins on a connected repository begins on its graph: its tips are connected there.
 pub fn began_begins<A: Allocator + Copy>()
     ensures { BeganBegins A }
 {
@@ -128,12 +128,12 @@ pub fn first_is_asked<A: Allocator + Copy>()
     ensures { FirstIsAsked A }
 {}
 
-/// Each ask is what one of the refspecs asks for of one of the lines that were told.
+/// Each ask is what one of the refspecs asks for of one of the lines of the reply.
 pub fn asks_are_of_lines<A: Allocator + Copy>()
     ensures { AsksAreOfLines A }
 {}
 
-/// Each want is an asked id whose whole ancestry is not held; each other asked id's is held.
+/// Each want is an asked id that is not connected; each other asked id is.
 pub fn wants_are_exact<A: Allocator + Copy>()
     ensures { WantsAreExact A }
 {
@@ -147,8 +147,8 @@ pub fn one_next<A: Allocator + Copy>()
     offers_are_exact::<A>();
 }
 
-/// The haves of a request are ids whose whole ancestry is held, where those of the tips and of the common ids are. Each
-/// is a common id, or was not offered before.
+/// The haves of a request are connected, where the tips and the common ids are. Each is a common id, or
+/// was not offered before.
 pub fn haves_are_held<A: Allocator + Copy>()
     ensures full { HavesAreFull A }
     ensures fresh { HavesAreNew A }

@@ -34,7 +34,7 @@ pub(crate) fn batch_size(rounds: usize) -> usize
     }
 }
 
-/// The request for refs. It fails where there is no memory.
+/// The request for refs. It fails where out of memory.
 pub(crate) fn refs_request<A: Allocator + Copy>(
     alloc: A,
     specs: &[Spec<A>],
@@ -80,7 +80,7 @@ fn has_prefix<A: Allocator + Copy>(prefixes: &[Prefix<A>], prefix: &Prefix<A>) -
 }
 
 /// The request for the wanted objects: the client has the common ids and those of the batch, and is done without a
-/// batch. It fails where there is no memory.
+/// batch. It fails where out of memory.
 pub(crate) fn objects_request<A: Allocator + Copy>(
     alloc: A,
     format: Format,
@@ -145,7 +145,7 @@ fn add_haves<A: Allocator + Copy>(
     Ok(())
 }
 
-// The fault of what fits a request, and for which there is no memory.
+// The fault of what fits a request: out of memory.
 fn no_memory(fault: MessageFault) -> AllocError
     requires { fault.why ≡ Memory }
 {

@@ -1,4 +1,4 @@
-//! A client's session.
+//! A client's session: how it begins, what it lends, and how it settles.
 #![tactic(auto)]
 
 ghost use Rattle.std.specs.Prelude.{◌≡◌, ◌↔◌, [], IsTrue, All, MatchBool, MatchResult, Ok, Err, IfOk, IfSome, option_map};
@@ -30,8 +30,8 @@ use std::mem;
 /// The most refspecs of a session.
 pub const MAX_SPECS: usize = 16;
 
-/// A client's conversation with one server: it asks for refs, then for the objects that are wanted, as often as the
-/// server only acknowledges, and at last moves refs here. Who has the connection sends each request, and hands the
+/// A client's conversation with one server: it asks for refs, then for the objects that are wanted, round by round
+/// until a pack comes, and at last moves refs here. Who has the connection sends each request, and hands the
 /// reader of the replies to the session.
 #[derive(Debug, Drop)]
 pub struct Session<A: Allocator + Copy = Global> {
@@ -101,7 +101,7 @@ impl<A: Allocator + Copy> Session<A> {
     /// of the refs, in the order of their names: from them it goes on to what it offers. A session without refspecs
     /// asks for nothing.
     ///
-    /// It fails with `TooManySpecs` over 16, and where there is no memory.
+    /// It fails with `TooManySpecs` over 16, and where out of memory.
     pub fn begin(
         alloc: A,
         repo: &Repo<A>,
@@ -133,7 +133,7 @@ impl<A: Allocator + Copy> Session<A> {
         })
     }
 
-    /// Hears the server's advertisement: whether it offers to tell of an unborn `HEAD` (gitprotocol-v2(5), "ls-refs").
+    /// Hears the server's advertisement: whether it offers to report an unborn `HEAD` (gitprotocol-v2(5), "ls-refs").
     /// Of several that are heard the last one counts.
     ///
     /// It fails with `NoOpenRequest` after the first request, and nothing changes then.
@@ -188,7 +188,7 @@ impl<A: Allocator + Copy> Session<A> {
         self.commons.as_slice()
     }
 
-    /// How many times objects were asked for.
+    /// How many requests for objects were made, each a round.
     pub fn rounds(&self) -> usize
         ensures rounds { result ≡ self.now.rounds }
         ensures session { IsSession self.now }
@@ -196,7 +196,7 @@ impl<A: Allocator + Copy> Session<A> {
         self.rounds
     }
 
-    // What keeps the session's lists.
+    // The allocator of the session's lists.
     fn allocator(&self) -> A {
         *self.wants.allocator()
     }
@@ -220,9 +220,9 @@ impl<A: Allocator + Copy> Session<A> {
         self.pending = None;
     }
 
-    /// Moves the refs here: each that is new, or is moved by force, or stands at an id that the asked id reaches, comes
-    /// to stand at the asked id, all at once, where the whole ancestry of each asked id is held. Answers what became of
-    /// each ask. The session is over then.
+    /// Moves the refs here: each that is new, or is moved by force or by a fast-forward, comes to stand at
+    /// the asked id, all at once, where each asked id is connected. Answers what became of each ask. The
+    /// session is over then.
     ///
     /// It fails with `NoOpenRequest` before a pack is taken, unless nothing is wanted, and nothing changes then. Else
     /// the session is over, and the repository as before: with `Repo`, as `Repo::settle` fails.

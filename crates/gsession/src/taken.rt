@@ -28,6 +28,8 @@ pub enum Taken {
 /// What was asked for, and in the same order what became of it.
 #[derive(Debug, Drop)]
 pub struct Settled<A: Allocator + Copy = Global> {
+    /// What was asked for.
     pub asks: Asks<A>,
+    /// What became of each ask.
     pub updates: Vec<RefUpdate, A>,
 }

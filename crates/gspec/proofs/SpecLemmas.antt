@@ -251,7 +251,7 @@ same_text false false d e is same = same
 same_text true false d e is same = absurd (false≢true (sym is))
 same_text false true d e is same = absurd (false≢true is)
 
--- two lists that are cut at the same place have the same parts
+-- two lists that are cut at the same position have the same parts
 same_parts : (a b c d : List ℕ) → length a ≡ length c → a ++ 58 ∷ b ≡ c ++ 58 ∷ d → (a ≡ c) × (b ≡ d)
 same_parts a b c d long same =
     let front : a ≡ c = sym (take_at a (58 ∷ b) (length a) refl) ∙ ap (λ (l : List ℕ). take (length a) l) same ∙ take_at c (58 ∷ d) (length a) (sym long) in

@@ -39,7 +39,7 @@ abbrev pub spec_text : Refspec → List ℕ
 spec_text spec =
     force_text spec.forced ++ sides_text spec
 
--- what stands before a `*`: it ends with a slash, and is below refs/, as a name with `x` in the place of the `*`
+-- what stands before a `*`: it ends with a slash, and is below refs/, as a name with `x` for the `*`
 pub record IsStem (stem : List ℕ) : Type 0 where
   pub slash : ends_with nat_eq stem (codes "/") ≡ true
   pub name : IsBelowRefs (stem ++ codes "x")
@@ -58,8 +58,8 @@ pub record IsSpec (text : List ℕ) (spec : Refspec) : Type 0 where
   pub written : text ≡ spec_text spec
   pub sides : IsRefspec spec
 
--- what reading answers where the refspec is to be one with P: it; that there is none; or, where there is one, that
--- there is no memory
+-- what reading answers where the refspec is to be one with P: it; that there is none; or, where there is one, out of
+-- memory
 abbrev pub Reads : (Refspec → Type 0) → Result Refspec SpecFault → Type 0
 Reads P (Ok spec) = P spec
 Reads P (Err BadSpec) = (spec : Refspec) → ¬ (P spec)

@@ -12,7 +12,7 @@ use std::fmt;
 pub enum SpecFault {
     /// The text is no refspec.
     BadSpec,
-    /// The text is a refspec, and there is no memory to keep it.
+    /// The text is a refspec; out of memory to keep it.
     Memory,
 }
 

@@ -17,7 +17,8 @@
 //! # What the contracts do not rule out
 //!
 //! It may report out of memory of any refspec, destination and copy, as often as it likes. It may take as long
-//! as it likes, and more memory than it needs.
+//! as it likes, and more memory than it needs. Formatting a fault may answer an error (`fmt::Error`) where the
+//! text would be right.
 //!
 //! # Stands on
 //!

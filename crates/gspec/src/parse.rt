@@ -33,7 +33,7 @@ fn read_rest<A: Allocator + Copy>(alloc: A, forced: bool, text: &[u8]) -> Result
     }
 }
 
-// Where the first `:` stands.
+// The position of the first `:`.
 fn first_colon(text: &[u8]) -> Option<usize>
     ensures place { result ≡ position is_colon text.now }
     ensures within { IfSome result (λ at. at < length text.now) }

@@ -36,7 +36,7 @@ pub(crate) fn is_stem(text: &[u8]) -> bool
     }
 }
 
-/// The bytes of both, one after the other. `None` where they are more than a ref name has.
+/// The bytes of both, one after the other. `None` where they are more than `MAX_NAME`.
 pub(crate) fn join(front: &[u8], back: &[u8]) -> Option<ArrayVec<u8, MAX_NAME>>
     ensures { MatchOption result (max_name < length (front.now ++ back.now)) (λ text. text.items ≡ front.now ++ back.now) }
 {

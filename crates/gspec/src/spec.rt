@@ -39,9 +39,9 @@ impl<A: Allocator + Copy> Model for Spec<A> {
 impl<A: Allocator + Copy> Spec<A> {
     /// Reads a refspec: a `+`, which may be missing, a source, a `:` and a destination. Either the source is a ref
     /// name and the destination one that begins with `refs/`; or both end in `/*`, and each is a ref name that
-    /// begins with `refs/` once `x` is in the place of the `*`.
+    /// begins with `refs/` once `x` stands for the `*`.
     ///
-    /// It fails with `BadSpec` where the text is nothing of this, and with `Memory` only where it is.
+    /// It fails with `BadSpec` where the text is no refspec, and with `Memory` only where it is one.
     pub fn parse(alloc: A, text: &[u8]) -> Result<Spec<A>, SpecFault>
         ensures { Reads (IsSpec text.now) result }
     {
@@ -88,7 +88,7 @@ impl<A: Allocator + Copy> Spec<A> {
         )
     }
 
-    /// Whether it moves refs by force: it has a `+`.
+    /// Whether it moves refs by force, so that a move need be no fast-forward: it has a `+`.
     pub fn is_forced(&self) -> bool
         ensures forced { result ≡ self.now.forced }
         ensures spec { IsRefspec self.now }
@@ -125,10 +125,11 @@ impl<A: Allocator + Copy> Spec<A> {
     }
 
     /// Where a name goes: to the destination, or where the spec is a pattern, to the destination with the rest of
-    /// the name in the place of the `*`. `None` where the source does not match the name.
+    /// the name for the `*`. `None` where the source does not match the name.
     /// A destination is below `refs/`.
     ///
-    /// It fails with the destination's first fault as a ref name, and with `Memory` where it is one.
+    /// It fails with the destination's first fault as a ref name, and with `Memory` only where it is
+    /// one.
     pub fn destination<B: Allocator + Copy, C: Allocator + Copy>(
         &self,
         alloc: C,

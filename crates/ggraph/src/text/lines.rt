@@ -59,7 +59,7 @@ pub(crate) fn ref_parts(format: Format, text: &[u8]) -> Option<(Oid, &[u8])>
     Some((first.0, name))
 }
 
-/// What HEAD stands at by a line, if it is that of HEAD. It fails where there is no memory for the name
+/// What HEAD stands at by a line, if it is that of HEAD. It fails where out of memory for the name
 /// of the ref that HEAD is on.
 pub(crate) fn head_of<A: Allocator + Copy>(
     alloc: A,

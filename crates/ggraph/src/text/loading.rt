@@ -17,7 +17,7 @@ use grefs::{Head, Refs};
 use memchr::{memchr, memchr_iter};
 use std::alloc::Allocator;
 
-// How many bytes at the front of a text tell how many nodes are expected of it.
+// How many bytes at the front of a text say how many nodes are expected of it.
 const SAMPLE: usize = 65_536;
 
 // The fewest bytes of a node's line: a letter, a space, the forty digits of an id, and an LF.
@@ -28,8 +28,8 @@ const SHORTEST_NODE: usize = 43;
 /// It fails with `Text` at the first line that is not as the format says, at a line past a limit, or
 /// where the text ends early, and under `Order::ParentsFirst` with `ParentLater` at the first line
 /// that names a parent which is on no earlier line; of both with the one at the earlier line, and at
-/// one line with `Text`. `Memory` comes where there is none for what a right line says: for a node, a
-/// ref, or a HEAD on a ref.
+/// one line with `Text`. It fails with `Memory` only where out of memory for what a right line
+/// says: for a node, a ref, or a HEAD on a ref.
 pub fn load<A: Allocator + Copy>(
     alloc: A,
     text: &[u8],

@@ -117,7 +117,7 @@ impl<'a> Room<'a> {
     }
 }
 
-// Reads the ids of a node's parents into the first places of the array, and answers how many they are.
+// Reads the ids of a node's parents into the front of the array, and answers how many they are.
 fn read_parents(
     format: Format,
     recent: &Recent<'_>,
@@ -145,7 +145,7 @@ fn read_parents(
     Some(count)
 }
 
-/// The name, if it is one below `refs/`. It fails where there is no memory for such a name.
+/// The name, if it is one below `refs/`. It fails where out of memory for such a name.
 pub(crate) fn name_of<A: Allocator + Copy>(
     alloc: A,
     text: &[u8],

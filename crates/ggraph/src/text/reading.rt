@@ -61,7 +61,7 @@ impl<A: Allocator + Copy> Reading<A> {
         }
     }
 
-    /// Takes the next line, which is the one of the text with this number. Its parents are read in the room.
+    /// Takes the next line, of this number in the text. Its parents are read in the room.
     pub(crate) fn take<'a>(
         &mut self,
         alloc: A,

@@ -17,10 +17,10 @@ use gobject::{Entry, Kind};
 use grefs::{Head, Refs};
 use std::alloc::{AllocError, Allocator};
 
-/// Writes the one text that keeps these, which `load` reads back in any order of nodes.
+/// Writes the one text that keeps these, which `load` reads back under `Order::Any`.
 ///
 /// It fails with `OtherFormat` with the first id at which a ref stands, in name order, or else HEAD,
-/// that has another format than the graph; else with `Memory` where there is none.
+/// that has another format than the graph; else with `Memory` where out of memory.
 pub fn save<A: Allocator + Copy>(
     alloc: A,
     graph: &Graph<A>,

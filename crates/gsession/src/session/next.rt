@@ -27,7 +27,7 @@ impl<A: Allocator + Copy> Session<A> {
     /// names as haves the common ids, and a batch of ids that it did not name before; without a batch the client is
     /// done, also where both together would be more than 4,096.
     ///
-    /// It fails with `NoOpenRequest` where none is due, and nothing changes then; and where there is no memory, and the
+    /// It fails with `NoOpenRequest` where none is due, and nothing changes then; and where out of memory, and the
     /// session is over then.
     pub fn request(&mut self, repo: &Repo<A>) -> Result<Request<A>, ClientFault<A>>
         ensures requests { MatchResult result

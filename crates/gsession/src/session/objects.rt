@@ -36,9 +36,9 @@ impl<A: Allocator + Copy> Session<A> {
     /// on; and all objects of the pack come to the repository, or none.
     ///
     /// It fails with `NoOpenRequest` where no such reply is due, and nothing is read then. Else the session is over,
-    /// and the repository as before: with `Message` where the reply is refused, for want of memory only at an
+    /// and the repository as before: with `Message` where the reply is refused, out of memory only at an
     /// acknowledged id; with `StrangeAck`; with `Index` where the indexer refused the pack; and with `Repo` where the
-    /// graph refuses its objects, or there is no memory. The first of these is reported; for a reply without a pack
+    /// graph refuses its objects, or it is out of memory. The first of these is reported; for a reply without a pack
     /// nothing of the indexer's.
     pub fn take_reply<S: Source, K: Indexer<A>, B: Allocator + Copy>(
         &mut self,

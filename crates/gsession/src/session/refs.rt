@@ -29,11 +29,11 @@ impl<A: Allocator + Copy> Session<A> {
 
     /// Takes the reply to ls-refs, and nothing after it: what is asked for, which of its objects are wanted, and the
     /// target of an unborn `HEAD`. An ask is for the ref to which a refspec takes a name; of several asks for one ref
-    /// the first counts. Wanted is each asked id whose whole ancestry is not held.
+    /// the first counts. Wanted is each asked id that is not connected.
     ///
     /// It fails with `NoOpenRequest` where no such reply is due, and nothing is read then. Else the session is over:
     /// with `Message` where the reply is refused, or, at its last packet, where a ref that is asked for can't have
-    /// its name; with `TooManyWants` over 1,024; and where there is no memory.
+    /// its name; with `TooManyWants` over 1,024; and where out of memory.
     pub fn take_ls<S: Source, B: Allocator + Copy>(
         &mut self,
         repo: &Repo<A>,
@@ -127,7 +127,7 @@ impl<A: Allocator + Copy> Session<A> {
     }
 
     // Why the refs of a reply are not asked for: one can't have its name, as is reported at the reply's last packet; or
-    // there is no memory.
+    // out of memory.
     fn unnamed(&self, reply: &LsReply<A>, fault: NameFault) -> ClientFault<A>
         requires { FindsAsks {A = A} self.now.refspecs reply.now.lines (Err fault) }
         ensures { (g : List (Entry A)) → IsRefsFault self.now g reply.now result }
