@@ -29,7 +29,7 @@ use Rattle.ghello.specs.AdvertReading.{IsKept, added_by, brings_after, capabilit
 
 -- ---- looking up
 
--- the capability at a place is the first there with its key
+-- the capability at a position is the first from there with its key
 pub first_with-here : (key : List ℕ) (capabilities : List Capability) (at : ℕ) (found : Capability) → at < length capabilities → found ≡ get_or capabilities at found
     → has_key key found ≡ true → first_with key (drop at capabilities) ≡ Some found
 first_with-here key capabilities at found inside is has =
@@ -128,7 +128,7 @@ capability_is_not_added texts line capability capabilities reason is h =
     subst (λ (o : Option Capability). IsReason (judge_capability (length capabilities) o) true reason) (sym is)
     (not_added (has_room capabilities) reason (subst (λ (form : Bool). IsBuildReason form (has_room capabilities) reason) (capability_of_form texts line capability is) h))
 
--- the lines of the capabilities from a place on
+-- the packets of the capabilities from a position on
 pub packets_from : (capabilities : List Capability) (at : ℕ) (found : Capability) → at < length capabilities → found ≡ get_or capabilities at found
     → map capability_packet (drop at capabilities) ≡ capability_packet found ∷ [] ++ map capability_packet (drop (at + 1) capabilities)
 packets_from capabilities at found inside is =

@@ -98,7 +98,7 @@ parts_say (command ∷ host ∷ [] ∷ version ∷ [] ∷ []) hello e =
       rw (same_command, same_host, same_version) (sym (joined (codes "git-upload-pack " ++ hello.path) (codes "host=") hello.host (codes "version=2") (0 ∷ []))),
     )
 
--- a payload that says a hello is the line of it
+-- a payload that says a hello is the one written of it
 pub hello_is_said : (payload : List ℕ) (hello : Hello) → hello_of payload ≡ Some hello → Says (Data payload ∷ []) hello
 unfolding hello_of canonical_hello
 hello_is_said payload hello e =
@@ -147,7 +147,7 @@ unfolding is_host
 host_bytes host h =
     (and_parts (nat_le 1 (length host) && nat_le (length host) max_host) (list_all is_graphic host) h).1
 
--- the parts of the line of a hello
+-- the parts of the payload of a hello
 pub parts_of_line : (hello : Hello) → IsHello hello
     → slice_split is_nul (hello_payload hello) ≡ (codes "git-upload-pack " ++ hello.path) ∷ (codes "host=" ++ hello.host) ∷ [] ∷ codes "version=2" ∷ [] ∷ []
 parts_of_line hello form =
@@ -176,7 +176,7 @@ line_is_said hello form =
     ∙ (ap (λ (host : Option (List ℕ)). hello_with (Some hello.path) host) (word_follows (codes "host=") hello.host)
     ∙ cond-true (is_hello hello) (Some hello) None forms))
 
--- the line of a hello says it
+-- the payload of a hello says it
 pub said_is_hello : (payload : List ℕ) (hello : Hello) → Says (Data payload ∷ []) hello → hello_of payload ≡ Some hello
 unfolding canonical_hello
 said_is_hello payload hello says =
@@ -215,7 +215,7 @@ open_is_empty (packet ∷ packets) opened = absurd (never_open [] packet (opened
 pub open_is_short : (packets : List Packet) → IsOpen judge packets → length packets < 2 ^ 60
 open_is_short packets opened = rw (open_is_empty packets opened) (omega arith)
 
--- what ends a hello is the line of one
+-- the packet that completes a hello says one
 pub whole_packet : (packets : List Packet) (packet : Packet) → judge packets packet ≡ Whole → (hello : Hello) × (hello_in (packet ∷ []) ≡ Some hello)
 whole_packet packets (Data payload) e = whole_payload (hello_of payload) e
 whole_packet packets Flush e = absurd cc
@@ -237,7 +237,7 @@ packet_says (Flush ∷ packets) hello e = absurd cc
 packet_says (Delim ∷ packets) hello e = absurd cc
 packet_says (ResponseEnd ∷ packets) hello e = absurd cc
 
--- a list that says a hello is whole
+-- a list that says a hello is complete
 pub said_is_whole : NothingIsOpen judge → (packets : List Packet) (hello : Hello) → Says packets hello → IsWhole judge packets
 unfolding canonical_hello
 said_is_whole nothing packets hello says = record {

@@ -1,4 +1,4 @@
--- The table of advertisements and the manual's words have the same whole lists.
+-- The table of advertisements and the manual's words have the same complete lists of packets.
 use Rattle.std.proofs.Common.{◌≡◌, ℕ, suc, zero, ◌+◌, ◌<◌, ◌≤◌, ◌&&◌, inl, inr, Bool, true, false, if◌then◌else◌, nat_lt, codes, List, [], ◌∷◌, ◌++◌, map, length, take, drop, get_or, position, Option, Some, None, refl, sym, ap, subst, ◌∙◌, append-nil, append_assoc, arith}
 use Rattle.std.specs.List.{list_all}
 use Rattle.std.specs.Str.{bytes_eq}
@@ -63,7 +63,7 @@ said_is_advert more packets capabilities says =
       few = begun.few;
     })
 
--- ---- a line that reports an error is neither the version nor a capability
+-- ---- a packet that reports an error is neither the version nor a capability
 
 cut_line : (line said : List ℕ) → codes "ERR " ++ said ≡ line ++ 10 ∷ [] → (rest : List ℕ) × (line ≡ codes "ERR " ++ rest)
 cut_line [] said e = absurd cc

@@ -45,7 +45,7 @@ pub record IsHello (hello : Hello) : Type 0 where
 abbrev pub is_hello : Hello → Bool
 is_hello hello = is_path hello.path && is_host hello.host
 
--- the hello of this path and host is made; or a fault at packet 0 says that it is none, or that memory is refused
+-- the hello of this path and host is made; or a fault at packet 0 says that it is none, or out of memory
 abbrev pub MakesHello : Hello → Result Hello MessageFault → Type 0
 MakesHello wanted (Ok hello) = (hello ≡ wanted) × IsHello hello
 MakesHello wanted (Err fault) = (fault.frame ≡ 0) × IsBuildReason (is_hello wanted) true fault.why
@@ -55,7 +55,7 @@ MakesHello wanted (Err fault) = (fault.frame ≡ 0) × IsBuildReason (is_hello w
 abbrev pub nul : List ℕ
 nul = 0 ∷ []
 
--- the payload of the line: no line feed is left out of it
+-- the payload: no line feed is left out of it
 abbrev pub hello_payload : Hello → List ℕ
 hello_payload hello =
     codes "git-upload-pack " ++ hello.path ++ nul ++ codes "host=" ++ hello.host ++ nul ++ nul
@@ -100,7 +100,7 @@ abbrev pub judge_payload : Option Hello → Verdict
 judge_payload (Some hello) = Whole
 judge_payload None = Refused BadText
 
--- one line is the whole message; that it reports an error is no reason of its own
+-- one packet is the whole message; that it reports an error is no reason of its own
 abbrev pub judge : List Packet → Packet → Verdict
 judge packets (Data payload) = judge_payload (hello_of payload)
 judge packets Flush = Refused UnexpectedFrame

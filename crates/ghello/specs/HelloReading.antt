@@ -4,7 +4,7 @@ use Rattle.gpkt.specs.Packets.{Packet, Data}
 use Rattle.ghello.specs.Hello.{Hello, hello_of}
 use Rattle.ghello.specs.declared.hello.HelloText.{HelloText}
 
--- a hello without where its bytes lie in memory
+-- a hello, wherever its bytes lie in memory
 abbrev pub hello_view : HelloText → Hello
 hello_view lent = record { path = lent.path.now; host = lent.host.now }
 

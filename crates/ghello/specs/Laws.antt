@@ -3,7 +3,7 @@ use Rattle.std.specs.Prelude.{◌≡◌, ◌↔◌, ℕ, List, [], ◌∷◌, So
 use Rattle.gpkt.specs.Packets.{Data}
 use Rattle.ghello.specs.Hello.{Hello, Says, hello_of}
 
--- what the table reads in a payload is what its line says
+-- what the table reads in a payload is what the packet says
 abbrev pub PayloadSaysHello : Type 0
 PayloadSaysHello =
     (payload : List ℕ) (hello : Hello) → (hello_of payload ≡ Some hello) ↔ Says (Data payload ∷ []) hello

@@ -86,7 +86,7 @@ impl<A: Allocator + Copy> OwnedCapability<A> {
         }
     }
 
-    // Writes the line of the capability.
+    // Writes the packet of the capability.
     fn write<W: Sink>(&self, writer: &mut LineWriter<W>) -> Result<(), WriteFault>
         requires { IsWellFormed self.now }
         ensures { WritesLines W.contents W.passed_on W.is_down W.loans writer.old writer.new result (capability_packet self.now ∷ []) }
@@ -104,7 +104,8 @@ impl<A: Allocator + Copy> OwnedCapability<A> {
     }
 }
 
-/// What a server advertises: its capabilities in order, at most 64.
+/// What a server advertises (gitprotocol-v2(5), "Capability Advertisement"): its capabilities in
+/// order, at most 64.
 #[derive(Debug, Drop)]
 pub struct Advert<A: Allocator + Copy> {
     alloc: A,
@@ -183,7 +184,7 @@ impl<A: Allocator + Copy> Advert<A> {
         self.capabilities.is_empty()
     }
 
-    /// The capability at a place of their order, which counts from 0.
+    /// The capability at a position in their order, counted from 0; `None` where there is none.
     pub fn at(&self, place: usize) -> Option<Capability<'_>>
         ensures capability { option_map capability_view result ≡ slice_get self.now place }
         ensures form { AreCapabilities self.now }
@@ -192,7 +193,7 @@ impl<A: Allocator + Copy> Advert<A> {
         Some(kept.as_capability())
     }
 
-    /// The first capability with a key, and with it its value: a capability may have none.
+    /// The first capability with a key, with the value that it has, if any; `None` where there is none.
     pub fn value_of(&self, key: &[u8]) -> Option<Capability<'_>>
         ensures { option_map capability_view result ≡ first_with key.now self.now }
     {
@@ -200,8 +201,8 @@ impl<A: Allocator + Copy> Advert<A> {
     }
 
     /// Whether the first capability with a key has a value of which a word is a part between spaces: a
-    /// server tells of a `HEAD` that is not born where its `ls-refs` has the word `unborn`
-    /// (gitprotocol-v2(5), "ls-refs").
+    /// server reports an unborn `HEAD` where its `ls-refs` has the word `unborn` (gitprotocol-v2(5),
+    /// "ls-refs").
     pub fn has_feature(&self, key: &[u8], word: &[u8]) -> bool
         ensures { result ≡ has_feature key.now word.now self.now }
     {
@@ -212,7 +213,7 @@ impl<A: Allocator + Copy> Advert<A> {
     }
 
     /// The format of the server's ids: the one that the first `object-format` names, and SHA-1 where there
-    /// is no `object-format`. `None` where another is named, or none.
+    /// is no `object-format` (gitprotocol-v2(5), "object-format"). `None` where another is named, or none.
     pub fn format(&self) -> Option<Format>
         ensures { IsFormatOf self.now result }
     {
@@ -336,11 +337,11 @@ fn is_value_or_none(value: Option<&[u8]>) -> bool
 
 /// Reads an advertisement to its flush, and nothing after it.
 ///
-/// The fault has the packet's place, from 0. What the line reader refuses comes first, then the end of the
-/// input, then an error that the peer reports. Then it is `UnexpectedFrame` for a delimiter, a response-end,
-/// or a flush in the first place; `BadText` for a first text that is not `version 2`, and for a later one
-/// that is no capability; `Limit` for a 65th capability; and `Memory` only where a capability could not be
-/// kept. After a refusal the line reader has failed exactly where the line itself was refused.
+/// The fault has the packet's position, counted from 0. What the line reader refuses comes first, then the
+/// end of the input, then an error that the peer reports. Then it is `UnexpectedFrame` for a delimiter, a
+/// response-end, or a flush at position 0; `BadText` for a first text that is not `version 2`, and for a
+/// later one that is no capability; `Limit` for a 65th capability; and `Memory` only where a capability
+/// could not be kept. After a refusal the line reader has failed exactly where it refused the packet itself.
 pub fn read_advert<S: Source, A: Allocator + Copy, B: Allocator + Copy>(
     reader: &mut LineReader<S, B>,
     alloc: A,

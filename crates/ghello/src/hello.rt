@@ -27,7 +27,7 @@ pub const MAX_PATH: usize = 1_000;
 /// The most bytes of a host.
 pub const MAX_HOST: usize = 255;
 
-// What stands before the path, before the host, and after them.
+// What comes before the path, before the host, and after them.
 const COMMAND: &[u8] = b"git-upload-pack ";
 
 const HOST: &[u8] = b"host=";
@@ -37,7 +37,7 @@ const VERSION: &[u8] = b"version=2";
 // What ends each part.
 const NUL: &[u8] = b"\0";
 
-// The most bytes of the line: its words, a path, a host, and the NULs.
+// The most bytes of the payload: its words, a path, a host, and the NULs.
 const MAX_LINE: usize = 1_289;
 
 /// The first line of a client on a `git://` connection: which repository it asks for, and of which host.
@@ -124,10 +124,10 @@ pub fn is_host(host: &[u8]) -> bool
 
 /// Reads the first line of a connection, and nothing after it.
 ///
-/// The fault has the packet's place, which is 0. What the line reader refuses comes first, then the end of
-/// the input, then `UnexpectedFrame` for another kind of packet and `BadText` for a line of another form, one
-/// that reports an error too; `Memory` comes only where a hello could not be kept. After a refusal the line
-/// reader has failed exactly where the line itself was refused.
+/// The fault's packet is 0. What the line reader refuses comes first, then the end of the input, then
+/// `UnexpectedFrame` for another kind of packet and `BadText` for a payload of another form, one that
+/// reports an error too; `Memory` comes only where a hello could not be kept. After a refusal the line
+/// reader has failed exactly where it refused the packet itself.
 pub fn read_hello<S: Source, A: Allocator + Copy, B: Allocator + Copy>(
     reader: &mut LineReader<S, B>,
     alloc: A,
@@ -146,10 +146,10 @@ pub fn read_hello<S: Source, A: Allocator + Copy, B: Allocator + Copy>(
     }
 }
 
-/// Writes the line of a hello, which then reads back as it ([`reads_back`](crate::laws::reads_back)). It takes no
-/// memory.
+/// Writes the packet of a hello, which then reads back as it
+/// ([`reads_back`](crate::laws::reads_back)). It takes no memory.
 ///
-/// It fails with `Io` where the sink fails, and then a beginning of the line stands written; with `Failed`
+/// It fails with `Io` where the sink fails, and then a beginning of the packet stands written; with `Failed`
 /// where the writer had failed before.
 #[tactic(auto, unfolding(crate::specs::Hello::canonical_hello))]
 pub fn write_hello<A: Allocator + Copy, W: Sink>(
@@ -165,7 +165,7 @@ pub fn write_hello<A: Allocator + Copy, W: Sink>(
     writer.put(line.as_slice())
 }
 
-// Puts the payload of the line together.
+// Puts the payload together.
 fn compose<A: Allocator + Copy>(hello: &Hello<A>, line: &mut ArrayVec<u8, MAX_LINE>)
     requires { line.old.items ≡ [] }
     ensures line { line.new.items ≡ hello_payload hello.now }
@@ -190,7 +190,7 @@ struct HelloText<'a> {
     host: &'a [u8],
 }
 
-// What stands before the first NUL, and what after it, if there is one.
+// What comes before the first NUL, and what after it, if there is one.
 fn cut(text: &[u8]) -> (&[u8], Option<&[u8]>)
     ensures { slice_split is_nul text.now
         ≡ result.0.now ∷ option_map_or (λ rest. slice_split is_nul rest.now) result.1 [] }
@@ -201,7 +201,7 @@ fn cut(text: &[u8]) -> (&[u8], Option<&[u8]>)
     }
 }
 
-// Where the first NUL stands.
+// The position of the first NUL.
 fn first_nul(text: &[u8]) -> Option<usize>
     ensures place { result ≡ position is_nul text.now }
     ensures within { IfSome result (λ at. at < length text.now) }

@@ -83,8 +83,9 @@ pub fn prefix_free()
     messages_are_read();
 }
 
-/// The packets that are read as a hello, or as an advertisement, are those that the manual has, and they say the
-/// same (gitprotocol-pack(5), "Git Transport"; gitprotocol-v2(5), "Capability Advertisement").
+/// The packets that are read as a hello, or as an advertisement, are those that the manual has, and
+/// they say the same (gitprotocol-pack(5), "Git Transport"; gitprotocol-v2(5), "Capability
+/// Advertisement").
 pub fn manual()
     ensures hello { SaysWhole hello.judge hello.Says }
     ensures hello_payload { PayloadSaysHello }
@@ -119,7 +120,7 @@ pub fn every_input()
     messages_are_read();
 }
 
-/// What is written of a hello, or of an advertisement, says it, and each of its lines fits a packet.
+/// What is written of a hello, or of an advertisement, says it, and each payload fits a packet.
 pub fn canonical_says()
     ensures hello { CanonicalSays hello.Says hello.IsHello hello.IsCanonical }
     ensures advert { CanonicalSays advert.Says advert.AreCapabilities advert.IsCanonical }

@@ -1,4 +1,4 @@
--- The lines that are written of a request ask it, and each fits a packet.
+-- What is written of a request asks it, and each payload fits a packet.
 use Rattle.std.proofs.Common.{◌≡◌, ℕ, ◌+◌, ◌≤◌, Bool, true, false, List, [], ◌∷◌, ◌++◌, length, map, codes, inl, inr, Option, Some, None, refl, sym, ap, subst, ◌∙◌, append_assoc, arith}
 use Rattle.std.specs.Prelude.{All}
 use Rattle.std.proofs.lemmas.List.{length-append, length-map}
@@ -144,7 +144,7 @@ canonical_is_request spelt format Empty h = inl (refl, refl)
 canonical_is_request spelt format (Ls asked) h = inr (ls_request format asked h)
 canonical_is_request spelt format (Fetches asked) h = inr (fetch_request spelt format asked h)
 
--- ---- each line fits a packet
+-- ---- each payload fits a packet
 
 -- no text is longer
 abbrev longest : ℕ

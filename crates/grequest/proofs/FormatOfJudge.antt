@@ -1,4 +1,4 @@
--- The judge of requests tells the format of the repository.
+-- The judges of requests of the two formats differ.
 use Rattle.std.proofs.Common.{◌≡◌, List, [], ◌∷◌, codes, refl, sym, ap, ◌∙◌}
 use Rattle.gpkt.specs.Packets.{Packet, Data, Flush}
 use Rattle.gname.specs.declared.formats.Format.{Format}

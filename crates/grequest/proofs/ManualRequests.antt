@@ -29,7 +29,7 @@ asked_by_lines-flush format front ends = ap (λ (s : State). s.asked) (state_of-
 
 -- ---- from the judge to the manual
 
--- the lines are an open request and a flush, and ask this
+-- the packets are an open request and a flush, and ask this
 record IsEnded (format : Format) (lines : List Packet) (asked : Asked) : Type 0 where
   front : List Packet
   parts : lines ≡ front ++ Flush ∷ []

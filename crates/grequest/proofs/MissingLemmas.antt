@@ -27,7 +27,7 @@ module _ (four : HasFourBytes) (format : Format) where
       let some = four packet read.0 read.2 in
       omega (arith, long, none, some)
 
-  -- nor is a line refused for what its bytes are
+  -- nor is a packet refused for what its bytes are
   no_fault : (bytes new : List ℕ) (fault : LineFault) → bytes ≡ [] → IsOfBytes (why.Line fault) → Reads (known bytes new) (Err fault) → ⊥
   no_fault bytes new line_fault.BadDigits empty certain read = let none : length bytes ≡ 0 = ap length empty in omega (arith, none, read.0.0)
   no_fault bytes new line_fault.Reserved empty certain read = let none : length bytes ≡ 0 = ap length empty in omega (arith, none, read.0.0)
@@ -57,7 +57,7 @@ module _ (four : HasFourBytes) (format : Format) where
   no_reason bytes new why.WrongSection empty certain later h = no_packet bytes new h.0 empty h.1
   no_reason bytes new why.Format empty certain later h = no_packet bytes new h.0 empty h.1
 
-  -- what is left of nothing after no lines is nothing, and there are no lines in it
+  -- the empty input begins with no packets, and leaves nothing
   left_of_nothing : (front : List Packet) (bytes spelling mid : List ℕ) → bytes ≡ [] → bytes ≡ spelling ++ mid → SpellsAll front spelling
       → (front ≡ []) × (mid ≡ [])
   left_of_nothing [] bytes spelling mid empty parts spelt =

@@ -26,7 +26,7 @@ pub by_pushes : {X : Type 0} (P : List X → Type 0) → ((xs : List X) (x : X) 
 by_pushes P step xs [] h = subst P (sym (append-nil xs)) h
 by_pushes P step xs (y ∷ ys) h = subst P (append_assoc xs (y ∷ []) ys) (by_pushes P step (xs ++ y ∷ []) ys (step xs y h))
 
--- ---- the two lists of lines
+-- ---- the two lists of packets
 
 -- a command and its capabilities
 abbrev pub listing : List ℕ → List (List ℕ) → List Packet

@@ -1,4 +1,4 @@
--- What a packet that is taken adds to what the lines before it come to.
+-- What a packet that is taken adds to what the packets before it come to.
 use Rattle.std.proofs.Common.{◌≡◌, ℕ, Bool, true, false, List, [], ◌∷◌, ◌++◌, length, Option, Some, None, refl, sym, ap, subst, ◌∙◌, append-nil}
 use Rattle.std.specs.Prelude.{is_none}
 use Rattle.std.proofs.lemmas.List.{length_push}

@@ -1,4 +1,4 @@
--- Facts on the texts of a request's lines, and on the forms that they have.
+-- Facts on the texts of a request's packets, and on the forms that they have.
 use Rattle.std.proofs.Common.{◌≡◌, ℕ, ◌+◌, ◌&&◌, Bool, true, false, cond, List, [], ◌∷◌, ◌++◌, take, drop, codes, ◌⊎◌, inl, inr, Option, Some, None, refl, sym, ap, subst, ◌∙◌, suc, zero, arith}
 use Rattle.std.proofs.lemmas.Grind.{common_steps}
 use Rattle.std.proofs.lemmas.Slice.Eq.{bytes_eq-Decides}

@@ -1,4 +1,4 @@
--- The lines that are still to be written of a request.
+-- The packets that are still to be written of a request.
 use Rattle.std.proofs.Common.{◌≡◌, ℕ, ◌+◌, ◌<◌, ◌≤◌, Bool, List, [], ◌∷◌, ◌++◌, length, map, drop, get_or, codes, Option, Some, None, sym, ap, ◌∙◌, suc, add-one, append_assoc}
 use Rattle.std.proofs.Math.Seq.{drop-cons}
 use Rattle.std.proofs.lemmas.Bool.{and_parts, leb-true}
@@ -11,7 +11,7 @@ use Rattle.grequest.specs.RequestWriting.{command_packet, command_packets, agent
 use Rattle.grequest.specs.Asked.{LsRefsAsked, FetchAsked}
 use Rattle.grequest.specs.WellFormed.{IsAgent}
 
--- ---- the next of some lines
+-- ---- the next of some packets
 
 module _ {X : Type 0} (line : X → Packet) where
   pub coming_next : (values : List X) (at : ℕ) (value : X) → at < length values → value ≡ get_or values at value
@@ -60,7 +60,7 @@ head_first format command agent lent arguments rest is flat =
     (ap (λ (xs : List Packet). (agent_packets lent ++ format_packets format) ++ Delim ∷ xs) flat
     ∙ sym (append_assoc (agent_packets lent ++ format_packets format) (Delim ∷ []) rest))
 
--- an agent fits a line
+-- an agent fits a packet
 word_is_short : (value : List ℕ) → IsTrue (is_word_value value) → length value ≤ max_capability
 unfolding is_word_value
 word_is_short value word =

@@ -9,7 +9,7 @@ use Rattle.gpkt.specs.Packets.{Packet, Data, text}
 use Rattle.ggrammar.specs.Texts.{text_packet}
 use Rattle.grequest.proofs.Texts.{text_of_line}
 
--- ---- texts and their lines
+-- ---- texts and their packets
 
 abbrev pub line_of : List ℕ → List ℕ
 line_of words = words ++ 10 ∷ []

@@ -1,4 +1,4 @@
--- The texts that a request is written from, and their lines.
+-- The texts that a request is written from, and their packets.
 use Rattle.std.proofs.Common.{◌≡◌, ℕ, Bool, true, false, List, [], ◌∷◌, ◌++◌, map, codes, Option, Some, None, refl, sym, ap, ◌∙◌}
 use Rattle.std.proofs.lemmas.List.{map-append}
 use Rattle.gpkt.specs.Packets.{Packet}

@@ -1,4 +1,4 @@
--- The texts of a request's lines (gitprotocol-v2(5), "Command Request", "ls-refs", "fetch"): what each says, with
+-- The texts of a request's packets (gitprotocol-v2(5), "Command Request", "ls-refs", "fetch"): what each says, with
 -- the value that it carries. A table each for commands, capabilities and the arguments of a command.
 use Rattle.std.specs.Prelude.{ℕ, Bool, List, codes, if◌then◌else◌, Option, Some, None}
 use Rattle.std.specs.Str.{bytes_eq}

@@ -25,11 +25,11 @@ pub data Asked : Type 0 where
   Ls : (asked : LsRefsAsked) → Asked
   Fetches : (asked : FetchAsked) → Asked
 
--- The reply is to have the pack at once: the client says that it is done, or names no object that it has.
+-- The reply is to have the pack at once: the client says that it is done, or names no have.
 abbrev pub is_direct : FetchAsked → Bool
 is_direct asked = asked.done || length asked.haves == 0
 
--- the most prefixes, wants, haves and argument lines of a request
+-- the most prefixes, wants, haves and arguments of a request
 abbrev pub max_prefixes : ℕ
 max_prefixes = 64
 

@@ -23,7 +23,7 @@ use Rattle.grequest.specs.Asked.{Asked, Empty, max_prefixes, max_wants, max_have
 use Rattle.grequest.specs.RequestLines.{agents, formats, prefixes, wants, haves, asked_by_command}
 use Rattle.std.specs.Option.{IsSome}
 
--- a client may say who it is, and has to name the object format unless it is sha1
+-- a client may say who it is, and must name the object format unless it is sha1
 abbrev pub IsCapability : Format → CapabilityForm → Type 0
 IsCapability format (Agent value) = Unit {0}
 IsCapability format (ObjectFormat value) = value ≡ format_name format
@@ -61,7 +61,7 @@ AreFew format Fetch arguments =
 abbrev pub IsSection : List (List ℕ) → List Packet → Type 0
 IsSection arguments packets = (packets ≡ Delim ∷ map Data arguments) ⊎ ((arguments ≡ []) × (packets ≡ []))
 
--- the lines are a command with its capabilities and arguments, and ask this
+-- the packets are a command with its capabilities and arguments, and ask this
 pub record IsCommandRequest (format : Format) (lines : List Packet) (asked : Asked) : Type 0 where
   pub command : Command
   pub first : List ℕ
@@ -79,6 +79,6 @@ pub record IsCommandRequest (format : Format) (lines : List Packet) (asked : Ask
   pub few_arguments : length arguments ≤ max_arguments
   pub asks : asked ≡ asked_by_command format command (map text capabilities) (map text arguments)
 
--- the lines are a request, and ask this
+-- the packets are a request, and ask this
 abbrev pub IsRequest : Format → List Packet → Asked → Type 0
 IsRequest format lines asked = ((lines ≡ Flush ∷ []) × (asked ≡ Empty)) ⊎ IsCommandRequest format lines asked

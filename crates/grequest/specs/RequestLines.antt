@@ -1,4 +1,4 @@
--- What the lines of a request say: where each stands, and what all lines of a kind say together.
+-- What the packets of a request say: where each stands, and what all of a kind say together.
 use Rattle.std.specs.Prelude.{true, false}
 use Rattle.std.specs.Prelude.{ℕ, Bool, List, [], ◌∷◌, Option, Some, None}
 use Rattle.std.specs.List.{filter_map, list_any}
@@ -41,7 +41,7 @@ next_place (InCapabilities command) Delim = InArguments command
 next_place (InCapabilities command) ResponseEnd = InCapabilities command
 next_place (InArguments command) packet = InArguments command
 
--- the place after these lines
+-- the place after these packets
 abbrev pub place_of : List Packet → Place
 place_of lines = place_after next_place First lines
 
@@ -143,7 +143,7 @@ abbrev pub first_of : List (List ℕ) → Option (List ℕ)
 first_of [] = None
 first_of (x ∷ xs) = Some x
 
--- ---- what a request asks: by its command and texts, by the place it has come to, and by its lines
+-- ---- what a request asks: by its command and texts, by the place it has come to, and by its packets
 
 abbrev pub ls_refs_asked : List (List ℕ) → List (List ℕ) → LsRefsAsked
 ls_refs_asked capabilities arguments = record {

@@ -35,7 +35,7 @@ abbrev pub CarriesWord : CapabilityForm → Type 0
 CarriesWord (Agent value) = is_word_value value ≡ true
 CarriesWord _ = Unit {0}
 
--- a packet that stands at this place brings something to keep
+-- a packet at this place brings something to keep
 abbrev pub packet_brings : Place → Packet → Bool
 packet_brings place (Data payload) = text_brings place (text payload)
 packet_brings place _ = false

@@ -1,4 +1,4 @@
--- What a packet that is taken adds to what the lines before it come to.
+-- What a packet that is taken adds to what the packets before it come to.
 use Rattle.std.specs.Prelude.{ℕ, ◌+◌, true, List, [], ◌∷◌, ◌++◌, Some}
 use Rattle.std.specs.Option.{option_to_list}
 use Rattle.gpkt.specs.Packets.{Packet, Data, Flush, Delim, ResponseEnd, text}

@@ -1,4 +1,4 @@
--- What a request says, without where it lies in memory.
+-- What a request says, wherever it lies in memory.
 use Rattle.std.specs.Prelude.{◌≡◌, Option, Some, None, IfSome, Result, Ok, Err}
 use Rattle.gname.specs.declared.formats.Format.{Format}
 use Rattle.ggrammar.specs.declared.fault.MessageFault.{MessageFault}

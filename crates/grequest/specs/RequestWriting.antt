@@ -1,4 +1,4 @@
--- The lines of a request that are written: each argument that is set, in one order.
+-- The packets that are written of a request: each argument that is set, in one order.
 use Rattle.std.specs.Prelude.{◌≡◌, ℕ, Bool, true, false, List, [], ◌∷◌, ◌++◌, map, codes, Option, Some, None}
 use Rattle.gpkt.specs.Packets.{Packet, Flush, Delim}
 use Rattle.gname.specs.Ids.{id_text}
@@ -66,6 +66,6 @@ canonical_request format Empty = Flush ∷ []
 canonical_request format (Ls asked) = command_packets format LsRefs asked.agent (ls_argument_packets asked)
 canonical_request format (Fetches asked) = command_packets format Fetch asked.agent (fetch_argument_packets asked)
 
--- the lines are those that are written of it
+-- the packets are those that are written of it
 abbrev pub IsCanonicalRequest : Format → List Packet → Asked → Type 0
 IsCanonicalRequest format lines asked = lines ≡ canonical_request format asked

@@ -1,4 +1,4 @@
--- A request's grammar with its reasons: what is refused at each place, and why. The lines before a packet count
+-- A request's grammar with its reasons: what is refused at each place, and why. The packets before one count
 -- only by what is in `State`.
 use Rattle.std.specs.Prelude.{◌≡◌, ℕ, Bool, true, false, ◌&&◌, List, [], length, if◌then◌else◌, nat_lt, ◌==◌, Option}
 use Rattle.std.specs.Prelude.{None, is_none, is_some}
@@ -24,7 +24,7 @@ use Rattle.grequest.specs.Asked.{Asked, Empty, Ls, Fetches, max_prefixes, max_wa
 use Rattle.grequest.specs.RequestLines.{Place, First, InCapabilities, InArguments, place_of, capability_texts}
 use Rattle.grequest.specs.RequestLines.{argument_texts, formats, asked_by_lines}
 
--- what the lines so far come to
+-- what the packets so far come to
 pub record State : Type 0 where
   pub place : Place
   pub format_lines : ℕ
@@ -56,7 +56,7 @@ abbrev pub haves_of : Asked → List (List ℕ)
 haves_of (Fetches asked) = asked.haves
 haves_of _ = []
 
--- ---- the tables, a row a case
+-- ---- the tables
 
 abbrev pub judge_command : CommandForm → Verdict
 judge_command (Known command) = Open
@@ -161,9 +161,9 @@ abbrev pub brings : List Packet → Packet → Bool
 brings lines (Data payload) = text_brings (place_of lines) (text payload)
 brings lines _ = false
 
--- ---- what whole lists say
+-- ---- what complete lists say
 
--- the lines are a request, and ask this
+-- the packets are a request, and ask this
 pub record Says (format : Format) (lines : List Packet) (asked : Asked) : Type 0 where
   pub whole : IsWhole (judge format) lines
   pub asks : asked ≡ asked_by_lines format lines

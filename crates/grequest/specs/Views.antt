@@ -1,4 +1,4 @@
--- What a request's texts say, without where their bytes lie in memory.
+-- What a request's texts say, wherever their bytes lie in memory.
 use Rattle.grequest.specs.Arguments.{CapabilityForm, Agent, ObjectFormat, UnknownCapability, BadCapability}
 use Rattle.grequest.specs.Arguments.{LsArgument, Symrefs, Peel, Unborn, RefPrefix, UnknownLsArgument}
 use Rattle.grequest.specs.Arguments.{FetchArgument, ThinPack, NoProgress, IncludeTag, OfsDelta, Done, Want, Have}

@@ -24,13 +24,13 @@ use gname::{Format, Oid};
 use std::alloc::{AllocError, Allocator, Global};
 use std::marker::Model;
 
-/// The most objects that a request wants.
+/// The most wants of a request.
 pub const MAX_WANTS: usize = 1_024;
 
-/// The most objects that a client names in a request as those it has.
+/// The most haves of a request.
 pub const MAX_HAVES: usize = 4_096;
 
-/// A request for fetch, whose ids have one format.
+/// A request for fetch (gitprotocol-v2(5), "fetch"), whose ids have one format.
 #[derive(Debug, Drop)]
 pub struct FetchRequest<A: Allocator + Copy = Global> {
     format: Format,
@@ -78,7 +78,7 @@ impl<A: Allocator + Copy> Model for FetchRequest<A> {
 }
 
 impl<A: Allocator + Copy> FetchRequest<A> {
-    /// A request of a repository with this format that wants nothing yet. It takes no memory yet.
+    /// A request for ids of this format that wants nothing yet. It takes no memory yet.
     pub fn new(alloc: A, format: Format) -> FetchRequest<A>
         ensures { result ≡ record { format = format; asked = no_fetch } }
     {
@@ -110,7 +110,7 @@ impl<A: Allocator + Copy> FetchRequest<A> {
         self.agent.as_ref().map(|value| value.as_slice())
     }
 
-    /// The objects that the client wants, at most 1,024, in their order.
+    /// The wants, the ids that the client asks for, in their order: at most 1,024.
     pub fn wants(&self) -> &[Oid]
         ensures wants { result.now ≡ self.now.asked.wants }
         ensures well_formed { IsFetchAsked self.now.format self.now.asked }
@@ -118,7 +118,7 @@ impl<A: Allocator + Copy> FetchRequest<A> {
         self.wants.as_slice()
     }
 
-    /// The objects that the client has, at most 4,096 of them, in their order.
+    /// The haves, the ids that the client offers, in their order: at most 4,096.
     pub fn haves(&self) -> &[Oid]
         ensures haves { result.now ≡ self.now.asked.haves }
         ensures well_formed { IsFetchAsked self.now.format self.now.asked }
@@ -126,7 +126,7 @@ impl<A: Allocator + Copy> FetchRequest<A> {
         self.haves.as_slice()
     }
 
-    /// Whether the reply is to have a pack at once.
+    /// Whether the negotiation is over, so that the reply has a pack at once.
     pub fn done(&self) -> bool
         ensures { result ≡ self.now.asked.done }
     {
@@ -154,7 +154,7 @@ impl<A: Allocator + Copy> FetchRequest<A> {
         self.include_tag
     }
 
-    /// Whether the client reads bases that are given by their place in the pack.
+    /// Whether the client reads bases that are given by their offset in the pack.
     pub fn ofs_delta(&self) -> bool
         ensures { result ≡ self.now.asked.ofs_delta }
     {
@@ -162,14 +162,14 @@ impl<A: Allocator + Copy> FetchRequest<A> {
     }
 
     /// Whether the reply has the pack at once, without acknowledgments: the client says that it is done, or
-    /// names no object that it has (gitprotocol-v2(5), "fetch": `done`).
+    /// names no have (gitprotocol-v2(5), "fetch": `done`).
     pub fn is_direct(&self) -> bool
         ensures { result ≡ is_direct self.now.asked }
     {
         self.done || self.haves.is_empty()
     }
 
-    /// The same request, kept by another allocator. It fails only when out of memory.
+    /// The same request, kept by another allocator. It fails only out of memory.
     pub fn copy_in<B: Allocator + Copy>(&self, alloc: B) -> Result<FetchRequest<B>, AllocError>
         ensures { IfOk result (λ copy. copy ≡ self.now) }
     {
@@ -218,7 +218,7 @@ impl<A: Allocator + Copy> FetchRequest<A> {
             && self.ofs_delta == other.ofs_delta
     }
 
-    /// Asks for a pack at once, or not.
+    /// Ends the negotiation, so that the reply has a pack at once, or not.
     pub fn set_done(&mut self, done: bool)
         ensures { self.new ≡ record self.old { asked = record self.old.asked { done = done } } }
     {
@@ -246,14 +246,14 @@ impl<A: Allocator + Copy> FetchRequest<A> {
         self.include_tag = include_tag;
     }
 
-    /// Allows bases that are given by their place in the pack, or not.
+    /// Allows bases that are given by their offset in the pack, or not.
     pub fn set_ofs_delta(&mut self, ofs_delta: bool)
         ensures { self.new ≡ record self.old { asked = record self.old.asked { ofs_delta = ofs_delta } } }
     {
         self.ofs_delta = ofs_delta;
     }
 
-    /// Says who the client is, in the place of what was said before.
+    /// Sets the client's name for itself, instead of the one before.
     ///
     /// It fails with `BadText` where the name does not have 1 to 1,000 bytes from `!` to `~`, and with
     /// `Memory`, both at packet 0. Nothing changes then.
@@ -270,7 +270,7 @@ impl<A: Allocator + Copy> FetchRequest<A> {
         }
     }
 
-    /// Wants an object, too.
+    /// Adds a want after the others.
     ///
     /// It fails with `BadText` where the id has another format than the request, with `Limit` where there
     /// are 1,024 wants, and with `Memory`, all at packet 0. Nothing changes then.
@@ -287,7 +287,7 @@ impl<A: Allocator + Copy> FetchRequest<A> {
         }
     }
 
-    /// Names an object that the client has, too.
+    /// Adds a have after the others.
     ///
     /// It fails with `BadText` where the id has another format than the request, with `Limit` where there
     /// are 4,096 haves, and with `Memory`, all at packet 0. Nothing changes then.
@@ -304,7 +304,7 @@ impl<A: Allocator + Copy> FetchRequest<A> {
         }
     }
 
-    // Keeps who the client is.
+    // Keeps the client's name for itself.
     pub(crate) fn keep_agent(&mut self, agent: &[u8]) -> Result<(), AllocError>
         requires { is_word_value agent.now ≡ true }
         ensures ok { OnOk result (self.new ≡ record self.old { asked = record self.old.asked { agent = Some agent.now } }) }
@@ -315,7 +315,7 @@ impl<A: Allocator + Copy> FetchRequest<A> {
         Ok(())
     }
 
-    // Keeps an object that is wanted where there is room for it.
+    // Keeps a want where there is room for it.
     fn keep_want(&mut self, has_room: bool, id: Oid) -> Result<(), NotKept>
         requires { has_room ≡ true → length self.old.asked.wants < max_wants }
         ensures { KeepsAs (has_format self.old.format id) has_room
@@ -333,7 +333,7 @@ impl<A: Allocator + Copy> FetchRequest<A> {
         }
     }
 
-    // Keeps an object that the client has where there is room for it.
+    // Keeps a have where there is room for it.
     fn keep_have(&mut self, has_room: bool, id: Oid) -> Result<(), NotKept>
         requires { has_room ≡ true → length self.old.asked.haves < max_haves }
         ensures { KeepsAs (has_format self.old.format id) has_room
@@ -351,7 +351,7 @@ impl<A: Allocator + Copy> FetchRequest<A> {
         }
     }
 
-    // Takes an argument that comes after so many others.
+    // Takes an argument after so many others.
     pub(crate) fn take_argument(&mut self, arguments: u32, text: &[u8]) -> Result<(), Why>
         ensures adds { AddsAs (judge_fetch_argument self.old.format arguments self.old.asked.wants self.old.asked.haves (fetch_argument text.now))
             (fetch_argument_brings (fetch_argument text.now))

@@ -33,7 +33,7 @@ pub fn manual()
     grammars_are_exact();
 }
 
-/// A request asks one thing, and each whole list of packets asks something.
+/// A request asks one thing, and each complete list of packets asks something.
 pub fn one_meaning()
     ensures one { (format : Format) → OneMeaning (Says format) }
     ensures whole { (format : Format) → SaysWhole (judge format) (Says format) }
@@ -65,7 +65,7 @@ pub fn every_input()
     messages_are_read();
 }
 
-/// The lines that are written of a request ask it, and each fits a packet.
+/// What is written of a request asks it, and each payload fits a packet.
 pub fn canonical_says()
     ensures { (format : Format) → CanonicalSays (Says format) (IsAsked format) (IsCanonicalRequest format) }
 {

@@ -10,7 +10,7 @@ ghost use Rattle.grequest.specs.Views.{capability_in, ls_argument_in, fetch_argu
 
 use ggrammar::{Capability, after_word, capability_of, is_word_value};
 
-/// A line of a request's capability list (gitprotocol-v2(5), "agent", "object-format").
+/// A text of a request's capability list (gitprotocol-v2(5), "agent", "object-format").
 #[derive(Clone, Copy, Debug, PartialEq, Eq)]
 pub(crate) enum CapabilityForm<'a> {
     Agent(&'a [u8]),

@@ -26,7 +26,7 @@ use std::marker::Model;
 /// The most prefixes of a request.
 pub const MAX_PREFIXES: usize = 64;
 
-/// A request for ls-refs.
+/// A request for ls-refs (gitprotocol-v2(5), "ls-refs").
 #[derive(Debug, Drop)]
 pub struct LsRefsRequest<A: Allocator + Copy = Global> {
     agent: Option<Vec<u8, A>>,
@@ -96,7 +96,7 @@ impl<A: Allocator + Copy> LsRefsRequest<A> {
         self.peel
     }
 
-    /// Whether the target of a `HEAD` is asked for whose ref is not there yet.
+    /// Whether the target of an unborn `HEAD` is asked for.
     pub fn unborn(&self) -> bool
         ensures { result ≡ self.now.unborn }
     {
@@ -112,7 +112,7 @@ impl<A: Allocator + Copy> LsRefsRequest<A> {
         self.prefixes.as_slice()
     }
 
-    /// The same request, kept by another allocator. It fails only when out of memory.
+    /// The same request, kept by another allocator. It fails only out of memory.
     pub fn copy_in<B: Allocator + Copy>(&self, alloc: B) -> Result<LsRefsRequest<B>, AllocError>
         ensures { IfOk result (λ copy. copy ≡ self.now) }
     {
@@ -153,14 +153,14 @@ impl<A: Allocator + Copy> LsRefsRequest<A> {
         self.peel = peel;
     }
 
-    /// Asks for the target of a `HEAD` whose ref is not there yet, or not.
+    /// Asks for the target of an unborn `HEAD`, or not.
     pub fn set_unborn(&mut self, unborn: bool)
         ensures { self.new ≡ record self.old { unborn = unborn } }
     {
         self.unborn = unborn;
     }
 
-    /// Says who the client is, in the place of what was said before.
+    /// Sets the client's name for itself, instead of the one before.
     ///
     /// It fails with `BadText` where the name does not have 1 to 1,000 bytes from `!` to `~`, and with
     /// `Memory`, both at packet 0. Nothing changes then.
@@ -176,7 +176,7 @@ impl<A: Allocator + Copy> LsRefsRequest<A> {
         }
     }
 
-    /// Asks for the names that begin with a prefix, too.
+    /// Asks for the names that begin with a prefix, too: it comes after the other prefixes.
     ///
     /// It fails with `BadText` where the text is no prefix of names, with `Limit` where there are 64
     /// prefixes, and with `Memory`, all at packet 0. Nothing changes then.
@@ -193,7 +193,7 @@ impl<A: Allocator + Copy> LsRefsRequest<A> {
         }
     }
 
-    // Keeps who the client is.
+    // Keeps the client's name for itself.
     pub(crate) fn keep_agent(&mut self, agent: &[u8]) -> Result<(), AllocError>
         requires { is_word_value agent.now ≡ true }
         ensures ok { OnOk result (self.new ≡ record self.old { agent = Some agent.now }) }
@@ -222,7 +222,7 @@ impl<A: Allocator + Copy> LsRefsRequest<A> {
         }
     }
 
-    // Takes an argument that comes after so many others.
+    // Takes an argument after so many others.
     pub(crate) fn take_argument(&mut self, arguments: u32, text: &[u8]) -> Result<(), Why>
         ensures adds { AddsAs (judge_ls_argument arguments self.old.prefixes (ls_argument text.now))
             (ls_argument_brings (ls_argument text.now))

@@ -6,7 +6,7 @@ ghost use Rattle.std.specs.Option.{option_copied, option_map};
 use gname::{Oid, Prefix};
 use std::alloc::{AllocError, Allocator};
 
-/// The same name of a client, kept by another allocator. It fails only when out of memory.
+/// The same name of a client, kept by another allocator. It fails only out of memory.
 pub(crate) fn copy_agent<A: Allocator + Copy>(
     alloc: A,
     agent: Option<&[u8]>,
@@ -22,7 +22,7 @@ pub(crate) fn copy_agent<A: Allocator + Copy>(
     }
 }
 
-/// The same prefixes, kept by another allocator. It fails only when out of memory.
+/// The same prefixes, kept by another allocator. It fails only out of memory.
 pub(crate) fn copy_prefixes<A: Allocator + Copy, B: Allocator + Copy>(
     alloc: B,
     prefixes: &[Prefix<A>],
@@ -36,7 +36,7 @@ pub(crate) fn copy_prefixes<A: Allocator + Copy, B: Allocator + Copy>(
     Ok(copies)
 }
 
-// A prefix has no fault, so that memory alone can be missed.
+// A prefix has no fault, so a copy fails only out of memory.
 fn copy_prefix<A: Allocator + Copy, B: Allocator + Copy>(
     alloc: B,
     prefix: &Prefix<A>,

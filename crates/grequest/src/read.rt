@@ -15,7 +15,7 @@ use gname::Format;
 use gpkt::{LineReader, Source};
 use std::alloc::Allocator;
 
-/// Reads a request of a SHA-1 repository, as [`read_request_in`] does.
+/// Reads a request to a SHA-1 repository, as [`read_request_in`] does.
 pub fn read_request<S: Source, A: Allocator + Copy, B: Allocator + Copy>(
     reader: &mut LineReader<S, A>,
     alloc: B,
@@ -33,11 +33,11 @@ pub fn read_request<S: Source, A: Allocator + Copy, B: Allocator + Copy>(
 /// that of the repository's objects. It answers `None` where the input ends before the first packet. After
 /// a request the reader has not failed, and the next one can be read.
 ///
-/// The fault has the place of the first packet that does not fit, from 0, and why. What the line reader
-/// refuses comes first ([`Why::Line`]), then the end of the input ([`Why::Ended`], after the first packet
-/// alone), then what the grammar refuses. [`Why::Memory`] comes only at an agent, a prefix, a want or a
-/// have. What was read, a refused packet too, is taken from the source. The line reader has then failed
-/// exactly where the line itself was refused; one that had failed before is refused at once, at packet 0.
+/// The fault has the position of the first packet that does not fit, counted from 0, and why. What the line
+/// reader refuses comes first ([`Why::Line`]), then the end of the input ([`Why::Ended`], after the first
+/// packet alone), then what the grammar refuses. [`Why::Memory`] comes only at an agent, a prefix, a want or
+/// a have. What was read, a refused packet too, is taken from the source. The line reader has then failed
+/// exactly where it refused the packet itself; one that had failed before is refused at once, at packet 0.
 pub fn read_request_in<S: Source, A: Allocator + Copy, B: Allocator + Copy>(
     reader: &mut LineReader<S, A>,
     format: Format,

@@ -25,7 +25,7 @@ use gpkt::{Line, text_of};
 use std::alloc::Allocator;
 use std::marker::Model;
 
-/// The most argument lines of a request.
+/// The most arguments of a request.
 pub(crate) const MAX_ARGUMENTS: u32 = 4_294_967_295;
 
 /// A request that is being read.
@@ -131,7 +131,7 @@ impl<A: Allocator + Copy> RequestReader<A> {
         }
     }
 
-    // Whether the object format has to be named and was not.
+    // Whether the object format must be named and was not.
     fn is_unnamed(&self) -> bool
         ensures { (verdict : Verdict) → unless_unnamed self.now.format self.now.state verdict ≡ (if result then Refused why.Format else verdict) }
     {

@@ -8,7 +8,7 @@ use crate::fetch::FetchRequest;
 use crate::ls_refs::LsRefsRequest;
 use std::alloc::{AllocError, Allocator, Global};
 
-/// A request.
+/// A request (gitprotocol-v2(5), "Command Request").
 #[derive(Debug, Drop)]
 pub enum Request<A: Allocator + Copy = Global> {
     /// No command: a lone flush, which ends the conversation.
@@ -36,7 +36,7 @@ impl<A: Allocator + Copy> Request<A> {
         }
     }
 
-    /// The same request, kept by another allocator. It fails only when out of memory.
+    /// The same request, kept by another allocator. It fails only out of memory.
     pub fn copy_in<B: Allocator + Copy>(&self, alloc: B) -> Result<Request<B>, AllocError>
         ensures asked { IfOk result (λ copy. asked_by_request copy ≡ asked_by_request self.now) }
         ensures format { IfOk result (λ copy. ids_format copy ≡ ids_format self.now) }
@@ -54,8 +54,8 @@ impl<A: Allocator + Copy> Request<A> {
         }
     }
 
-    /// Whether the other request asks the same. The formats of ids that a request for fetch might have do
-    /// not matter.
+    /// Whether the other request asks the same. The format of a request for fetch without ids does not
+    /// matter.
     pub fn asks_as<B: Allocator + Copy>(&self, other: &Request<B>) -> bool
         ensures { IsTrue result ↔ (asked_by_request self.now ≡ asked_by_request other.now) }
     {
@@ -67,7 +67,7 @@ impl<A: Allocator + Copy> Request<A> {
         }
     }
 
-    // Keeps who the client is.
+    // Keeps the client's name for itself.
     pub(crate) fn keep_agent(&mut self, agent: &[u8]) -> Result<(), AllocError>
         requires { is_word_value agent.now ≡ true }
         ensures ok { OnOk result (asked_by_request self.new ≡ with_agent agent.now (asked_by_request self.old)) }

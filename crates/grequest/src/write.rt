@@ -21,7 +21,7 @@ use gname::{Format, MAX_ID_TEXT, Oid, Prefix};
 use gpkt::{LineWriter, Sink, WriteFault};
 use std::alloc::Allocator;
 
-/// Writes a request in its one order of lines (gitprotocol-v2(5), "Command Request"): what is asked for, and
+/// Writes a request in its one order of packets (gitprotocol-v2(5), "Command Request"): what is asked for, and
 /// nothing else. The format is that of the repository's objects, and the caller gives a request with ids the
 /// format of these ids.
 ///
@@ -167,7 +167,7 @@ fn write_prefixes<A: Allocator + Copy, W: Sink>(
     Ok(())
 }
 
-// Writes a line for each id, after a word.
+// Writes a packet for each id, after a word.
 fn write_ids<W: Sink>(
     word: &[u8],
     ids: &[Oid],
@@ -192,7 +192,7 @@ fn write_id<W: Sink>(word: &[u8], id: &Oid, writer: &mut LineWriter<W>) -> Resul
     write_text(word, &text[..len], writer)
 }
 
-// Writes a text line of a word and what follows it.
+// Writes a text packet of a word and what follows it.
 fn write_text<W: Sink>(
     word: &[u8],
     rest: &[u8],

@@ -1,4 +1,4 @@
--- The lines of the ids that are left are to come.
+-- The packets of the ids that are left are to come.
 use Rattle.std.proofs.Common.{drop, map}
 use Rattle.ggrammar.specs.Writing.{IsWriting}
 use Rattle.grequest.specs.RequestWriting.{id_packet}
