@@ -38,7 +38,7 @@ HearsServer format old input new (Ok done) =
 HearsServer format old input new (Err (fetch.Client (client.Message cause))) = RefusesAdvert format input cause
 HearsServer format old input new (Err _) = ⊥
 
--- what asking answers: the next request is passed on, and waits for its reply; or there is no memory for it, and
+-- what asking answers: the next request is passed on, and waits for its reply; or it is out of memory for it, and
 -- nothing is written; or the sink failed, and a beginning of it stands
 abbrev pub AsksServer : {A : Type 0} → SessionState A → RepoState A → Output → SessionState A
     → Result (Unit {0}) (FetchFault A) → Type 0
@@ -83,7 +83,7 @@ module _ {A : Type 0} (indexes : Indexes A) (index_fails : IndexFails) where
     pub passed : Passes output (request_bytes old.repo.graph.format turn.asked)
     pub up : IsUp input
 
-  -- why there is no turn: there is no memory for its request; or that can't be sent; or its reply is refused
+  -- why there is no turn: out of memory for its request; or that can't be sent; or its reply is refused
   pub data FailsTurn (old : ClientState A) (input : Input) (output : Output) : FetchFault A → Type 0 where
     unasked : (after : SessionState A) → Requests old.session old.repo.graph.entries after (Err no_memory)
         → IsUnread input → IsUnwritten output → FailsTurn old input output (fetch.Client no_memory)

@@ -38,7 +38,7 @@ AsksNext client asked waiting = Requests client.session client.repo.graph.entrie
 
 -- ---- a reply that is taken
 
--- the packets tell refs, and the client knows what it asks for and what it wants of them
+-- the packets report refs, and the client knows what it asks for and what it wants of them
 pub record TakesRefs {A : Type 0} (waiting : SessionState A) (old : ClientState A) (packets : List Packet)
     (new : ClientState A) : Type 0 where
   pub reply : LsReply

@@ -32,15 +32,15 @@ use gspec::Spec;
 use std::alloc::Allocator;
 
 /// Fetches by refspecs from a server (gitprotocol-v2(5)): reads its advertisement, asks for its refs, asks for the
-/// objects that are wanted as often as the server only acknowledges, ends the conversation with a lone flush, and
-/// then moves the refs here. What is written is passed on after each request, and nothing after the last reply is
-/// read. A pack may have so many bytes as the limit says, and each reply ends as `ends` says.
+/// objects that are wanted, round after round while the server only acknowledges, ends the conversation with a lone
+/// flush, and then moves the refs here. What is written is passed on after each request, and nothing after the last
+/// reply is read. A pack may have at most as many bytes as the limit says, and each reply ends as `ends` says.
 ///
-/// It fails with 82 over 16 refspecs, and with 64 or 28 where there is no memory to begin, and nothing is read then.
+/// It fails with 82 over 16 refspecs, and with 64 or 28 where it is out of memory to begin, and nothing is read then.
 /// Else the first fault ends it: 20 to 25, 29, 30 and 41 to 54 where the advertisement or a reply is refused, 43 or
 /// 52 where the client can't go on with the server; 84, 66, 60 to 63 and 75 where a reply is not taken, 47 or 86
 /// where its refs are not; 27 where the sink fails, and a beginning of the requests stands then; 85 or 69 where the
-/// refs can't move; 64 where there is no memory. After every fault the refs are as before, and to the graph objects
+/// refs can't move; 64 where it is out of memory. After every fault the refs are as before, and to the graph objects
 /// only came.
 pub fn fetch_over<S: Source, W: Sink, A: Allocator + Copy, K: Indexer<A>>(
     repo: &mut Repo<A>,
@@ -68,7 +68,7 @@ pub fn fetch_over<S: Source, W: Sink, A: Allocator + Copy, K: Indexer<A>>(
     let mut writer = LineWriter::new(sink);
     let fetched = fetch_to(repo, source, &mut writer, indexer, specs, limit, ends);
     let _sink = writer.into_inner();
-    // A look-up says that the repository is whole.
+    // Laws.
     let _format = repo.format();
     fetched
 }
@@ -169,8 +169,8 @@ fn talk<S: Source, W: Sink, A: Allocator + Copy, K: Indexer<A>>(
     Ok(taken.unborn)
 }
 
-// Asks for objects as often as the server only acknowledges. The conversation began at other states of the source and
-// the sink.
+// Asks for objects, round after round while the server only acknowledges. The conversation began at other states of
+// the source and the sink.
 fn fetch_all<S: Source, W: Sink, A: Allocator + Copy, K: Indexer<A>>(
     repo: &mut Repo<A>,
     session: &mut Session<A>,

@@ -13,13 +13,13 @@ use std::alloc::{Allocator, Global};
 use std::error::Error;
 use std::fmt;
 
-/// Why a conversation failed. Its number tells it apart.
+/// Why a conversation failed. Its number identifies it.
 #[derive(Debug, Drop)]
 pub enum FetchFault<A: Allocator + Copy = Global> {
     /// 20 to 25, 29, 30 and 41 to 54: the advertisement or a reply was refused, at one of its packets; 60 to 64, 66,
-    /// 69, 75, 82, 84, 85 and 86: the session or the repository refused what came, or there is no memory (64).
+    /// 69, 75, 82, 84, 85 and 86: the session or the repository refused what came, or is out of memory (64).
     Client(ClientFault<A>),
-    /// 28: there is no memory for the buffer of the reader, and nothing was read.
+    /// 28: out of memory for the buffer of the reader, and nothing was read.
     NoBuffer,
     /// 27: the sink failed. A beginning of the requests stands written.
     WriteFailed,

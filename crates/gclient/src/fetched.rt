@@ -10,7 +10,7 @@ use std::alloc::{Allocator, Global};
 pub struct Fetched<A: Allocator + Copy = Global> {
     /// What was asked for, and what became of it.
     pub settled: Settled<A>,
-    /// How many times objects were asked for.
+    /// How many requests asked for objects.
     pub requests: usize,
     /// The ref that an unborn `HEAD` of the server points at, where a refspec fetches `HEAD`.
     pub unborn: Option<RefName<A>>,

@@ -9,12 +9,12 @@
 //!   last reply was taken; each is passed on before a reply is read. Then the refs here are settled.
 //! - [`Fetched`] has what became of each ask, how many times objects were asked for, and what the server says of an
 //!   unborn `HEAD`.
-//! - The first fault ends a conversation: too many refspecs, or no memory to begin, and nothing is read; an
+//! - The first fault ends a conversation: too many refspecs, or out of memory to begin, and nothing is read; an
 //!   advertisement that is refused, or a server that the client can't go on with; the fault of a request, of its reply,
 //!   or of settling, as `gsession` says. The fault is the source's exactly where that is down.
 //! - Where the sink fails, the requests before are passed on, and a beginning of what was due next stands.
-//! - After every fault the refs are as they were. In all cases to the graph objects only came, and the whole ancestry
-//!   of each ref is held.
+//! - After every fault the refs are as they were. In all cases to the graph objects only came, and the repository is
+//!   connected.
 //! - A conversation asks for objects at most once more than there are ids that the refs reached when it began, also
 //!   where it fails; the rounds that its session counts are these requests ([`laws`]). So it ends where each call of
 //!   its devices returns, whatever the server says.
@@ -22,15 +22,16 @@
 //!
 //! # Only tested
 //!
-//! That memory which is there is used: the program `conformance` refuses each allocation of many fetches in turn.
+//! That memory is found where there is some: the program `conformance` refuses each allocation of many fetches in turn.
 //!
 //! # What the contracts do not rule out
 //!
 //! Where the bytes of a source or of a sink are not known, nothing is said of those that were read or written; what
 //! came of the conversation, and whether a device has failed, is said all the same. Where the sink fails, a shorter
 //! beginning may stand written. It may report out of memory before it begins, where something is to be kept and where
-//! it settles, take as long as it likes, and flush more often; before it begins want of memory for the session and for
-//! the reader's buffer may stand for one another.
+//! it settles, take as long as it likes, and pass on more often; before it begins it may report out of memory for the
+//! session in place of the reader's buffer, and the other way round. Formatting a fault may answer an error
+//! (`fmt::Error`) where the text would be right.
 //!
 //! # Stands on
 //!

@@ -82,7 +82,7 @@ pub(crate) fn fetch<S: Source, W: Sink, A: Allocator + Copy, K: Indexer<A>>(
 {
     ask(repo, session, writer)?;
     let taken = session.take_reply(repo, reader, indexer)?;
-    // A look-up says what each session keeps.
+    // Laws.
     let _rounds = session.rounds();
     Ok(taken)
 }

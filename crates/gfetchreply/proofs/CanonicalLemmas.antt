@@ -1,4 +1,4 @@
--- The packets that are written of a reply: there is one list of them, each fits a packet, and they say the reply.
+-- The packets that are written of a reply: there is one list of them, each payload fits, and they say the reply.
 use Rattle.std.proofs.Common.{◌≡◌, ℕ, zero, suc, ◌+◌, ◌≤◌, ◌<◌, false, List, [], ◌∷◌, ◌++◌, length, take, drop, map, min, codes, inl, inr, Some, refl, sym, ap, subst, ◌∙◌, append-nil, length-append, length-drop, length-take, arith}
 use Rattle.std.specs.Prelude.{All}
 use Rattle.std.specs.Option.{is_some}

@@ -1,4 +1,4 @@
--- Open and whole lists of packet lines, packet by packet from the left, for every judge that looks at a state.
+-- Open and complete lists of packets, packet by packet from the left, for every judge that looks at a state.
 use Rattle.std.proofs.Common.{◌≡◌, List, [], ◌∷◌, ◌++◌, ◌⊎◌, inl, inr, refl, sym, ap, subst, ◌∙◌}
 use Rattle.gpkt.specs.Packets.{Packet}
 use Rattle.ggrammar.specs.Grammar.{Judge, Verdict, Open, Whole, IsOpen, IsWhole}
@@ -30,7 +30,7 @@ module _ {S : Type 0} (table : S → Packet → Verdict) (step : S → Packet �
     OpenFrom-from_open (step state packet) rest (record { each = λ front one back e. opened.each (packet ∷ front) one back (ap (λ (xs : List Packet). packet ∷ xs) e) }),
   )
 
-  -- a place of an open list
+  -- a position in an open list
   open_there : (state : S) (lines front : List Packet) (packet : Packet) (back : List Packet) → OpenFrom state lines → lines ≡ front ++ packet ∷ back
       → table (state_after state front) packet ≡ Open
   open_there state [] front packet back h e = absurd (nil_has_none front packet back e)
@@ -72,7 +72,7 @@ module _ {S : Type 0} (table : S → Packet → Verdict) (step : S → Packet �
         ends = whole.ends;
       }
 
-  -- no whole list begins another
+  -- no complete list begins another
   pub WholeFrom-ends : (state : S) (lines back : List Packet) → WholeFrom state lines → WholeFrom state (lines ++ back) → back ≡ []
   WholeFrom-ends state [] back short long = absurd short
   WholeFrom-ends state (packet ∷ rest) back (inl h) (inl g) = ap (λ (xs : List Packet). xs ++ back) (sym h.1) ∙ g.1

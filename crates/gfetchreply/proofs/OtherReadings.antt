@@ -67,7 +67,7 @@ body_short reading packets (Acks ids) is = omega arith
 body_short reading packets (Ready ids pack) is = is.1.packs.short
 body_short reading packets (Pack pack) is = is.1.short
 
--- ---- the first packet tells whether the pack comes at once
+-- ---- the first packet says whether the pack comes at once
 
 record IsFirst (packets : List Packet) (word : List ℕ) : Type 0 where
   heading : List ℕ

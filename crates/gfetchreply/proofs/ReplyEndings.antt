@@ -19,7 +19,7 @@ use Rattle.gfetchreply.proofs.StateLemmas.{next_state, state-ack, state-acking, 
 
 -- ---- an ending
 
--- at most so many packets make it whole
+-- at most so many packets complete it
 record Ending (reading : Reading) (state : State) : Type 0 where
   more : List Packet
   few : length more ≤ 4

@@ -40,7 +40,7 @@ last_none reading state place Flush here e = refl
 last_none reading state place Delim here e = refl
 last_none reading state place ResponseEnd here e = refl
 
--- a whole reply keeps the limit
+-- a complete reply keeps the limit
 whole_is_short : (reading : Reading) (packets : List Packet) → IsWhole (judge reading) packets → length (data_of (band_payloads reading.direct packets)) ≤ reading.limit
 whole_is_short reading packets whole =
     let front = data_of (band_payloads reading.direct whole.front) in

@@ -227,7 +227,7 @@ value_by reading packets body (Acks ids) parts (direct, inr h) = value_acks read
 value_by reading packets body (Ready ids pack) parts h = value_ready reading packets body ids pack h.0 parts h.1
 value_by reading packets body (Pack pack) parts h = value_pack reading packets body pack h.0 parts h.1
 
--- ---- a reply of the manual is whole
+-- ---- a reply of the manual is complete
 
 start_place : (reading : Reading) (direct : Bool) → reading.direct ≡ direct → (start reading).place ≡ first_place direct
 start_place reading direct e = ap first_place e
@@ -237,7 +237,7 @@ whole_pack : (reading : Reading) (body : List Packet) (pack : List ℕ) → read
 whole_pack reading body pack direct is =
     part_pack reading (start reading) body pack (record { place = start_place reading true direct; band_count = refl; byte_count = refl }) is
 
--- acknowledgments, and what makes them whole
+-- acknowledgments, and what completes them
 whole_acks : (reading : Reading) (section tail : List Packet) (ids : List (List ℕ)) → reading.direct ≡ false → (is : IsAckSection reading.format section ids)
     → ((new : State) → new.place ≡ Acking → new.ack_count ≡ length is.acks → new.band_count ≡ 0 → new.byte_count ≡ 0 → IsWholeAt reading new tail)
     → IsWholeAt reading (start reading) (section ++ tail)

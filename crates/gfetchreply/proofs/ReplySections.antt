@@ -1,4 +1,4 @@
--- The sections of a reply that is whole from some state on.
+-- The sections of a reply that is complete from some state on.
 use Rattle.std.proofs.Common.{◌≡◌, ℕ, ◌+◌, ◌≤◌, List, [], ◌∷◌, ◌++◌, length, map, ◌⊎◌, inl, inr, refl, sym, ap, subst, ◌∙◌, append_assoc, length-append, arith}
 use Rattle.std.specs.Prelude.{All}
 use Rattle.std.proofs.lemmas.List.Elements.{All-nil, All-cons, All-head, All-tail}
@@ -23,7 +23,7 @@ use Rattle.gfetchreply.proofs.StateLemmas.{next_state, state-band}
 pub at_state : (reading : Reading) (a b : State) (packets : List Packet) → a ≡ b → IsWholeAt reading a packets → IsWholeAt reading b packets
 at_state reading a b packets e h = subst (λ (s : State). IsWholeAt reading s packets) e h
 
--- neither open nor whole
+-- neither open nor complete
 no_verdict : {P : Type 0} {Q : Type 0} {R : Type 0} (v w : Verdict) → (v ≡ w) → (w ≡ Whole → ⊥) → (w ≡ Open → ⊥) → ((v ≡ Whole) × P) ⊎ ((v ≡ Open) × Q) → R
 no_verdict v w e neither nor (inl h) = absurd (neither (sym e ∙ h.0))
 no_verdict v w e neither nor (inr h) = absurd (nor (sym e ∙ h.0))
@@ -68,7 +68,7 @@ rest_by Plain rest (inr h) = let no = h.0 in cc
 rest_by Response rest (inl h) = let no = h.0 in cc
 rest_by Response rest (inr h) = h.1
 
--- what follows a flush that ends the reply, and makes it whole
+-- what follows a flush that ends the reply, and completes it
 pub flush_rest : (reading : Reading) (state : State) (rest : List Packet) → judge_at reading state Flush ≡ at_flush reading.ends → next_place state.place Flush ≡ Over
     → IsWholeAt reading state (Flush ∷ rest) → rest ≡ ends_with reading.ends
 flush_rest reading state rest at over (inl h) = rest_by reading.ends rest (inl (sym at ∙ h.0, h.1))

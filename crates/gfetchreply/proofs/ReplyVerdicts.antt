@@ -25,7 +25,7 @@ use Rattle.gfetchreply.proofs.StateLemmas.{state_of-nil, state_of-push, next_sta
 abbrev pub start : Reading → State
 start reading = record { place = first_place reading.direct; ack_count = 0; band_count = 0; byte_count = 0 }
 
--- whole from a state on, and open
+-- complete from a state on, and open
 abbrev pub IsWholeAt : Reading → State → List Packet → Type 0
 IsWholeAt reading state packets = WholeFrom (judge_at reading) (next_state reading.format) state packets
 

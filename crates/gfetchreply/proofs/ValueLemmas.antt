@@ -7,7 +7,7 @@ use Rattle.gname.specs.Ids.{IsIdOf}
 use Rattle.gname.specs.declared.formats.Format.{Format}
 use Rattle.gfetchreply.specs.Values.{has_format}
 
--- the ids from here on tell of all
+-- the ids from here on decide for all
 abbrev pub Tells : Format → List (List ℕ) → List (List ℕ) → Type 0
 Tells format ids rest =
     (list_all (has_format format) ids ≡ list_all (has_format format) rest) × (All (IsIdOf format) rest → All (IsIdOf format) ids)

@@ -248,7 +248,7 @@ judge reading packets packet = judge_at reading (state_of reading packets) packe
 
 -- ---- what takes memory
 
--- An acknowledged id is kept, for which there may be no memory. Some data of the pack goes to the sink, which may
+-- An acknowledged id is kept, for which it may be out of memory. Some data of the pack goes to the sink, which may
 -- refuse it, if it is a sink that may refuse pieces. Nothing else is kept.
 abbrev pub form_brings : ReplyForm → Bool
 form_brings (Ack id) = true
@@ -320,6 +320,6 @@ body_packets (Pack pack) = pack_section pack
 unfoldable pub canonical_reply : Ends → FetchReply → List Packet
 canonical_reply ends reply = body_packets reply ++ ends_with ends
 
--- those lines are written of that reply
+-- those packets are written of that reply
 abbrev pub IsCanonical : Ends → List Packet → FetchReply → Type 0
 IsCanonical ends packets reply = packets ≡ canonical_reply ends reply

@@ -9,7 +9,7 @@ use Rattle.gfetchreply.specs.FetchReplies.{Reading, FetchReply, Says, band_paylo
 use Rattle.gfetchreply.specs.FetchHeads.{FetchHead, head_of, pack_of}
 
 module _ {S : Type 0} (taken : S → List ℕ → Type 0) where
-  -- a whole reply is read; the head is that of what it says, and the sink has taken its pack after what it had
+  -- a complete reply is read; the head is that of what it says, and the sink has taken its pack after what it had
   pub record TakesReply (reading : Reading) (bytes : Change) (had : List ℕ → Type 0) (sink : S) (head : FetchHead)
       : Type 0 where
     pub reply : FetchReply

@@ -130,7 +130,7 @@ abbrev pub state_in : {A : Type 0} → Sections A → State
 state_in sections = state_kept (kept_in sections)
 
 -- The packet is taken as the verdict says, and then this holds; where it is refused, for a reason of the verdict or
--- for memory for what it brings, that holds.
+-- out of memory for what it brings, that holds.
 abbrev pub TakesOr : Verdict → Bool → Type 0 → Type 0 → Result Step Why → Type 0
 TakesOr verdict brings taken left (Ok step.Open) = (verdict ≡ Open) × taken
 TakesOr verdict brings taken left (Ok step.Whole) = (verdict ≡ Whole) × taken

@@ -52,7 +52,7 @@ pub fn manual()
     ensures { (reading : Reading) → AsInManual (Says reading) (IsFetchReply reading) }
 {}
 
-/// Packets say one reply, and exactly those that are a whole reply say one.
+/// Packets say one reply, and exactly those that are a complete reply say one.
 pub fn one_meaning()
     ensures meaning { (reading : Reading) → OneMeaning (Says reading) }
     ensures whole { (reading : Reading) → SaysWhole (judge reading) (Says reading) }
@@ -85,7 +85,7 @@ pub fn every_input()
     messages_are_read();
 }
 
-/// The packets that are written of a reply say it, and each fits a packet line. The limit within which it is read is one
+/// What is written of a reply says it, and each payload fits a packet. The limit within which it is read is one
 /// that a [`PackLimit`](crate::PackLimit) can have.
 pub fn canonical_says()
     ensures { (reading : Reading) → reading.limit ≤ max_pack → CanonicalSays (Says reading) (IsReplyIn reading) (IsCanonical reading.ends) }

@@ -1,5 +1,5 @@
 //! The reply to fetch (gitprotocol-v2(5), "fetch"): acknowledgments, a pack on side bands, or both. It is read packet
-//! by packet, and its pack goes to a [`PackSink`] piece by piece, from the buffer of the line reader.
+//! by packet, and its pack goes to a [`PackSink`] piece by piece, from the buffer of the reader.
 //!
 //! # Proved
 //!
@@ -8,7 +8,7 @@
 //!   it had, at most as many bytes as the limit allows. Else the reply is refused at the first packet that does not fit,
 //!   with the grammar's reason (`judge` in `specs/FetchReplies.antt`), and the sink has taken exactly the data of the
 //!   packets before, within the limit too. Whatever is answered, the sink is still the same one, as its [`PackSink`] says
-//!   what that is. A sink gets no empty piece. Out of memory stands in for no other fault: it comes only at a packet
+//!   what that is. A sink gets no empty piece. Out of memory is reported for no other fault: it comes only at a packet
 //!   that the grammar takes, and that brings an acknowledged id; or some of the pack, where the sink is of a kind that may
 //!   refuse a piece. A [`PackSink`] says which it is; a vector may refuse one.
 //!   [`read_fetch_reply_into`] does the same in SHA-1; [`read_fetch_reply_in`] and [`read_fetch_reply`] keep the pack in
@@ -16,11 +16,11 @@
 //! - [`Acks`] holds ids of one format, at most 4,096, [`PackBytes`] at most `gname::MAX_PACK` bytes, and a
 //!   [`PackLimit`] is at most that; a building call reports another format first, then the limit, and changes
 //!   nothing then. A reply is built of ids and of a pack that are there, as they are.
-//! - [`write_fetch_reply`] writes exactly the bytes of the lines of a reply (`canonical_reply`), and where the sink fails
-//!   a beginning of them. A line is never too long, and the reply is one that reads back, as the answer to a request of
-//!   its kind and within a limit that its pack keeps.
-//! - [`laws`]: the lists of lines that are replies are those of the manual (`specs/FetchManual.antt`), and what they
-//!   say is the same; lines say one reply, no reply and no spelling of one begins another, each beginning has a short
+//! - [`write_fetch_reply`] writes exactly the bytes of the packets of a reply (`canonical_reply`), and where the sink
+//!   fails a beginning of them. A payload is never too long, and the reply is one that reads back, as the answer to a
+//!   request of its kind and within a limit that its pack keeps.
+//! - [`laws`]: the lists of packets that are replies are those of the manual (`specs/FetchManual.antt`), and what they
+//!   say is the same; packets say one reply, no reply and no spelling of one begins another, each beginning has a short
 //!   ending, and a refused packet is the first that does not fit. What is written says the reply and reads back,
 //!   whatever follows; a reply is read exactly where a front of the bytes spells it, and all bytes have such a front or
 //!   are refused for a reason in them. Read as the answer to another request, the same bytes are the same reply or none;
@@ -40,7 +40,7 @@
 //!
 //! # Stands on
 //!
-//! `ggrammar` for reading any message, `gpkt` for packet lines and side bands, `gname` for ids.
+//! `ggrammar` for reading any message, `gpkt` for packets and side bands, `gname` for ids.
 #![tactic(auto)]
 
 mod form;

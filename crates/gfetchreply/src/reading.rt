@@ -223,12 +223,12 @@ pub fn read_fetch_reply_into<S: Source, T: PackSink, A: Allocator + Copy, B: All
 /// Reads one reply to fetch to its end, and nothing after it (gitprotocol-v2(5), "fetch"). The pack goes to the sink,
 /// piece by piece, from the reader's buffer; a sink gets no empty piece. The ids are kept where `alloc` says.
 ///
-/// The fault has the first packet, from 0, that does not fit, and why. What the line reader refuses comes first
+/// The fault has the position of the first packet that does not fit, and why. What the reader refuses comes first
 /// ([`Why::Line`]), then the end of the input ([`Why::Ended`]), then an error that the peer reports
 /// ([`Why::RemoteErr`]), then what the grammar refuses: a 4,097th id, and the packet with which the pack would pass its
 /// limit, with [`Why::Limit`] where their form is right. [`Why::Memory`] comes only at an acknowledged id and, where the
 /// sink may refuse a piece, at a packet with some of the pack. After a refusal the sink has taken the data of the packets
-/// before, and no more than the limit, and the line reader has failed exactly where the line itself was refused. Whatever
+/// before, and no more than the limit, and the reader has failed exactly where it refused the packet itself. Whatever
 /// is answered, the sink is still the same one.
 pub fn read_fetch_reply_into_in<S: Source, T: PackSink, A: Allocator + Copy, B: Allocator + Copy>(
     reader: &mut LineReader<S, A>,

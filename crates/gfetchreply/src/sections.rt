@@ -217,7 +217,7 @@ impl<A: Allocator + Copy> Sections<A> {
         }
     }
 
-    /// What the whole reply says, without its pack.
+    /// What the complete reply says, without its pack.
     pub(crate) fn into_head(self, direct: bool) -> FetchHead<A>
         ensures head { head_in result ≡ head_by direct self.ready self.acks.ids }
         ensures format { IsHeadOf self.acks.format result }

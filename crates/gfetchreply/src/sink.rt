@@ -16,20 +16,20 @@ pub trait PackSink {
     // Whether a sink of this type may ever refuse a piece.
     ghost refuses: { Bool };
 
-    /// Takes the next piece of the pack, which is never empty. `false` where memory for it is refused; then
+    /// Takes the next piece of the pack, which is never empty. `false` where it is out of memory for it; then
     /// nothing of it is taken. A sink that never refuses a piece never answers that.
     fn piece(&mut self, bytes: &[u8]) -> bool
         requires not_empty { bytes.now ≢ [] }
         ensures takes { TakesPiece taken refuses self.old self.new bytes.now result }
         ensures same { same self.old self.new };
 
-    /// Laws of the sink; the call has no effect. Each sink is still itself, and stays so piece after piece.
+    /// Laws of the sink. Each sink is still itself, and stays so piece after piece.
     fn laws()
         ensures still { (sink : Self) → same sink sink }
         ensures onward { (first : Self) (second : Self) (third : Self) → same first second → same second third → same first third };
 }
 
-/// A vector takes a pack after the bytes that it has. It may refuse a piece for want of memory.
+/// A vector takes a pack after the bytes that it has. It may refuse a piece, out of memory.
 impl<A: Allocator + Copy> PackSink for Vec<u8, A> {
     ghost taken = { λ bytes taken. bytes.items ≡ taken };
 

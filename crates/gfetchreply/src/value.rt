@@ -16,10 +16,10 @@ use gname::{Format, MAX_PACK, Oid};
 use std::alloc::Allocator;
 use std::marker::Model;
 
-/// The most ids that are acknowledged.
+/// The most ids that a reply acknowledges.
 pub const MAX_ACKS: usize = 4_096;
 
-/// The ids that a server acknowledges, which it has of those that a request named: at most 4,096, of one format, in
+/// The ids that a server acknowledges: those that it holds of the haves of a request. At most 4,096, of one format, in
 /// order.
 #[derive(Debug, Drop)]
 pub struct Acks<A: Allocator + Copy> {

@@ -1,4 +1,4 @@
--- The lines that are written of a reply say it, and each fits a packet.
+-- What is written of a reply says it, and each payload fits a packet.
 use Rattle.std.proofs.Common.{◌≡◌, ℕ, ◌+◌, ◌≤◌, List, [], ◌∷◌, ◌++◌, length, map, codes, Option, Some, None, inl, refl, sym, ap, subst, ◌∙◌, append_assoc, arith, length-append}
 use Rattle.std.specs.Prelude.{All, IfSome}
 use Rattle.std.proofs.lemmas.List.{length-map}
@@ -114,7 +114,7 @@ module _ (laws : LawsBelow) where
         few = omega (arith, h.few, unborn_count reply.unborn, length-append first refs, length-map reply.lines ref_payload);
       }
 
-  -- ---- each line fits a packet
+  -- ---- each payload fits a packet
 
   symref_short : (symref : Option (List ℕ)) → IfSome symref IsRefName → length (symref_text symref) ≤ 1015
   symref_short None h = omega arith

@@ -234,7 +234,7 @@ module _ (law : TextsHaveOneReading) (format : Format) where
     by_form (UnbornForm (Err why)) e = omega (arith, few_refs (first ∷ texts))
     by_form RefForm e = omega (arith, few_refs (first ∷ texts))
 
-  -- what a whole list says is a reply that can be written
+  -- what a complete list says is a reply that can be written
   pub reply_formed : (ends : Ends) (packets : List Packet) → IsWhole (judge format ends) packets → IsLsReplyIn format (reply_of format packets)
   reply_formed ends packets whole =
       let same : texts_of packets ≡ texts_of whole.front = ap texts_of whole.parts ∙ last_texts format ends whole.front whole.last whole.ends in

@@ -1,4 +1,4 @@
--- Replies of texts that are read are whole lists of the table, and say the same.
+-- Replies of texts that are read are complete lists of the table, and say the same.
 use Rattle.std.proofs.Common.{◌≡◌, ℕ, suc, ◌+◌, ◌-◌, ◌<◌, ◌≤◌, Bool, true, false, nat_eq, List, [], ◌∷◌, ◌++◌, length, take, drop, map, ◌==◌, codes, Option, Some, None, Result, Ok, Err, refl, sym, ap, subst, ◌∙◌, append_assoc, append-nil, arith, length-append}
 use Rattle.std.specs.Prelude.{All}
 use Rattle.std.specs.List.{starts_with}
@@ -106,7 +106,7 @@ unborn_goes format ends payload target e =
     data_is format ends false 0 payload refl (unborn_is_no_error payload (Ok target) e)
     ∙ ap (λ (form : FirstForm). within_limit 0 (judge_first format (text payload) form)) e
 
--- ---- the packets of the manual are whole
+-- ---- the packets of the manual are complete
 
 record IsBody (format : Format) (ends : Ends) (front : List Packet) (count : ℕ) : Type 0 where
   pub goes : IsOpen (judge format ends) front

@@ -268,7 +268,7 @@ module _ {A : Type 0} where
       tt,
     )
 
--- what a reader holds of a whole list is what the list says
+-- what a reader holds of a complete list is what the list says
 pub says_reply : {A : Type 0} (format : Format) (ends : Ends) (reader : LsReplyReader A) (packets : List Packet)
     → IsWhole (judge format ends) packets → Holds reader packets → (state_in reader).reply ≡ reply_of format packets
 says_reply format ends reader packets whole held =

@@ -1,4 +1,4 @@
--- The texts of the table's whole lists are read.
+-- The texts of the table's complete lists are read.
 use Rattle.std.proofs.Common.{◌≡◌, ℕ, ◌<◌, ◌≤◌, Bool, true, false, cond, List, [], ◌∷◌, ◌++◌, length, map, ◌==◌, Option, Some, None, Result, Ok, Err, ◌⊎◌, inl, inr, refl, sym, ap, subst, ◌∙◌, append_assoc, arith}
 use Rattle.std.specs.Prelude.{All}
 use Rattle.std.proofs.lemmas.Bool.{ne_eqb, false≢true}
@@ -135,7 +135,7 @@ open_is_front : (format : Format) (ends : Ends) (front : List Packet) → IsOpen
 open_is_front format ends =
     open_induction (judge format ends) (IsFront format ends) (record { payloads = []; sent = sent_none format; shape = inl refl }) (front_push format ends)
 
--- ---- whole lists
+-- ---- complete lists
 
 flush_ends : (format : Format) (ends : Ends) (over : Bool) (count : ℕ) → judge_at format ends over count Flush ≡ Whole → (over ≡ false) × (ends ≡ Plain)
 unfolding judge_at
@@ -184,7 +184,7 @@ whole_is_sent : (format : Format) (ends : Ends) (packets : List Packet) → IsWh
 whole_is_sent format ends packets whole =
     subst (IsSentWhole format ends) (sym whole.parts) (last_is format ends whole.front whole.last (open_is_front format ends whole.front whole.goes) whole.ends)
 
--- what such a list says in the manual's words it says in the table's, and lines say one reply
+-- what such a list says in the manual's words it says in the table's, and packets say one reply
 pub says_manual : GrammarsAreExact → (format : Format) (ends : Ends) (packets : List Packet) (reply : LsReply) → Says format ends packets reply → IsReadReply format ends packets reply
 says_manual laws format ends packets reply says =
     let whole = whole_is_sent format ends packets says.whole in

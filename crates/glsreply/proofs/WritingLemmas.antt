@@ -1,4 +1,4 @@
--- The lines that are written.
+-- The packets that are written.
 use Rattle.std.proofs.Common.{◌≡◌, ℕ, ◌<◌, ◌≤◌, List, Option, [], ◌∷◌, ◌++◌, length, map, drop, get_or, codes, zero, suc, refl, sym, ap, ◌∙◌, append_assoc, length-append, arith}
 use Rattle.gpkt.specs.Laws.{Fits}
 use Rattle.gpkt.specs.Packets.{Packet, Data, Flush, line_feed}

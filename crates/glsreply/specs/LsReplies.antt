@@ -1,5 +1,5 @@
--- The reply to ls-refs as a list of packet lines: what it says, what is refused at each place and why, and the
--- lines that are written. Where the peer ends each reply so, a response-end follows the flush
+-- The reply to ls-refs as a list of packets: what it says, what is refused at each position and why, and the
+-- packets that are written. Where the peer ends each reply so, a response-end follows the flush
 -- (gitprotocol-v2(5), "Packet-Line Framing": 0002).
 use Rattle.std.specs.Prelude.{◌≡◌, ℕ, Bool, true, false, List, [], ◌∷◌, ◌++◌, length, map, if◌then◌else◌, nat_lt}
 use Rattle.std.specs.Prelude.{◌==◌, Option, Some, None, Result, Ok, Err}
@@ -96,7 +96,7 @@ abbrev pub brings : List Packet → Packet → Bool
 brings packets (Data payload) = true
 brings packets _ = false
 
--- the lines are a reply, and say this
+-- the packets are a reply, and say this
 pub record Says (format : Format) (ends : Ends) (packets : List Packet) (reply : LsReply) : Type 0 where
   pub whole : IsWhole (judge format ends) packets
   pub says : reply ≡ reply_of format packets

@@ -41,7 +41,7 @@ BeginsIn format (line ∷ lines) = IsIdOf format line.id
 abbrev pub line_count : LsReply → ℕ
 line_count reply = length (unborn_packets reply.unborn) + length reply.lines
 
--- the number of the last packet, from 0: of the flush after the lines, or of the response-end after that
+-- the position of the last packet: of the flush after the lines, or of the response-end after that
 abbrev pub last_frame : Ends → LsReply → ℕ
 last_frame ends reply = line_count reply + length (ends_with ends)
 

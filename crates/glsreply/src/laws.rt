@@ -30,7 +30,7 @@ pub fn one_meaning()
     ensures { (format : Format) (ends : Ends) → OneMeaning (Says format ends) }
 {}
 
-/// What says a reply is whole, and what is whole says one.
+/// What says a reply is complete, and what is complete says one.
 pub fn says_whole()
     ensures { (format : Format) (ends : Ends) → SaysWhole (judge format ends) (Says format ends) }
 {}
@@ -75,7 +75,7 @@ pub fn manual()
     texts_have_one_reading();
 }
 
-/// The packets that are written of a reply say it, and each fits a packet line.
+/// What is written of a reply says it, and each payload fits a packet.
 pub fn canonical_says()
     ensures { (format : Format) (ends : Ends)
         → CanonicalSays (Says format ends) (IsLsReplyIn format) (IsCanonicalReply ends) }
@@ -89,7 +89,8 @@ pub fn canonical_says()
     texts_have_one_reading();
 }
 
-/// The packets of a reply are as many as [`LsReply::last_frame`](crate::LsReply::last_frame) says, and one.
+/// The last packet of a reply is at the position that
+/// [`LsReply::last_frame`](crate::LsReply::last_frame) answers.
 pub fn last_frame()
     ensures { (format : Format) (ends : Ends) (packets : List Packet) (reply : LsReply)
         → Says format ends packets reply → length packets ≡ last_frame ends reply + 1 }

@@ -21,7 +21,9 @@ const MAX_REF_TEXT: usize = 2_152;
 /// The line of a ref (gitprotocol-v2(5), "ls-refs"), with names that another value keeps.
 #[derive(Clone, Copy, Debug)]
 pub struct LentLine<'a, A: Allocator + Copy> {
+    /// The object at which the ref stands.
     pub id: Oid,
+    /// The name of the ref.
     pub name: &'a RefName<A>,
     /// The name that a symbolic ref points at.
     pub symref: Option<&'a RefName<A>>,
@@ -48,7 +50,7 @@ impl<'a, A: Allocator + Copy> LentLine<'a, A> {
     }
 }
 
-// What the type of a line says of it; the call has no effect.
+// A law: what the type of a line says of it.
 pub(crate) fn keeps_forms<A: Allocator + Copy>(line: &LentLine<'_, A>)
     ensures { IsLine (lent_view line.now) }
 {
@@ -87,7 +89,7 @@ impl RefText {
         }
     }
 
-    /// Puts the text of a line in the place of what was there: the id, a space, the name, and each attribute
+    /// Replaces what was there by the text of a line: the id, a space, the name, and each attribute
     /// after a space, first ` symref-target:` and then ` peeled:`. There is no line feed in it. Ids are in
     /// lower case.
     pub fn set<A: Allocator + Copy>(&mut self, line: &LentLine<'_, A>)

@@ -11,16 +11,16 @@
 //! - A reply that is read can be written: its ids have the format, its names keep their rules, and it has at most
 //!   65,537 lines.
 //! - [`LsReply`] keeps ids of one format and the most lines; what would break that is refused, and nothing
-//!   changes. [`LsReply::last_frame`] is the number of its last packet.
+//!   changes. [`LsReply::last_frame`] is the position of its last packet.
 //! - [`write_ls_reply`] writes exactly the bytes of the canonical packets, and where the sink fails a beginning of
 //!   them. A line is never too long, and the reply is one that reads back, in the format of its ids. Who has no
 //!   [`LsReply`] writes the same line by line, of names that are lent, with [`write_unborn`], [`write_ref`] and
-//!   [`write_end`], and is told of each line that it is one of a reply in the format of its ids.
+//!   [`write_end`]; each line is one of a reply in the format of its ids.
 //! - [`RefText`] is the text of the line of a ref.
 //! - [`laws`]: packets say one reply. No reply begins another, nor do its bytes. Each beginning has an ending, and
-//!   the packet that is refused is the first that does not fit. The whole lists of the table are exactly the
-//!   replies that may be sent by the manual, texts included (`specs/LsManual.antt`), and say the same. The packets
-//!   that are written of a reply say that reply, and each fits a packet line. A reply is read exactly where the
+//!   the packet that is refused is the first that does not fit. The complete lists of the table are exactly the
+//!   replies that may be sent by the manual, texts included (`specs/LsManual.antt`), and say the same. What is
+//!   written of a reply says that reply, and each payload fits a packet. A reply is read exactly where the
 //!   bytes begin with one, and all bytes begin with one or are refused for a reason in them; what is written reads
 //!   back, whatever follows. The constant is the limit of the definitions.
 //!
@@ -36,7 +36,7 @@
 //!
 //! # Stands on
 //!
-//! `ggrammar` for reading and writing of messages, `gpkt` for packet lines, `gname` for ids and names, `arrayvec`
+//! `ggrammar` for reading and writing of messages, `gpkt` for packets, `gname` for ids and names, `arrayvec`
 //! for the text of a line.
 #![tactic(auto)]
 

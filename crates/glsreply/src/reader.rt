@@ -39,11 +39,11 @@ pub fn read_ls_reply<S: Source, A: Allocator + Copy, B: Allocator + Copy>(
 /// Reads one reply to ls-refs to its end, and nothing after it (gitprotocol-v2(5), "ls-refs"). Its ids are of
 /// the format.
 ///
-/// The fault has the first packet, from 0, that does not fit, and why. What the line reader refuses comes first
-/// ([`Why::Line`]), then the end of the input ([`Why::Ended`]), then an error that the peer reports
+/// The fault has the position of the first packet that does not fit, and why. What the reader refuses comes
+/// first ([`Why::Line`]), then the end of the input ([`Why::Ended`]), then an error that the peer reports
 /// ([`Why::RemoteErr`]), then what the grammar refuses, its text read from left to right. One line more than
 /// 65,537 is refused with [`Why::Limit`] where its form is right. [`Why::Memory`] comes only at a line that is
-/// accepted. After a refusal the line reader has failed exactly where the line itself was refused.
+/// accepted. After a refusal the reader has failed exactly where it refused the packet itself.
 pub fn read_ls_reply_in<S: Source, A: Allocator + Copy, B: Allocator + Copy>(
     reader: &mut LineReader<S, A>,
     format: Format,

@@ -21,7 +21,9 @@ pub const MAX_LINES: usize = 65_537;
 /// A ref of the reply (gitprotocol-v2(5), "ls-refs").
 #[derive(Debug, Drop)]
 pub struct RefLine<A: Allocator + Copy> {
+    /// The object at which the ref stands.
     pub id: Oid,
+    /// The name of the ref.
     pub name: RefName<A>,
     /// The name that a symbolic ref points at.
     pub symref: Option<RefName<A>>,
@@ -147,8 +149,7 @@ impl<A: Allocator + Copy> LsReply<A> {
         self.lines.len()
     }
 
-    /// The number of the reply's last packet, from 0, where replies end so: of the flush, or of the response-end
-    /// after it.
+    /// The position of the last packet where replies end so: of the flush, or of the response-end after it.
     pub fn last_frame(&self, ends: Ends) -> u64
         ensures { result ≡ last_frame ends self.now }
     {
@@ -159,7 +160,7 @@ impl<A: Allocator + Copy> LsReply<A> {
         }
     }
 
-    /// The ref at this place.
+    /// The ref at this position. `None` where there are not so many.
     pub fn at(&self, place: usize) -> Option<&RefLine<A>>
         ensures { option_copied result ≡ slice_get self.now.lines place }
     {
@@ -211,7 +212,7 @@ fn add_line<A: Allocator + Copy>(
     }
 }
 
-// What the type of a name says of it; the call has no effect.
+// A law: what the type of a name says of it.
 pub(crate) fn keeps_rules<A: Allocator + Copy>(name: &RefName<A>)
     ensures { IsRefName name.now }
 {

@@ -82,7 +82,8 @@ fn write_refs<A: Allocator + Copy, W: Sink>(
     write_end(ends, writer)
 }
 
-/// Writes the line of a ref, whose text is made in `text`; what stood there is gone. It takes no memory.
+/// Writes the line of a ref, whose text is made in `text`; what stood there is gone. It takes no memory,
+/// and fails as [`write_ls_reply`] does.
 ///
 /// Where both ids of the line are of a format, it is a line of a reply in that format. A reply has ids of one
 /// format, which is the caller's to see to: no reader takes another id.
@@ -102,7 +103,8 @@ pub fn write_ref<A: Allocator + Copy, W: Sink>(
     writer.text(text.as_bytes())
 }
 
-/// Writes the end of a reply: a flush, and a response-end where replies end so.
+/// Writes the end of a reply: a flush, and a response-end where replies end so. It takes no memory, and
+/// fails as [`write_ls_reply`] does.
 pub fn write_end<W: Sink>(ends: Ends, writer: &mut LineWriter<W>) -> Result<(), WriteFault>
     ensures { WritesLines W.contents W.passed_on W.is_down W.loans writer.old writer.new result
         (Flush ∷ ends_with ends) }

@@ -78,7 +78,7 @@ pub fn manual()
     gfetchreply::laws::manual();
 }
 
-/// The packets that are written of a value say it, and each fits a packet line. A reply to fetch is read within a limit
+/// What is written of a value says it, and each payload fits a packet. A reply to fetch is read within a limit
 /// that a [`PackLimit`](crate::PackLimit) can have.
 pub fn canonical_says()
     ensures hello { CanonicalSays hello.Says hello.IsHello hello.IsCanonical }

@@ -4,8 +4,8 @@
 //! # Proved
 //!
 //! - [`laws`], of every kind of message: packets say at most one message; no message begins another, neither its
-//!   packets nor the bytes that spell them; what is read is what the manual has; the packets that are written of
-//!   a value say it, and each fits a packet line; a message is read exactly where the bytes begin with it, and
+//!   packets nor the bytes that spell them; what is read is what the manual has; what is written of a value
+//!   says it, and each payload fits a packet; a message is read exactly where the bytes begin with it, and
 //!   all bytes begin with one or are refused for a reason in them; and what is written of a value is read back,
 //!   whatever follows. No bytes begin with a reply to ls-refs and with a reply to fetch.
 //!
@@ -27,8 +27,7 @@
 //!
 //! # Stands on
 //!
-//! `ghello`, `grequest`, `glsreply`, `gfetchreply` and `ggrammar`; `gpkt` for packet lines and `gname` for ids and
-//! names.
+//! `ghello`, `grequest`, `glsreply`, `gfetchreply` and `ggrammar`; `gpkt` for packets and `gname` for ids and names.
 #![tactic(auto)]
 
 pub mod laws;

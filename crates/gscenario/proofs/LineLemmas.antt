@@ -257,7 +257,7 @@ module _ {A : Type 0} where
       reads_line text left here after events now event number reads split.0 split.1
       (subst (λ (o : Option (Event A)). MatchOption o (IsNoLine A here) (IsLineOf here)) some is) grown
 
-  -- ---- there is no memory
+  -- ---- out of memory
 
   pub command_line : (text : List ℕ) (event : Event A) → IsLineOf text event → BeginsWithCommand text
   command_line text event is = (command_of event, is.0, is.1)
@@ -279,7 +279,7 @@ module _ {A : Type 0} where
   pub no_memory : (text : List ℕ) (fault : ScenarioFault) → fault ≡ Memory → TakesMemory A text → Refuses A text fault
   no_memory text fault is takes = subst (Refuses A text) (sym is) takes
 
-  -- the next line is that of an event, for which there is no memory
+  -- the next line is that of an event, and it is out of memory for it
   pub no_room : (text left here after : List ℕ) (events : List (Event A)) (event : Event A) (number : ℕ)
       (found : Option (Event A)) → ReadsLines text left events number → (left ≡ line here ++ after) × IsInLine here
       → found ≡ Some event → MatchOption found (IsNoLine A here) (IsLineOf here) → TakesMemory A text

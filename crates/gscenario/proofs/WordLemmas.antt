@@ -35,7 +35,7 @@ words_at (byte ∷ text) (suc end) none inside is =
     no_space byte text (none 0 (omega arith) (omega arith))
     ∙ ap (with_byte byte) (words_at text end (λ k low high. none (suc k) (omega arith) (omega arith)) (omega arith) is)
 
--- a slice from a place to the end is all that follows the place
+-- a slice from a position to the end is all that follows it
 pub rest_of : (n : ℕ) (text : List ℕ) → take (length text - n) (drop n text) ≡ drop n text
 rest_of n text = ap (λ k. take k (drop n text)) (sym (length-drop n text)) ∙ take-length (drop n text)
 

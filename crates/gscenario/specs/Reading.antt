@@ -36,7 +36,7 @@ NoArguments A command words = (event : Event A) → IsOf command event → ¬ (A
 abbrev pub HasArguments : {A : Type 0} → Command → List (List ℕ) → Event A → Type 0
 HasArguments command words event = IsOf command event × AreArguments event words
 
--- what reading the arguments of a command answers: an event; or that there is none; or that there is no memory
+-- what reading the arguments of a command answers: an event; or that there is none; or out of memory
 abbrev pub ReadsArguments : {A E : Type 0} → Command → List (List ℕ) → Result (Option (Event A)) E → Type 0
 ReadsArguments {A} command words result =
     MatchResult result

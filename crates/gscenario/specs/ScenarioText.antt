@@ -162,7 +162,7 @@ pub record TakesMemory (A : Type 0) (text : List ℕ) : Type 0 where
   pub inside : IsInLine line
   pub begins : BeginsWithCommand line
 
--- why a text is not read: a line is wrong; or there is no memory for what a line says
+-- why a text is not read: a line is wrong; or out of memory for what a line says
 abbrev pub Refuses : Type 0 → List ℕ → ScenarioFault → Type 0
 Refuses A text (fault.Scenario number) = IsWrongLine A text number
 Refuses A text fault.Memory = TakesMemory A text

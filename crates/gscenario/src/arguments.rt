@@ -272,7 +272,7 @@ fn parents_of<A: Allocator + Copy>(alloc: A, tail: &[u8]) -> Result<Option<Paren
     Ok(Some(parents))
 }
 
-// The ref that comes, and where it is to stand.
+// The name of a ref, and the id at which it is to stand.
 fn ref_of<A: Allocator + Copy>(
     alloc: A,
     tail: &[u8],

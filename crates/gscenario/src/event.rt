@@ -12,17 +12,16 @@ use std::alloc::{Allocator, Global};
 /// a short delivery.
 #[derive(Debug, Drop)]
 pub enum Event<A: Allocator + Copy = Global> {
-    /// The client begins a session with these refspecs, 16 at most, in the place of any other, and the session hears the
+    /// The client begins a session with these refspecs, 16 at most, instead of any other, and the session hears the
     /// server's advertisement. It takes packs up to the default limit, and no response-end after a reply.
     Begin(Vec<Spec<A>, A>),
-    /// The client's session makes its next request, which is sent: it is the next in the list of sent requests, which
-    /// are numbered from 0.
+    /// The client's session makes its next request, which is sent: it is the next in the list of sent requests.
     Ask,
-    /// The server answers the sent request of this number, and its reply is kept: it is the next in the list of kept
-    /// replies, which are numbered from 0.
+    /// The server answers the request at this position in the list of sent requests, and its reply is kept: it is the
+    /// next in the list of kept replies.
     Serve(usize),
-    /// The first `count` bytes of the kept reply of number `reply` come as the reply to the request that waits: all of
-    /// them, where there are fewer.
+    /// The first `count` bytes of the reply at position `reply` in the list of kept replies come as the reply to the
+    /// request that waits: all of them, where there are fewer.
     Deliver { reply: usize, count: usize },
     /// These bytes come as the reply to the request that waits, though no server sent them.
     Forge(Vec<u8, A>),

@@ -14,7 +14,7 @@ use std::fmt;
 pub enum ScenarioFault {
     /// This line, counted from 1, is that of no event, or it does not end.
     Scenario { line: usize },
-    /// There is no memory for the events.
+    /// Out of memory for the events.
     Memory,
 }
 

@@ -13,12 +13,13 @@
 //!
 //! # Only tested
 //!
-//! That memory which is there is used.
+//! That memory is found where there is some.
 //!
 //! # What the contracts do not rule out
 //!
 //! A body may report out of memory of any text whose first line begins with a command, as often as it likes, and in place
-//! of a later line that is wrong. It may take as long as it likes, and more memory than it needs.
+//! of a later line that is wrong. It may take as long as it likes, and more memory than it needs. Formatting a fault
+//! may answer an error (`fmt::Error`) where the text would be right.
 //!
 //! # Stands on
 //!

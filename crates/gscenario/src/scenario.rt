@@ -32,8 +32,9 @@ pub struct Scenario;
 impl Scenario {
     /// Reads the text of some events.
     ///
-    /// It fails with `Scenario` at the first line that is that of no event, or does not end; with `Memory` where there is
-    /// no memory for what a line says, which is reported only after lines of events, at one that begins with a command.
+    /// It fails with `Scenario` at the first line that is that of no event, or does not end; with `Memory` where it is
+    /// out of memory for what a line says, which is reported only after lines of events, at one that begins with a
+    /// command.
     pub fn read<A: Allocator + Copy>(
         alloc: A,
         text: &[u8],

@@ -1,6 +1,5 @@
 -- Each reply so far was only of acknowledgments, and both the reader and the writer go on. There are at most as many
--- rounds
--- as objects.
+-- rounds as objects.
 use Rattle.std.proofs.Common.{◌≡◌, ◌-◌, ℕ, List, length, false, Option, None}
 use Rattle.gpkt.specs.Sending.{input_of, output_of}
 use Rattle.gsession.specs.Bounds.{BeganOn}

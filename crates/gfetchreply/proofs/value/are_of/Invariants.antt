@@ -2,6 +2,6 @@ use Rattle.std.proofs.Common.{drop}
 use Rattle.gfetchreply.proofs.ValueLemmas.{Tells}
 use Rattle.gfetchreply.proofs.value.are_of.Given as goal
 
--- the ids from here on tell of all
+-- the ids from here on decide for all
 abbrev pub invariant-loop-id : goal.invariant-loop-id
 invariant-loop-id l = Tells l.format l.ids (drop l.id-index l.ids)
