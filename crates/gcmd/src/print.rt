@@ -31,7 +31,7 @@ pub(crate) struct FaultLine<'a> {
     name: &'static str,
     frame: Option<u64>,
     line: Option<usize>,
-    // The place of a byte in a name.
+    // The position of a byte in a name.
     at: Option<usize>,
     id: Option<Oid>,
     // A name, or a text.

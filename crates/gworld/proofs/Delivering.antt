@@ -1,4 +1,4 @@
--- What a kept reply tells and brings, where nothing was forged.
+-- What a kept reply says and brings, where nothing was forged.
 use Rattle.std.proofs.Common.{◌≡◌, ℕ, ◌≤◌, List, length, All}
 use Rattle.std.proofs.Common.{refl, sym, ap, subst, ◌∙◌, arith, take}
 use Rattle.std.proofs.lemmas.List.Elements.{All-weaker}
@@ -71,7 +71,7 @@ module _ {A : Type 0} (tools : PackTools A) where
 
   -- ---- refs
 
-  -- the server holds what is told of refs by the first bytes of a kept reply
+  -- the server holds what the first bytes of a kept reply say of refs
   lines_told : AnswerLaws tools → (w : WorldState A) (server : Server A) (asked : Asked) (reply : Reply)
       (told : LsReply) (count : ℕ)
       (left : List ℕ) → IsServer server → Grows server.graph.entries w.server.graph.entries
@@ -135,7 +135,7 @@ module _ {A : Type 0} (tools : PackTools A) where
       let common = laws.acks server is.fetch read is.answers in
       all_held laws.growth server.graph.entries w.server.graph.entries grown (acknowledged_by read) common.held
 
-  -- so it tells what the server holds
+  -- so it says what the server holds
   pub kept_tells : AnswerLaws tools → (w : WorldState A) (s : SessionState A) (kept : Kept) (count : ℕ)
       → IsSoundKept tools.packs w kept → s.format ≡ w.server.graph.format → s.ends ≡ Plain
       → Tells w s (take count (reply_bytes kept.reply))
@@ -176,7 +176,7 @@ module _ {A : Type 0} (tools : PackTools A) where
       honest.faithful.reads_image enough.list entries enough.entries
       (subst (λ (bytes : List ℕ). tools.indexes bytes entries) same read)
 
-  -- a pack that came completes the wants of its request, and the graphs agree as before
+  -- once a pack came, the wants of its request are connected, and the graphs agree as before
   pub record IsCompleted (server : Server A) (wants : List (List ℕ)) (g : List (Entry A)) : Type 0 where
     pub all : HasAll server.graph.entries wants g
     pub agree : Agree server.graph.entries g

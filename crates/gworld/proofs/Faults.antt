@@ -1,5 +1,5 @@
--- Why a whole reply to the very request that waits is not taken, where nothing was forged and packer and indexer lose
--- nothing.
+-- Why a complete reply to the very request that waits is not taken, where nothing was forged and packer and indexer
+-- are faithful.
 use Rattle.std.proofs.Common.{◌≡◌, ◌⊎◌, ℕ, ◌≤◌, Bool, false, List, [], ◌∷◌, length, All, Contains}
 use Rattle.std.proofs.Common.{Some}
 use Rattle.std.proofs.Common.{Ok, Err, inl, inr, refl, sym, ap, subst, ◌∙◌, arith, take, append-nil}
@@ -91,7 +91,7 @@ err_is_no_ok e t wrong = cc
 
 -- ---- as it is read
 
--- bytes at hand are refused for a reason in them, or there is no memory
+-- bytes at hand are refused for a reason in them, or out of memory
 why_cases : (w : Why) → IsReadFailure false false w → (w ≡ why.Memory) ⊎ IsOfBytes w
 why_cases (why.Line line.Io) at = absurd (false≢true at.1)
 why_cases (why.Line line.Failed) at = absurd (false≢true at)
@@ -182,7 +182,7 @@ module _ {A : Type 0} (tools : PackTools A)
       (Contains-append_right first.front (id ∷ first.rest) id (Contains-get_or (id ∷ first.rest) 0 id (omega arith))) in
       first.strange (All-contains (Contains haves) acks id named among)
 
-  -- the indexer reads the pack, or there is no memory
+  -- the indexer reads the pack, or is out of memory
   index_fault : (w : WorldState A) (server : Server A) (asked : FetchAsked) (pack : List ℕ) (fault : IndexFault)
       → IsUnforgedAndFaithful tools w → IsEnough server tools.packs asked pack → tools.index_fails pack fault
       → fault ≡ index.Memory
@@ -192,7 +192,7 @@ module _ {A : Type 0} (tools : PackTools A)
       honest.faithful.reads_each enough.list fault enough.entries
       (subst (λ (bytes : List ℕ). tools.index_fails bytes fault) same fails)
 
-  -- the client's graph takes the objects, or has no room for them, or there is no memory
+  -- the client's graph takes the objects, or has no room for them, or is out of memory
   graph_fault : (w : WorldState A) (server : Server A) (asked : FetchAsked) (pack : List ℕ) (fault : GraphFault)
       → IsUnforgedAndFaithful tools w → Agree server.graph.entries w.repo.graph.entries
       → w.repo.graph.format ≡ server.graph.format
@@ -328,7 +328,7 @@ module _ {A : Type 0} (tools : PackTools A)
       ]
   take_fault w s server asked reply count left _ number is all fault at same = absurd fault
 
-  -- a whole reply to the very request that waits is taken, or one of these faults is told
+  -- a complete reply to the very request that waits is taken, or one of these faults is reported
   pub whole_taken : (w : WorldState A) (s after : SessionState A) (server : Server A) (asked : FetchAsked)
       (reply : FetchReply) (count : ℕ) (outcome : Outcome)
       (r : RepoState A) → IsWhole w s server asked reply → length (reply_bytes (Objects reply)) ≤ count

@@ -1,4 +1,4 @@
--- A pack of a kept reply came, where nothing was forged and packer and indexer lose nothing.
+-- A pack of a kept reply came, where nothing was forged and packer and indexer are faithful.
 use Rattle.std.proofs.Common.{◌≡◌, ℕ, List, All}
 use Rattle.std.proofs.Common.{inl, inr, sym, ap, subst, ◌∙◌, take}
 use Rattle.std.proofs.lemmas.List.Elements.{All-contains, All-weaker}
@@ -32,7 +32,7 @@ module _ {A : Type 0} (tools : PackTools A) where
   sends server asked (Ready ids pack) has replies = replies.3
   sends server asked (Pack pack) has replies = replies.1
 
-  -- the pack of a kept reply came: it completes the wants of the request of that reply
+  -- the pack of a kept reply came: the wants of the request of that reply are connected
   pub record PackCame (w : WorldState A) (kept : Kept) (repo : RepoState A) : Type 0 where
     pub fetch : FetchAsked
     pub is_asked : kept.asked ≡ Fetches fetch

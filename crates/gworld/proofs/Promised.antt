@@ -138,7 +138,7 @@ module _ {A : Type 0} (tools : PackTools A)
       found_complete w v number count added (slice_get w.kept number) refl sound honest step
   completes w v e outcome sound honest step = tt
 
-  -- ---- a whole reply to the very request that waits
+  -- ---- a complete reply to the very request that waits
 
   module _ (faults : FaultLaws A) where
     whole_of : (w : WorldState A) (s after : SessionState A) (server : Server A) (asked : Asked) (reply : FetchReply)
@@ -200,7 +200,7 @@ module _ {A : Type 0} (tools : PackTools A)
 
   -- ---- requests are served
 
-  -- the packer fails for the objects to send, as one may that loses nothing
+  -- the packer fails for the objects to send, as a faithful one may
   pack_refused : (w : WorldState A) (asked : FetchAsked) (why : PackFault) (number : ℕ) (list : List (Entry A))
       → IsUnforgedAndFaithful tools w
       → number ≡ (serve_fault_row (serve.Pack why)).code → AreEntries list → tools.pack_fails list why

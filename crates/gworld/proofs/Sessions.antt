@@ -214,7 +214,7 @@ module _ {A : Type 0} where
       (All-weaker (IsAskOf specs lines) (λ (ask : Ask A). P ask.id)
       (λ (ask : Ask A) is. ask_told P specs lines ask all is) asks are)
 
-  -- what holds of the ids that were told holds of the wants
+  -- what holds of the ids that were reported holds of the wants
   wants_told : SessionLaws A → (P : List ℕ → Type 0) (g : List (Entry A)) (specs : List Refspec) (reply : LsReply)
       (wants : List (List ℕ))
       → AreWants {A = A} g (asked_of specs reply.lines) wants → All (λ (line : RefLine). P line.id) reply.lines

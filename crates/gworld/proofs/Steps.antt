@@ -79,7 +79,7 @@ module _ {A : Type 0} (tools : PackTools A)
   abbrev Honest : WorldState A → Type 0
   Honest w = IsUnforgedAndFaithful tools w
 
-  -- a world with other ends, another session and other marks
+  -- a world with other ends and another session, forged or answered otherwise
   abbrev changed : WorldState A → Server A → RepoState A → Option (SessionState A) → Bool → Bool → WorldState A
   changed w server repo session forged answered =
       record w { server = server; repo = repo; session = session; forged = forged; answered = answered }
@@ -104,7 +104,7 @@ module _ {A : Type 0} (tools : PackTools A)
   same_sound : (w v : WorldState A) → v ≡ w → Sound w → Sound v
   same_sound w v same sound = subst Sound (sym same) sound
 
-  -- only the session, the forged mark and the answered mark change
+  -- only the session changes, and whether the world is forged and the session answered
   session_extends : (w : WorldState A) (session : Option (SessionState A)) (forged answered : Bool)
       → (forged ≡ false → w.forged ≡ false)
       → Extends w (changed w w.server w.repo session forged answered)
@@ -142,7 +142,7 @@ module _ {A : Type 0} (tools : PackTools A)
   begins_sound w v specs (Fault number) ends sound begins = same_sound w v begins.3 sound
   begins_sound w v specs _ ends sound begins = absurd begins
 
-  -- a fault leaves the mark only where it leaves the session
+  -- a session is answered after a fault only where the fault leaves it
   mark_left : (v : WorldState A) (s after : SessionState A) (ends mark : Bool) → after ≡ (if ends then over s else s)
       → (mark ≡ true → IsAnswered tools v s) → (if ends then false else mark) ≡ true → IsAnswered tools v after
   mark_left v s after true mark is can wrong = never wrong
@@ -264,7 +264,7 @@ module _ {A : Type 0} (tools : PackTools A)
       subst (λ (r : RepoState A). Agree w.server.graph.entries r.graph.entries) (sym takes.2.2) (sound.agree honest)
   bytes_agree w (Fetches asked) s kept count _ after repo sound honest is session takes = absurd takes
 
-  -- the session is answered that took the pack of a whole reply to the very request that waited
+  -- the session is answered that took the pack of a complete reply to the very request that waited
   bytes_settle : (w v : WorldState A) (asked : Asked) (s : SessionState A) (kept : Kept) (count : ℕ) (outcome : Outcome)
       (after : SessionState A)
       → Sound w → (Honest v → Honest w) → IsSoundKept tools.packs w kept → IsSoundSession w s → IsSession s

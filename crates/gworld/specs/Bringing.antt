@@ -59,12 +59,12 @@ pub record RunsSoundly {A : Type 0} (tools : PackTools A) (w : WorldState A) (ev
 
 -- ---- making a world
 
--- the client agrees with what the server has at a place
+-- the client agrees with what the server has at a position
 abbrev pub AgreesAt : {A : Type 0} → List (Entry A) → List (Entry A) → ℕ → Type 0
 AgreesAt {A} server client place =
     (entry : Entry A) → slice_get server place ≡ Some entry → AgreesWith client entry
 
--- the client disagrees with what the server has at a place, under this id
+-- the client disagrees with what the server has at a position, under this id
 abbrev pub DisagreesAt : {A : Type 0} → List (Entry A) → List (Entry A) → ℕ → List ℕ → Type 0
 DisagreesAt {A} server client place id =
     (entry : Entry A) × (slice_get server place ≡ Some entry) × Disagrees client entry × (id ≡ entry.id)

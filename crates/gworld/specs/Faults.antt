@@ -11,7 +11,7 @@ abbrev pub world_fault_row : WorldFault → FaultRow
 world_fault_row world.TwoFormats = (97, codes "TwoFormats")
 world_fault_row (world.Disagree id) = (90, codes "Disagree")
 
--- there is no memory to go on
+-- out of memory to go on
 abbrev pub run_fault_row : {A : Type 0} → RunFault A → FaultRow
 run_fault_row (run.Memory outcomes) = (91, codes "Memory")
 
@@ -29,7 +29,7 @@ run_fault_text (run.Memory outcomes) = codes "out of memory"
 abbrev pub disagreement : ℕ
 disagreement = 90
 
--- no request or no reply has that number
+-- no request or no reply is at that position
 abbrev pub no_such : ℕ
 no_such = 93
 

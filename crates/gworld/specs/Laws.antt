@@ -22,7 +22,7 @@ PromisesAreRuns {A} tools =
     (w new : WorldState A) (events : List (Event A)) (outcomes : List Outcome)
     → RunWith (Promises tools) w events outcomes new → Run tools w events outcomes new
 
--- where the client's refs are whole, they are so after any run
+-- where the client's refs are connected, they are so after any run
 abbrev pub RefsStayWhole : {A : Type 0} → PackTools A → Type 0
 RefsStayWhole {A} tools =
     (w new : WorldState A) (events : List (Event A)) (outcomes : List Outcome) → AreRefsWhole w

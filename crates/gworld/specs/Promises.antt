@@ -31,9 +31,9 @@ use Rattle.gworld.specs.declared.outcome.Outcome.{Outcome}
 use Rattle.gworld.specs.declared.outcome.Outcome.TheVariants as outcomes
 
 module _ {A : Type 0} where
-  -- ---- the client's refs are whole
+  -- ---- the client's refs are connected
 
-  -- each ref of the client stands at an id whose whole ancestry the client holds
+  -- each ref of the client is connected
   abbrev pub AreRefsWhole : WorldState A → Type 0
   AreRefsWhole w = IsSafe w.repo.graph.entries w.repo.refs
 
@@ -52,25 +52,25 @@ module _ {A : Type 0} where
   abbrev pub AreCommonsShared : WorldState A → Type 0
   AreCommonsShared w = w.forged ≡ false → IfSome w.session (SharesCommons w)
 
-  -- ---- a pack that is taken completes the wants of its request
+  -- ---- once a pack is taken, the wants of its request are connected
 
-  -- the client holds the whole ancestry of each want of the request, and all that a want reaches at the server
+  -- each want of the request is connected at the client, which also holds all that the want reaches at the server
   abbrev pub AreWantsComplete : Asked → WorldState A → Type 0
   AreWantsComplete (Fetches asked) new = HasAll new.server.graph.entries asked.wants new.repo.graph.entries
   AreWantsComplete _ new = ⊤
 
-  -- the wants of the request that the kept reply answers are complete, where there is such a reply
+  -- the wants of the request that the kept reply answers are connected, where there is such a reply
   abbrev pub CompletesKept : Option Kept → WorldState A → Type 0
   CompletesKept None new = ⊤
   CompletesKept (Some kept) new = AreWantsComplete kept.asked new
 
-  -- where a pack was taken of a kept reply, whole or cut short, the wants of that reply's request are complete
+  -- where a pack was taken of a kept reply, complete or cut short, the wants of that reply's request are connected
   abbrev pub CompletesWants : WorldState A → Event A → Outcome → WorldState A → Type 0
   CompletesWants w (event.Deliver number count) (outcomes.PackTaken added) new =
       CompletesKept (slice_get w.kept number) new
   CompletesWants w _ outcome new = ⊤
 
-  -- ---- a whole reply to the request that waits
+  -- ---- a complete reply to the request that waits
 
   -- all bytes come of a reply to fetch that is kept for a request equal to the one that waits
   pub record BringsAnswer (w : WorldState A) (number count : ℕ) (reply : FetchReply) : Type 0 where
@@ -94,11 +94,11 @@ module _ {A : Type 0} where
   AreRequestsFew w = IfSome w.session (AsksSeldom w)
 
 module _ {A : Type 0} (tools : PackTools A) where
-  -- ---- a whole reply to the request that waits is taken
+  -- ---- a complete reply to the request that waits is taken
 
-  -- Why a whole reply to the request that waits is not taken: its pack has more bytes than a client takes (48); the
-  -- client's graph has no room for the pack's objects (61); or there is no memory to read the reply (53), for what it
-  -- brings (64), or for the indexer (66).
+  -- Why a complete reply to the request that waits is not taken: its pack has more bytes than a client takes (48); the
+  -- client's graph has no room for the pack's objects (61); or the client is out of memory to read the reply (53), for
+  -- what it brings (64), or for the indexer (66).
   abbrev pub MayDecline : RepoState A → FetchReply → ℕ → Type 0
   MayDecline repo reply number =
       ((number ≡ 48) × (default_limit < length (pack_of reply)))
@@ -124,7 +124,7 @@ module _ {A : Type 0} (tools : PackTools A) where
   -- ---- each request that was sent is served
 
   -- Why a request that was sent is refused: the pack of the objects that it asks for would have too many bytes, or the
-  -- packer has no memory (65); or there is no memory for the reply (64).
+  -- packer is out of memory (65); or the server is, for the reply (64).
   abbrev pub MayRefuse : Server A → Asked → ℕ → Type 0
   MayRefuse server (Fetches asked) number =
       ((number ≡ 65) × (FailsToPack server tools.pack_fails asked pack.TooLarge
@@ -151,13 +151,13 @@ module _ {A : Type 0} where
   abbrev pub MovesAsked : RepoState A → RepoState A → Ask A → Type 0
   MovesAsked old new ask = MayMove old.graph.entries old.refs ask → ref_at new.refs ask.name ≡ Some ask.id
 
-  -- the client holds the whole ancestry of each asked id, and each ref that may move has moved
+  -- each asked id is connected, and each ref that may move has moved
   pub record HasSettled (old : RepoState A) (asks : List (Ask A)) (new : RepoState A) : Type 0 where
     pub full : All (IsFull new.graph.entries) (asked_ids asks)
     pub moved : All (MovesAsked old new) asks
 
   -- What is asked for is settled; or the refs can't be set, as there would be too many (69: no refspec moves HEAD, the
-  -- one other cause that `CannotSettle` has); or there is no memory (64).
+  -- one other cause that `CannotSettle` has); or the client is out of memory (64).
   abbrev pub IsSettledOrRefused : RepoState A → Option (SessionState A) → Outcome → RepoState A → Type 0
   IsSettledOrRefused old None outcome new = ⊥
   IsSettledOrRefused old (Some s) (outcomes.Settled moved same not_forward) new = HasSettled old s.asks new
@@ -173,12 +173,12 @@ module _ {A : Type 0} where
 
 module _ {A : Type 0} (tools : PackTools A) where
   -- What a step does, and what it promises.
-  --   1. Whatever bytes came, and whatever packer and indexer do: each ref of the client is whole (`refs`), and the
+  --   1. Whatever bytes came, and whatever packer and indexer do: each ref of the client is connected (`refs`), and the
   --      session asked for objects at most once more than there are ids that its tips reach (`few`).
   --   2. Where no bytes were forged: server and client hold each common id (`commons`).
-  -- Where no bytes were forged, and packer and indexer lose nothing:
-  --   3. A pack that is taken completes the wants of its request (`completes`).
-  --   4. A whole reply to the request that waits is taken (`takes`), and each request that was sent is served
+  -- Where no bytes were forged, and packer and indexer are faithful:
+  --   3. Once a pack is taken, the wants of its request are connected (`completes`).
+  --   4. A complete reply to the request that waits is taken (`takes`), and each request that was sent is served
   --      (`serves`), but for the reasons named.
   --   5. A session that was answered settles: each ref that may move does (`settles`), but for the reasons named.
   pub record Promises (w : WorldState A) (event : Event A) (outcome : Outcome) (new : WorldState A) : Type 0 where

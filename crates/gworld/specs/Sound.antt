@@ -20,7 +20,7 @@ use Rattle.gsession.specs.declared.stage.Stage.TheVariants.{Settling}
 use Rattle.gworld.specs.Worlds.{Kept, PackTools, WorldState}
 
 module _ {A : Type 0} where
-  -- what the types of server, repository and session keep: the server misses no object, the client's refs are whole
+  -- what the types of server, repository and session keep: the server misses no object, the client's refs are connected
   pub record AreEndsWhole (w : WorldState A) : Type 0 where
     pub server : IsServer w.server
     pub repo : IsWhole w.repo
@@ -30,8 +30,8 @@ module _ {A : Type 0} where
 
   -- ---- what was sent
 
-  -- a request for objects: the client holds the whole ancestry of each have, and something is wanted, which the server
-  -- holds unless bytes were forged
+  -- a request for objects: each have is connected at the client, and something is wanted, which the server holds
+  -- unless bytes were forged
   pub record IsSoundFetch (w : WorldState A) (asked : FetchAsked) : Type 0 where
     pub full : All (IsFull w.repo.graph.entries) asked.haves
     pub few : length asked.haves ≤ max_haves
@@ -55,12 +55,12 @@ module _ {A : Type 0} where
 
   -- ---- the session
 
-  -- an asked id is wanted, or the client holds its whole ancestry
+  -- an asked id is wanted, or connected at the client
   abbrev pub IsWantedOrFull : List (Entry A) → SessionState A → List ℕ → Type 0
   IsWantedOrFull g s a = Contains s.wants a ⊎ IsFull g a
 
-  -- A session began on what its repository holds, and offered nothing else. The client holds the whole ancestry of each
-  -- common id. Where nothing was forged, the server holds each common id and each want, too.
+  -- A session began on what its repository holds, and offered nothing else. Each common id is connected at the client.
+  -- Where nothing was forged, the server holds each common id and each want, too.
   pub record IsSoundSession (w : WorldState A) (s : SessionState A) : Type 0 where
     pub format : s.format ≡ w.repo.graph.format
     pub limit : s.limit ≡ default_limit
@@ -73,20 +73,20 @@ module _ {A : Type 0} where
     pub wanted : w.forged ≡ false → All (Holds w.server.graph.entries) s.wants
 
 module _ {A : Type 0} (tools : PackTools A) where
-  -- no bytes were forged, and packer and indexer lose nothing between them
+  -- no bytes were forged, and packer and indexer are faithful
   pub record IsUnforgedAndFaithful (w : WorldState A) : Type 0 where
     pub image : List (Entry A) → List ℕ
     pub faithful : LosesNothing tools.packs tools.pack_fails tools.indexes tools.index_fails image
     pub unforged : w.forged ≡ false
 
   -- an answered session: it is time for it to settle, and, where nothing was forged and packer and indexer are
-  -- faithful, the client holds the whole ancestry of each id that it asks for
+  -- faithful, each id that it asks for is connected
   pub record IsAnswered (w : WorldState A) (s : SessionState A) : Type 0 where
     pub stage : s.stage ≡ Settling
     pub full : IsUnforgedAndFaithful w → All (IsFull w.repo.graph.entries) (asked_ids s.asks)
 
-  -- What stays true. The client holds the whole ancestry of each have of each request that was sent, and the server
-  -- each want, unless bytes were forged. Each kept reply answers its request, as the server was then. Where nothing
+  -- What stays true. Each have of each request that was sent is connected at the client, and the server holds each
+  -- want, unless bytes were forged. Each kept reply answers its request, as the server was then. Where nothing
   -- was forged and packer and indexer are faithful, the two graphs agree. And the session is sound, and ready to settle
   -- where it is answered.
   pub record IsSound (w : WorldState A) : Type 0 where

@@ -53,7 +53,7 @@ abbrev pub is_not_forward : RefUpdate → Bool
 is_not_forward update.NotForward = true
 is_not_forward _ = false
 
--- how many refs moved, stood at their ids already, and stayed because they would not go forward
+-- how many refs moved, stood at their ids already, and stayed because the move would have been no fast-forward
 abbrev pub settled_outcome : List RefUpdate → Outcome
 settled_outcome updates =
     outcomes.Settled (count_by is_moved updates) (count_by is_same updates) (count_by is_not_forward updates)
@@ -63,7 +63,7 @@ module _ {A : Type 0} where
   abbrev pub IsRefused : ℕ → WorldState A → Outcome → WorldState A → Type 0
   IsRefused number w outcome new = (outcome ≡ outcomes.Fault number) × (new ≡ w)
 
-  -- `Begin`: a session begins in the place of any other, and hears the server's advertisement; or it can't begin, and
+  -- `Begin`: a session begins and replaces any other, and hears the server's advertisement; or it can't begin, and
   -- the old session goes on
   abbrev pub BeginsSession : WorldState A → List Refspec → Outcome → WorldState A → Type 0
   BeginsSession w specs outcomes.Done new =
@@ -75,7 +75,7 @@ module _ {A : Type 0} where
       × (number ≡ code_of fault) × (new ≡ w)
   BeginsSession w specs _ new = ⊥
 
-  -- a fault that ends a session takes away that it is answered
+  -- whether the session is answered after a fault: not after one that ends it
   abbrev pub mark_after : ClientFault A → Bool → Bool
   mark_after fault mark = if ends_session fault then false else mark
 
@@ -203,8 +203,8 @@ waiting None = None
 waiting (Some s) = waits_for s s.pending
 
 module _ {A : Type 0} (indexes : Indexes A) (index_fails : IndexFails) where
-  -- The bytes come as the reply to the request that waits, which changes the session and the repository; and the marks
-  -- are then these. A session that waits is not answered, so the mark that it is answered is never lost here.
+  -- The bytes come as the reply to the request that waits, which changes the session and the repository. `forged` and
+  -- `answered` are then these. A session that waits is not answered, so that is never lost here.
   pub record BytesCome (w : WorldState A) (s : SessionState A) (asked : Asked) (bytes : List ℕ) (forged answered : Bool)
       (outcome : Outcome) (new : WorldState A) : Type 0 where
     pub after : SessionState A
@@ -213,7 +213,7 @@ module _ {A : Type 0} (indexes : Indexes A) (index_fails : IndexFails) where
     pub is : new ≡ record w { session = Some after; repo = repo; forged = forged; answered = answered }
 
   -- `Deliver`: the first so many bytes of a kept reply come; or no request waits; or there is no such reply. The
-  -- session is answered where that reply is a full answer to it.
+  -- session is answered where all its bytes come, its request is equal to the one that waits, and its pack is taken.
   abbrev pub Delivers : WorldState A → Option Kept → ℕ → Option (SessionState A × Asked) → Outcome → WorldState A
       → Type 0
   Delivers w None count waits outcome new = IsRefused no_such w outcome new

@@ -27,7 +27,7 @@ pub record WorldState (A : Type 0) : Type 0 where
   pub forged : Bool
   pub answered : Bool
 
--- the bytes of a reply, each packet line in its canonical spelling
+-- the bytes of a reply, each packet in its canonical spelling
 abbrev pub reply_bytes : Reply → List ℕ
 reply_bytes reply = canonical_all (reply_packets Plain reply)
 

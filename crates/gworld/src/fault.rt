@@ -44,7 +44,7 @@ impl WorldFault {
         self.row().1
     }
 
-    // The table: the number and the name of each fault.
+    // The table of numbers and names.
     fn row(&self) -> (u32, &'static str)
         ensures { (result.0, result.1.now) ≡ world_fault_row self.now }
     {
@@ -73,7 +73,7 @@ impl Error for WorldFault {}
 /// Why a run stopped before it did all events.
 #[derive(Debug, Drop)]
 pub enum RunFault<A: Allocator + Copy = Global> {
-    /// 91: a list of the world, or a buffer, could not grow. These are the outcomes of the events that were done; the
+    /// 91: out of memory for a list of the world or a buffer. `outcomes` are those of the events that were done; the
     /// next one has not begun.
     Memory { outcomes: Vec<Outcome, A> },
 }
@@ -93,7 +93,7 @@ impl<A: Allocator + Copy> RunFault<A> {
         self.row().1
     }
 
-    // The table: the number and the name of each fault.
+    // The table of numbers and names.
     fn row(&self) -> (u32, &'static str)
         ensures { (result.0, result.1.now) ≡ run_fault_row self.now }
     {

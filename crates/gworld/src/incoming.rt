@@ -111,7 +111,7 @@ fn take_objects<A: Allocator + Copy, K: Indexer<A>>(
     }
 }
 
-// A buffer for packet lines.
+// A buffer for packets.
 fn line_buffer<A: Allocator + Copy>(alloc: A) -> Result<LineBuffer<A>, AllocError> {
     match LineBuffer::new(alloc) {
         Ok(buffer) => Ok(buffer),

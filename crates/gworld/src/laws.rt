@@ -66,8 +66,8 @@ pub fn steps_keep<A: Allocator + Copy, K: Packer<A> + Indexer<A>>()
     taking_only_grows::<A, K>();
 }
 
-/// A packer and indexer that are faithful lose nothing: a world that has them, in which no bytes were forged, keeps all
-/// that is promised of such worlds.
+/// A world with a faithful packer and indexer, in which no bytes were forged, keeps all that is promised of such
+/// worlds.
 pub fn faithful_lose_nothing<A: Allocator + Copy, K: Faithful<A>>(tools: &K)
     ensures { ((w : WorldState A) → w.forged ≡ false
         → IsUnforgedAndFaithful (tools_of (K.packs tools.now) (K.pack_fails tools.now)
@@ -81,7 +81,7 @@ pub fn promises_are_runs<A: Allocator + Copy, K: Packer<A> + Indexer<A>>()
     ensures { (k : K) → PromisesAreRuns (tools_of (K.packs k) (K.pack_fails k) (K.indexes k) (K.index_fails k)) }
 {}
 
-/// Where each ref of the client names an id whose whole ancestry the client holds, so it is after any run.
+/// Where each ref of the client is connected, so it is after any run.
 pub fn refs_stay_whole<A: Allocator + Copy, K: Packer<A> + Indexer<A>>()
     ensures { (k : K) → RefsStayWhole (tools_of (K.packs k) (K.pack_fails k) (K.indexes k) (K.index_fails k)) }
 {}

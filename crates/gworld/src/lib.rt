@@ -13,19 +13,19 @@
 //!   said by `Step` (specs/Steps.antt). Where the world's own lists or buffers can't grow, the run stops at an event
 //!   that has not begun, with the outcomes of those before it.
 //! - **Whatever is answered, whatever bytes are forged, and whatever packer and indexer do: each ref of the client
-//!   names an id whose whole ancestry the client holds**, and the session asked for objects at most once more than
-//!   there are ids that the refs reached when it began. Where no bytes were forged, server and client hold each common id.
-//! - Where no bytes were forged, and packer and indexer are faithful: a pack that is taken completes the wants of the
-//!   request that its reply answers, be that an older one than the request that waits. A reply to fetch that answers
-//!   the request that waits, and comes whole, is taken, unless its pack is over the limit, the graph is full, or
-//!   memory is refused. Each request that was sent is served, unless its pack is too large or memory is refused. A
-//!   session that took the whole pack that answers its request settles, and each ref that may move does, unless there
-//!   would be too many refs or memory is refused. (`Promises`, specs/Promises.antt, has a definition for each of
-//!   these.)
+//!   is connected**, and the session asked for objects at most once more than there are ids that its tips reach.
+//!   Where no bytes were forged, server and client hold each common id.
+//! - Where no bytes were forged, and packer and indexer are faithful: once a pack is taken, the wants of the request
+//!   that its reply answers are connected, be that an older request than the one that waits. A complete reply to
+//!   fetch that answers the request that waits is taken, unless its pack is over the limit, the graph has no room, or
+//!   the client is out of memory. Each request that was sent is served, unless its pack is too large or the server is
+//!   out of memory. A session that took the pack of a complete reply to its request settles, and each ref that may
+//!   move does, unless there would be too many refs or the client is out of memory. (`Promises`,
+//!   specs/Promises.antt, has a definition for each of these.)
 //! - A run whose steps keep their promises is a run; what is promised of the world after each step holds after any
 //!   run; and a packer and an indexer that are faithful are so in each world ([`laws`]).
-//! - Each fault has the number, the name and the text of its row. No call panics, overflows or reads out of bounds,
-//!   and each returns.
+//! - Each fault has the number, the name and the text of the tables (specs/Faults.antt). No call panics, overflows
+//!   or reads out of bounds, and each returns.
 //!
 //! # Only tested
 //!
@@ -33,13 +33,14 @@
 //!
 //! # What the contracts do not rule out
 //!
-//! A run may stop at any event as if memory were refused, and an event that takes memory may report that there is
-//! none, whatever memory there is. A call may take as long as it likes, and more memory than it needs.
+//! A run may stop at any event as if out of memory, and an event that takes memory may report that there is none,
+//! whatever memory there is. A call may take as long as it likes, and more memory than it needs. Formatting a fault
+//! may answer an error (`fmt::Error`) where the text would be right.
 //!
 //! # Stands on
 //!
 //! `gscenario` for events, `gsession` and `grepo` for the client, `gserve` and `ganswer` for the server, `gmsg` and
-//! the crates of single messages for the laws of their bytes, `gpkt` for packet lines in memory, `ggraph` and
+//! the crates of single messages for the laws of their bytes, `gpkt` for packets in memory, `ggraph` and
 //! `ghistory` for graphs, `gobject` for objects, packers and indexers, `gspec` for refspecs, `grefs` and `gname` for
 //! refs and ids.
 #![tactic(auto)]

@@ -6,11 +6,11 @@
 pub enum Outcome {
     /// It was done.
     Done,
-    /// The client sent a request, with this number.
+    /// The client sent a request: its position among those that were sent, counted from 0.
     Asked {
         request: usize,
     },
-    /// The server made a reply, which is kept with this number.
+    /// The server made a reply: its position among those that are kept, counted from 0.
     Served {
         reply: usize,
     },
@@ -31,8 +31,8 @@ pub enum Outcome {
     PackTaken {
         added: usize,
     },
-    /// The refs were settled: so many moved, so many stood at their ids already, and so many stayed because they would
-    /// not go forward.
+    /// The refs were settled: so many moved, so many stood at their ids already, and so many stayed because the move
+    /// would have been no fast-forward.
     Settled {
         moved: usize,
         same: usize,

@@ -82,14 +82,14 @@ impl<A: Allocator + Copy> Model for Parts<A> {
     } };
 }
 
-// The mark of an answered session after a fault.
+// Whether the session is answered after a fault.
 fn mark_after<A: Allocator + Copy>(fault: &ClientFault<A>, mark: bool) -> bool
     ensures { result ≡ mark_after fault.now mark }
 {
     if fault.ends_session() { false } else { mark }
 }
 
-// The outcome of a fault; one that ends the session takes its mark away.
+// The outcome of a fault; one that ends the session leaves none that is answered.
 fn refuse<A: Allocator + Copy>(fault: ClientFault<A>, mark: &mut bool) -> Outcome
     ensures outcome { result ≡ outcome.Fault (code_of fault) }
     ensures mark { mark.new ≡ mark_after fault mark.old }
@@ -98,14 +98,14 @@ fn refuse<A: Allocator + Copy>(fault: ClientFault<A>, mark: &mut bool) -> Outcom
     Outcome::Fault { code: fault.code() }
 }
 
-// The request of this number.
+// The request at this position.
 fn sent_at<A: Allocator + Copy>(sent: &Vec<Sent<A>, A>, number: usize) -> Option<&Sent<A>>
     ensures { option_copied result ≡ slice_get sent.now.items number }
 {
     sent.get(number)
 }
 
-// The kept reply of this number.
+// The kept reply at this position.
 fn kept_at<A: Allocator + Copy>(kept: &Vec<KeptReply<A>, A>, number: usize) -> Option<&KeptReply<A>>
     ensures { option_copied result ≡ slice_get kept.now.items number }
 {

@@ -17,7 +17,7 @@ use gscenario::Event;
 use std::alloc::{Allocator, Global};
 use std::marker::Model;
 
-/// A server and a client that fetches from it, with a packer and an indexer.
+/// A server and a client that fetches from it, all that was sent, a packer and an indexer.
 #[derive(Drop)]
 pub struct World<K: Packer<A> + Indexer<A> + Drop, A: Allocator + Copy = Global> {
     parts: Parts<A>,
@@ -67,13 +67,13 @@ impl<K: Packer<A> + Indexer<A> + Drop, A: Allocator + Copy> World<K, A> {
     ///
     /// An event that is refused has the outcome `Fault`, and the next ones are done all the same:
     ///
-    /// - `Begin`: 82 over 16 refspecs, 64 without memory; the session before stays.
+    /// - `Begin`: 82 over 16 refspecs, 64 out of memory; the session before stays.
     /// - `Ask`: 83 where there is no session or no request is due, and nothing changes; 64, and the session is over.
     /// - `Serve`: 93 where no such request was sent; 64, or 65 where the packer fails. Nothing changes.
     /// - `Deliver`: 93 where no such reply is kept; then as `Forge`.
     /// - `Forge`: 83 where no request waits; else the fault of the reply that was read or not taken, and the session is
     ///   over, with refs as before. The world counts as forged from then on.
-    /// - `StrangeRequest`: 28, 53, 64 or 65 where the server had no memory.
+    /// - `StrangeRequest`: 28, 53, 64 or 65 where the server ran out of memory. Nothing changes.
     /// - `Settle`: 83 where that is not due, and nothing changes; 85, 69 or 64, and the session is over, with refs as
     ///   before.
     /// - `ServerAdd`, `ClientAdd`: 90 where the other end holds the id with another object, then 72 where a parent is
@@ -84,7 +84,7 @@ impl<K: Packer<A> + Indexer<A> + Drop, A: Allocator + Copy> World<K, A> {
     /// events that were done: the world is as these left it, and the next event has not begun.
     ///
     /// What each step promises is said by `Promises` (specs/Promises.antt). Whatever is answered, each ref of the
-    /// client names an id whose whole ancestry the client holds.
+    /// client is connected.
     pub fn run(&mut self, events: &[Event<A>]) -> Result<Vec<Outcome, A>, RunFault<A>>
         ensures tools { self.new.tools ≡ self.old.tools }
         ensures safe { AreRefsWhole self.new.world }

@@ -94,7 +94,7 @@ fn talk<A: Allocator + Copy, K: Packer<A>>(
     stranger_outcome(written, served.end)
 }
 
-// How a conversation ended, and how much was written in it; where it could not be written there was no memory.
+// How a conversation ended, and how much was written in it. A write fails only out of memory.
 fn stranger_outcome(written: usize, ended: End) -> Result<Outcome, AllocError>
     ensures { MatchResult result
         (λ told. (told ≡ stranger_outcome written ended) × (ended ≢ End.WriteFailed))

@@ -20,7 +20,7 @@ use gspec::Spec;
 use std::alloc::{AllocError, Allocator};
 
 impl<A: Allocator + Copy> Parts<A> {
-    /// Begins a session in the place of any other.
+    /// Begins a session, which replaces any other; the old one stays where that fails.
     pub(crate) fn begin(&mut self, specs: &[Spec<A>]) -> Outcome
         ensures { BeginsSession self.old specs.now result self.new }
     {
@@ -107,7 +107,7 @@ impl<A: Allocator + Copy> Parts<A> {
     }
 }
 
-// How many refs moved, stood at their ids already, and stayed because they would not go forward.
+// How many refs moved, stood at their ids already, and stayed because the move would have been no fast-forward.
 fn settled_outcome<A: Allocator + Copy>(settled: &Settled<A>) -> Outcome
     ensures { result ≡ settled_outcome settled.now.updates.items }
 {

@@ -89,7 +89,7 @@ fn first_disagreement<A: Allocator + Copy>(server: &Graph<A>, client: &Graph<A>)
     None
 }
 
-// The id at a place of the server's graph, if the client holds it with another object.
+// The id at a position of the server's graph, if the client holds it with another object.
 fn disagreement_at<A: Allocator + Copy>(
     server: &Graph<A>,
     client: &Graph<A>,
