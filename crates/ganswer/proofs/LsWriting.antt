@@ -33,7 +33,7 @@ pub mapped_parts : (lines first second : List RefLine) → lines ≡ first ++ se
 mapped_parts lines first second is = ap (map ref_packet) is ∙ map-append ref_packet first second
 
 module _ {A : Type 0} (server : Server A) (asked : LsRefsAsked) where
-  -- the lines of the refs from a place on are those of the ref there, and those of the refs after it
+  -- the lines of the refs from a position on are those of the ref there, and those of the refs after it
   pub split_at : (refs : RefList) (k : ℕ) (ref : List ℕ × List ℕ) (lines : List RefLine) → k < length refs → ref ≡ get_or refs k ref → ShowsLines server asked (drop k refs) lines
       → Splits server asked (ref ∷ []) (drop (k + 1) refs) lines
   split_at refs k ref lines inside is shows =

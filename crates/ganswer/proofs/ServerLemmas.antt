@@ -23,7 +23,7 @@ use Rattle.ganswer.specs.declared.fault.BuildFault.TheVariants as build
 -- ---- parents
 
 module _ {A : Type 0} where
-  -- the parents up to a place, and those at it
+  -- the parents up to a position, and those at it
   pub parents_more : (P : List ℕ → Type 0) (g : List (Entry A)) (p : ℕ) (parents : List (List ℕ)) → option_map (λ entry. entry.node.parents) (slice_get g p) ≡ Some parents
       → All P (parents_in (take p g)) → All P parents → All P (parents_in (take (p + 1) g))
   parents_more P g p parents at before here =
@@ -35,7 +35,7 @@ module _ {A : Type 0} where
       (sym (ap parents_in grown ∙ flat_map-append (λ (entry : Entry A). entry.node.parents) (take p g) (e.0 ∷ []) ∙ ap (λ (l : List (List ℕ)). parents_in (take p g) ++ l) last))
       (All-append P (parents_in (take p g)) parents before here)
 
-  -- the first that is missing at a place is the first of all, where none is missing before it
+  -- the first that is missing at a position is the first of all, where none is missing before it
   pub first_of_all : (g : List (Entry A)) (p : ℕ) (parents : List (List ℕ)) (id : List ℕ) → option_map (λ entry. entry.node.parents) (slice_get g p) ≡ Some parents
       → All (Holds g) (parents_in (take p g)) → IsFirstAbsent g parents id → IsFirstAbsent g (parents_in g) id
   first_of_all g p parents id at before first =
@@ -63,7 +63,7 @@ module _ {A : Type 0} where
       Contains-append_left first.node.parents (parents_in g) b (subst (λ (e : Entry A). Contains e.node.parents b) (sym (same_Some first entry at)) among)
   parents_at (first ∷ g) (suc p) entry b at among = Contains-append_right first.node.parents (parents_in g) b (parents_at g p entry b at among)
 
-  -- where no parent is missing at any place, none is
+  -- where no parent is missing at any position, none is
   pub closed_by_places : (g : List (Entry A)) → PlacesAreNodes A → IdsDiffer g → All (Holds g) (parents_in g) → IsClosed g
   closed_by_places g law differ held a b (node, is_node, among) =
       let place = ((law g differ).0 a node).0 is_node in

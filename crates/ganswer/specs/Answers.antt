@@ -39,7 +39,7 @@ Answers server packs (Fetches asked) (Fetch reply) = FetchAnswer server packs as
 Answers server packs asked reply = ⊥
 
 -- Why fetch is not answered: nothing is wanted; else the first want that is not held; else, where a pack is due, what
--- the packer may refuse of the objects to send; or there is no memory.
+-- the packer may refuse of the objects to send; or out of memory.
 abbrev pub FetchRefuses : {A : Type 0} → Server A → PackFails A → FetchAsked → ServeFault → Type 0
 FetchRefuses server fails asked serve.NoWants = asked.wants ≡ []
 FetchRefuses server fails asked (serve.NotOurs id) = IsFirstAbsent server.graph.entries asked.wants id

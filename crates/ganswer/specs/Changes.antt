@@ -22,7 +22,7 @@ IsNotAdded server entry (build.Graph cause) =
     HoldsParents server.graph.entries entry × IsCause server.graph.format server.graph.entries entry cause
 IsNotAdded server entry _ = ⊥
 
--- only the graph changes: the object is there with its node, or comes at the end
+-- only the graph changes: the object is held with its node, or comes at the end
 pub record AddsObject {A : Type 0} (old : Server A) (entry : Entry A) (new : Server A) : Type 0 where
   pub parents : HoldsParents old.graph.entries entry
   pub format : new.graph.format ≡ old.graph.format
@@ -36,7 +36,7 @@ Adds old entry new (Err fault) = (new ≡ old) × IsNotAdded old entry fault
 
 -- ---- a ref
 
--- why refs do not take a name: it can't be set, or it is new and there is no memory
+-- why refs do not take a name: it can't be set, or it is new and they are out of memory
 abbrev pub IsNotTaken : RefList → List ℕ → RefsFault → Type 0
 IsNotTaken list name refs.Refs = CannotSet list name
 IsNotTaken list name refs.Memory = (ref_at list name ≡ None) × ¬ (CannotSet list name)

@@ -34,15 +34,15 @@ serve_fault_row (serve.NotOurs id) = row_of (74, codes "NotOurs") (codes "not ou
 serve_fault_row (serve.Pack fault) = row_of (pack_fault_row fault) (codes "pack failed")
 serve_fault_row serve.Memory = row_of (64, codes "Memory") (codes "out of memory")
 
--- ---- want of memory
+-- ---- out of memory
 
--- a request was not read for want of memory, for its line or for what it brings
+-- a request was not read: out of memory for its packet or for what it brings
 abbrev pub why_lacks_memory : Why → Bool
 why_lacks_memory (why.Line line.Memory) = true
 why_lacks_memory why.Memory = true
 why_lacks_memory _ = false
 
--- there is no memory: for a reader, for a request, for a pack, or for an answer
+-- out of memory: for a reader, for a request, for a pack, or for an answer
 abbrev pub lacks_memory : ServeFault → Bool
 lacks_memory (serve.Reader line.Memory) = true
 lacks_memory (serve.Reader _) = false

@@ -17,7 +17,7 @@ pub record CanServe {A : Type 0} (server : Server A) (asked : FetchAsked) : Type
   pub some : asked.wants ≢ []
   pub held : All (Holds server.graph.entries) asked.wants
 
--- the ids that both ends have
+-- the common ids
 abbrev pub commons_of : {A : Type 0} → Server A → FetchAsked → List (List ℕ)
 commons_of server asked = common_of server.graph.entries asked.haves
 

@@ -33,8 +33,8 @@ use Rattle.ganswer.specs.declared.fault.ServeFault.TheVariants as serve
 
 -- ---- what is advertised
 
--- The capabilities can be sent, a client of this format goes on, and it may ask for a HEAD on a branch that is not
--- there yet (gitprotocol-v2(5), "ls-refs").
+-- The capabilities can be sent, a client of this format goes on, and it may ask for an unborn HEAD
+-- (gitprotocol-v2(5), "ls-refs").
 pub record Welcomes (format : Format) (capabilities : List Capability) : Type 0 where
   pub form : AreCapabilities capabilities
   pub goes_on : check_fault format capabilities ≡ None
@@ -78,7 +78,7 @@ FetchAnswersFit A packs =
     → reading.format ≡ server.graph.format → reading.direct ≡ is_direct asked
     → length (pack_of reply) ≤ reading.limit → IsReplyIn reading reply
 
--- both ends have these ids: the client has offered each, and the server holds it; none comes twice
+-- these ids are common: the client has offered each, and the server holds it; none comes twice
 pub record AreCommon {A : Type 0} (server : Server A) (asked : FetchAsked) (ids : List (List ℕ)) : Type 0 where
   pub once : IsDistinct bytes_eq ids
   pub offered : All (Contains asked.haves) ids
@@ -91,8 +91,8 @@ AcksAreCommon A packs =
     → FetchAnswer server packs asked reply → AreCommon server asked (acknowledged_by reply)
 
 -- The pack is one of some entries of the server, which may be a graph's. Once they come in at a client whose graph
--- agrees with the server's and that has the whole ancestry of each have, it has that of each want, and all that a want
--- reaches at the server.
+-- agrees with the server's and at which each have is connected, each want is, and it holds all that a want reaches at
+-- the server.
 pub record IsEnough {A : Type 0} (server : Server A) (packs : Packs A) (asked : FetchAsked)
     (pack : List ℕ) : Type 0 where
   pub list : List (Entry A)

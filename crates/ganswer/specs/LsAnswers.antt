@@ -82,9 +82,9 @@ pub record ShowsLines {A : Type 0} (server : Server A) (asked : LsRefsAsked) (re
   pub shown : map name_and_id lines ≡ filter (is_shown asked.prefixes) refs
   pub attributes : All (HasAttributes server asked) lines
 
--- ---- HEAD on a branch that is not there yet
+-- ---- an unborn HEAD
 
--- the name that HEAD points at, where there is no such ref
+-- the name that an unborn HEAD points at
 abbrev pub missing_target : {A : Type 0} → Head A → RefList → Option (List ℕ)
 missing_target heads.None refs = None
 missing_target (heads.Id id) refs = None

@@ -1,5 +1,5 @@
--- What a server has: a graph, refs and HEAD (gitglossary(7), "ref", "HEAD"), none of which leads to an object that is
--- not there.
+-- What a server has: a graph, refs and HEAD (gitglossary(7), "ref", "HEAD"), none of which leads to an id that is not
+-- held.
 use Rattle.std.specs.Prelude.{◌≡◌, ◌⊎◌, ⊤, ℕ, List, ◌∷◌, ◌++◌, All, None, Result, Ok, Err}
 use Rattle.std.specs.List.{flat_map}
 use Rattle.std.specs.Map.{values_of}
@@ -22,7 +22,7 @@ pub record Server (A : Type 0) : Type 0 where
 abbrev pub served : {A : Type 0} → History A → RefList → Head A → Server A
 served graph refs head = record { graph = graph; refs = refs; head = head }
 
--- the object at which each ref stands is held
+-- the id at which each ref stands is held
 abbrev pub HoldsRefs : {A : Type 0} → List (Entry A) → RefList → Type 0
 HoldsRefs g refs = All (Holds g) (values_of refs)
 
@@ -64,7 +64,7 @@ pub record IsFirstDangling {A : Type 0} (g : List (Entry A)) (refs : RefList) (n
   pub absent : node_at g id ≡ None
 
 -- why there is no such server: a missing parent comes first, then a ref, then HEAD; of several the first. For the name
--- of a ref, and for that of HEAD, there may be no memory.
+-- of a ref, and for that of HEAD, it may be out of memory.
 abbrev pub IsUnserved : {A : Type 0} → Server A → BuildFault A → Type 0
 IsUnserved server (build.NotClosed id) = IsFirstAbsent server.graph.entries (parents_in server.graph.entries) id
 IsUnserved server (build.RefMissing name) =

@@ -14,14 +14,14 @@ use Rattle.ganswer.specs.declared.fault.ServeFault.TheVariants as serve
 
 -- ---- making a server
 
--- what looking the refs up answers: the object of each is held, or why there is no such server
+-- what looking the refs up answers: the id of each is held, or why there is no such server
 abbrev pub ChecksRefs : {A : Type 0} → List (Entry A) → RefList → Result (Unit {0}) (BuildFault A) → Type 0
 ChecksRefs g refs (Ok _) = HoldsRefs g refs
 ChecksRefs g refs (Err (build.RefMissing name)) = IsFirstDangling g refs name
 ChecksRefs g refs (Err build.Memory) = (name : List ℕ) × IsFirstDangling g refs name
 ChecksRefs g refs (Err _) = ⊥
 
--- the fault of a ref that stands at no object, for whose name there may be no memory
+-- the fault of a ref at an id that is not held, or out of memory for its name
 abbrev pub ReportsRef : {A : Type 0} → List ℕ → BuildFault A → Type 0
 ReportsRef name (build.RefMissing missing) = missing ≡ name
 ReportsRef name build.Memory = ⊤

@@ -13,7 +13,8 @@ use ghello::Advert;
 use std::alloc::Allocator;
 
 impl<A: Allocator + Copy> Server<A> {
-    /// What the server advertises: its name, `ls-refs=unborn`, `fetch`, and the format of its ids.
+    /// What the server advertises (gitprotocol-v2(5), "Capability Advertisement"): `agent=gitv2/1`,
+    /// `ls-refs=unborn`, `fetch`, and the format of its ids.
     ///
     /// It fails with `Memory` alone.
     pub fn advert(&self) -> Result<Advert<A>, ServeFault>

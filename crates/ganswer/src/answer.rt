@@ -18,11 +18,11 @@ use std::alloc::Allocator;
 /// What a server answers.
 #[derive(Drop)]
 pub enum Reply<A: Allocator + Copy> {
-    /// To the empty request, with which a client ends the conversation.
+    /// To the empty request, a lone flush with which a client ends the conversation.
     Nothing,
-    /// Refs.
+    /// To ls-refs: refs.
     Ls(LsReply<A>),
-    /// Common ids, objects, or both.
+    /// To fetch: common ids, a pack, or both.
     Fetch(FetchReply<A>),
 }
 
@@ -31,15 +31,14 @@ impl<A: Allocator + Copy> Server<A> {
     ///
     /// Refs: HEAD first, then the names in byte order; those that begin with one of the prefixes, or all where there is
     /// none. With `symrefs` a HEAD that points at a ref has its target, and with `peel` the id of a tag the commit to
-    /// which it leads. With `unborn` comes the name of a ref that HEAD points at and that is not there, where HEAD is
-    /// asked for.
+    /// which it leads. With `unborn` comes the name that an unborn HEAD points at, where HEAD is asked for.
     ///
     /// Objects: with `done`, or without haves, the pack of those that a want reaches and no common id does; the common
-    /// ids are the distinct haves that are here, in the order in which each came first. Else, where each want reaches
+    /// ids are the distinct haves that are held, in the order in which each came first. Else, where each want reaches
     /// a common id, the common ids and that pack, and else the common ids alone. With `include-tag` the pack has the
     /// tags, too, that lead from the ids of refs to commits of it.
     ///
-    /// It fails with `NoWants` where a fetch wants nothing; else with `NotOurs` for the first want that is not here;
+    /// It fails with `NoWants` where a fetch wants nothing; else with `NotOurs` for the first want that is not held;
     /// else with `Pack` where the packer fails for the objects to send; and with `Memory`.
     pub fn answer<K: Packer<A>>(
         &self,
@@ -56,7 +55,7 @@ impl<A: Allocator + Copy> Server<A> {
     }
 
     /// As `answer`, by a packer of which is known what it answered: where it fails its fault is the one that is reported,
-    /// and `Memory` says that memory ended where it was not asked.
+    /// and `Memory` comes only where it was not asked.
     pub fn answer_with<K: Packer<A>>(
         &self,
         request: &Request<A>,

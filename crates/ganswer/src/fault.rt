@@ -23,15 +23,15 @@ pub enum BuildFault<A: Allocator + Copy = Global> {
     Graph(GraphFault),
     /// 69, 64: the refs refuse the name.
     Refs(RefsFault),
-    /// 70: the parent of an object is not there.
+    /// 70: the parent of an object is not held.
     NotClosed { id: Oid },
-    /// 71: the object at which a ref stands is not there.
+    /// 71: the id at which a ref stands is not held.
     RefMissing { name: RefName<A> },
-    /// 71: the object at which HEAD stands by its id is not there.
+    /// 71: the id of a detached HEAD is not held.
     HeadMissing,
-    /// 72: the parent of an object that is to be added is not there.
+    /// 72: the parent of an object that is to be added is not held.
     MissingParent { id: Oid },
-    /// 64: there is no memory for a name.
+    /// 64: out of memory for a name.
     Memory,
 }
 
@@ -97,17 +97,17 @@ impl<A: Allocator + Copy> From<AllocError> for BuildFault<A> {
 /// Why a request was not answered.
 #[derive(Debug, Drop)]
 pub enum ServeFault {
-    /// 28: there is no memory for the reader of requests.
+    /// 28: out of memory for the reader of requests.
     Reader(LineFault),
     /// 20 to 54: the request was refused as it was read.
     Request(MessageFault),
     /// 73: a fetch without a want.
     NoWants,
-    /// 74: the first wanted object that is not there.
+    /// 74: the first want that is not held.
     NotOurs { id: Oid },
     /// 65: the packer refuses the objects to send.
     Pack(PackFault),
-    /// 64: there is no memory for the answer.
+    /// 64: out of memory for the answer.
     Memory,
 }
 
@@ -125,7 +125,7 @@ fn row(code: u32, name: &'static str, phrase: &'static str) -> ServeRow
     ServeRow { code, name, phrase }
 }
 
-// Why no line is read, in a client's words.
+// Why no packet is read, in the words for a client.
 fn line_row(fault: LineFault) -> ServeRow
     ensures { row_view result ≡ row_of (line_fault_row fault) (line_phrase fault) }
 {
@@ -148,7 +148,7 @@ impl ServeFault {
         self.row().name
     }
 
-    /// The words for a client, as in `ERR upload-pack: no wants`. For a wanted object that is missing the digits of
+    /// The words for a client, as in `ERR upload-pack: no wants`. For a want that is not held the digits of
     /// its id come after them.
     pub fn phrase(&self) -> &'static str
         ensures { result.now ≡ (serve_fault_row self.now).phrase }
@@ -156,7 +156,7 @@ impl ServeFault {
         self.row().phrase
     }
 
-    /// Whether it is want of memory: 28, 53 or 64, or 65 where the packer had none.
+    /// Whether it means out of memory: 28, 53 or 64, or 65 where the packer was.
     pub fn is_memory(&self) -> bool
         ensures { result ≡ lacks_memory self.now }
     {
@@ -201,7 +201,7 @@ impl fmt::Display for ServeFault {
 
 impl Error for ServeFault {}
 
-// Whether a request was not read for want of memory.
+// Whether a request was not read: out of memory.
 fn why_is_memory(why: &Why) -> bool
     ensures { result ≡ why_lacks_memory why.now }
 {

@@ -21,10 +21,10 @@ use grequest::FetchRequest;
 use std::alloc::Allocator;
 
 impl<A: Allocator + Copy> Server<A> {
-    /// The answer to a request for objects, as [`Server::answer`] gives it. The packer is asked once where a
-    /// pack is sent or a fault of its own is reported, and else it is not asked.
+    /// The answer to a request for objects (gitprotocol-v2(5), "fetch"), as [`Server::answer`] gives it. The packer is
+    /// asked once where a pack is sent or a fault of its own is reported, and else it is not asked.
     ///
-    /// So where it fails, that fault is reported, and `Memory` says that memory ended before it was asked.
+    /// So where it fails, that fault is reported, and `Memory` comes only where it was not asked.
     pub fn answer_fetch<K: Packer<A>>(
         &self,
         asked: &FetchRequest<A>,
@@ -53,7 +53,7 @@ impl<A: Allocator + Copy> Server<A> {
         Ok(FetchReply::Ready(commons, pack))
     }
 
-    // Whether something is wanted, and all of it is here.
+    // Whether something is wanted, and all of it is held.
     fn check_wants(&self, wants: &[Oid]) -> Result<(), ServeFault>
         ensures { ChecksWants self.now wants.now result }
     {
@@ -66,7 +66,7 @@ impl<A: Allocator + Copy> Server<A> {
         }
     }
 
-    // The ids that both ends have, to be acknowledged.
+    // The common ids, to be acknowledged.
     fn commons(&self, asked: &FetchRequest<A>) -> Result<Acks<A>, ServeFault>
         ensures commons { IfOk result (λ commons. commons ≡ record {
           format = self.now.graph.format;
@@ -74,14 +74,14 @@ impl<A: Allocator + Copy> Server<A> {
         }) }
         ensures fault { IfErr result (λ fault. fault ≡ Memory) }
     {
+        // Laws.
         places_are_nodes::<A>();
-        // The call only gives the proof that a request has not too many.
         let _haves = asked.haves();
         let ids = self.common_ids(asked)?;
         Ok(Acks::from_ids(self.graph().format(), ids).unwrap())
     }
 
-    // The ids that both ends have.
+    // The common ids.
     fn common_ids(&self, asked: &FetchRequest<A>) -> Result<Vec<Oid, A>, ServeFault>
         ensures ids { IfOk result (λ ids. ids.items ≡ commons_of self.now asked.now.asked) }
         ensures fault { IfErr result (λ fault. fault ≡ Memory) }
@@ -137,7 +137,7 @@ impl<A: Allocator + Copy> Server<A> {
     }
 }
 
-// The fault of a walk, which fails only when out of memory.
+// The fault of a walk, which fails only out of memory.
 fn no_memory(fault: GraphFault) -> ServeFault
     requires { fault ≡ OutOfMemory }
     ensures { result ≡ Memory }

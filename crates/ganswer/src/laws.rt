@@ -11,7 +11,7 @@ use gname::laws::head_is_a_name;
 use std::alloc::Allocator;
 
 /// What a server advertises can be sent, a client of the same object format goes on with it, and finds that it may ask
-/// for a HEAD on a branch that is not there yet (gitprotocol-v2(5), "Capability Advertisement").
+/// for an unborn HEAD (gitprotocol-v2(5), "Capability Advertisement").
 pub fn adverts_welcome()
     ensures { AdvertsWelcome }
 {}
@@ -33,7 +33,7 @@ pub fn ls_answers_fit<A: Allocator + Copy>()
     head_is_a_name();
 }
 
-/// Each line of an answer to a request for refs stands at an object that the server has.
+/// Each line of an answer to a request for refs stands at an id that the server holds.
 pub fn ls_answers_are_held<A: Allocator + Copy>()
     ensures { LsAnswersAreHeld A }
 {}
@@ -54,8 +54,8 @@ pub fn acks_are_common<A: Allocator + Copy, K: Packer<A>>()
 }
 
 /// A pack that is sent is one of entries of the server's graph. Where they are inserted into the graph of a client
-/// that has the whole ancestries of the haves of its request, and agrees with the server on what both hold, the
-/// client's has those of the wants, and all that these reach at the server.
+/// at which the haves of its request are connected, and which agrees with the server's, the wants are connected
+/// there, and it holds all that these reach at the server.
 pub fn packs_are_enough<A: Allocator + Copy, K: Packer<A>>()
     ensures { (packer : K) → PacksAreEnough A (K.packs packer) }
 {

@@ -3,47 +3,44 @@
 //!
 //! # Proved
 //!
-//! - A [`Server`] has exactly the graph, the refs and the HEAD that it was given. In its type: no parent of an object
-//!   is missing, and each ref, and HEAD by its id, stands at an object that is there. [`Server::new`] refuses other
-//!   parts for the first that is missing, in a fixed order.
+//! - A [`Server`] has exactly the graph, the refs and the HEAD that it was given. In its type: the graph is closed, and
+//!   each ref, and a detached HEAD, stands at an id that is held. [`Server::new`] refuses other parts for the first
+//!   that is missing, in a fixed order.
 //! - [`Server::add`], [`Server::set_ref`] and [`Server::set_head`] change that one thing and nothing else, or are
 //!   refused for their first cause and change nothing.
 //! - [`Server::answer`] gives an answer to the request (`specs/Answers.antt`), for any packer: to ls-refs the refs that
 //!   are asked for, HEAD first and then in the byte order of their names, with the attributes that are asked for; to
 //!   fetch the common ids, the pack of the objects to send, or both. It refuses a fetch exactly where nothing is
-//!   wanted, or with the first want that is not here; where the packer may refuse the objects to send; or out of
+//!   wanted, or with the first want that is not held; where the packer may refuse the objects to send; or out of
 //!   memory. The ids of an answer have the format of the graph, and an answer is never refused for its length.
-//! - [`Server::answer_with`] and [`Server::answer_fetch`] take one answer of the packer where a pack is sent, and where a
-//!   fault of the packer is reported, which is the one that it answered; else they take none. So out of memory never
-//!   hides such a fault. A packer that has failed is asked no more ([`OnePack`]).
+//! - [`Server::answer_with`] and [`Server::answer_fetch`] take one answer of the packer where a pack is sent, and
+//!   where a fault of the packer is reported, which is the one that it answered; else they take none. So out of memory
+//!   never hides such a fault. A packer that has failed is asked no more ([`OnePack`]).
 //! - [`Server::write_ls_answer`] writes the answer to ls-refs, or a beginning of it where the sink fails.
-//! - [`Server::advert`] fails only when out of memory, and else advertises `agent=gitv2/1`, `ls-refs=unborn`,
+//! - [`Server::advert`] fails only out of memory, and else advertises `agent=gitv2/1`, `ls-refs=unborn`,
 //!   `fetch`, and the format of the graph's ids.
 //! - [`laws`]: what is advertised can be read by each client, and one of the same object format goes on with it. A
-//!   server has one answer to each request for refs, whose lines stand at objects that it has; and one to each request
+//!   server has one answer to each request for refs, whose lines stand at ids that it holds; and one to each request
 //!   of any kind where its packer is faithful, since there is one list to send and one pack of it. What an answer
-//!   acknowledges are haves of the request that the server has, too. A pack that is sent completes the ancestries of
-//!   the wants at a client that has those of its haves. Wants that are here are refused only for the packer, or out of
+//!   acknowledges are haves of the request that the server holds, too. Once a pack that is sent came in, the wants
+//!   are connected at a client where the haves are. Wants that are held are refused only for the packer, or out of
 //!   memory. Answers have the forms of their messages, so that what is written of them can be read by a client of the
 //!   same object format. Objects only come to a server, and their ids stay of one format.
-//! - Each fault has the number, the name and the text of its row, and the words for a client; [`ServeFault::is_memory`] says
-//!   which of them mean that there was no memory.
+//! - Each fault has its number, its name and its text, and the words for a client; [`ServeFault::is_memory`] says
+//!   which of them mean out of memory.
 //! - No call panics, overflows or reads out of bounds, and each returns.
 //!
 //! # Only tested
 //!
 //! By the cases of `conformance`: that memory which is there is used, and that `write_ls_answer` takes none.
 //!
-//! # Neither proved nor tested
-//!
-//! That `OnePack` calls its packer once for the one answer that it takes.
-//!
 //! # What the contracts do not rule out
 //!
-//! It may report out of memory: `answer` for a request for refs, and for a fetch whose wants are all here, but not once
+//! It may report out of memory: `answer` for a request for refs, and for a fetch whose wants are all held, but not once
 //! it has asked the packer; `advert` at any time; `new` for the name of a ref that it reports, or where nothing is
 //! missing; `add` for an object that is new, and `set_ref` for a name that is. A call may take as long as it likes, and
-//! more memory than it needs.
+//! more memory than it needs. `OnePack` may call its packer more than once for the one answer that it takes.
+//! Formatting a fault may answer an error (`fmt::Error`) where the text would be right.
 //!
 //! # Stands on
 //!

@@ -88,9 +88,9 @@ impl<A: Allocator + Copy> Server<A> {
             → IsAnswering self.now asked.now (front ++ (name.now, id) ∷ []) reply.new) }
         ensures fault { IfErr result (λ fault. fault ≡ Memory) }
     {
+        // Laws.
         places_are_nodes::<A>();
         ids_have_one_format();
-        // The call only gives the proof what the type of a server says.
         let _refs = self.refs();
         let Some(line) = self.line(asked, name, id) else {
             return Ok(());
@@ -154,7 +154,7 @@ impl<A: Allocator + Copy> Server<A> {
         }
     }
 
-    // The name that HEAD points at, where there is no such ref.
+    // The name that an unborn HEAD points at.
     fn missing_target(&self) -> Option<&RefName<A>>
         ensures { option_copied result ≡ missing_target self.now.head self.now.refs }
     {
@@ -223,7 +223,7 @@ fn begins_with_any<A: Allocator + Copy>(prefixes: &[Prefix<A>], name: &RefName<A
     prefixes.iter().any(|prefix| name.starts_with(prefix))
 }
 
-// The fault of a line that fits its reply, and for which there is no memory.
+// The fault of a line that fits its reply: out of memory.
 fn no_memory(fault: MessageFault) -> ServeFault
     requires { fault.why ≡ why.Memory }
     ensures { result ≡ Memory }

@@ -16,12 +16,12 @@ pub enum Packing {
     Unasked,
     /// A pack.
     Packed,
-    /// The fault for which there is none.
+    /// A fault, and no pack.
     Failed(PackFault),
 }
 
-/// A packer that is asked for one pack at most for each answer, and what it has answered. Once it has failed it is
-/// asked no more, so that its fault stays known.
+/// A packer that is asked for one pack at most for each answer, and what it has answered. Once it has
+/// failed it is asked no more, so that its fault stays known.
 #[derive(Drop)]
 pub struct OnePack<'a, K> {
     packer: &'a K,

@@ -17,8 +17,8 @@ use gname::{Oid, RefName};
 use std::alloc::{Allocator, Global};
 use std::marker::Model;
 
-/// A repository that is served: a graph, refs and HEAD. Each parent of an object is there, and so is each object at
-/// which a ref, or HEAD by its id, stands. HEAD may point at a ref that is not there.
+/// A repository that is served: a graph, refs and HEAD (gitglossary(7), "ref", "HEAD"). The graph is
+/// closed, and each id at which a ref, or a detached HEAD, stands is held. HEAD may be unborn.
 #[derive(Drop)]
 pub struct Server<A: Allocator + Copy = Global> {
     graph: Graph<A>,
@@ -43,10 +43,10 @@ impl<A: Allocator + Copy> Model for Server<A> {
 impl<A: Allocator + Copy> Server<A> {
     /// A server of these parts.
     ///
-    /// It fails with `NotClosed` where the parent of an object is not there, and reports the first in the order of the
-    /// objects and of their parents; else with `RefMissing` where the object of a ref is not there, and reports the
-    /// first by name; else with `HeadMissing` where HEAD stands at the id of no object; and with `Memory` where there
-    /// is none for that name, or for the name HEAD.
+    /// It fails with `NotClosed` where the parent of an object is not held, and reports the first in the order of the
+    /// objects and of their parents; else with `RefMissing` where the id of a ref is not held, and reports the
+    /// first by name; else with `HeadMissing` where HEAD is detached at an id that is not held; and with `Memory` out
+    /// of memory for that name, or for the name HEAD. The parts are lost then.
     pub fn new(graph: Graph<A>, refs: Refs<A>, head: Head<A>) -> Result<Server<A>, BuildFault<A>>
         ensures { Makes (served graph refs head) result }
     {
@@ -60,7 +60,7 @@ impl<A: Allocator + Copy> Server<A> {
         })
     }
 
-    /// The objects.
+    /// The objects, in store order.
     pub fn graph(&self) -> &Graph<A>
         ensures graph { result.now ≡ self.now.graph }
         ensures server { IsServer self.now }
@@ -68,7 +68,7 @@ impl<A: Allocator + Copy> Server<A> {
         &self.graph
     }
 
-    /// The refs.
+    /// The refs, by name.
     pub fn refs(&self) -> &Refs<A>
         ensures refs { result.now ≡ self.now.refs }
         ensures server { IsServer self.now }
@@ -84,9 +84,9 @@ impl<A: Allocator + Copy> Server<A> {
         &self.head
     }
 
-    /// Adds an object at the end of the store order. Where it is there with the same node nothing changes.
+    /// Adds an object at the end of the store order. Where it is held with the same node nothing changes.
     ///
-    /// It fails with `MissingParent` where a parent of it is not there, and reports the first; else with `Graph` as
+    /// It fails with `MissingParent` where a parent of it is not held, and reports the first; else with `Graph` as
     /// `Graph::insert` does. Nothing changes then.
     pub fn add(&mut self, entry: Entry<A>) -> Result<(), BuildFault<A>>
         ensures adds { Adds self.old entry self.new result }
@@ -94,6 +94,7 @@ impl<A: Allocator + Copy> Server<A> {
         ensures grows { Grows self.old.graph.entries self.new.graph.entries }
         ensures server { IsServer self.new }
     {
+        // Laws.
         closed_stays::<A>();
         if let Some(id) = self.graph.first_absent(entry.node.parents.as_slice()) {
             return Err(BuildFault::MissingParent { id });
@@ -104,9 +105,9 @@ impl<A: Allocator + Copy> Server<A> {
         }
     }
 
-    /// Puts a name at an id.
+    /// Puts a name at an id, a new name too (git-update-ref(1)).
     ///
-    /// It fails with `RefMissing` where the object is not there; else with `Refs` as `Refs::set` does. Nothing changes
+    /// It fails with `RefMissing` where the id is not held; else with `Refs` as `Refs::set` does. Nothing changes
     /// then.
     pub fn set_ref(&mut self, name: RefName<A>, id: Oid) -> Result<(), BuildFault<A>>
         ensures sets { Sets self.old name id self.new result }
@@ -121,9 +122,9 @@ impl<A: Allocator + Copy> Server<A> {
         }
     }
 
-    /// Puts HEAD where it is to stand. It takes no memory.
+    /// Puts HEAD where it is to stand (git-symbolic-ref(1)). It takes no memory.
     ///
-    /// It fails with `HeadMissing` where that is the id of no object, and nothing changes then.
+    /// It fails with `HeadMissing` where that is an id that is not held, and nothing changes then.
     pub fn set_head(&mut self, head: Head<A>) -> Result<(), BuildFault<A>>
         ensures sets { SetsHead self.old head self.new result }
         ensures server { IsServer self.new }
@@ -131,6 +132,7 @@ impl<A: Allocator + Copy> Server<A> {
         if !holds_head(&self.graph, &head) {
             return Err(BuildFault::HeadMissing);
         }
+        // Laws.
         keeps_rules(&head);
         self.head = head;
         Ok(())
@@ -152,7 +154,7 @@ fn check_parts<A: Allocator + Copy>(
 ) -> Result<(), BuildFault<A>>
     ensures { let parts = served graph.now refs.now head.now in MatchResult result (λ _. IsServer parts) (IsUnserved parts) }
 {
-    // These calls only give the proof what the types of a graph and of a head say.
+    // Laws.
     let _objects = graph.len();
     keeps_rules(head);
     if let Some(id) = missing_parent(graph) {
@@ -171,6 +173,7 @@ fn missing_parent<A: Allocator + Copy>(graph: &Graph<A>) -> Option<Oid>
     ensures { MatchOption result (IsClosed graph.now.entries)
         (IsFirstAbsent graph.now.entries (parents_in graph.now.entries)) }
 {
+    // Laws.
     ordered_is_closed::<A>();
     if graph.is_ordered() {
         return None;
@@ -183,6 +186,7 @@ fn first_missing_parent<A: Allocator + Copy>(graph: &Graph<A>) -> Option<Oid>
     ensures { MatchOption result (IsClosed graph.now.entries)
         (IsFirstAbsent graph.now.entries (parents_in graph.now.entries)) }
 {
+    // Laws.
     places_are_nodes::<A>();
     for place in 0..graph.len() {
         if let Some(id) = graph.first_absent(graph.parents(place)) {
@@ -192,7 +196,7 @@ fn first_missing_parent<A: Allocator + Copy>(graph: &Graph<A>) -> Option<Oid>
     None
 }
 
-// Whether the object of each ref is there.
+// Whether the id of each ref is held.
 fn check_refs<A: Allocator + Copy>(
     graph: &Graph<A>,
     refs: &[(RefName<A>, Oid)],
@@ -207,7 +211,7 @@ fn check_refs<A: Allocator + Copy>(
     Ok(())
 }
 
-// The fault of a ref of this name, or that there is no memory for the name.
+// The fault of a ref of this name, or out of memory for the name.
 fn ref_missing<A: Allocator + Copy>(name: &RefName<A>) -> BuildFault<A>
     ensures { ReportsRef name.now result }
 {
@@ -226,7 +230,7 @@ fn keeps_rules<A: Allocator + Copy>(head: &Head<A>)
     }
 }
 
-// Whether the object is there at which HEAD stands by its id.
+// Whether the id of a detached HEAD is held.
 fn holds_head<A: Allocator + Copy>(graph: &Graph<A>, head: &Head<A>) -> bool
     ensures { IsTrue result ↔ HoldsHead graph.now.entries head.now }
 {

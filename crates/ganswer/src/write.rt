@@ -33,6 +33,7 @@ impl<A: Allocator + Copy> Server<A> {
         ensures { (reply : LsReply) → LsAnswer self.now asked.now reply
             → WritesLines W.contents W.passed_on W.is_down W.loans writer.old writer.new result (canonical_reply ends reply) }
     {
+        // Laws.
         writes_lines::<W>();
         write_unborn(self.unborn(asked), writer)?;
         self.write_lines(asked, ends, writer)
@@ -49,6 +50,7 @@ impl<A: Allocator + Copy> Server<A> {
             → WritesLines W.contents W.passed_on W.is_down W.loans writer.old writer.new result
             (map ref_packet lines ++ Flush ∷ ends_with ends) }
     {
+        // Laws.
         writes_lines::<W>();
         let mut text = RefText::new();
         self.write_head(asked, &mut text, writer)?;
@@ -66,6 +68,7 @@ impl<A: Allocator + Copy> Server<A> {
         ensures { (lines : List RefLine) → ShowsLines self.now asked.now (head_ref (head_id self.now.head self.now.refs)) lines
             → WritesPart W.contents W.passed_on W.is_down W.loans writer.old writer.new result (map ref_packet lines) }
     {
+        // Laws.
         writes_lines::<W>();
         peels_to_one::<A>();
         match self.head_id() {
@@ -85,6 +88,7 @@ impl<A: Allocator + Copy> Server<A> {
         ensures { (lines : List RefLine) → ShowsLines self.now asked.now refs.now lines
             → WritesPart W.contents W.passed_on W.is_down W.loans writer.old writer.new result (map ref_packet lines) }
     {
+        // Laws.
         writes_lines::<W>();
         peels_to_one::<A>();
         for reference in refs {
@@ -105,6 +109,7 @@ impl<A: Allocator + Copy> Server<A> {
         ensures { (lines : List RefLine) → ShowsLines self.now asked.now ((name.now, id) ∷ []) lines
             → WritesPart W.contents W.passed_on W.is_down W.loans writer.old writer.new result (map ref_packet lines) }
     {
+        // Laws.
         writes_lines::<W>();
         peels_to_one::<A>();
         match self.line(asked, name, id) {

@@ -47,9 +47,9 @@ AsksFor path input = (hello : Hello) × ReadsHello input hello × (hello.path �
 abbrev pub AsksForAnother : List ℕ → Input → Type 0
 AsksForAnother path input = (hello : Hello) × ReadsHello input hello × (hello.path ≢ path)
 
--- ---- a line in the advertisement's place
+-- ---- a packet instead of the advertisement
 
--- the line of an error
+-- the packet of an error
 abbrev pub error_packets : List ℕ → List Packet
 error_packets text = text_packet (codes "ERR " ++ text) ∷ []
 
@@ -64,7 +64,7 @@ pub data IsDueInstead (path : List ℕ) (input : Input) : List Packet → Type 0
 
 -- ---- the whole
 
--- the input up to a place, with the source well there
+-- the input up to a point, with the source well there
 abbrev pub head_of : Input → Option (List ℕ) → Input
 head_of input between = record {
   read = record { old = input.read.old; new = between };

@@ -9,7 +9,7 @@ use Rattle.gclient.specs.Conversations.{FailsToSend}
 abbrev pub hello_bytes : Hello → List ℕ
 hello_bytes hello = canonical_all (canonical_hello hello)
 
--- the output up to a place, with the sink well there
+-- the output up to a point, with the sink well there
 abbrev pub head_of : Output → Option (List ℕ) → Option (List ℕ) → Output
 head_of output written passed = record {
   written = record { old = output.written.old; new = written };

@@ -22,7 +22,7 @@ use Rattle.gconnect.specs.Greetings.{CannotGreet, HasGreeted}
 
 -- ---- what is written
 
--- what is asked: for an unborn HEAD too exactly where the server offers to tell of it
+-- what is asked: for an unborn HEAD too exactly where the server offers to report it
 abbrev pub asked_of : List Capability → LsRefsAsked → LsRefsAsked
 asked_of capabilities asked = record asked { unborn = tells_unborn capabilities }
 
@@ -82,7 +82,7 @@ module _ (asked : LsRefsAsked) where
 
   -- Why nothing is listed. Each fault comes where all went well before it.
   pub data FailsToList {A : Type 0} (input : Input) (output : Output) : FetchFault A → Type 0 where
-    -- there is no memory for the reader's buffer, and nothing is read
+    -- out of memory for the reader's buffer, and nothing is read
     no_buffer : IsUnread input → IsUnwritten output → FailsToList input output fetch.NoBuffer
     -- the advertisement is refused as it is read, or a client can't go on with the server
     cannot_hear : (cause : MessageFault) → RefusesToRead input cause ⊎ FitsNone input cause → IsUnwritten output

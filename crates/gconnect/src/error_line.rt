@@ -1,4 +1,4 @@
-//! The line of an error (gitprotocol-pack(5), "error-line"), written and passed on.
+//! The packet of an error (gitprotocol-pack(5), "error-line"), written and passed on.
 
 ghost use Rattle.std.specs.Prelude.{◌≡◌, ◌≤◌, false, length};
 ghost use Rattle.gpkt.specs.Sending.{output_of};
@@ -11,7 +11,7 @@ use ggrammar::laws::writes_lines;
 use gpkt::laws::writes_join;
 use gpkt::{LineWriter, Sink, WriteFault};
 
-/// Writes the line of an error with a text of at most 128 bytes, and passes it on.
+/// Writes the packet of an error with a text of at most 128 bytes, and passes it on.
 pub(crate) fn send_error<W: Sink>(text: &[u8], sink: &mut W) -> Result<(), WriteFault>
     requires { length text.now ≤ max_err_text }
     ensures sent { PassesPackets (output_of W.contents W.passed_on W.is_down sink.old sink.new) result

@@ -23,7 +23,7 @@ use std::alloc::Allocator;
 /// path that is asked for, passes it on, and goes on as [`fetch_over`].
 ///
 /// It fails with 27 where the first line can't be sent: then nothing is read, and the repository is as it was. Else it
-/// fails as `fetch_over` does. After every fault the refs are as before, and to the graph objects only came.
+/// fails as `fetch_over` does. After every fault the refs are as before, and the graph has at most gained objects.
 pub fn fetch_git<S: Source, W: Sink, A: Allocator + Copy, K: Indexer<A>>(
     repo: &mut Repo<A>,
     hello: &Hello<A>,
@@ -48,7 +48,7 @@ pub fn fetch_git<S: Source, W: Sink, A: Allocator + Copy, K: Indexer<A>>(
     ensures source_loans { S.loans source.new ≡ S.loans source.old }
     ensures sink_loans { W.loans sink.new ≡ W.loans sink.old }
 {
-    // A look-up says that the repository is whole.
+    // Laws.
     let _format = repo.format();
     match greet(hello, sink) {
         Ok(()) => fetch_over(repo, source, sink, indexer, specs, limit, ends),

@@ -5,11 +5,11 @@
 //!
 //! - [`serve_git`] reads the first line of a connection, and nothing after it before the advertisement is passed on
 //!   (`specs/GitConnections.antt`). Where it asks for the path that is served, byte for byte, the rest is a
-//!   conversation as `gserve` says. Another path is answered by the line that says so, and a first line that is
-//!   refused by the line of its fault, in the advertisement's place; it is passed on, and nothing more is read. Where
-//!   the sink fails a beginning of that line stands. [`GitEnd`] says which it was.
-//! - Where there is no memory to read the first line, nothing is read, and the line that says so is written all the
-//!   same: it takes none.
+//!   conversation as `gserve` says. Another path is answered by the packet that says so, and a first line that is
+//!   refused by the packet of its fault, instead of the advertisement; it is passed on, and nothing more is read. Where
+//!   the sink fails a beginning of that packet stands. [`GitEnd`] says which it was.
+//! - Out of memory before the first line, nothing is read, and the packet that says so is written all the same: it
+//!   takes none.
 //! - [`fetch_git`] passes the first line on before anything is read, and the rest is a conversation as `gclient`
 //!   says, with every promise of [`gclient::fetch_over`] (`specs/GitFetches.antt`). Where the first line can't be
 //!   sent nothing is read, and the repository is as it was.
@@ -30,7 +30,7 @@
 //! Where the bytes of a source or of a sink are not known, nothing is said of those that were read or written; how it
 //! ended, and whether a device has failed, is said all the same. Where the sink fails, a shorter beginning may stand
 //! written. It may report out of memory before it reads, and at a packet that brings something to keep; it may take
-//! as long as it likes, and flush more often.
+//! as long as it likes, and pass on more often.
 //!
 //! # Stands on
 //!

@@ -21,12 +21,11 @@ use std::alloc::Allocator;
 /// is written is passed on each time before anything is read, and nothing after the reply is read.
 ///
 /// The ids are of the format that the advertisement names, and an unborn `HEAD` is asked for exactly where the server
-/// offers to tell of it, whatever the request says.
+/// offers to report it, whatever the request says.
 ///
-/// It fails with 28 where there is no memory for the buffer of a reader, and nothing is read; with 20 to 25, 41, 42,
-/// 48, 49, 53 and 54 where the advertisement is refused, and these, 46 and 47 where the reply is; with 43 or 52 where
-/// a client can't go on with the server; and with 27 where the sink fails, and a beginning of what was due stands
-/// then.
+/// It fails with 28 out of memory for the buffer of a reader, and nothing is read; with 20 to 25, 41, 42, 48, 49, 53
+/// and 54 where the advertisement is refused, and these, 46 and 47 where the reply is; with 43 or 52 where a client
+/// can't go on with the server; and with 27 where the sink fails, and a beginning of what was due stands then.
 pub fn list_git<S: Source, W: Sink, A: Allocator + Copy>(
     hello: &Hello<A>,
     source: &mut S,
@@ -46,7 +45,7 @@ pub fn list_git<S: Source, W: Sink, A: Allocator + Copy>(
     }
 }
 
-/// Lists the refs of a server as [`list_git`] does, with no first line.
+/// Lists the refs of a server as [`list_git`] does, and fails as it does, with no first line.
 pub fn list_over<S: Source, W: Sink, A: Allocator + Copy>(
     source: &mut S,
     sink: &mut W,
@@ -99,7 +98,7 @@ fn list<S: Source, W: Sink, A: Allocator + Copy>(
 struct Heard {
     // The format of the server's ids.
     format: Format,
-    // Whether the server offers to tell of an unborn `HEAD`.
+    // Whether the server offers to report an unborn `HEAD`.
     tells_unborn: bool,
 }
 

@@ -12,7 +12,7 @@ use gpkt::{LineWriter, Sink, WriteFault};
 use grequest::{Request, write_request};
 use std::alloc::Allocator;
 
-/// Writes a request, and passes it on. It leaves the writer well, or its sink is down.
+/// Writes a request, and passes it on. The writer has then not failed, or its sink is down.
 pub(crate) fn send_request<W: Sink, A: Allocator + Copy>(
     request: &Request<A>,
     format: Format,

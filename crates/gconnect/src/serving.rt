@@ -20,20 +20,20 @@ use std::alloc::Allocator;
 pub enum GitEnd {
     /// The client asked for the path that is served: how many of its requests were answered, and how it ended.
     Served(Served),
-    /// The client asked for another path; the line that says so is all that is written, and is passed on.
+    /// The client asked for another path; the packet that says so is all that is written, and is passed on.
     Elsewhere,
-    /// The first line was refused, or there was no memory to read it; the line that reports it is all that is written,
-    /// and is passed on.
+    /// The first line was refused, or not read, out of memory; the packet that reports it is all that is written, and
+    /// is passed on.
     Refused(ServeFault),
-    /// 27: the sink failed as one of these lines was due. A beginning of it stands.
+    /// 27: the sink failed as one of these packets was due. A beginning of it stands.
     WriteFailed,
 }
 
 /// Serves one connection (gitprotocol-pack(5), "Git Transport"): reads the client's first line, and where it asks for
 /// the path goes on as [`serve`]. The path is compared byte by byte, and the host is not judged.
 ///
-/// Another path, and a first line that is refused, are answered by an `ERR` line in the advertisement's place, and
-/// nothing after the first line is read. Where there is no memory to read it, nothing is read, and the line says so.
+/// Another path, and a first line that is refused, are answered by an `ERR` packet instead of the advertisement, and
+/// nothing after the first line is read. Out of memory before it, nothing is read, and the packet says so.
 pub fn serve_git<S: Source, W: Sink, A: Allocator + Copy, K: Packer<A>>(
     server: &Server<A>,
     packer: &K,
@@ -63,11 +63,10 @@ pub fn serve_git<S: Source, W: Sink, A: Allocator + Copy, K: Packer<A>>(
     }
 }
 
-/// Reads the first line of a connection, and nothing after it.
+/// Reads the first line of a connection (gitprotocol-pack(5), "Git Transport"), and nothing after it.
 ///
-/// It fails with 28 where there is no memory for the buffer of a reader, and nothing is read; with 20 to 25 where its
-/// packet line is refused, 54 where the input ends before it, 41 and 42 where it has another form, and 53 where there
-/// is no memory to keep it.
+/// It fails with 28 out of memory for the buffer of a reader, and nothing is read; with 20 to 25 where its packet is
+/// refused, 54 where the input ends before it, 41 and 42 where it has another form, and 53 out of memory to keep it.
 pub fn hear<S: Source, A: Allocator + Copy>(
     source: &mut S,
     alloc: A,
@@ -95,7 +94,7 @@ fn asks_for<A: Allocator + Copy>(path: &[u8], hello: &Hello<A>) -> bool
     hello.path() == path
 }
 
-// Tells the client that its repository is not here.
+// Says to the client that its repository is not served.
 fn send_away<W: Sink>(sink: &mut W) -> Result<(), WriteFault>
     ensures sent { PassesPackets (output_of W.contents W.passed_on W.is_down sink.old sink.new) result
         elsewhere_packets }
