@@ -104,8 +104,8 @@ pub fn reads_exactly()
     kinds_are_read::<Replies>();
 }
 
-/// What is written of a reply reads back, whatever follows it, within any limit that a [`PackLimit`](crate::PackLimit) can
-/// have and its pack keeps.
+/// What is written of a reply reads back, whatever follows it, within any limit that a
+/// [`PackLimit`](crate::PackLimit) can have and its pack keeps.
 pub fn reads_back()
     ensures { (reading : Reading) → reading.limit ≤ max_pack
         → ReadsBack (judge reading) (brings reading) (Says reading) (IsReplyIn reading) (IsCanonical reading.ends) }
@@ -115,8 +115,8 @@ pub fn reads_back()
     kinds_are_read::<Replies>();
 }
 
-/// A reply is read into a sink, as [`crate::read_fetch_reply_into_in`] reads it, exactly where a front of the bytes spells
-/// packets that say it.
+/// A reply is read into a sink, as [`crate::read_fetch_reply_into_in`] reads it, exactly where a front of the bytes
+/// spells packets that say it.
 pub fn reads_into_exactly<T: PackSink>()
     ensures said { (reading : Reading) → ReadsIntoWhereSaid T.taken T.refuses reading }
     ensures only { (reading : Reading) → ReadsIntoOnlySaid T.taken reading }
@@ -135,8 +135,8 @@ pub fn reads_back_into<T: PackSink>()
 }
 
 /// A reply that is delivered as the answer to another request, or read within another limit. Whatever way some packets
-/// are read, at most one front of them is a reply, and it says the same. A reply is read within each limit that its pack
-/// keeps; within another one it is refused for the limit alone.
+/// are read, at most one front of them is a reply, and it says the same. A reply is read within each limit that its
+/// pack keeps; within another one it is refused for the limit alone.
 pub fn other_readings()
     ensures whatever_reading { OneInWhateverReading }
     ensures any_limit { IsInAnyLimit }

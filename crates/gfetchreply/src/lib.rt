@@ -5,14 +5,14 @@
 //!
 //! - [`read_fetch_reply_into_in`] reads a reply exactly to its end, in whatever pieces its bytes come, and answers the
 //!   head of what it says, whose ids have the format that was asked for; the sink has taken the reply's pack after what
-//!   it had, at most as many bytes as the limit allows. Else the reply is refused at the first packet that does not fit,
-//!   with the grammar's reason (`judge` in `specs/FetchReplies.antt`), and the sink has taken exactly the data of the
-//!   packets before, within the limit too. Whatever is answered, the sink is still the same one, as its [`PackSink`] says
-//!   what that is. A sink gets no empty piece. Out of memory is reported for no other fault: it comes only at a packet
-//!   that the grammar takes, and that brings an acknowledged id; or some of the pack, where the sink is of a kind that may
-//!   refuse a piece. A [`PackSink`] says which it is; a vector may refuse one.
-//!   [`read_fetch_reply_into`] does the same in SHA-1; [`read_fetch_reply_in`] and [`read_fetch_reply`] keep the pack in
-//!   memory.
+//!   it had, at most as many bytes as the limit allows. Else the reply is refused at the first packet that does not
+//!   fit, with the grammar's reason (`judge` in `specs/FetchReplies.antt`), and the sink has taken exactly the data
+//!   of the packets before, within the limit too. Whatever is answered, the sink is still the same one, as its
+//!   [`PackSink`] says what that is. A sink gets no empty piece. Out of memory is reported for no other fault: it
+//!   comes only at a packet that the grammar takes, and that brings an acknowledged id; or some of the pack, where
+//!   the sink is of a kind that may refuse a piece. A [`PackSink`] says which it is; a vector may refuse one.
+//!   [`read_fetch_reply_into`] does the same in SHA-1; [`read_fetch_reply_in`] and [`read_fetch_reply`] keep the pack
+//!   in memory.
 //! - [`Acks`] holds ids of one format, at most 4,096, [`PackBytes`] at most `gname::MAX_PACK` bytes, and a
 //!   [`PackLimit`] is at most that; a building call reports another format first, then the limit, and changes
 //!   nothing then. A reply is built of ids and of a pack that are there, as they are.
@@ -23,9 +23,9 @@
 //!   say is the same; packets say one reply, no reply and no spelling of one begins another, each beginning has a short
 //!   ending, and a refused packet is the first that does not fit. What is written says the reply and reads back,
 //!   whatever follows; a reply is read exactly where a front of the bytes spells it, and all bytes have such a front or
-//!   are refused for a reason in them. Read as the answer to another request, the same bytes are the same reply or none;
-//!   within another limit they are the same reply or are refused for the limit alone. The constant is the limit of the
-//!   definitions.
+//!   are refused for a reason in them. Read as the answer to another request, the same bytes are the same reply or
+//!   none; within another limit they are the same reply or are refused for the limit alone. The constant is the limit
+//!   of the definitions.
 //!
 //! # Only tested
 //!

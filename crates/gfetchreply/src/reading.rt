@@ -226,10 +226,10 @@ pub fn read_fetch_reply_into<S: Source, T: PackSink, A: Allocator + Copy, B: All
 /// The fault has the position of the first packet that does not fit, and why. What the reader refuses comes first
 /// ([`Why::Line`]), then the end of the input ([`Why::Ended`]), then an error that the peer reports
 /// ([`Why::RemoteErr`]), then what the grammar refuses: a 4,097th id, and the packet with which the pack would pass its
-/// limit, with [`Why::Limit`] where their form is right. [`Why::Memory`] comes only at an acknowledged id and, where the
-/// sink may refuse a piece, at a packet with some of the pack. After a refusal the sink has taken the data of the packets
-/// before, and no more than the limit, and the reader has failed exactly where it refused the packet itself. Whatever
-/// is answered, the sink is still the same one.
+/// limit, with [`Why::Limit`] where their form is right. [`Why::Memory`] comes only at an acknowledged id and, where
+/// the sink may refuse a piece, at a packet with some of the pack. After a refusal the sink has taken the data of the
+/// packets before, and no more than the limit, and the reader has failed exactly where it refused the packet itself.
+/// Whatever is answered, the sink is still the same one.
 pub fn read_fetch_reply_into_in<S: Source, T: PackSink, A: Allocator + Copy, B: Allocator + Copy>(
     reader: &mut LineReader<S, A>,
     reading: FetchReading,
@@ -284,8 +284,8 @@ pub fn read_fetch_reply<S: Source, A: Allocator + Copy, B: Allocator + Copy>(
     read_fetch_reply_in(reader, reading, alloc)
 }
 
-/// Reads one reply to fetch with its pack in memory, as [`read_fetch_reply_into_in`] does. The ids and the pack are kept
-/// where `alloc` says; after a refusal nothing is.
+/// Reads one reply to fetch with its pack in memory, as [`read_fetch_reply_into_in`] does. The ids and the pack are
+/// kept where `alloc` says; after a refusal nothing is.
 pub fn read_fetch_reply_in<S: Source, A: Allocator + Copy, B: Allocator + Copy>(
     reader: &mut LineReader<S, A>,
     reading: FetchReading,

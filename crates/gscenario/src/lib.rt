@@ -17,9 +17,9 @@
 //!
 //! # What the contracts do not rule out
 //!
-//! A body may report out of memory of any text whose first line begins with a command, as often as it likes, and in place
-//! of a later line that is wrong. It may take as long as it likes, and more memory than it needs. Formatting a fault
-//! may answer an error (`fmt::Error`) where the text would be right.
+//! A body may report out of memory of any text whose first line begins with a command, as often as it likes, and in
+//! place of a later line that is wrong. It may take as long as it likes, and more memory than it needs. Formatting a
+//! fault may answer an error (`fmt::Error`) where the text would be right.
 //!
 //! # Stands on
 //!
