@@ -33,7 +33,7 @@ module _ {A : Type 0} where
       (subst (All (IsFull repo.graph.entries)) (sym ids ∙ other.parts) whole.safe) in
       other.other (held_id places repo.graph graph id (full id here))
 
-  -- saving a client fails where there is no memory
+  -- saving a client fails out of memory
   pub only_memory : PlacesAreNodes A → (repo : RepoState A) (fault : SaveFault) → IsGraph repo.graph → IsWhole repo
       → SaveRefuses repo.graph.format repo.refs (no_head {A = A}) fault → fault ≡ Memory
   only_memory places repo Memory graph whole refused = refl

@@ -1,4 +1,4 @@
--- Bytes put one after the other, and lines shown one after the other.
+-- Bytes put one after the other, and packets shown one after the other.
 use Rattle.std.proofs.Common.{◌≡◌, ℕ, ◌+◌, ◌-◌, ◌<◌, Bool, List, [], ◌∷◌, ◌++◌, length, take, drop, Option, Some, None, Ok, Err, Result, true, false, refl, sym, ap, ◌∙◌, inl, inr, subst, append_assoc, append-nil, take-append-drop, arith, codes}
 use Rattle.std.specs.Prelude.{slice_index, ◌/◌, ◌%◌, ◌==◌}
 use Rattle.std.proofs.lemmas.Bool.{false≢true}
@@ -141,9 +141,9 @@ module _ {W : Type 0} (contents passed_on : W → Option (List ℕ)) (is_down : 
 pub ShowsSome-failed : (input : Input) (output : Output) (down : Down) → ShowsEach input output (Err down) → ShowsSome input output
 ShowsSome-failed input output down (lines, read, put) = (lines, read, inl put)
 
--- ---- lines
+-- ---- packets
 
--- one line more
+-- one packet more
 shown_lines-push : (lines : List Packet) (line : Packet) → shown_lines (lines ++ line ∷ []) ≡ shown_lines lines ++ shown_line line
 shown_lines-push [] line = append-nil (shown_line line)
 shown_lines-push (first ∷ lines) line =
@@ -153,7 +153,7 @@ module _
     {S W : Type 0} (remaining : S → Option (List ℕ)) (source_down : S → Bool) (source_loans : S → List ℕ)
     (contents passed_on : W → Option (List ℕ)) (sink_down : W → Bool)
   where
-    -- so many lines are read, and their texts are put
+    -- so many packets are read, and their texts are put
     pub record IsShowing (start now : Reader S) (before after : W) (count : ℕ) : Type 0 where
       pub lines : List Packet
       pub counted : count ≡ length lines
@@ -181,7 +181,7 @@ module _
           subst (IsPut (output_of contents passed_on sink_down before after) result) (sym (shown_lines-push lines packet))
           (IsPut-after contents passed_on sink_down before mid after (shown_lines lines) (shown_line packet) result first put)
 
-      -- the next line is shown
+      -- the next packet is shown
       pub IsShowing-next : ReadsNext → (packet : Packet) → IsShowing start now before mid count
           → HasRead remaining source_down source_loans now next (Ok (Some packet))
           → IsPut (output_of contents passed_on sink_down mid after) (Ok tt) (shown_line packet)
@@ -213,7 +213,7 @@ module _
       ShowsEach-end showing read =
           (showing.lines, record { between = remaining now.source; before = showing.read; stops = inl read.bytes; source = read.after.2 }, showing.put)
 
-      -- a line is refused
+      -- a packet is refused
       pub ShowsEach-refused : (fault : LineFault) → IsShowing start now before after count → HasRead remaining source_down source_loans now next (Err fault)
           → ShowsEach (input_of remaining source_down start.source next.source) (output_of contents passed_on sink_down before after) (Ok (Err fault))
       ShowsEach-refused fault showing read = (
@@ -227,7 +227,7 @@ module _
         showing.put,
       )
 
-    -- no more lines are read
+    -- no more packets are read
     pub ShowsEach-counted : (start now : Reader S) (before after : W) (count : ℕ) → IsShowing start now before after count → count ≡ max_lines
         → ShowsEach (input_of remaining source_down start.source now.source) (output_of contents passed_on sink_down before after) (Ok (Ok tt))
     ShowsEach-counted start now before after count showing all = (

@@ -12,7 +12,7 @@ use Rattle.gpkt.specs.declared.device.Down.{Down}
 use Rattle.gcmd.specs.Outputs.{IsPut, IsSent}
 
 module _ {W : Type 0} (contents passed_on : W → Option (List ℕ)) (is_down : W → Bool) where
-  -- after a flush they are passed on, or the flush failed
+  -- after a flush they are passed on, or that failed
   pub IsSent-flushed : (a b c : W) (bytes : List ℕ) (result : Result (Unit {0}) Down) → IsPut (output_of contents passed_on is_down a b) (Ok tt) bytes
       → Keeps (contents b) (contents c) → OnOk result (PassesAll (contents c) (change_of passed_on b c)) → OnErr result (KeepsPassed (change_of passed_on b c))
       → is_down c ≡ is_err result → IsSent (output_of contents passed_on is_down a c) result bytes

@@ -1,4 +1,4 @@
--- Lines that are read.
+-- Packets that are read.
 use Rattle.std.proofs.Common.{◌≡◌, ℕ, List, Option, Err, Bool, false, refl, sym, ◌∙◌}
 use Rattle.gpkt.specs.LineReading.{Reader, HasRead}
 use Rattle.gpkt.specs.declared.fault.LineFault.{LineFault}

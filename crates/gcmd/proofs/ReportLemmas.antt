@@ -28,7 +28,7 @@ module _ {A : Type 0} where
       ap (λ (t : List ℕ). update_line a b ++ t) (lines_push xs ys x y (omega (arith, same)))
       ∙ sym (append_assoc (update_line a b) (update_lines xs ys) (update_line x y))
 
-  -- what became of the ask at a place
+  -- what became of the ask at a position
   pub put_standing : (asks : List (Ask A)) (place : ℕ) (name id : List ℕ) (update : RefUpdate) (old new : List ℕ)
       → IsAskAt asks place name id → new ≡ old ++ update_text name id update
       → (ask : Ask A) × (slice_get asks place ≡ Some ask) × (new ≡ old ++ update_line ask update)

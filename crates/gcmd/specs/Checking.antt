@@ -43,7 +43,7 @@ pub record IsReported (A : Type 0) (file : List ℕ) (report : Report) : Type 0 
   pub reports : IsReport repo report
 
 -- what `check` does: the line is written and passed on; or a beginning of it is written, where the sink fails; or
--- nothing, where the file is no repository, or there is no memory to judge it
+-- nothing, where the file is no repository, or out of memory to judge it
 abbrev pub Checks : {A : Type 0} → List ℕ → Output → Outcome A → Type 0
 Checks {A} file output (Ok done) = (report : Report) × IsReported A file report × Sends output (report_line report)
 Checks {A} file output (Err program.WriteFailed) =

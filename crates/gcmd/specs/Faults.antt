@@ -32,8 +32,8 @@ use Rattle.gclient.specs.declared.fault.FetchFault.TheVariants as fetch
 use Rattle.gcmd.specs.declared.fault.ProgramFault.{ProgramFault}
 use Rattle.gcmd.specs.declared.fault.ProgramFault.TheVariants as program
 
--- what is printed of a fault: its number and its name, and, where it has them, the place of a packet in its message,
--- the line of a text, the place of a byte in a name, an id, and a name or a text
+-- what is printed of a fault: its number and its name, and, where it has them, the position of a packet in its
+-- message, the line of a text, the position of a byte in a name, an id, and a name or a text
 pub record Printed : Type 0 where
   pub number : ℕ
   pub name : List ℕ
@@ -154,7 +154,7 @@ id_in_client (client.StrangeAck id) = Some id
 id_in_client (client.Repo cause) = id_in_repo cause
 id_in_client _ = None
 
--- the ref whose ancestry is not held, or what a peer said
+-- the ref that is not connected, or what a peer said
 abbrev pub text_in_client : {A : Type 0} → ClientFault A → Option (List ℕ)
 text_in_client (client.Message fault) = said_in fault.why
 text_in_client (client.Repo (repo.UnsafeRef name)) = Some name

@@ -38,7 +38,7 @@ use Rattle.gcmd.specs.declared.fault.ProgramFault.TheVariants as program
 abbrev pub IsSpecText : List ℕ → Type 0
 IsSpecText text = (spec : Refspec) × IsSpec text spec
 
--- the first word that is no refspec; or one that is, where there is no memory to keep it
+-- the first word that is no refspec; or one that is, out of memory to keep it
 pub record RefusesWord (words : List (List ℕ)) (fault : SpecFault) : Type 0 where
   pub front : List (List ℕ)
   pub word : List ℕ
@@ -55,17 +55,17 @@ ReadsSpecs words (Err _) = ⊥
 
 -- ---- the file
 
--- a client's HEAD stands at nothing
+-- a client has no HEAD
 abbrev pub no_head : {A : Type 0} → Head A
 no_head = head.None
 
--- the file is the text of a client's repository, and the whole ancestry of each ref is held
+-- the file is the text of a client's repository, which is connected
 pub record NamesClient {A : Type 0} (file : List ℕ) (repo : RepoState A) : Type 0 where
   pub text : file ≡ repository_text repo.graph repo.refs (no_head {A = A})
   pub loadable : IsLoadable Any repo.graph repo.refs (no_head {A = A})
   pub whole : IsWhole repo
 
--- the file is the text of a repository whose HEAD stands somewhere, as this line of it says
+-- the file is the text of a repository that has a HEAD, as this line of it says
 pub record NamesHead (A : Type 0) (file : List ℕ) (line : ℕ) : Type 0 where
   pub repo : Repository A
   pub text : file ≡ repository_text repo.graph repo.refs repo.head
@@ -81,8 +81,8 @@ pub record NamesUnsafe (A : Type 0) (file : List ℕ) (Cause : History A → Ref
   pub loadable : IsLoadable Any graph refs (no_head {A = A})
   pub cause : Cause graph refs
 
--- why a file is no client's: it is the text of no repository, or of one whose HEAD stands somewhere, or of one whose
--- refs are not safe
+-- why a file is no client's: it is the text of no repository, or of one that has a HEAD, or of one that is not
+-- connected
 abbrev pub RefusesClient : {A : Type 0} → List ℕ → ProgramFault A → Type 0
 RefusesClient {A} file (program.Text cause) =
     StopsAt A Any file cause ⊎ ((line : ℕ) × (cause ≡ load.Text line) × NamesHead A file line)
@@ -121,12 +121,12 @@ SendsReport bytes report (Ok done) = Sends report bytes
 SendsReport bytes report (Err program.WriteFailed) = BreaksOff report bytes
 SendsReport bytes report (Err _) = ⊥
 
--- what reporting answers: that; or there is no memory for the report
+-- what reporting answers: that; or out of memory for the report
 abbrev pub Reports : {A : Type 0} → Fetched A → Output → Outcome A → Type 0
 Reports fetched report outcome =
     SendsReport (fetch_report fetched) report outcome ⊎ ((outcome ≡ Err program.Memory) × IsUnwritten report)
 
--- how the program ends once the refs are settled: there is a new file, and that is reported; or there is no memory for
+-- how the program ends once the refs are settled: there is a new file, and that is reported; or it is out of memory for
 -- the new file, and nothing is
 abbrev pub Concludes : {A : Type 0} → RepoState A → RepoState A → Fetched A → Output → Option (List ℕ) → Outcome A
     → Type 0
@@ -141,7 +141,7 @@ EndsAfter old new (Ok fetched) report file outcome = Concludes old new fetched r
 EndsAfter old new (Err fault) report file outcome =
     (file ≡ None) × IsUnwritten report × (outcome ≡ Err (program.Fetch fault))
 
--- ---- the whole
+-- ---- the program
 
 module _ {A : Type 0} (old : List ℕ) (specs : List Refspec) (limit : ℕ) (ends : Ends) (input : Input)
     (output report : Output) (file : Option (List ℕ))

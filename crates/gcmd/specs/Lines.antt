@@ -1,4 +1,4 @@
--- `lines`: what it shows of the packet lines that it reads (gitprotocol-common(5), "pkt-line Format").
+-- `lines`: what it shows of the packets that it reads (gitprotocol-common(5), "pkt-line Format").
 use Rattle.std.specs.Prelude.{◌≡◌, ℕ, ◌⊎◌, ◌++◌, Bool, false, List, [], ◌∷◌, length, codes, Option, None, Result}
 use Rattle.std.specs.Prelude.{Ok, Err}
 use Rattle.std.specs.Fmt.{decimal}
@@ -23,14 +23,14 @@ abbrev pub digits_part : List ℕ → List ℕ
 digits_part [] = []
 digits_part (byte ∷ bytes) = codes " " ++ encode_lower (byte ∷ bytes)
 
--- a line as it is shown
+-- a packet as it is shown
 abbrev pub shown_line : Packet → List ℕ
 shown_line (Data payload) = (codes "data " ++ decimal (length payload)) ++ (digits_part payload ++ codes "\n")
 shown_line Flush = codes "flush\n"
 shown_line Delim = codes "delim\n"
 shown_line ResponseEnd = codes "response-end\n"
 
--- the lines, one after the other
+-- the packets, one after the other
 abbrev pub shown_lines : List Packet → List ℕ
 shown_lines [] = []
 shown_lines (line ∷ lines) = shown_line line ++ shown_lines lines
@@ -41,7 +41,7 @@ chunk = 512
 
 -- ---- what is read
 
--- the most lines that are read
+-- the most packets that are read
 abbrev pub max_lines : ℕ
 max_lines = 4294967295
 
@@ -55,31 +55,31 @@ abbrev pub LeavesSource : Bool → Result (Unit {0}) LineFault → Type 0
 LeavesSource down (Ok done) = down ≡ false
 LeavesSource down (Err fault) = IsReadFailure false down (why.Line fault)
 
--- these lines are read, and no more for this reason
+-- these packets are read, and no more for this reason
 pub record ReadsEach (input : Input) (lines : List Packet) (ended : Result (Unit {0}) LineFault) : Type 0 where
   pub between : Option (List ℕ)
   pub before : ReadsLines (record { old = input.read.old; new = between }) lines
   pub stops : StopsAfter (length lines) (record { old = between; new = input.read.new }) ended
   pub source : LeavesSource input.is_down ended
 
--- these lines are read, and nothing after them, or what ends them
+-- these packets are read, and nothing after them, or what ends them
 abbrev pub ReadsSome : Input → List Packet → Type 0
 ReadsSome input lines =
     ReadsLines input.read lines ⊎ ((ended : Result (Unit {0}) LineFault) × ReadsEach input lines ended)
 
 -- ---- what `lines` does
 
--- the sink failed: a beginning of the lines that were read is shown
+-- the sink failed: a beginning of the packets that were read is shown
 abbrev pub ShowsSome : Input → Output → Type 0
 ShowsSome input output = (lines : List Packet) × ReadsSome input lines × BreaksOff output (shown_lines lines)
 
--- the lines up to one that is refused are shown; or there is no memory for the buffer of the reader
+-- the packets up to one that is refused are shown; or the program is out of memory for the buffer of the reader
 abbrev pub ShowsUntil : Input → Output → LineFault → Type 0
 ShowsUntil input output fault =
     ((lines : List Packet) × ReadsEach input lines (Err fault) × Sends output (shown_lines lines))
     ⊎ ((fault ≡ Memory) × IsUnread input × IsUnwritten output)
 
--- all lines that are read are shown, up to one that is refused; or a beginning of them, where the sink fails
+-- all packets that are read are shown, up to one that is refused; or a beginning of them, where the sink fails
 abbrev pub ShowsLines : {A : Type 0} → Input → Output → Outcome A → Type 0
 ShowsLines input output (Ok done) =
     (lines : List Packet) × ReadsEach input lines (Ok tt) × Sends output (shown_lines lines)
@@ -89,7 +89,7 @@ ShowsLines input output (Err _) = ⊥
 
 -- ---- its steps, by how reading ended, or the sink's failure
 
--- the lines are shown
+-- the packets are shown
 abbrev pub ShowsEach : Input → Output → Result (Result (Unit {0}) LineFault) Down → Type 0
 ShowsEach input output (Ok ended) =
     (lines : List Packet) × ReadsEach input lines ended × IsPut output (Ok tt) (shown_lines lines)

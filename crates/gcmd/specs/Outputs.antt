@@ -9,7 +9,7 @@ use Rattle.gpkt.specs.declared.device.Down.{Down}
 abbrev pub FailsAtWrite : Output → List ℕ → Type 0
 FailsAtWrite output bytes = SendsSome output bytes × Keeps output.passed_on.old output.passed_on.new
 
--- the sink failed at the flush: all of these bytes stand, and what was passed on before stays so, perhaps with more
+-- the sink failed at passing on: all of these bytes stand, and what was passed on before stays so, perhaps with more
 pub record FailsAtFlush (output : Output) (bytes : List ℕ) : Type 0 where
   pub written : Appends output.written.old output.written.new bytes
   pub passed_on : KeepsPassed output.passed_on

@@ -1,5 +1,5 @@
 -- The line that is printed of a fault: `gitv2: fault NUMBER NAME`, and then, where the fault has them and in this
--- order, the packet, the line, the byte, and the id, the name or the text.
+-- order, the position of the packet, the line, the position of the byte, and the id, the name or the text.
 use Rattle.std.specs.Prelude.{ℕ, ◌+◌, ◌*◌, ◌≤◌, ◌++◌, ◌&&◌, nat_le, if◌then◌else◌, List, [], length, map, codes}
 use Rattle.std.specs.Prelude.{Option, None, Some, ⊤}
 use Rattle.std.specs.Fmt.{decimal}

@@ -76,7 +76,7 @@ plain_packs list pack = pack ≡ pack_text list
 abbrev pub plain_pack_fails : {A : Type 0} → PackFails A
 plain_pack_fails list fault = PackRefuses (pack_text list) fault
 
--- ---- one request, and a whole connection
+-- ---- one request, and a connection
 
 -- how an exchange comes out, after its end
 abbrev pub outcome_of_exchange : {A : Type 0} → ExchangeEnd → Outcome A

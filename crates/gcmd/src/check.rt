@@ -19,10 +19,11 @@ use std::alloc::Allocator;
 const MAX_REPORT: usize = 76;
 
 /// `gitv2 check FILE`: reports of the repository whose text is `file`, in any order of its nodes, how many
-/// nodes and refs it has, whether each parent of a node is there (`closed`), and whether the whole ancestry
-/// of each ref is (`safe`). A fault is one line on `errors`.
+/// nodes and refs it has, whether its graph is closed (`closed`), and whether it is connected (`safe`).
+/// A fault is one line on `errors`.
 ///
 /// It answers the exit status: 0 where the report is written and passed on, 1 where a fault was met.
+/// Nothing is written then, save a beginning where the output failed.
 pub fn cmd_check<A: Allocator + Copy, W: Sink, E: Sink>(
     alloc: A,
     file: &[u8],

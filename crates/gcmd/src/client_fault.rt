@@ -53,7 +53,7 @@ fn id_in_repo<A: Allocator + Copy>(fault: &RepoFault<A>) -> Option<Oid>
     }
 }
 
-/// The ref whose ancestry is not held, or what a peer said.
+/// The ref that is not connected, or what a peer said.
 pub(crate) fn text_in_client<A: Allocator + Copy>(fault: &ClientFault<A>) -> Option<&[u8]>
     ensures text { option_copied result ≡ text_in_client fault.now }
     ensures short { IsShortText (option_copied result) }

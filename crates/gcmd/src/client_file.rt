@@ -11,7 +11,7 @@ use std::alloc::Allocator;
 
 /// Reads words as refspecs (git-fetch(1), "<refspec>"), a refspec each.
 ///
-/// It fails with `Spec` at the first word that is none, and where there is no memory.
+/// It fails with `Spec` at the first word that is none, and out of memory.
 pub fn read_specs<A: Allocator + Copy>(
     alloc: A,
     words: &[String<A>],
@@ -40,8 +40,8 @@ fn keep<A: Allocator + Copy>(specs: &mut Vec<Spec<A>, A>, spec: Spec<A>) -> Resu
 
 /// The client's repository whose text is `file`, of either object format.
 ///
-/// It fails with `Text` where the file is the text of no repository, and at the line of HEAD where that stands
-/// somewhere; else with `Fetch` where the whole ancestry of a ref is not held. Both may be out of memory.
+/// It fails with `Text` where the file is the text of no repository, and at the line of HEAD where it has one; else
+/// with `Fetch` where a ref is not connected. Both may be out of memory.
 pub fn open_client<A: Allocator + Copy>(alloc: A, file: &[u8]) -> Result<Repo<A>, ProgramFault<A>>
     ensures { OpensClient file.now result }
 {
@@ -63,7 +63,7 @@ fn is_none<A: Allocator + Copy>(head: &Head<A>) -> bool
     }
 }
 
-// The line that says what HEAD stands at: before it are the first line, and a line for each object and each ref.
+// The line of HEAD, counted from 1: before it are the first line, and a line for each object and each ref.
 fn line_of_head<A: Allocator + Copy>(repository: &Repository<A>) -> usize
     ensures { result ≡ length repository.now.graph.entries + length repository.now.refs + 2 }
 {

@@ -19,7 +19,7 @@ use std::fmt;
 /// Why a program ends with status 1. One line is printed of it.
 #[derive(Debug, Drop)]
 pub enum ProgramFault<A: Allocator + Copy = Global> {
-    /// 64: there is no memory for a file, for a buffer of standard input or output, or to judge a repository.
+    /// 64: out of memory for a file, for a buffer of standard input or output, or to judge a repository.
     Memory,
     /// 95: the repository's file could not be read, or could not be written after a fetch.
     File,
@@ -29,16 +29,16 @@ pub enum ProgramFault<A: Allocator + Copy = Global> {
     Build(BuildFault<A>),
     /// 20 to 54, 64, 65, 73, 74: a request was refused.
     Request(ServeFault),
-    /// 20 to 24, 28: a packet line that was to be shown was refused, or there is no memory to read it.
+    /// 20 to 24, 28: a packet that was to be shown was refused, or out of memory to read it.
     Line(LineFault),
-    /// 87, 18: a word is no refspec, or there is no memory to keep those that are.
+    /// 87, 18: a word is no refspec, or out of memory to keep those that are.
     Spec(SpecFault),
-    /// 20 to 25, 27 to 30, 41 to 54, 60 to 64, 66, 69, 75, 80, 82 and 84 to 86: the whole ancestry of a ref of
-    /// a client's repository is not held (80), fetching into it failed, or there is no memory.
+    /// 20 to 25, 27 to 30, 41 to 54, 60 to 64, 66, 69, 75, 80, 82 and 84 to 86: a ref of a client's repository
+    /// is not connected (80), fetching into it failed, or out of memory.
     Fetch(FetchFault<A>),
     /// 27: the output failed.
     WriteFailed,
-    /// 11, 13, 18: a word is no prefix of names, or there is no memory to keep it.
+    /// 11, 13, 18: a word is no prefix of names, or out of memory to keep it.
     Name(NameFault),
     /// 94: a message between both ends of a pair is longer than they may be.
     PairLimit,

@@ -32,8 +32,9 @@ pub struct FetchRun<A: Allocator + Copy = Global> {
 /// `gitv2 fetch --stdio [--limit N] [--response-end] FILE SPEC...`: fetches by refspecs from the server that `input`
 /// and `output` lead to, into the client's repository whose text is `file` (gitprotocol-v2(5)). A pack may have so
 /// many bytes as the limit says, and each reply ends as `ends` says. What became of each ref that was asked for is a
-/// line of the report: `moved NAME ID`, `same NAME` or `notforward NAME`; and `unborn NAME` is the last where HEAD was
-/// fetched, and the server's points at NAME, which is not there yet. A fault is one line on `errors`.
+/// line of the report: `moved NAME ID`, `same NAME`, or `notforward NAME` where that would be no fast-forward; and
+/// `unborn NAME` is the last where HEAD was fetched, and the server's is unborn, and points at NAME. A fault is one
+/// line on `errors`.
 ///
 /// It answers the exit status, and the new text of the file where the refs were settled: then it is to be written,
 /// and the report to be shown after it. Where the conversation failed the file stays as it is.
@@ -116,8 +117,8 @@ fn fetch_for<A: Allocator + Copy, S: Source, W: Sink, R: Sink>(
     }
 }
 
-/// Ends a fetch that settled the refs: makes the new text of the client's file, and reports. It answers how that came out,
-/// and the text. Where there is no memory for the text, there is none, and nothing is reported.
+/// Ends a fetch that settled the refs: makes the new text of the client's file, and reports. It answers how that came
+/// out, and the text. Where it is out of memory for the text, there is none, and nothing is reported.
 pub fn conclude<A: Allocator + Copy, R: Sink>(
     alloc: A,
     repo: &Repo<A>,
@@ -136,12 +137,12 @@ pub fn conclude<A: Allocator + Copy, R: Sink>(
     }
 }
 
-// The text of a client's repository. It fails where there is no memory.
+// The text of a client's repository. It fails out of memory.
 fn text_of<A: Allocator + Copy>(alloc: A, repo: &Repo<A>) -> Result<Vec<u8, A>, SaveFault>
     ensures { MatchResult result (λ text. NamesClient text.items repo.now) (λ fault. fault ≡ Memory) }
 {
+    // Laws. The look-up says that the repository is connected.
     places_are_nodes::<A>();
-    // A look-up says that the repository is whole.
     let _format = repo.format();
     match save(alloc, repo.graph(), repo.refs(), &Head::None) {
         Ok(text) => Ok(text),

@@ -17,19 +17,19 @@ use arrayvec::ArrayVec;
 use gpkt::{Down, Line, LineBuffer, LineFault, LineReader, Sink, Source, laws};
 use std::alloc::Allocator;
 
-/// The most bytes of a data line that stand before its digits: the word, and a number of 20.
+/// The most bytes of a shown data packet before its digits: the word, and a number of 20.
 const MAX_DATA_HEAD: usize = 25;
 
 /// How many bytes of a payload are shown in one call.
 const CHUNK: usize = 512;
 
-/// `gitv2 lines`: shows each packet line of `input` on a line of `output`, `data` with the length and the digits
-/// of its payload, `flush`, `delim` or `response-end`, until the input ends. No more than 4,294,967,295 lines are
-/// read.
+/// `gitv2 lines`: shows each packet of `input` on a line of `output`, `data` with the length and the digits of its
+/// payload, `flush`, `delim` or `response-end`, until the input ends (gitprotocol-common(5), "pkt-line Format").
+/// No more than 4,294,967,295 packets are read.
 ///
-/// It answers the exit status: 0 where all lines are shown and passed on; 1 where a fault was met, which is one line
-/// on `errors`. The lines before one that is refused are shown and passed on. Where there is no memory for the
-/// buffer of the reader, nothing is read or written.
+/// It answers the exit status: 0 where all packets are shown and passed on; 1 where a fault was met, which is one
+/// line on `errors`. The packets before one that is refused are shown and passed on. Where it is out of memory for
+/// the buffer of the reader, nothing is read or written.
 pub fn cmd_lines<A: Allocator + Copy, S: Source, W: Sink, E: Sink>(
     alloc: A,
     input: &mut S,
@@ -46,7 +46,7 @@ pub fn cmd_lines<A: Allocator + Copy, S: Source, W: Sink, E: Sink>(
     finish(show_lines(alloc, input, output), errors)
 }
 
-// Shows the lines.
+// Shows the packets.
 fn show_lines<A: Allocator + Copy, S: Source, W: Sink>(
     alloc: A,
     input: &mut S,
@@ -68,7 +68,7 @@ fn show_lines<A: Allocator + Copy, S: Source, W: Sink>(
     }
 }
 
-// Shows each line, and passes on what is shown. It answers how the reading ended.
+// Shows each packet, and passes on what is shown. It answers how the reading ended.
 fn pass_each<A: Allocator + Copy, S: Source, W: Sink>(
     reader: &mut LineReader<S, A>,
     output: &mut W,
@@ -84,7 +84,7 @@ fn pass_each<A: Allocator + Copy, S: Source, W: Sink>(
     Ok(ended)
 }
 
-// Shows each line that is read.
+// Shows each packet that is read.
 fn show_each<A: Allocator + Copy, S: Source, W: Sink>(
     reader: &mut LineReader<S, A>,
     output: &mut W,
@@ -135,7 +135,7 @@ fn show_data<W: Sink>(payload: &[u8], output: &mut W) -> Result<(), Down>
     put(b"\n", output)
 }
 
-// What stands before the digits of a data line.
+// What stands before the digits of a data packet.
 fn compose_head(len: usize, head: &mut ArrayVec<u8, MAX_DATA_HEAD>)
     requires { head.old.items ≡ [] }
     ensures { head.new.items ≡ codes "data " ++ decimal len }

@@ -11,7 +11,7 @@ use gname::{MAX_ID_TEXT, Oid, RefName};
 use std::alloc::{AllocError, Allocator};
 
 /// The lines of the report: what became of each ask, in their order, and where an unborn HEAD of the server points. It
-/// fails where there is no memory.
+/// fails out of memory.
 pub(crate) fn report_of<A: Allocator + Copy>(
     alloc: A,
     fetched: &Fetched<A>,
@@ -51,7 +51,7 @@ fn update_at(updates: &[RefUpdate], place: usize) -> RefUpdate
     updates[place]
 }
 
-// What became of the ask at a place.
+// What became of the ask at a position.
 fn put_ask<A: Allocator + Copy>(
     text: &mut Vec<u8, A>,
     asks: &Asks<A>,
