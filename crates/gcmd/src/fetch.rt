@@ -117,8 +117,8 @@ fn fetch_for<A: Allocator + Copy, S: Source, W: Sink, R: Sink>(
     }
 }
 
-/// Ends a fetch that settled the refs: makes the new text of the client's file, and reports. It answers how that came out,
-/// and the text. Where it is out of memory for the text, there is none, and nothing is reported.
+/// Ends a fetch that settled the refs: makes the new text of the client's file, and reports. It answers how that came
+/// out, and the text. Where it is out of memory for the text, there is none, and nothing is reported.
 pub fn conclude<A: Allocator + Copy, R: Sink>(
     alloc: A,
     repo: &Repo<A>,

@@ -6,24 +6,25 @@
 //!
 //! # Proved
 //!
-//! - Every program ends with status 0 and prints nothing, or with 1, and then exactly the line of the fault that was met
-//!   is printed and passed on, or a beginning of it where the errors' sink fails (`specs/Programs.antt`). [`cmd_failed`]
-//!   does so for the fault that it is given.
+//! - Every program ends with status 0 and prints nothing, or with 1, and then exactly the line of the fault that was
+//!   met is printed and passed on, or a beginning of it where the errors' sink fails (`specs/Programs.antt`).
+//!   [`cmd_failed`] does so for the fault that it is given.
 //! - Where a sink fails at a report, at shown packets or at the line of a fault, what had been passed on stays so;
 //!   where it failed at a write, nothing more is passed on (`specs/Outputs.antt`).
-//! - [`cmd_upload`] serves one connection as `gserve` says, from the repository that its file names, with plain packs,
-//!   and [`cmd_ls`] one request (`specs/Serving.antt`). The work is done where the client ended the connection, the request
-//!   was answered or was a lone flush, the input ended before a request, or the connection had as many requests as may be;
-//!   else the fault is that of the refusal, or of the output. Of a file that is no text of a repository in which each parent
-//!   comes before its children, and each ref, and HEAD by its id, stands at an object that is there, nothing is read or
-//!   written; the fault is that of the text, of the ref or of HEAD.
-//! - [`cmd_fetch`] opens the client's repository that its file names, and holds a conversation as `gclient` says, with
-//!   plain packs (`specs/Fetching.antt`). Of a file that is no text of a repository without HEAD, or of one with a ref
-//!   that is not connected, nothing is read or written. Where the refs were settled the new file is the one text of the
-//!   repository as the fetch left it: objects only came, each ref is connected, and each ref that may move did; and the
-//!   report (`specs/Reporting.antt`) is written and passed on, or a beginning of it stands where its sink fails. At
-//!   every other fault there is no new file, and no report, save a new file without its report where it is out of memory
-//!   for that. [`read_specs`] reads words as refspecs, or answers the fault of the first that is none.
+//! - [`cmd_upload`] serves one connection as `gserve` says, from the repository that its file names, with plain
+//!   packs, and [`cmd_ls`] one request (`specs/Serving.antt`). The work is done where the client ended the
+//!   connection, the request was answered or was a lone flush, the input ended before a request, or the connection
+//!   had as many requests as may be; else the fault is that of the refusal, or of the output. Of a file that is no
+//!   text of a repository in which each parent comes before its children, and each ref, and HEAD by its id, stands at
+//!   an object that is there, nothing is read or written; the fault is that of the text, of the ref or of HEAD.
+//! - [`cmd_fetch`] opens the client's repository that its file names, and holds a conversation as `gclient` says,
+//!   with plain packs (`specs/Fetching.antt`). Of a file that is no text of a repository without HEAD, or of one with
+//!   a ref that is not connected, nothing is read or written. Where the refs were settled the new file is the one
+//!   text of the repository as the fetch left it: objects only came, each ref is connected, and each ref that may
+//!   move did; and the report (`specs/Reporting.antt`) is written and passed on, or a beginning of it stands where
+//!   its sink fails. At every other fault there is no new file, and no report, save a new file without its report
+//!   where it is out of memory for that. [`read_specs`] reads words as refspecs, or answers the fault of the first
+//!   that is none.
 //! - [`cmd_check`] writes its one line, with the counts, and whether the graph is closed and the repository is
 //!   connected, and passes it on; where the sink fails, a beginning of it stands. Of a file that is no repository
 //!   nothing is written.
@@ -34,8 +35,8 @@
 //!
 //! # Only tested
 //!
-//! By the cases of `conformance`: the exact bytes of whole runs; that memory, where there is some, is found; that a device is
-//! not called again after it failed; a byte a call, and a failure at each call in turn.
+//! By the cases of `conformance`: the exact bytes of whole runs; that memory, where there is some, is found; that a
+//! device is not called again after it failed; a byte a call, and a failure at each call in turn.
 //!
 //! # What the contracts do not rule out
 //!

@@ -1,5 +1,5 @@
-//! How faults are printed: `gitv2: fault NUMBER NAME`, and then, where the fault has them and in this order, ` frame K`,
-//! ` line K`, ` at K`, and a space and the id, the name or the text, each byte outside 32 to 126 as `?`.
+//! How faults are printed: `gitv2: fault NUMBER NAME`, and then, where the fault has them and in this order,
+//! ` frame K`, ` line K`, ` at K`, and a space and the id, the name or the text, each byte outside 32 to 126 as `?`.
 
 ghost use Rattle.std.specs.Prelude.{◌≡◌, ◌+◌, ◌≤◌, ◌++◌, length, map, None, []};
 ghost use Rattle.std.specs.Option.{option_copied};

@@ -9,8 +9,9 @@ use std::alloc::Allocator;
 
 /// The server of the repository whose text is `file`, of either object format.
 ///
-/// It fails with `Text` where the file is the text of no repository in which each parent comes before its children; else
-/// with `Build` where a ref, or HEAD by its id, stands at an object that is not there. Both may be out of memory.
+/// It fails with `Text` where the file is the text of no repository in which each parent comes before its children;
+/// else with `Build` where a ref, or HEAD by its id, stands at an object that is not there. Both may be out of
+/// memory.
 pub fn load_server<A: Allocator + Copy>(alloc: A, file: &[u8]) -> Result<Server<A>, ProgramFault<A>>
     ensures { LoadsServer file.now result }
 {

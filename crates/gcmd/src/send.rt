@@ -6,8 +6,8 @@ ghost use Rattle.gcmd.specs.Outputs.{IsPut, IsSent};
 
 use gpkt::{Down, Sink, write_all};
 
-/// Writes bytes and passes them on. At an error a beginning of them stands written, and the sink is down. Nothing more was
-/// passed on then, unless passing on itself failed.
+/// Writes bytes and passes them on. At an error a beginning of them stands written, and the sink is down. Nothing
+/// more was passed on then, unless passing on itself failed.
 pub(crate) fn send<W: Sink>(bytes: &[u8], sink: &mut W) -> Result<(), Down>
     ensures sent { IsSent (output_of W.contents W.passed_on W.is_down sink.old sink.new) result bytes.now }
     ensures loans { W.loans sink.new ≡ W.loans sink.old }

@@ -14,12 +14,14 @@ use gpkt::{Sink, Source};
 use gserve::{End, serve};
 use std::alloc::Allocator;
 
-/// `gitv2 upload [--response-end] FILE`: serves one connection from `input` to `output`: the advertisement, and then the
-/// reply to each request, from the repository whose text is `file` (gitprotocol-v2(5), "Capability Advertisement",
-/// "Command Request"). With `Ends::Response` each reply ends with a response-end. A fault is one line on `errors`.
+/// `gitv2 upload [--response-end] FILE`: serves one connection from `input` to `output`: the advertisement, and then
+/// the reply to each request, from the repository whose text is `file` (gitprotocol-v2(5),
+/// "Capability Advertisement", "Command Request"). With `Ends::Response` each reply ends with a response-end. A fault
+/// is one line on `errors`.
 ///
 /// It answers the exit status: 0 where the client ended the connection by a lone flush, the input ended before a
-/// request, or there were 4,294,967,295 requests; 1 where a fault was met. What is written is passed on before the call returns.
+/// request, or there were 4,294,967,295 requests; 1 where a fault was met. What is written is passed on before the
+/// call returns.
 pub fn cmd_upload<A: Allocator + Copy, S: Source, W: Sink, E: Sink>(
     alloc: A,
     file: &[u8],
