@@ -13,30 +13,50 @@ pub enum Program {
     Fetch,
     Check,
     Lines,
+    Simulate,
+    /// A connection that is served from its first line on.
+    Serve,
+    /// The refs of a server are listed.
+    List,
 }
 
 impl Program {
     /// Whether it reads what the client says.
     pub fn reads_client(self) -> bool {
         match self {
-            Program::Ls | Program::Upload | Program::Lines => true,
-            Program::Fetch | Program::Check => false,
+            Program::Ls | Program::Upload | Program::Lines | Program::Serve => true,
+            Program::Fetch | Program::Check | Program::Simulate | Program::List => false,
         }
     }
 
     /// Whether it refuses a request by a line to the client.
     pub fn serves(self) -> bool {
         match self {
-            Program::Ls | Program::Upload => true,
-            Program::Fetch | Program::Check | Program::Lines => false,
+            Program::Ls | Program::Upload | Program::Serve => true,
+            Program::Fetch | Program::Check | Program::Lines | Program::Simulate | Program::List =>
+                false,
         }
     }
 
     /// Whether its replies may have an end of their own.
     pub fn has_ends(self) -> bool {
         match self {
-            Program::Upload | Program::Fetch => true,
-            Program::Ls | Program::Check | Program::Lines => false,
+            Program::Upload | Program::Fetch | Program::Serve => true,
+            Program::Ls | Program::Check | Program::Lines | Program::Simulate | Program::List =>
+                false,
+        }
+    }
+
+    /// Whether it has something to report.
+    pub fn reports(self) -> bool {
+        match self {
+            Program::Fetch | Program::List => true,
+            Program::Ls
+            | Program::Upload
+            | Program::Check
+            | Program::Lines
+            | Program::Simulate
+            | Program::Serve => false,
         }
     }
 
@@ -44,7 +64,13 @@ impl Program {
     pub fn reads_lines(self) -> bool {
         match self {
             Program::Lines => true,
-            Program::Ls | Program::Upload | Program::Fetch | Program::Check => false,
+            Program::Ls
+            | Program::Upload
+            | Program::Fetch
+            | Program::Check
+            | Program::Simulate
+            | Program::Serve
+            | Program::List => false,
         }
     }
 }
@@ -55,7 +81,11 @@ pub struct Command<'a> {
     pub program: Program,
     /// The name of the repository's text; empty where there is none.
     pub repository: &'a str,
-    /// The refspecs.
+    /// The host and the path that a client names in the first line of its connection, or the path that is served; empty
+    /// where no connection has such a line.
+    pub host: &'a str,
+    pub path: &'a str,
+    /// The refspecs, or the prefixes; of a simulation the names of its client's text and of its scenario.
     pub specs: &'a str,
     /// The most bytes of a pack.
     pub limit: usize,
@@ -63,38 +93,60 @@ pub struct Command<'a> {
     pub format: Format,
     /// The packer or the indexer, where it is not the plain one.
     pub liar: Option<Liar>,
+    /// The texts of a simulation's client and of its scenario; empty where there are none.
+    pub client: &'a [u8],
+    pub scenario: &'a [u8],
+}
+
+impl Command<'_> {
+    /// Whether the client's first packet is the first line of a connection.
+    pub fn has_hello(&self) -> bool {
+        !self.path.is_empty()
+    }
 }
 
 /// Reads a command line. The packer and the indexer are the plain ones.
 pub fn command_of(line: &str, format: Format) -> Result<Command<'_>, Trouble> {
     let (name, words) = first_of(line);
-    let program = program_of(name)?;
     let words = after(words, "--stdio-server ");
     let words = after(words, "--stdio ");
+    let (host, words) = option_of(words, "--host ");
+    let (path, words) = option_of(words, "--path ");
+    let program = program_of(name, !host.is_empty())?;
     let (ends, words) = match words.strip_prefix("--response-end ") {
         Some(words) => (Ends::Response, words),
         None => (Ends::Plain, words),
     };
     let (limit, words) = limit_of(words)?;
-    let (repository, specs) = first_of(words);
+    let (repository, specs) = match program {
+        Program::List => ("", words),
+        _ => first_of(words),
+    };
     Ok(Command {
         program,
         repository,
+        host,
+        path,
         specs,
         limit,
         ends,
         format,
         liar: None,
+        client: b"",
+        scenario: b"",
     })
 }
 
-fn program_of(name: &str) -> Result<Program, Trouble> {
+fn program_of(name: &str, has_host: bool) -> Result<Program, Trouble> {
     match name {
+        "ls" if has_host => Ok(Program::List),
+        "serve" => Ok(Program::Serve),
         "ls" => Ok(Program::Ls),
         "upload" => Ok(Program::Upload),
         "fetch" => Ok(Program::Fetch),
         "check" => Ok(Program::Check),
         "lines" => Ok(Program::Lines),
+        "simulate" => Ok(Program::Simulate),
         _ => Err(Trouble::UnknownProgram),
     }
 }
@@ -115,6 +167,14 @@ pub fn first_of(words: &str) -> (&str, &str) {
     match words.split_once(' ') {
         Some((first, rest)) => (first, rest),
         None => (words, ""),
+    }
+}
+
+// What the option names, where it stands first, and what follows.
+fn option_of<'a>(words: &'a str, option: &'static str) -> (&'a str, &'a str) {
+    match words.strip_prefix(option) {
+        Some(words) => first_of(words),
+        None => ("", words),
     }
 }
 

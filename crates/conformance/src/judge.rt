@@ -3,7 +3,7 @@
 use crate::command::{Command, Program};
 use crate::device::{Hindrance, Writer};
 use crate::play::Played;
-use crate::spell::number_of;
+use crate::spell::{digit, number_of};
 use crate::table::{Change, Ending, Outcome, error_packet};
 use crate::talk::{Place, Talk};
 use crate::trouble::Trouble;
@@ -28,7 +28,7 @@ const NO_MEMORY_FAULT: usize = 64;
 const PACK_FAULT: usize = 65;
 
 /// The numbers of the faults that may be reported where an allocation was refused.
-const MEMORY_FAULTS: [usize; 6] = [18, 28, 53, 64, 65, 66];
+const MEMORY_FAULTS: [usize; 7] = [18, 28, 53, 64, 65, 66, 91];
 
 /// What a program is run on, and what is to come of it.
 #[derive(Drop)]
@@ -79,9 +79,9 @@ pub fn is_as_due(row: &Row<'_>, played: &Played) -> bool {
         && has_file(played, row.new_file)
 }
 
-// Whether just the row's report was written, by a fetch.
+// Whether just the row's report was written, by a program that has one.
 fn has_reported(row: &Row<'_>, played: &Played) -> bool {
-    let due = if row.command.program == Program::Fetch {
+    let due = if row.command.program.reports() {
         row.talk.report.as_slice()
     } else {
         NOTHING
@@ -105,7 +105,8 @@ pub fn is_stopped(
     };
     let program = row.command.program;
     let is_between = place.start == len;
-    let may_end = program.reads_client() && place.frame == 0;
+    let is_hello = row.command.has_hello() && place.start == 0;
+    let may_end = program.reads_client() && place.frame == 0 && !is_hello;
     if stop == Stop::Ended && is_between && may_end {
         return Ok(is_done(played, before));
     }
@@ -186,7 +187,30 @@ pub fn is_errors_failed(row: &Row<'_>, played: &Played) -> bool {
 pub fn is_scarce(row: &Row<'_>, played: &Played) -> bool {
     is_as_due(row, played)
         || is_unserved(row, played)
+        || has_event_without_memory(row, played)
         || (is_out_of_memory(played) && has_stopped(row, played))
+}
+
+// Whether the events of a simulation came out as the row says, up to one for which there was no memory.
+fn has_event_without_memory(row: &Row<'_>, played: &Played) -> bool {
+    if row.command.program != Program::Simulate || played.status != 0 {
+        return false;
+    }
+    let written = played.output.written().split(|byte| *byte == b'\n');
+    let due = row.talk.output.as_slice().split(|byte| *byte == b'\n');
+    for (line, due) in written.zip(due) {
+        if line != due {
+            return is_refusal_of_memory(line);
+        }
+    }
+    false
+}
+
+fn is_refusal_of_memory(line: &[u8]) -> bool {
+    match line.strip_prefix(b"fault ") {
+        Some(digits) => MEMORY_FAULTS.contains(&number_of(digits)),
+        None => false,
+    }
 }
 
 /// Whether the run ended for want of memory before anything was written: no memory for the repository itself.
@@ -311,11 +335,33 @@ pub fn is_sound(row: &Row<'_>, played: &Played) -> bool {
     is_told && advertises(row, played)
 }
 
-// Whether the output of a connection begins with the advertisement, where the row has one.
+// Whether the output of a connection begins with the advertisement, where the row has one. One that has a first line may be
+// an error alone.
 fn advertises(row: &Row<'_>, played: &Played) -> bool {
-    if row.command.program != Program::Upload {
-        return true;
+    match row.command.program {
+        Program::Upload => has_advert(row, played),
+        Program::Serve => has_advert(row, played) || is_error(played.output.written()),
+        _ => true,
     }
+}
+
+// Whether this is a packet of an error.
+fn is_error(written: &[u8]) -> bool {
+    let Some(digits) = written.get(..4) else {
+        return false;
+    };
+    let mut len = 0usize;
+    for letter in digits {
+        let value = usize::from(digit(*letter));
+        len = len.saturating_mul(16).saturating_add(value);
+    }
+    len == written.len()
+        && written
+            .get(4..)
+            .is_some_and(|rest| rest.starts_with(b"ERR "))
+}
+
+fn has_advert(row: &Row<'_>, played: &Played) -> bool {
     let len = match row.talk.ends.first() {
         Some(end) => *end,
         None => 0,

@@ -61,6 +61,25 @@ impl Liar {
     }
 }
 
+impl Liar {
+    /// Whether it is a packer.
+    pub fn is_packer(self) -> bool {
+        matches!(
+            &self,
+            Liar::PacksNothing
+                | Liar::PacksShort
+                | Liar::PackFails
+                | Liar::PackTooLarge
+                | Liar::PackMemory
+        )
+    }
+
+    /// Whether it is an indexer that does not do what it is to do.
+    pub fn is_indexer(self) -> bool {
+        !self.is_packer() && self != Liar::Watches
+    }
+}
+
 /// A packer or an indexer of ids of a format, and the input of which it is fed.
 #[derive(Clone, Copy)]
 pub struct Handed<'i, 'w> {
@@ -84,8 +103,8 @@ impl<A: Allocator + Copy> Packer<A> for Handed<'_, '_> {
     }
 }
 
-// What a lying packer writes for these entries.
-fn written<A: Allocator + Copy>(
+/// What a lying packer writes for these entries.
+pub fn written<A: Allocator + Copy>(
     liar: Liar,
     alloc: A,
     entries: &[Entry<A>],
@@ -109,6 +128,24 @@ pub struct Pieces<A: Allocator + Copy> {
     bytes: Vec<u8, A>,
 }
 
+impl<A: Allocator + Copy> Pieces<A> {
+    /// Of nothing yet.
+    pub fn new(alloc: A) -> Pieces<A> {
+        Pieces {
+            alloc,
+            bytes: Vec::new(alloc),
+        }
+    }
+
+    pub fn allocator(&self) -> A {
+        self.alloc
+    }
+
+    pub fn bytes(&self) -> &[u8] {
+        self.bytes.as_slice()
+    }
+}
+
 impl<A: Allocator + Copy> Indexer<A> for Handed<'_, '_> {
     type Feed = Pieces<A>;
 
@@ -122,10 +159,7 @@ impl<A: Allocator + Copy> Indexer<A> for Handed<'_, '_> {
         self.watch.begin();
         match self.liar {
             Liar::IndexFails => Err(IndexFault::Other),
-            _ => Ok(Pieces {
-                alloc,
-                bytes: Vec::new(alloc),
-            }),
+            _ => Ok(Pieces::new(alloc)),
         }
     }
 
@@ -150,8 +184,8 @@ impl<A: Allocator + Copy> Indexer<A> for Handed<'_, '_> {
     }
 }
 
-// Takes a piece, or refuses it.
-fn taken<A: Allocator + Copy>(
+/// Takes a piece, or refuses it.
+pub fn taken<A: Allocator + Copy>(
     liar: Liar,
     feed: &mut Pieces<A>,
     piece: &[u8],
@@ -162,8 +196,8 @@ fn taken<A: Allocator + Copy>(
     }
 }
 
-// The one entry that the indexer says, whatever it was fed.
-fn made_up<A: Allocator + Copy>(
+/// The one entry that the indexer says, whatever it was fed.
+pub fn made_up<A: Allocator + Copy>(
     liar: Liar,
     format: Format,
     alloc: A,
@@ -182,8 +216,8 @@ fn made_up<A: Allocator + Copy>(
     Ok(list)
 }
 
-// The entries of a pack but the first.
-fn without_first<A: Allocator + Copy>(
+/// The entries of a pack but the first.
+pub fn without_first<A: Allocator + Copy>(
     alloc: A,
     pack: &[u8],
 ) -> Result<Vec<Entry<A>, A>, IndexFault> {

@@ -3,13 +3,15 @@
 //! repository is in the end is told, too.
 
 use crate::command::Program;
+use crate::connected::{hello_of, serve_connection};
 use crate::liars::{Handed, Liar};
 use crate::play::{Devices, Job, Ran, limit_of, ran_without_file};
 use crate::report::report_of;
 use crate::trouble::Trouble;
-use gclient::{Fetched, Repo, fetch_over};
+use gclient::{FetchFault, Fetched, Repo, fetch_over};
 use gcmd::{ProgramFault, Spec, cmd_failed};
-use ggraph::{Head, Order, load, save};
+use gconnect::fetch_git;
+use ggraph::{Head, Indexer, Order, load, save};
 use gpkt::{Sink, Source, write_all};
 use gserve::{End, ExchangeEnd, Server, serve, serve_one};
 use scarce::Scarce;
@@ -21,6 +23,9 @@ pub fn serve_with<I: Source, O: Sink, R: Sink, E: Sink>(
     liar: Liar,
     devices: &mut Devices<I, O, R, E>,
 ) -> u8 {
+    if job.command.program == Program::Serve {
+        return serve_connection(job, &handed(job, liar), devices);
+    }
     let server = match server_of(job.memory, job.file) {
         Ok(server) => server,
         Err(fault) => return cmd_failed(fault, &mut devices.errors),
@@ -44,7 +49,8 @@ fn server_of<'m>(
     Ok(Server::new(repository.graph, repository.refs, repository.head)?)
 }
 
-fn handed<'i, 'm>(job: &Job<'_, 'i, 'm>, liar: Liar) -> Handed<'i, 'm> {
+/// The packer or the indexer of a job.
+pub fn handed<'i, 'm>(job: &Job<'_, 'i, 'm>, liar: Liar) -> Handed<'i, 'm> {
     Handed {
         liar,
         format: job.command.format,
@@ -94,24 +100,25 @@ fn answer_one<'m, I: Source, O: Sink, R: Sink, E: Sink>(
 }
 
 /// Fetches into a repository's text, and answers what that left.
-pub fn fetch_with<'m, I: Source, O: Sink, R: Sink, E: Sink>(
+pub fn fetch_with<'m, K, I: Source, O: Sink, R: Sink, E: Sink>(
     job: &Job<'_, '_, 'm>,
-    liar: Liar,
+    indexer: &K,
     specs: &[Spec<&'m Scarce<Global>>],
     devices: &mut Devices<I, O, R, E>,
-) -> Result<Ran, Trouble> {
+) -> Result<Ran, Trouble>
+where
+    K: Indexer<&'m Scarce<Global>>,
+{
     let mut repo = match repo_of(job.memory, job.file) {
         Ok(repo) => repo,
         Err(fault) => return Ok(failed(job, fault, devices)),
     };
-    let fetched = fetch_over(
+    let fetched = converse(
+        job,
         &mut repo,
-        &mut devices.input,
-        &mut devices.output,
-        &handed(job, liar),
+        indexer,
         specs,
-        limit_of(job.command.limit),
-        job.command.ends,
+        (&mut devices.input, &mut devices.output),
     );
     let is_settled = fetched.is_ok();
     let mut ran = match fetched {
@@ -124,6 +131,23 @@ pub fn fetch_with<'m, I: Source, O: Sink, R: Sink, E: Sink>(
         ran.state = Some(text_of(job, &repo)?);
     }
     Ok(ran)
+}
+
+// Fetches, from the first line of a connection on, where it has one.
+fn converse<'m, K: Indexer<&'m Scarce<Global>>, I: Source, O: Sink>(
+    job: &Job<'_, '_, 'm>,
+    repo: &mut Repo<&'m Scarce<Global>>,
+    indexer: &K,
+    specs: &[Spec<&'m Scarce<Global>>],
+    (input, output): (&mut I, &mut O),
+) -> Result<Fetched<&'m Scarce<Global>>, FetchFault<&'m Scarce<Global>>> {
+    let limit = limit_of(job.command.limit);
+    let ends = job.command.ends;
+    if !job.command.has_hello() {
+        return fetch_over(repo, input, output, indexer, specs, limit, ends);
+    }
+    let hello = hello_of(job)?;
+    fetch_git(repo, &hello, input, output, indexer, specs, limit, ends)
 }
 
 fn failed<'m, I, O, R, E: Sink>(

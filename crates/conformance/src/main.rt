@@ -5,8 +5,9 @@
 //! formats and with replies that have ends of their own, where it does not say otherwise: as it stands; in pieces; over std's
 //! devices; with an indexer that watches; with each call of each device failing in turn; cut after each byte; with each byte
 //! changed; by a table of what is due then, where it has one; and with each allocation refused in turn. What is made of a
-//! text is tried in pieces, too, and with each allocation refused. A try that goes wrong is a line on standard output, and
-//! the last lines count the tries.
+//! text is tried in pieces, too, and with each allocation refused. Simulations are tried in worlds of their own, too, and in
+//! others events happen by chance. Both ends of a pair are tried as they stand, over sockets. A try that goes wrong is a line
+//! on standard output, and the last lines count the tries.
 //!
 //! # Proved
 //!
@@ -18,33 +19,43 @@
 //!
 //! # Stands on
 //!
-//! `gcmd` for the programs; `gserve` and `gclient` where a packer or an indexer lies or watches; `ggraph`, `ghello`, `gpkt`
-//! and `gname` for what is made of texts; `scarce` for memory that ends.
+//! `gcmd` and `gsimulate` for the programs, `gconnect` and `gtcp` for those of the network; `gworld` and `gscenario` for
+//! events; `gserve` and `gclient` where a packer or an
+//! indexer lies or watches; `ggraph`, `ghello`, `gpkt` and `gname` for what is made of texts; `scarce` for memory that ends.
 #![tactic(auto)]
 
+mod chance;
 mod command;
+mod connected;
 mod device;
+mod dice;
 mod fact;
+mod forgery;
 mod history;
 mod judge;
 mod known;
 mod liars;
 mod long;
 mod lying;
+mod meeting;
 mod packet;
 mod play;
+mod random;
 mod report;
 mod script;
 mod shown;
+mod simulated;
 mod spell;
 mod table;
 mod talk;
 mod tally;
+mod tools;
 mod trouble;
 mod vary;
 mod watch;
+mod worlds;
 
-use crate::command::{Command, Program, command_of};
+use crate::command::{Command, Program, command_of, first_of};
 use crate::judge::{Reach, Row};
 use crate::script::{Case, Fact, Script};
 use crate::shown::Look;
@@ -57,6 +68,7 @@ use gcmd::Ends;
 use gname::Format;
 use scarce::Scarce;
 use std::alloc::Global;
+use std::net::{Net, TcpListener, TcpStream};
 use std::process::ExitCode;
 use std::rt::{Env, Files};
 use std::{env, fs, io};
@@ -71,7 +83,7 @@ fn main(rt: HostRuntime) -> ExitCode {
 // Tries all cases of the files that the words name. It answers whether nothing went wrong.
 fn run<R>(rt: &R) -> io::Result<bool>
 where
-    R: Env + Files + Print + AllocGlobal,
+    R: Env + Files + Print + AllocGlobal + Net<Stream = TcpStream, Listener = TcpListener>,
 {
     let alloc = rt.alloc();
     let words: Vec<String> = env::args(rt)?.skip(1).collect(alloc)?;
@@ -119,22 +131,20 @@ fn depth_of(words: &[String]) -> (Depth, &[String]) {
 }
 
 // Tries the cases of one format of ids.
-fn try_script<R: Print + AllocGlobal>(
-    rt: &R,
-    script: &Script<'_>,
-    tally: &mut Tally,
-) -> io::Result<()> {
+fn try_script<R>(rt: &R, script: &Script<'_>, tally: &mut Tally) -> io::Result<()>
+where
+    R: Print + AllocGlobal + Net<Stream = TcpStream, Listener = TcpListener>,
+{
     for fact in script.facts.as_slice() {
         try_fact(rt, script, fact, tally)?;
     }
     try_cases(rt, script, tally)
 }
 
-fn try_cases<R: Print + AllocGlobal>(
-    rt: &R,
-    script: &Script<'_>,
-    tally: &mut Tally,
-) -> io::Result<()> {
+fn try_cases<R>(rt: &R, script: &Script<'_>, tally: &mut Tally) -> io::Result<()>
+where
+    R: Print + AllocGlobal + Net<Stream = TcpStream, Listener = TcpListener>,
+{
     for case in script.cases.as_slice() {
         try_case(rt, &*script, case, tally)?;
     }
@@ -207,7 +217,7 @@ fn wrong_answer(
     fact: &Fact<'_>,
     tally: &mut Tally,
 ) -> Result<Option<String>, Trouble> {
-    let is_long = text(script, fact.graph)?.len() > LONG_GRAPH;
+    let is_long = fact.kind == random::KIND || text(script, fact.graph)?.len() > LONG_GRAPH;
     for most in [usize::MAX, 1, 3] {
         let (answer, _) = answer(alloc, script, fact, most, 0)?;
         tally.count_try();
@@ -259,6 +269,8 @@ fn answer(
         history::answer(alloc, &memory, fact, file, refused)?
     } else if known::KINDS.contains(&fact.kind) {
         known::answer(alloc, &memory, fact, file, refused)?
+    } else if fact.kind == random::KIND {
+        random::answer(alloc, fact, file)?
     } else {
         memory.refuse(refused);
         made_of_text(alloc, &memory, fact, most)?
@@ -303,12 +315,15 @@ struct Attempt<'b> {
 }
 
 // Tries a case by each of its programs, and again with replies that have ends of their own, where they may.
-fn try_case<'b, R: Print + AllocGlobal>(
+fn try_case<'b, R>(
     rt: &R,
     script: &'b Script<'b>,
     case: &'b Case<'b>,
     tally: &mut Tally,
-) -> io::Result<()> {
+) -> io::Result<()>
+where
+    R: Print + AllocGlobal + Net<Stream = TcpStream, Listener = TcpListener>,
+{
     for words in case.runs.as_slice() {
         let plain = Attempt {
             case,
@@ -317,10 +332,29 @@ fn try_case<'b, R: Print + AllocGlobal>(
         };
         let mut ended = plain;
         ended.adds_ends = true;
+        if meeting::words_of(words).is_some() {
+            try_pair(rt, script, plain, tally)?;
+            continue;
+        }
         try_run(rt, script, plain, tally)?;
         try_run(rt, script, ended, tally)?;
     }
     Ok(())
+}
+
+// Tries both ends in one process.
+fn try_pair<R>(rt: &R, script: &Script<'_>, run: Attempt<'_>, tally: &mut Tally) -> io::Result<()>
+where
+    R: Print + AllocGlobal + Net<Stream = TcpStream, Listener = TcpListener>,
+{
+    tally.count_row();
+    tally.count_runs(Way::Whole, 1);
+    let words = meeting::words_of(run.words).unwrap_or("");
+    match meeting::is_as_due(rt, rt.alloc(), script, run.case, words) {
+        Ok((true, _)) => Ok(()),
+        Ok((false, printed)) => tell_wrong(rt, run, (Way::Whole, 0), printed.as_slice(), tally),
+        Err(trouble) => tell_trouble(rt, run.case.source, run.case.line, trouble, tally),
+    }
 }
 
 fn try_run<'b, R: Print + AllocGlobal>(
@@ -352,6 +386,7 @@ fn row_of<'b>(
         command.ends = Ends::Response;
     }
     let talk = Talk::of(alloc, &command, case, run.adds_ends)?;
+    add_texts(script, &mut command)?;
     let file = text(script, command.repository)?;
     let new_file = match case.file {
         Some(name) if command.program == Program::Fetch => Some(text(script, name)?),
@@ -365,9 +400,20 @@ fn row_of<'b>(
         memory: case.memory.as_slice(),
         packets: case.packets.as_slice(),
         table: case.table.as_slice(),
-        reach: reach_of(case, script.format, run.adds_ends),
+        reach: reach_of(case, run.adds_ends),
         is_long: case.is_long,
     }))
+}
+
+// Gives a simulation the texts of its client and of its scenario.
+fn add_texts<'b>(script: &'b Script<'b>, command: &mut Command<'b>) -> Result<(), Trouble> {
+    if command.program != Program::Simulate {
+        return Ok(());
+    }
+    let (client, scenario) = first_of(command.specs);
+    command.client = text(script, client)?;
+    command.scenario = text(script, scenario)?;
+    Ok(())
 }
 
 // Whether the replies of a case may have ends of their own, which it does not say itself.
@@ -375,12 +421,12 @@ fn may_add_ends(command: Command<'_>, case: &Case<'_>) -> bool {
     command.program.has_ends()
         && command.ends == Ends::Plain
         && !case.is_plain
-        && has_open_replies(case)
+        && has_open_replies(case, command.has_hello())
 }
 
-// Of a row's likes in the other format, and with ends of their own, each byte is changed in one bit.
-fn reach_of(case: &Case<'_>, format: Format, adds_ends: bool) -> Reach {
-    if adds_ends || format == Format::Sha256 {
+// Of a row's likes with ends of their own, each byte is changed in one bit.
+fn reach_of(case: &Case<'_>, adds_ends: bool) -> Reach {
+    if adds_ends {
         Reach::OneBit
     } else if case.is_deep {
         Reach::Deep

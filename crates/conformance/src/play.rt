@@ -1,13 +1,16 @@
 //! A run of a program over devices in memory.
 
 use crate::command::{Command, Program};
+use crate::connected::{list_refs, serve_connection};
 use crate::device::{AsStd, Hindrance, Reader, Writer};
-use crate::lying::{fetch_with, serve_with};
+use crate::lying::{fetch_with, handed, serve_with};
+use crate::simulated::{simulate, simulate_with};
 use crate::trouble::Trouble;
 use crate::watch::Watch;
 use gcmd::{
     PackLimit, Spec, cmd_check, cmd_failed, cmd_fetch, cmd_lines, cmd_ls, cmd_upload, read_specs,
 };
+use ggraph::PlainPack;
 use gpkt::{FromRead, Sink, Source, ToWrite};
 use scarce::Scarce;
 use std::alloc::Global;
@@ -189,9 +192,27 @@ fn run<I: Source, O: Sink, R: Sink, E: Sink>(
     if job.command.program == Program::Fetch {
         return fetch(job, words.as_slice(), devices);
     }
+    if job.command.program == Program::Simulate {
+        return run_simulation(job, devices);
+    }
+    if job.command.program == Program::List {
+        let status = list_refs(job, words.as_slice(), devices);
+        return Ok(ran_without_file(job, status));
+    }
     let status = match job.command.liar {
         Some(liar) => serve_with(job, liar, devices),
         None => run_plainly(job, devices),
+    };
+    Ok(ran_without_file(job, status))
+}
+
+fn run_simulation<I, O: Sink, R, E: Sink>(
+    job: &Job<'_, '_, '_>,
+    devices: &mut Devices<I, O, R, E>,
+) -> Result<Ran, Trouble> {
+    let status = match job.command.liar {
+        Some(_) => simulate_with(job, devices)?,
+        None => simulate(job, devices),
     };
     Ok(ran_without_file(job, status))
 }
@@ -215,7 +236,8 @@ fn run_plainly<I: Source, O: Sink, R: Sink, E: Sink>(
         Program::Ls => list(job, devices),
         Program::Upload => upload(job, devices),
         Program::Check => check(job, devices),
-        Program::Lines | Program::Fetch => show(job, devices),
+        Program::Serve => serve_connection(job, &PlainPack, devices),
+        Program::Lines | Program::Fetch | Program::Simulate | Program::List => show(job, devices),
     }
 }
 
@@ -287,7 +309,8 @@ fn fetch_by<'m, I: Source, O: Sink, R: Sink, E: Sink>(
     devices: &mut Devices<I, O, R, E>,
 ) -> Result<Ran, Trouble> {
     match job.command.liar {
-        Some(liar) => fetch_with(job, liar, specs, devices),
+        Some(liar) => fetch_with(job, &handed(job, liar), specs, devices),
+        None if job.command.has_hello() => fetch_with(job, &PlainPack, specs, devices),
         None => fetch_plainly(job, specs, devices),
     }
 }

@@ -32,7 +32,7 @@
 //! `C: command=` stands the object format.
 //!
 //! A line `KIND DUE: TEXT` says what is made of a text (`fact.rt`), what is told of a fault (`shown.rt`), and after
-//! `graph NAME` what is found in a repository (`history.rt`, `known.rt`).
+//! `graph NAME` what is found in a repository (`history.rt`, `known.rt`), or what comes of events by chance (`random.rt`).
 
 use crate::command::first_of;
 use crate::liars::Liar;
@@ -41,7 +41,7 @@ use crate::packet::{full_packet, packet, read_said, text_line};
 use crate::spell::{Form, Text, number_of, spelled};
 use crate::table::{Due, Outcome};
 use crate::trouble::Trouble;
-use crate::{fact, history, known, shown};
+use crate::{fact, history, known, random, shown};
 use gname::Format;
 use std::alloc::Global;
 
@@ -567,6 +567,7 @@ fn say_format(alloc: Global, word: &str, said: &mut Vec<Said>) -> Result<(), Tro
 // Whether a line that begins so says what is made of a text.
 fn is_fact(word: &str) -> bool {
     word == shown::KIND
+        || word == random::KIND
         || fact::KINDS.contains(&word)
         || history::KINDS.contains(&word)
         || known::KINDS.contains(&word)

@@ -4,7 +4,7 @@
 //! `{a}` is the id of forty `a`, or of sixty-four where ids are those of SHA-256, `{a+1}` has a digit more than an id,
 //! `{a-4}` four less; `{a*64}` are sixty-four of them, `{ab*3}` is `ababab`, and `{NAME}`, of two and more characters, the
 //! text of that name. In a line that counts several times, `{#4}` is the number of the time, from 1, with four digits, and
-//! `{#4+16}` sixteen more; `{#}` and `{#+16}` are these numbers with as many digits as an id has, and `{#=17}` is so the
+//! `{#4+16}` sixteen more, and `{#4*2+16}` sixteen more than twice it; `{#}` and `{#+16}` are these numbers with as many digits as an id has, and `{#=17}` is so the
 //! number 17. `{@2}` is the place of a packet: 2, or 3 where ids are those of SHA-256, since a line that names the format
 //! stands before it then.
 
@@ -180,12 +180,17 @@ fn add_counted(
         Some((width, more)) => (width, number_of(more)),
         None => (inside, 0),
     };
+    let (width, times) = match parted(width, b'*') {
+        Some((width, times)) => (width, number_of(times)),
+        None => (width, 1),
+    };
     let width = if width.is_empty() {
         length
     } else {
         number_of(width)
     };
-    add_number(alloc, width, form.time.saturating_add(more), bytes)
+    let number = form.time.saturating_mul(times).saturating_add(more);
+    add_number(alloc, width, number, bytes)
 }
 
 /// Adds a number with so many digits.

@@ -23,6 +23,10 @@ pub enum Trouble {
     NoGraph,
     /// A text is no id.
     NoId,
+    /// Two texts are no server and client of one world.
+    NoWorld,
+    /// A text is no scenario.
+    NoScenario,
 }
 
 impl Trouble {
@@ -38,6 +42,8 @@ impl Trouble {
             Trouble::BadLimit => "the limit is no number",
             Trouble::NoGraph => "the graph is no repository",
             Trouble::NoId => "a word is no id",
+            Trouble::NoWorld => "there is no such world",
+            Trouble::NoScenario => "the text is no scenario",
         }
     }
 }

@@ -8,6 +8,7 @@ use crate::judge::{
 };
 use crate::liars::Liar;
 use crate::play::{Played, Trial, play};
+use crate::simulated::{run_one_by_one, run_scarcely};
 use crate::table::Change;
 use crate::trouble::Trouble;
 use std::alloc::Global;
@@ -163,8 +164,31 @@ impl<'a, 'b> Bench<'a, 'b> {
         self.verdict(is_right, 0, &played)
     }
 
-    // With the input in pieces of one byte and of three, and with an output that takes a byte a call.
+    // With the input in pieces of one byte and of three, and with an output that takes a byte a call. The events of a
+    // simulation happen one by one, too.
     fn in_pieces(&mut self) -> Result<Option<usize>, Trouble> {
+        let wrong = self.in_calls()?;
+        if wrong.is_some() || !self.has_world() || self.is_std {
+            return Ok(wrong);
+        }
+        self.one_by_one()
+    }
+
+    // Whether the row is a simulation that begins.
+    fn has_world(&self) -> bool {
+        self.row.command.program == Program::Simulate && self.row.talk.errors.is_empty()
+    }
+
+    // In a world whose client is looked at after each event.
+    fn one_by_one(&mut self) -> Result<Option<usize>, Trouble> {
+        let row = self.row;
+        self.runs = self.runs.saturating_add(1);
+        let happened = run_one_by_one(self.alloc, row.command, row.file)?;
+        let is_right = happened.is_whole && happened.text.as_bytes() == row.talk.output.as_slice();
+        Ok(if is_right { None } else { Some(0) })
+    }
+
+    fn in_calls(&mut self) -> Result<Option<usize>, Trouble> {
         for most in [1usize, 3] {
             let mut trial = Trial::FREE;
             trial.read = Hindrance::pieces(most);
@@ -209,7 +233,7 @@ impl<'a, 'b> Bench<'a, 'b> {
         self.in_pieces()
     }
 
-    // Whether the row is tried in all that a way has. Its likes of the other format, or with response-ends, are not.
+    // Whether the row is tried in all that a way has. Its likes with response-ends are not.
     fn is_thorough(&self) -> bool {
         let row = self.row;
         !row.is_long && row.reach != Reach::OneBit
@@ -439,9 +463,35 @@ impl<'a, 'b> Bench<'a, 'b> {
         Ok(None)
     }
 
-    // With each allocation refused in turn. The faults that the row names are met in their order. Once a server has told of
-    // a fault to the client, it does so at each later allocation.
+    // With each allocation refused in turn; of a simulation in a world of its own, too.
     fn scarce(&mut self) -> Result<Option<usize>, Trouble> {
+        let wrong = self.scarce_in_turn()?;
+        if wrong.is_some() || !self.has_world() {
+            return Ok(wrong);
+        }
+        self.scarce_in_world()
+    }
+
+    // The run stops or goes on, and what was not done then is done with memory in the same world.
+    fn scarce_in_world(&mut self) -> Result<Option<usize>, Trouble> {
+        let row = self.row;
+        let ample = run_scarcely(self.alloc, row.command, row.file, 0)?;
+        for number in 1..MOST_TRIES {
+            self.runs = self.runs.saturating_add(1);
+            let happened = run_scarcely(self.alloc, row.command, row.file, number as u64)?;
+            if !happened.may_become(&ample) {
+                return Ok(Some(number));
+            }
+            if !happened.was_refused {
+                return Ok(None);
+            }
+        }
+        Ok(Some(MOST_TRIES))
+    }
+
+    // The faults that the row names are met in their order. Once a server has told of a fault to the client, it does so at
+    // each later allocation.
+    fn scarce_in_turn(&mut self) -> Result<Option<usize>, Trouble> {
         let mut met = 0usize;
         let mut has_served = false;
         for number in 1..MOST_TRIES {

@@ -1,0 +1,237 @@
+//! Worlds in which events happen by chance: `random whole: SEED COUNT / CLIENT`, with the text of the client's repository, and
+//! as its graph that of the server's. So many events happen, with plain packers and indexers, with allocations refused, and
+//! with each of those that lie; each time, after each event, the client is to hold the whole ancestry of its refs. Of the
+//! outcomes each kind is to come with plain packs; rounds of acknowledgments where `rounds` stands behind the count.
+
+use crate::chance::Chance;
+use crate::liars::Liar;
+use crate::script::Fact;
+use crate::spell::number_of;
+use crate::tools::Tools;
+use crate::trouble::Trouble;
+use crate::worlds::{Memory, events_of, is_whole, run, text_of, world_of};
+use gname::Format;
+use gworld::{Outcome, World};
+use scarce::Scarce;
+use std::alloc::Global;
+
+/// What a line about such a world begins with.
+pub const KIND: &str = "random";
+
+/// The packers and indexers.
+const LIARS: [Liar; 12] = [
+    Liar::PacksNothing,
+    Liar::PacksShort,
+    Liar::PackFails,
+    Liar::PackTooLarge,
+    Liar::PackMemory,
+    Liar::DropsFirst,
+    Liar::OtherParent,
+    Liar::ManyParents,
+    Liar::TwoParentTag,
+    Liar::IndexFails,
+    Liar::FeedFails,
+    Liar::FinishFails,
+];
+
+/// What stands behind a count.
+const ROUNDS: &[u8] = b"rounds";
+
+/// Of more allocations the first are not refused.
+const MOST_REFUSED: usize = 30;
+
+// How the events happen.
+#[derive(Clone, Copy)]
+struct Setting<'b> {
+    server: &'b [u8],
+    client: &'b [u8],
+    tools: Tools,
+    seed: usize,
+    count: usize,
+    // Whether an allocation is refused now and then.
+    is_scarce: bool,
+    // Whether rounds of acknowledgments are to come.
+    has_rounds: bool,
+}
+
+/// What is found where events happen by chance to the server of a repository's text.
+pub fn answer(alloc: Global, fact: &Fact<'_>, server: &[u8]) -> Result<String, Trouble> {
+    let setting = setting_of(fact.text.as_slice(), server, fact.format);
+    let mut found = happen(alloc, setting)?;
+    if found.is_none() {
+        found = happen_scarcely(alloc, setting)?;
+    }
+    if found.is_none() {
+        found = happen_with_liars(alloc, setting)?;
+    }
+    match found {
+        Some(found) => Ok(found),
+        None => Ok(String::from_str(alloc, "whole")?),
+    }
+}
+
+fn setting_of<'b>(text: &'b [u8], server: &'b [u8], format: Format) -> Setting<'b> {
+    let mut parts = text.splitn(2, |byte| *byte == b'/');
+    let numbers = parts.next().unwrap_or(b"");
+    let client = parts.next().unwrap_or(b"");
+    let mut words = numbers.split(|byte| *byte == b' ');
+    let seed = number_of(words.next().unwrap_or(b""));
+    let count = number_of(words.next().unwrap_or(b""));
+    Setting {
+        server,
+        client: client.strip_prefix(b" ").unwrap_or(client),
+        tools: Tools { liar: None, format },
+        seed,
+        count,
+        is_scarce: false,
+        has_rounds: words.next().unwrap_or(b"") == ROUNDS,
+    }
+}
+
+fn happen_scarcely(alloc: Global, setting: Setting<'_>) -> Result<Option<String>, Trouble> {
+    let mut scarce = setting;
+    scarce.is_scarce = true;
+    scarce.seed = setting.seed.wrapping_add(1);
+    happen(alloc, scarce)
+}
+
+// With each packer and indexer that lies, and a fourth of the events.
+fn happen_with_liars(alloc: Global, setting: Setting<'_>) -> Result<Option<String>, Trouble> {
+    let mut other = setting;
+    other.count = setting.count / 4;
+    for liar in LIARS {
+        other.tools = Tools {
+            liar: Some(liar),
+            format: setting.tools.format,
+        };
+        other.seed = other.seed.wrapping_add(1);
+        let found = happen(alloc, other)?;
+        if found.is_some() {
+            return Ok(found);
+        }
+    }
+    Ok(None)
+}
+
+// What is wrong where the events happen one after the other.
+fn happen(alloc: Global, setting: Setting<'_>) -> Result<Option<String>, Trouble> {
+    let memory = Scarce::new(alloc);
+    let mut world = world_of(&memory, setting.server, setting.client, setting.tools)?;
+    let format = setting.tools.format;
+    let mut chance = Chance::new(alloc, format, setting.seed, setting.server, setting.client)?;
+    let mut log = String::new(alloc);
+    let mut outcomes = Vec::new(alloc);
+    for _ in 0..setting.count {
+        let line = chance.next_line()?;
+        let refused = refusal(&mut chance, setting.is_scarce);
+        step(&memory, &mut world, line.as_str(), refused, &mut outcomes)?;
+        log.push_str(line.as_str())?;
+        if !is_whole(alloc, &world)? {
+            return Ok(Some(log));
+        }
+        if let Some(outcome) = outcomes.last() {
+            chance.learn(line.as_str(), *outcome);
+        }
+    }
+    conclude(alloc, setting, log.as_str(), outcomes.as_slice(), &world)
+}
+
+// The allocation that is refused, if one is.
+fn refusal(chance: &mut Chance, is_scarce: bool) -> u64 {
+    if is_scarce && chance.roll(3) == 0 {
+        (chance.roll(MOST_REFUSED) as u64).saturating_add(1)
+    } else {
+        0
+    }
+}
+
+// Does the event of a line; with memory, where it did not begin without.
+fn step<'m>(
+    memory: Memory<'m>,
+    world: &mut World<Tools, Memory<'m>>,
+    line: &str,
+    refused: u64,
+    outcomes: &mut Vec<Outcome>,
+) -> Result<(), Trouble> {
+    let events = events_of(memory, line.as_bytes())?;
+    memory.refuse(refused);
+    let is_done = run(world, events.as_slice(), outcomes)?;
+    memory.refuse(0);
+    if !is_done {
+        run(world, events.as_slice(), outcomes)?;
+    }
+    Ok(())
+}
+
+// What is wrong in the end: that one run of all events does not do the same, or that some outcome never came.
+fn conclude(
+    alloc: Global,
+    setting: Setting<'_>,
+    log: &str,
+    outcomes: &[Outcome],
+    world: &World<Tools, Memory<'_>>,
+) -> Result<Option<String>, Trouble> {
+    if setting.is_scarce {
+        return Ok(None);
+    }
+    let text = text_of(alloc, outcomes, world)?;
+    let again = run_again(alloc, setting, log)?;
+    if text.as_bytes() != again.as_bytes() {
+        return Ok(Some(again));
+    }
+    if setting.tools.liar.is_none() {
+        return never_came(alloc, outcomes, setting.has_rounds);
+    }
+    Ok(None)
+}
+
+// What comes of all events in one run.
+fn run_again(alloc: Global, setting: Setting<'_>, log: &str) -> Result<String, Trouble> {
+    let memory = Scarce::new(alloc);
+    let events = events_of(&memory, log.as_bytes())?;
+    let mut world = world_of(&memory, setting.server, setting.client, setting.tools)?;
+    let mut outcomes = Vec::new(alloc);
+    run(&mut world, events.as_slice(), &mut outcomes)?;
+    text_of(alloc, outcomes.as_slice(), &world)
+}
+
+// The first kind of outcome that never came.
+fn never_came(
+    alloc: Global,
+    outcomes: &[Outcome],
+    has_rounds: bool,
+) -> Result<Option<String>, Trouble> {
+    let mut came = [false; 8];
+    for outcome in outcomes {
+        if let Some(mark) = came.get_mut(kind_of(*outcome)) {
+            *mark = true;
+        }
+    }
+    for (mark, name) in came.iter().zip(KINDS) {
+        if !*mark && (has_rounds || name != ROUND) {
+            return Ok(Some(format!(in alloc; "never {name}")?));
+        }
+    }
+    Ok(None)
+}
+
+const KINDS: [&str; 8] = [
+    "asked", "served", "stranger", "ls", ROUND, "pack", "moved", "fault",
+];
+
+const ROUND: &str = "round";
+
+// The place of the kind of an outcome in the list; a place past its end for others.
+fn kind_of(outcome: Outcome) -> usize {
+    match outcome {
+        Outcome::Asked { .. } => 0,
+        Outcome::Served { .. } => 1,
+        Outcome::StrangerServed { .. } => 2,
+        Outcome::LsTaken { .. } => 3,
+        Outcome::Round { .. } => 4,
+        Outcome::PackTaken { .. } => 5,
+        Outcome::Settled { moved: 1.., .. } => 6,
+        Outcome::Fault { .. } => 7,
+        Outcome::Done | Outcome::Settled { .. } => KINDS.len(),
+    }
+}

@@ -1,0 +1,195 @@
+//! Simulations: as the program, with a packer or an indexer that lies, and in a world of their own in which an allocation is
+//! refused.
+
+use crate::command::Command;
+use crate::play::{Devices, Job};
+use crate::tools::Tools;
+use crate::trouble::Trouble;
+use crate::worlds::{
+    Files, Memory, ends_of, events_of, is_out_of_memory, is_whole, run, text_of, world_of,
+};
+use gcmd::cmd_failed;
+use gpkt::{Sink, write_all};
+use gsimulate::{Simulation, cmd_simulate};
+use gworld::{Event, Outcome, World};
+use scarce::Scarce;
+use std::alloc::Global;
+
+const NO_MEMORY: &[u8] = b"gitv2: fault 91 Memory\n";
+
+/// Runs a simulation. It answers the exit status.
+pub fn simulate<I, O: Sink, R, E: Sink>(
+    job: &Job<'_, '_, '_>,
+    devices: &mut Devices<I, O, R, E>,
+) -> u8 {
+    let files = Simulation {
+        server: job.file,
+        client: job.command.client,
+        scenario: job.command.scenario,
+    };
+    cmd_simulate(job.memory, &files, &mut devices.output, &mut devices.errors)
+}
+
+/// Runs a simulation with a packer or an indexer that is not the plain one. It answers the exit status.
+pub fn simulate_with<'m, I, O: Sink, R, E: Sink>(
+    job: &Job<'_, '_, 'm>,
+    devices: &mut Devices<I, O, R, E>,
+) -> Result<u8, Trouble> {
+    let command = job.command;
+    let tools = tools_of(command);
+    let mut world = match ends_of(job.memory, job.file, command.client, tools) {
+        Ok(world) => world,
+        Err(fault) => return Ok(cmd_failed(fault, &mut devices.errors)),
+    };
+    let Ok(events) = events_of(job.memory, command.scenario) else {
+        return Ok(failed(devices));
+    };
+    let mut outcomes = Vec::new(job.alloc);
+    if !run(&mut world, events.as_slice(), &mut outcomes)? {
+        return Ok(failed(devices));
+    }
+    let text = text_of(job.alloc, outcomes.as_slice(), &world)?;
+    Ok(shown(text.as_bytes(), devices))
+}
+
+fn tools_of(command: Command<'_>) -> Tools {
+    Tools {
+        liar: command.liar,
+        format: command.format,
+    }
+}
+
+fn failed<I, O, R, E: Sink>(devices: &mut Devices<I, O, R, E>) -> u8 {
+    let _ = write_all(&mut devices.errors, NO_MEMORY).is_ok() && devices.errors.flush().is_ok();
+    1
+}
+
+fn shown<I, O: Sink, R, E: Sink>(text: &[u8], devices: &mut Devices<I, O, R, E>) -> u8 {
+    if write_all(&mut devices.output, text).is_ok() && devices.output.flush().is_ok() {
+        return 0;
+    }
+    let _ = write_all(&mut devices.errors, b"gitv2: fault 27 Io\n").is_ok()
+        && devices.errors.flush().is_ok();
+    1
+}
+
+/// What came of the events of a simulation.
+#[derive(Drop)]
+pub struct Happened {
+    pub outcomes: Vec<Outcome>,
+    /// The lines of what came, and of the client's refs at the end.
+    pub text: String,
+    /// Whether the client's refs were whole at each look.
+    pub is_whole: bool,
+    /// Whether there was an allocation to be refused.
+    pub was_refused: bool,
+}
+
+impl Happened {
+    /// Whether this came of the events where an allocation was refused, of which the other comes with memory: the same, up
+    /// to the first event for which there was no memory.
+    pub fn may_become(&self, other: &Happened) -> bool {
+        self.is_whole
+            && self.outcomes.len() == other.outcomes.len()
+            && agree(self.outcomes.as_slice(), other.outcomes.as_slice())
+    }
+}
+
+// Whether the outcomes are the same up to the first for which there was no memory.
+fn agree(outcomes: &[Outcome], others: &[Outcome]) -> bool {
+    for (outcome, other) in outcomes.iter().zip(others) {
+        if outcome != other {
+            return is_out_of_memory(*outcome);
+        }
+    }
+    true
+}
+
+fn files_of<'b>(command: Command<'b>, server: &'b [u8]) -> Files<'b> {
+    Files {
+        server,
+        client: command.client,
+        scenario: command.scenario,
+    }
+}
+
+/// Runs the events in a world, the allocation of this number being refused. Where the run stops, the events that were not
+/// done are run with memory in the same world.
+pub fn run_scarcely(
+    alloc: Global,
+    command: Command<'_>,
+    server: &[u8],
+    refused: u64,
+) -> Result<Happened, Trouble> {
+    let memory = Scarce::new(alloc);
+    let files = files_of(command, server);
+    let events = events_of(&memory, files.scenario)?;
+    let mut world = world_of(&memory, files.server, files.client, tools_of(command))?;
+    let mut outcomes = Vec::new(alloc);
+    memory.refuse(refused);
+    let is_done = run(&mut world, events.as_slice(), &mut outcomes)?;
+    let was_refused = !memory.is_due();
+    memory.refuse(0);
+    let was_whole = is_whole(alloc, &world)?;
+    if !is_done {
+        finish(&mut world, events.as_slice(), &mut outcomes)?;
+    }
+    let text = text_of(alloc, outcomes.as_slice(), &world)?;
+    let is_whole = was_whole && is_whole(alloc, &world)?;
+    Ok(Happened {
+        outcomes,
+        text,
+        is_whole,
+        was_refused,
+    })
+}
+
+// Runs the events that were not done.
+fn finish<'m>(
+    world: &mut World<Tools, Memory<'m>>,
+    events: &[Event<Memory<'m>>],
+    outcomes: &mut Vec<Outcome>,
+) -> Result<(), Trouble> {
+    let Some(rest) = events.get(outcomes.len()..) else {
+        return Err(Trouble::NoScenario);
+    };
+    run(world, rest, outcomes)?;
+    Ok(())
+}
+
+/// Runs the events one by one in a world, and looks at the client's refs after each.
+pub fn run_one_by_one(
+    alloc: Global,
+    command: Command<'_>,
+    server: &[u8],
+) -> Result<Happened, Trouble> {
+    let memory = Scarce::new(alloc);
+    let files = files_of(command, server);
+    let events = events_of(&memory, files.scenario)?;
+    let mut world = world_of(&memory, files.server, files.client, tools_of(command))?;
+    let mut outcomes = Vec::new(alloc);
+    let is_whole = step_through(alloc, &mut world, events.as_slice(), &mut outcomes)?;
+    let text = text_of(alloc, outcomes.as_slice(), &world)?;
+    Ok(Happened {
+        outcomes,
+        text,
+        is_whole,
+        was_refused: false,
+    })
+}
+
+// Whether the refs were whole after each event.
+fn step_through<'m>(
+    alloc: Global,
+    world: &mut World<Tools, Memory<'m>>,
+    events: &[Event<Memory<'m>>],
+    outcomes: &mut Vec<Outcome>,
+) -> Result<bool, Trouble> {
+    let mut has_stayed = true;
+    for event in events.chunks(1) {
+        run(world, event, outcomes)?;
+        let is_whole = is_whole(alloc, &*world)?;
+        has_stayed = has_stayed && is_whole;
+    }
+    Ok(has_stayed)
+}

@@ -1,0 +1,172 @@
+//! Worlds of a server and a client, their events, and what came of these.
+
+use crate::history::text_of_id;
+use crate::tools::Tools;
+use crate::trouble::Trouble;
+use gcmd::{ProgramFault, load_server, open_client};
+use ggraph::missing;
+use gname::Oid;
+use gworld::{Event, Outcome, RunFault, Scenario, World};
+use scarce::Scarce;
+use std::alloc::Global;
+
+/// The memory of a world.
+pub type Memory<'m> = &'m Scarce<Global>;
+
+/// The texts of the repositories of a world, and of the events that happen to it.
+#[derive(Clone, Copy)]
+pub struct Files<'b> {
+    pub server: &'b [u8],
+    pub client: &'b [u8],
+    pub scenario: &'b [u8],
+}
+
+/// The world of two repositories.
+pub fn world_of<'m>(
+    memory: Memory<'m>,
+    server: &[u8],
+    client: &[u8],
+    tools: Tools,
+) -> Result<World<Tools, Memory<'m>>, Trouble> {
+    match ends_of(memory, server, client, tools) {
+        Ok(world) => Ok(world),
+        Err(_) => Err(Trouble::NoWorld),
+    }
+}
+
+/// The same, or why one of the ends can't be made. Where they fit no world it is as if there were no memory.
+pub fn ends_of<'m>(
+    memory: Memory<'m>,
+    server: &[u8],
+    client: &[u8],
+    tools: Tools,
+) -> Result<World<Tools, Memory<'m>>, ProgramFault<Memory<'m>>> {
+    let server = load_server(memory, server)?;
+    let repo = open_client(memory, client)?;
+    match World::new(server, repo, tools) {
+        Ok(world) => Ok(world),
+        Err(_) => Err(ProgramFault::Memory),
+    }
+}
+
+/// The events of a scenario.
+pub fn events_of<'m>(
+    memory: Memory<'m>,
+    scenario: &[u8],
+) -> Result<Vec<Event<Memory<'m>>, Memory<'m>>, Trouble> {
+    match Scenario::read(memory, scenario) {
+        Ok(events) => Ok(events),
+        Err(_) => Err(Trouble::NoScenario),
+    }
+}
+
+/// Does events, adds what came of those that were done, and answers whether all were.
+pub fn run<'m>(
+    world: &mut World<Tools, Memory<'m>>,
+    events: &[Event<Memory<'m>>],
+    outcomes: &mut Vec<Outcome>,
+) -> Result<bool, Trouble> {
+    match world.run(events) {
+        Ok(done) => {
+            outcomes.extend_from_slice(done.as_slice())?;
+            Ok(true)
+        }
+        Err(RunFault::Memory { outcomes: done }) => {
+            outcomes.extend_from_slice(done.as_slice())?;
+            Ok(false)
+        }
+    }
+}
+
+/// Whether the client holds the whole ancestry of each id at which one of its refs stands. There is to be memory.
+pub fn is_whole(alloc: Global, world: &World<Tools, Memory<'_>>) -> Result<bool, Trouble> {
+    let repo = world.client();
+    let mut ids: Vec<Oid> = Vec::new(alloc);
+    for reference in repo.refs().as_slice() {
+        ids.push(reference.1)?;
+    }
+    match missing(repo.graph(), ids.as_slice()) {
+        Ok(lost) => Ok(lost.is_none()),
+        Err(_) => Err(Trouble::Memory),
+    }
+}
+
+/// Whether what came of an event is that there was no memory for it.
+pub fn is_out_of_memory(outcome: Outcome) -> bool {
+    match outcome {
+        Outcome::Fault { code } => matches!(code, 18 | 28 | 53 | 64 | 65 | 66),
+        _ => false,
+    }
+}
+
+/// A line for what came of each event, and then one for each ref of the client.
+pub fn text_of(
+    alloc: Global,
+    outcomes: &[Outcome],
+    world: &World<Tools, Memory<'_>>,
+) -> Result<String, Trouble> {
+    let mut text = String::new(alloc);
+    add_outcomes(alloc, outcomes, &mut text)?;
+    add_refs(alloc, world, &mut text)?;
+    Ok(text)
+}
+
+fn add_outcomes(alloc: Global, outcomes: &[Outcome], text: &mut String) -> Result<(), Trouble> {
+    for outcome in outcomes {
+        text.push_str(line_of(alloc, *outcome)?.as_str())?;
+        text.push('\n')?;
+    }
+    Ok(())
+}
+
+fn add_refs(
+    alloc: Global,
+    world: &World<Tools, Memory<'_>>,
+    text: &mut String,
+) -> Result<(), Trouble> {
+    for reference in world.client().refs().as_slice() {
+        let id = text_of_id(alloc, Some(reference.1))?;
+        let Ok(name) = std::str::from_utf8(reference.0.as_bytes()) else {
+            return Err(Trouble::NoName);
+        };
+        add_ref(text, id.as_str(), name)?;
+    }
+    Ok(())
+}
+
+fn add_ref(text: &mut String, id: &str, name: &str) -> Result<(), Trouble> {
+    text.push_str("ref ")?;
+    text.push_str(id)?;
+    text.push(' ')?;
+    text.push_str(name)?;
+    text.push('\n')?;
+    Ok(())
+}
+
+// What came of an event, as a line.
+fn line_of(alloc: Global, outcome: Outcome) -> Result<String, Trouble> {
+    match outcome {
+        Outcome::Done => Ok(String::from_str(alloc, "done")?),
+        Outcome::Asked { request } => Ok(format!(in alloc; "asked {request}")?),
+        Outcome::Served { reply } => Ok(format!(in alloc; "served {reply}")?),
+        Outcome::StrangerServed { written } => Ok(format!(in alloc; "stranger {written}")?),
+        Outcome::LsTaken { asks, wants } => Ok(format!(in alloc; "ls asks={asks} wants={wants}")?),
+        Outcome::Round { common } => Ok(format!(in alloc; "round common={common}")?),
+        Outcome::PackTaken { added } => Ok(format!(in alloc; "pack added={added}")?),
+        Outcome::Settled {
+            moved,
+            same,
+            not_forward,
+        } => settled_line(alloc, moved, same, not_forward),
+        Outcome::Fault { code } => Ok(format!(in alloc; "fault {code}")?),
+    }
+}
+
+fn settled_line(
+    alloc: Global,
+    moved: usize,
+    same: usize,
+    not_forward: usize,
+) -> Result<String, Trouble> {
+    Ok(format!(in alloc; "settled moved={moved} same={same} notforward={not_forward}")?)
+}
