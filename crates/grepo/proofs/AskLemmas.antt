@@ -61,7 +61,7 @@ module _ (A : Type 0) where
       (λ k d low. λ same.
       false≢true (sym absent ∙ list_any_at (λ (a : Ask A). bytes_eq a.name ask.name) asks k d low ((bytes_eq-Decides (get_or asks k d).name ask.name).1 same)))
 
-  -- what a look-up by place finds
+  -- what a look-up by position finds
   pub at_place : (pairs : List (List ℕ × Aim)) (k : ℕ) (found : Option (Bor (List ℕ) × Bor Aim)) → option_map deref_pair found ≡ slice_get pairs k
       → MatchOption found (length (asks_here pairs) ≤ k) (λ pair. slice_get (asks_here pairs) k ≡ Some (aimed (pair.0.now, pair.1.now)))
   at_place pairs k None is = let n = length-map pairs (λ (pair : List ℕ × Aim). aimed {A = A} pair) in let h = past pairs k is in omega arith

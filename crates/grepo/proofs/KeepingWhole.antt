@@ -1,4 +1,4 @@
--- A repository stays whole where refs are settled or set.
+-- A repository stays connected where refs are settled or set.
 use Rattle.std.proofs.Common.{◌≡◌, ◌⊎◌, inl, inr, ℕ, zero, suc, ◌+◌, ◌≤◌, Bool, true, false, List, [], ◌∷◌, ◌++◌, length, take, drop, get_or, All, Contains, Option, None, Some, refl, sym, ap, ◌∙◌, subst, arith}
 use Rattle.std.specs.List.{slice_get}
 use Rattle.std.specs.Ordering.{is_eq}
@@ -81,7 +81,7 @@ module _ {A : Type 0} where
         | inr stays ↦ inl (found_there old ref (sym (settles.others ref.0 stays) ∙ own))
       ]) new (own_look_up law new are)
 
-  -- marks of what full ids reach
+  -- marks of what connected ids reach
   marks_full : ReachingGoesOn A → (g : List (Entry A)) (ids : List (List ℕ)) (old new : List Bool) → All (IsFull g) ids → AreFull g old → MarksReached g ids old new → AreFull g new
   marks_full goes_on g ids old new full were reached place marked = by (slice_get g place) refl
     where

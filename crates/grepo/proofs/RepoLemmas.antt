@@ -1,4 +1,4 @@
--- Facts on whole repositories.
+-- Facts on connected repositories.
 use Rattle.std.proofs.Common.{◌≡◌, ◌⊎◌, inl, inr, ℕ, ◌+◌, ◌<◌, Bool, true, false, List, [], ◌∷◌, ◌++◌, length, take, drop, get_or, All, Contains, Option, None, Some, refl, sym, ap, ◌∙◌, subst, arith}
 use Rattle.std.specs.Option.{is_some}
 use Rattle.std.specs.Map.{values_of}
@@ -42,7 +42,7 @@ module _ {A : Type 0} where
     covers = covers g.entries h.entries (values_of refs) known grows differ whole.safe whole.covers;
   }
 
-  -- where nothing is missing of some ids' ancestries they are held; else they are not all held
+  -- where nothing is missing of some ids they are connected; else they are not all connected
   pub all_held : (g : List (Entry A)) (ids : List (List ℕ)) (missing : Option (List ℕ)) → Misses g ids missing → is_some missing ≡ false → All (IsFull g) ids
   all_held g ids None misses is = misses
   all_held g ids (Some b) misses is = absurd (false≢true (sym is))
@@ -62,7 +62,7 @@ module _ {A : Type 0} where
     covers = λ place entry at reached. (marks.each place entry at).1 (inr reached);
   }
 
-  -- refs that come from those of a whole repository, or stand at full ids whose ancestries are marked now
+  -- refs that come from those of a connected repository, or stand at connected ids whose ancestries are marked now
   pub whole_installed : (g : History A) (old : RefList) (known : List Bool) (ids : List (List ℕ)) (new : RefList) (marks : List Bool)
       → IsWhole (record { graph = g; refs = old; known = known }) → All (IsFull g.entries) ids → ComeFrom old ids new
       → AreFull g.entries marks → MarksReached g.entries ids known marks → IsWhole (record { graph = g; refs = new; known = marks })
@@ -80,7 +80,7 @@ module _ {A : Type 0} where
             ]);
       }
 
-  -- the ref at the first place whose ancestry is not held
+  -- the first ref that is not connected
   pub unsafe_at : (g : List (Entry A)) (refs : RefList) (place : ℕ) (ref : List ℕ × List ℕ) → IsFirstLost g (values_of refs) place → get_or refs place ref ≡ ref → IsFirstUnsafe g refs ref.0
   unsafe_at g refs place ref first is =
       let value : List ℕ × List ℕ → List ℕ = λ r. r.1 in

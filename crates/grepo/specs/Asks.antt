@@ -21,12 +21,12 @@ is_asked asks name = list_any (λ ask. bytes_eq ask.name name) asks
 abbrev pub with_ask : {A : Type 0} → List (Ask A) → Ask A → List (Ask A)
 with_ask asks ask = if is_asked asks ask.name then asks else asks ++ ask ∷ []
 
--- the ask at a place is for this ref and this id
+-- the ask at a position is for this ref and this id
 abbrev pub IsAskAt : {A : Type 0} → List (Ask A) → ℕ → (name id : List ℕ) → Type 0
 IsAskAt {A} asks place name id =
     (ask : Ask A) × (slice_get asks place ≡ Some ask) × (ask.name ≡ name) × (ask.id ≡ id)
 
--- whether the ask at a place is forced
+-- whether the ask at a position is forced
 abbrev pub IsForcedAt : {A : Type 0} → List (Ask A) → ℕ → Bool → Type 0
 IsForcedAt {A} asks place forced = (ask : Ask A) × (slice_get asks place ≡ Some ask) × (ask.forced ≡ forced)
 

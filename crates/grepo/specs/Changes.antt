@@ -17,8 +17,8 @@ use Rattle.grepo.specs.declared.fault.RepoFault.TheVariants.{UnsafeRef, NotHeld,
 use Rattle.grepo.specs.Repos.{RepoState, IsFirstUnsafe}
 use Rattle.grepo.specs.Settling.{CannotSettle, Settles, asked_ids}
 
--- what making a repository answers: it holds what was given, and what its refs reach is marked; or the first ref whose
--- whole ancestry is not held; or that there is no memory
+-- what making a repository answers: it holds what was given, and what its refs reach is marked; or the first ref that
+-- is not connected; or out of memory
 abbrev pub Opens : {A : Type 0} → History A → RefList → Result (RepoState A) (RepoFault A) → Type 0
 Opens given given_refs (Ok repo) =
     (repo.graph ≡ given) × (repo.refs ≡ given_refs) × MarksReached given.entries (values_of given_refs) [] repo.known
@@ -39,14 +39,14 @@ AddsLocal old entry new (Err (Graph fault)) =
     × IsCause old.graph.format old.graph.entries entry fault
 AddsLocal old entry new (Err _) = ⊥
 
--- what some refs do to a repository whose graph stays: the ids' ancestries are held, and all that they reach is marked
+-- what some refs do to a repository whose graph stays: the ids are connected, and all that they reach is marked
 pub record Marks {A : Type 0} (old : RepoState A) (ids : List (List ℕ)) (new : RepoState A) : Type 0 where
   pub graph : new.graph ≡ old.graph
   pub full : All (IsFull old.graph.entries) ids
   pub known : MarksReached old.graph.entries ids old.known new.known
 
--- what setting a ref answers: it stands at the id, whose whole ancestry is held; or what of that is missing; or that
--- such a ref can't be set; or that there is no memory
+-- what setting a ref answers: it stands at the id, which is connected; or what of its ancestry is missing; or that
+-- such a ref can't be set; or out of memory
 abbrev pub SetsLocal : {A : Type 0} → RepoState A → List ℕ → List ℕ → RepoState A
     → Result (Unit {0}) (RepoFault A) → Type 0
 SetsLocal old name id new (Ok _) = Marks old (id ∷ []) new × SetsRef old.refs new.refs name id
@@ -58,7 +58,7 @@ SetsLocal old name id new (Err (Refs refs.Memory)) =
 SetsLocal old name id new (Err (Graph graph.Memory)) = new ≡ old
 SetsLocal old name id new (Err _) = ⊥
 
--- what settling asks answers: they are settled, and the whole ancestry of each asked id is held; or what of that is
+-- what settling asks answers: they are settled, and each asked id is connected; or what of their ancestries is
 -- missing; or that the refs can't be set; or that they can, and there is no memory to set them; or that there is none
 -- for a walk or a copy
 abbrev pub SettlesAsks : {A : Type 0} → RepoState A → List (Ask A) → RepoState A

@@ -13,14 +13,14 @@ use Rattle.grepo.specs.Changes.{AddsLocal, SetsLocal, SettlesAsks}
 use Rattle.grepo.specs.Repos.{IsWhole, RepoState}
 use Rattle.grepo.specs.Settling.{Settles}
 
--- a repository stays whole where objects come to its graph
+-- a repository stays connected where objects come to its graph
 abbrev pub WholeStays : Type 0 → Type 0
 WholeStays A =
     (g h : History A) (refs : RefList) (known : List Bool) → Grows g.entries h.entries → IdsDiffer h.entries
     → IsWhole (record { graph = g; refs = refs; known = known })
     → IsWhole (record { graph = h; refs = refs; known = known })
 
--- a repository stays whole where asks are settled
+-- a repository stays connected where asks are settled
 abbrev pub SettlingStaysWhole : Type 0 → Type 0
 SettlingStaysWhole A =
     (old new : RepoState A) (asks : List (Ask A)) (updates : List RefUpdate)
@@ -40,7 +40,7 @@ pub record RefusalsChangeNothing (A : Type 0) : Type 0 where
   pub settling : (old new : RepoState A) (asks : List (Ask A)) (fault : RepoFault A) →
       SettlesAsks old asks new (Err fault) → new ≡ old
 
--- nothing is missing of ancestries that are held
+-- nothing is missing of connected ids
 abbrev pub HeldIsNotMissing : Type 0 → Type 0
 HeldIsNotMissing A =
     (g : List (Entry A)) (ids : List (List ℕ)) (missing : List ℕ)

@@ -1,5 +1,5 @@
--- A client's repository: objects, refs, and marks of objects whose whole ancestry is held. Git's manuals leave
--- open what a client keeps; that it keeps these marks, and that its repository is whole at all times, is our own rule.
+-- A client's repository: objects, refs, and marks of connected objects. Git's manuals leave open what a client keeps;
+-- that it keeps these marks, and that its repository is connected at all times, is our own rule.
 use Rattle.std.specs.Prelude.{◌≡◌, ◌⊎◌, List, ℕ, Bool, ◌∷◌, ◌++◌, ◌+◌, ◌<◌, All, Contains, length, take}
 use Rattle.std.specs.Map.{values_of}
 use Rattle.gobject.specs.declared.node.Entry.{Entry}
@@ -15,20 +15,19 @@ pub record RepoState (A : Type 0) : Type 0 where
   pub refs : RefList
   pub known : List Bool
 
--- the whole ancestry of each ref is held; each mark is that of an object whose whole ancestry is held; and all that a
--- ref reaches is marked
+-- each ref is connected; each marked object is connected; and all that a ref reaches is marked
 pub record IsWhole {A : Type 0} (repo : RepoState A) : Type 0 where
   pub safe : IsSafe repo.graph.entries repo.refs
   pub full : AreFull repo.graph.entries repo.known
   pub covers : Covers repo.graph.entries (values_of repo.refs) repo.known
 
--- the ancestries of the ids before the place are held, and those of them and the id at it are not all held
+-- the ids before the position are connected, and the id at it is not
 pub record IsFirstLost {A : Type 0} (g : List (Entry A)) (ids : List (List ℕ)) (place : ℕ) : Type 0 where
   pub inside : place < length ids
   pub held : All (IsFull g) (take place ids)
   pub lost : ¬ (All (IsFull g) (take (place + 1) ids))
 
--- the name is that of the first ref whose whole ancestry is not held
+-- the name is that of the first ref that is not connected
 pub record IsFirstUnsafe {A : Type 0} (g : List (Entry A)) (refs : RefList) (name : List ℕ) : Type 0 where
   pub front : RefList
   pub id : List ℕ

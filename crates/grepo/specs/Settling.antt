@@ -1,4 +1,4 @@
--- Settling: the refs that are asked for move, all at once. Without force a ref moves forward only (gitglossary(7),
+-- Settling: the refs that are asked for move, all at once. Without force a ref only fast-forwards (gitglossary(7),
 -- "fast-forward"), whatever its name: our own rule, where git-fetch(1), "<refspec>", has one for tags alone.
 pub use Rattle.grepo.specs.Asks.{NamesDiffer, asked_ids}
 use Rattle.std.specs.Prelude.{◌≡◌, ◌≢◌, ◌⊎◌, ℕ, ◌+◌, ◌<◌, Bool, List, length, map, count_by, All, Contains}
@@ -24,8 +24,8 @@ IsUpdate g refs ask Same = ref_at refs ask.name ≡ Some ask.id
 IsUpdate g refs ask Moved = (ref_at refs ask.name ≢ Some ask.id) × MayMove g refs ask
 IsUpdate g refs ask NotForward = (ref_at refs ask.name ≢ Some ask.id) × ¬ (MayMove g refs ask)
 
--- the asks are settled: each ref that may come to stand at its id stands there, every other ref is as it was, and it
--- is said what became of each ask. All of this is judged by the refs as they were
+-- the asks are settled: each ref that may come to stand at its id stands there, every other ref is as it was, and
+-- what became of each ask is answered. All of this is judged by the refs as they were
 pub record Settles {A : Type 0} (g : List (Entry A)) (old : RefList) (asks : List (Ask A)) (updates : List RefUpdate)
     (new : RefList) : Type 0 where
   pub each : AllZip (IsUpdate g old) asks updates

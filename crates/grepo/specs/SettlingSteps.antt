@@ -12,7 +12,7 @@ use Rattle.grepo.specs.declared.fault.RepoFault.{RepoFault}
 use Rattle.grepo.specs.declared.fault.RepoFault.TheVariants.{Graph, Refs}
 use Rattle.grepo.specs.Settling.{CannotSettle, IsUpdate, Settles, is_new}
 
--- what setting a ref answers: the name stands at the id; or it can't be set; or there is no memory
+-- what setting a ref answers: the name stands at the id; or it can't be set; or out of memory
 abbrev pub SetsOne : RefList → List ℕ → List ℕ → RefList → Result (Unit {0}) RefsFault → Type 0
 SetsOne old name id new (Ok _) = SetsRef old new name id
 SetsOne old name id new (Err refs.Refs) = CannotSet old name
@@ -39,7 +39,7 @@ Sets Same before ask after = after ≡ before
 Sets NotForward before ask after = after ≡ before
 
 -- what taking an ask answers: what becomes of it, judged by the old refs, and it did that; or that its ref can't be
--- set; or that there is no memory
+-- set; or out of memory
 abbrev pub TakesAsk : {A : Type 0} → List (Entry A) → RefList → Ask A → RefList → RefList
     → Result RefUpdate (RepoFault A) → Type 0
 TakesAsk g old ask before after (Ok update) = IsUpdate g old ask update × Sets update before ask after

@@ -91,7 +91,7 @@ impl<A: Allocator + Copy> Asks<A> {
         Ok(())
     }
 
-    /// The name and the id of the ask at a place of their order, which counts from 0.
+    /// The name and the id of the ask at a position, counted from 0; `None` past the end.
     pub fn at(&self, place: usize) -> Option<(&RefName<A>, Oid)>
         ensures { MatchOption result (length self.now ≤ place) (λ pair. IsAskAt self.now place pair.0.now pair.1) }
     {
@@ -102,8 +102,8 @@ impl<A: Allocator + Copy> Asks<A> {
         Some((name, aim.id))
     }
 
-    /// Whether the ask at a place of their order is forced: its ref is to move even where the id does not reach the one
-    /// at which it stands.
+    /// Whether the ask at a position, counted from 0, is forced: its ref is to move even where that
+    /// is no fast-forward. `None` past the end.
     pub fn is_forced(&self, place: usize) -> Option<bool>
         ensures { MatchOption result (length self.now ≤ place) (IsForcedAt self.now place) }
     {
@@ -128,7 +128,7 @@ impl<A: Allocator + Copy> Asks<A> {
         *self.aims.allocator()
     }
 
-    /// The name of the ref that the ask at a place is for, and where it is to stand.
+    /// The name of the ref that the ask at a position is for, and where it is to stand.
     pub(crate) fn aim(&self, place: usize) -> (&RefName<A>, &Aim)
         requires { place < length self.now }
         ensures { slice_get self.now place ≡ Some (aimed (result.0.now, result.1.now)) }

@@ -18,15 +18,15 @@ use std::fmt;
 pub enum RepoFault<A: Allocator + Copy = Global> {
     /// A parent of the object that was to be added is not held.
     MissingParent { id: Oid },
-    /// The whole ancestry of the id at which this ref stands is not held.
+    /// This ref, the first in the order of the names, is not connected.
     UnsafeRef { name: RefName<A> },
-    /// Of the ancestry of the id at which a ref was to stand this id is missing.
+    /// The id at which a ref was to stand is not connected: of its ancestry this id is missing.
     NotHeld { missing: Oid },
-    /// Of the ancestries of the ids that were asked for this id is missing.
+    /// The ids that were asked for are not all connected: of their ancestries this id is missing.
     NotConnected { missing: Oid },
-    /// The graph refused it, or there is no memory for a walk or a copy.
+    /// The graph refused it, or out of memory for a walk or a copy.
     Graph(GraphFault),
-    /// A ref can't be set, or it can and there is no memory to set it.
+    /// A ref can't be set, or it can and it is out of memory to set it.
     Refs(RefsFault),
 }
 

@@ -9,8 +9,8 @@ use ggraph::walk_laws::{covering_stays, marks_stay_full};
 use grefs::laws::{refs_are_their_look_ups, refs_come_in_order};
 use std::alloc::Allocator;
 
-/// A repository stays whole where objects come to its graph: the whole ancestry of each ref is held, each mark is that
-/// of an object whose whole ancestry is held, and all that a ref reaches is marked.
+/// A repository stays connected where objects come to its graph: each ref is connected, each marked
+/// object is connected, and all that a ref reaches is marked.
 pub fn whole_stays<A: Allocator + Copy>()
     ensures { WholeStays A }
 {
@@ -20,7 +20,7 @@ pub fn whole_stays<A: Allocator + Copy>()
     covering_stays::<A>();
 }
 
-/// A repository stays whole where asks are settled.
+/// A repository stays connected where asks are settled.
 pub fn settling_stays_whole<A: Allocator + Copy>()
     ensures { SettlingStaysWhole A }
 {
@@ -28,7 +28,7 @@ pub fn settling_stays_whole<A: Allocator + Copy>()
     reaching_goes_on::<A>();
 }
 
-/// A repository stays whole where a ref is set.
+/// A repository stays connected where a ref is set.
 pub fn setting_stays_whole<A: Allocator + Copy>()
     ensures { SettingStaysWhole A }
 {
@@ -40,7 +40,7 @@ pub fn refusals_change_nothing<A: Allocator + Copy>()
     ensures { RefusalsChangeNothing A }
 {}
 
-/// Nothing is missing of ancestries that are held.
+/// Nothing is missing of connected ids.
 pub fn held_is_not_missing<A: Allocator + Copy>()
     ensures { HeldIsNotMissing A }
 {}

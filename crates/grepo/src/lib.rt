@@ -1,31 +1,32 @@
-//! A client's repository: its objects and its refs. The whole ancestry of each ref is held, at all times.
+//! A client's repository: its objects and its refs. Each ref is connected, at all times.
 //!
 //! # Proved
 //!
-//! - [`Repo::new`] holds exactly the objects and the refs that it is given, where the whole ancestry of each ref
-//!   is held, and else reports the first ref of which it is not, in the order of the names.
-//! - Each call keeps that the whole ancestry of each ref is held, that a mark is that of an object whose whole
-//!   ancestry is held, and that all that a ref reaches is marked. Each call that changes a repository says so of
-//!   what it leaves, and [`Repo::format`] of what is there.
+//! - [`Repo::new`] holds exactly the objects and the refs that it is given, where each ref is
+//!   connected, and else reports the first ref that is not, in the order of the names.
+//! - Each call keeps that each ref and each marked object is connected, and that all that a ref
+//!   reaches is marked. Each call that changes a repository says so of what it leaves, and
+//!   [`Repo::format`] of what is there.
 //! - [`Repo::add_local`] adds an object exactly where its parents are held and the graph takes it. It reports the
 //!   first parent that is not held, and only then what the graph has against the object.
 //! - [`Repo::insert_all`] adds the objects of a pack, all or none, whether or not their parents are held; it marks
 //!   nothing, and the refs stay.
-//! - [`Repo::set_local_ref`] sets a ref exactly where the whole ancestry of the id is held and such a ref can be set.
-//! - [`Asks`] has one ask a ref, the first that was added; by its place each can be asked for its ref, its id and
-//!   whether it is forced.
-//! - [`Repo::settle`] moves all refs that may move to the ids that are asked for, at once, and leaves all others: it
-//!   moves none where the ancestry of one id is not held, or where the refs can't all be set. It says what became of
-//!   each ask. What the ids reach is marked, and all other marks stay. Want of memory for refs (`RepoFault::Refs`) is
-//!   reported only where they can all be set.
+//! - [`Repo::set_local_ref`] sets a ref exactly where the id is connected and such a ref can be
+//!   set.
+//! - [`Asks`] has one ask a ref, the first that was added; its ref, its id and whether it is forced
+//!   are looked up by its position.
+//! - [`Repo::settle`] moves all refs that may move to the ids that are asked for, at once, and
+//!   leaves all others: it moves none where one id is not connected, or where the refs can't all be
+//!   set. It answers what became of each ask. What the ids reach is marked, and all other marks
+//!   stay. Out of memory for refs (`RepoFault::Refs`) is reported only where they can all be set.
 //! - After a fault of any call the repository is as it was, the marks too.
 //! - [`Repo::missing`] answers what is missing of the ancestries of some ids.
 //! - Each fault has the number, the name and the text of its row.
 //! - No call panics, overflows or reads out of bounds, and each returns.
 //!
-//! [`laws`] say that a repository stays whole where objects come to its graph, where a ref is set and where asks
-//! are settled; that a fault changes nothing; that nothing is missing of ancestries that are held; and that there is
-//! one settling of some asks.
+//! [`laws`] say that a repository stays connected where objects come to its graph, where a ref is
+//! set and where asks are settled; that a fault changes nothing; that nothing is missing of
+//! connected ids; and that there is one settling of some asks.
 //!
 //! # Only tested
 //!
@@ -33,18 +34,18 @@
 //!
 //! # What the contracts do not rule out
 //!
-//! Where several ids are missing it may answer any. It may report out of memory as often as it likes, but not of an
-//! object that is held: only memory tells what is missing of an ancestry, so that want of it for walks and copies
-//! (`RepoFault::Graph`) may stand for an unsafe ref, for ids whose ancestries are not held, and for refs that can't be
-//! set. A walk may go on from marked objects. A call may take as long as it likes, and more memory than it needs. No
-//! clause says where memory comes from: [`Asks::allocator`] may answer any allocator of its kind, and [`Asks::ids`] may
-//! take its memory from that of the asks.
+//! Where several ids are missing it may answer any. It may report out of memory as often as it
+//! likes, but not of an object that is held: what is missing of an ancestry takes memory to find,
+//! so that out of memory for walks and copies (`RepoFault::Graph`) may stand for a ref or ids that
+//! are not connected, and for refs that can't be set. A walk may go on from marked objects. A call
+//! may take as long as it likes, and more memory than it needs. No clause says where memory comes
+//! from: [`Asks::allocator`] may answer any allocator of its kind, and [`Asks::ids`] may take its
+//! memory from that of the asks. Formatting a fault may answer an error (`fmt::Error`) where the
+//! text would be right, and with options, such as a width, write another text.
 //!
-//! # Time
-//!
-//! An ask is added by one look-up of its name's hash. Settling takes time by the number of asks and refs, times the
-//! logarithm of the number of refs; and a walk over the graph for each ask for a ref that stands at another id, unless
-//! it is forced.
+//! No clause bounds time. As it is written, an ask is added by one look-up of its name's hash;
+//! settling takes time by how many asks and refs there are, times the logarithm of how many refs,
+//! and a walk over the graph for each ask for a ref that stands at another id, unless it is forced.
 //!
 //! # Stands on
 //!

@@ -1,4 +1,4 @@
-//! Which ref stands in the way of a repository.
+//! Which ref is the first that is not connected.
 #![tactic(auto)]
 
 ghost use Rattle.std.specs.Prelude.{◌≡◌, All, IfErr, IfOk};
@@ -11,7 +11,8 @@ use ggraph::{Graph, GraphFault, Refs, missing};
 use gname::{Oid, RefName};
 use std::alloc::Allocator;
 
-/// The name of the first ref whose whole ancestry is not held, where there is one. The ids are those of the refs.
+/// The name of the first ref that is not connected, where there is one. The ids are those of the
+/// refs.
 ///
 /// It fails with `Memory` alone.
 pub(crate) fn first_unsafe<A: Allocator + Copy>(
@@ -29,13 +30,13 @@ pub(crate) fn first_unsafe<A: Allocator + Copy>(
     Ok(name)
 }
 
-// The place of the first id whose whole ancestry is not held.
+// The position of the first id that is not connected.
 fn first_lost<A: Allocator + Copy>(graph: &Graph<A>, ids: &[Oid]) -> Result<usize, GraphFault>
     requires { ¬ (All (IsFull graph.now.entries) ids.now) }
     ensures place { IfOk result (IsFirstLost graph.now.entries ids.now) }
     ensures fault { IfErr result (λ fault. fault ≡ Memory) }
 {
-    // The ids before `full` are whole, and those before `end` are not all.
+    // The ids before `full` are connected, and those before `end` are not all.
     let mut full = 0;
     let mut end = ids.len();
     while full + 1 < end {

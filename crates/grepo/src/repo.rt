@@ -23,8 +23,8 @@ use grefs::laws::refs_come_in_order;
 use std::alloc::{Allocator, Global};
 use std::marker::Model;
 
-/// What a client keeps: its objects, its refs, and marks of objects whose whole ancestry is known to be held. The
-/// whole ancestry of each ref is held at all times.
+/// What a client keeps: its objects, its refs, and marks of objects that are known to be connected.
+/// Each ref is connected at all times.
 #[derive(Debug, Drop)]
 pub struct Repo<A: Allocator + Copy = Global> {
     graph: Graph<A>,
@@ -45,8 +45,8 @@ impl<A: Allocator + Copy> Model for Repo<A> {
 impl<A: Allocator + Copy> Repo<A> {
     /// A repository of these objects and refs. What the refs reach is marked.
     ///
-    /// It fails with `UnsafeRef` and the first ref, in the order of the names, whose whole ancestry is not held, and
-    /// where there is no memory.
+    /// It fails with `UnsafeRef` and the first ref, in the order of the names, that is not
+    /// connected, and where there is no memory. The graph and the refs are then gone.
     pub fn new(graph: Graph<A>, refs: Refs<A>) -> Result<Repo<A>, RepoFault<A>>
         ensures opens { Opens graph refs result }
         ensures whole { IfOk result IsWhole }
@@ -77,7 +77,7 @@ impl<A: Allocator + Copy> Repo<A> {
         &self.refs
     }
 
-    /// The marks of objects whose whole ancestry is known to be held.
+    /// The marks of objects that are known to be connected.
     pub fn known(&self) -> &FullMarks<A>
         ensures { result.now ≡ self.now.known }
     {
@@ -96,8 +96,9 @@ impl<A: Allocator + Copy> Repo<A> {
         self.graph.format()
     }
 
-    /// What is missing of the ancestries of some ids: `None` where every id that one of them reaches is held, the ids
-    /// themselves too, and else one such id that is not held. The walk does not go on from marked objects.
+    /// What is missing of the ancestries of some ids: `None` where each of them is connected, and
+    /// else an id that one of them reaches and that is not held. The walk does not go on from
+    /// marked objects.
     ///
     /// It fails with `Memory` alone.
     pub fn missing(&self, ids: &[Oid]) -> Result<Option<Oid>, GraphFault>
@@ -144,7 +145,8 @@ impl<A: Allocator + Copy> Repo<A> {
         self.graph.insert_all(entries)
     }
 
-    /// Sets a ref to an id whose whole ancestry is held. What the id reaches is marked before the ref is set.
+    /// Sets a ref to a connected id, whether or not that is a fast-forward. What the id reaches is
+    /// marked first.
     ///
     /// It fails with `NotHeld` and an id that is missing of the ancestry, then with the fault of `Refs::set` for a
     /// ref that can't be set, and where there is no memory. The repository is then as it was.
@@ -162,10 +164,10 @@ impl<A: Allocator + Copy> Repo<A> {
         Ok(())
     }
 
-    /// Settles asks: each ref that is new, or is moved by force, or stands at an id
-    /// that the asked id reaches, comes to stand at the asked id, all at once, and each other ref stays. Answers what
-    /// became of each ask, in their order. All is judged by the refs as they were. What the ids reach is marked before
-    /// a ref moves.
+    /// Settles asks: each ref that is new, or is moved by force or as a fast-forward, comes to
+    /// stand at the asked id, all at once, and each other ref stays. It answers what became of each
+    /// ask, in their order. All is judged by the refs as they were. What the ids reach is marked
+    /// before a ref moves.
     ///
     /// It fails with `NotConnected` and an id that is missing of the ancestries of the asked ids, then with `Refs`
     /// where an ask is for HEAD or there would be too many refs, before memory is taken for refs; and where there is no

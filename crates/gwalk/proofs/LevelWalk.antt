@@ -7,7 +7,7 @@ use Rattle.ghistory.specs.Levels.{new_ids, parents_of, parents_of_each, level, l
 use Rattle.ghistory.proofs.IdLists.{with_new}
 use Rattle.gwalk.proofs.IdLists.{with_new-nil, with_new-append}
 
--- the walk stands in level k, at its place `at` of all ids: the ids of the levels down to there are those taken up
+-- the walk stands in level k, at its position `at` of all ids: the ids of the levels down to there are those taken up
 -- and the rest; after them stand new parents; and with the parents of the rest the next level would be whole
 pub record IsWalked {A : Type 0} (g : List (Entry A)) (tips ids : List (List ℕ)) (at : ℕ) : Type 0 where
   pub k : ℕ

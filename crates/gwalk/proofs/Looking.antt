@@ -83,7 +83,7 @@ one_start g start b s =
 pub any_of : {X : Type 0} (P : X → Type 0) (xs : List X) (x : X) → Contains xs x → P x → Any P xs
 any_of P xs x c p = (c.0, x, c.1, c.2, p)
 
--- an id with a place gives that place
+-- an id with a position gives that position
 pub placed : {A : Type 0} (g : List (Entry A)) (b : List ℕ) (bs : List (List ℕ)) (o : Option ℕ) → place_of g b ≡ o → places g (b ∷ bs) ≡ [] → (o ≡ None) × (places g bs ≡ [])
 placed g b bs None e none = (refl, sym (ap (λ o. cons_option o (places g bs)) e) ∙ none)
 placed g b bs (Some p) e none = absurd (let some : p ∷ places g bs ≡ [] = sym (ap (λ o. cons_option o (places g bs)) e) ∙ none in cc)
@@ -178,7 +178,7 @@ module _ {A : Type 0} (g : List (Entry A)) (start : List ℕ) (goals : List Bool
               | inr after ↦ unplaced g back b p after e none
             ]
 
--- ---- the ids at the places of some ids are those that are held
+-- ---- the ids at the positions of some ids are those that are held
 
 pub ids_at_places : {A : Type 0} (g : List (Entry A)) (ids : List (List ℕ)) → ids_at g (places g ids) ≡ filter (λ a. is_some (node_at g a)) ids
 ids_at_places g [] = refl
@@ -200,7 +200,7 @@ ids_at_places {A} g (b ∷ bs) = by (place_of g b) refl (ids_at_places g bs)
         ∙ ap (λ o. cons_option o (ids_at g (places g bs))) is
         ∙ ap (λ l. b ∷ l) later ∙ sym (kept true (held_at_place g b p e))
 
--- each place is inside
+-- each position is inside
 pub places_inside : {A : Type 0} (g : List (Entry A)) (ids : List (List ℕ)) → AllByRecursion (λ number. number < length g) (places g ids)
 places_inside g [] = tt
 places_inside g (b ∷ bs) = by (place_of g b) refl (places_inside g bs)

@@ -1,4 +1,4 @@
--- Lists of marks, place by place.
+-- Lists of marks.
 use Rattle.std.proofs.Common.{◌≡◌, ◌⊎◌, inl, inr, ℕ, zero, suc, ◌+◌, ◌<◌, ◌≤◌, Bool, true, false, ◌||◌, List, [], ◌∷◌, ◌++◌, length, get_or, set, take, All, refl, sym, ap, ap₂, ◌∙◌, subst, arith}
 use Rattle.std.proofs.Math.Seq.{get_or-append_seam}
 use Rattle.std.proofs.lemmas.Bool.{false≢true, cases_eq, cases_lt}
@@ -149,7 +149,7 @@ module _ {A : Type 0} (g : List (Entry A)) (ids : List (List ℕ)) (reached old 
         is p ∙ ap (λ b. b || get_or old p false) (get_or_past reached p false (let l = w.long in omega (arith, l, past)));
   }
 
--- what a full id reaches is full
+-- what a connected id reaches is connected
 full_along : {A : Type 0} (g : List (Entry A)) (ids : List (List ℕ)) (c : List ℕ) → All (IsFull g) ids → SomeReaches g ids c → IsFull g c
 full_along g ids c full (a, (k, inside, same), r) = λ b q.
     subst (IsFull g) same (full k a inside) b (reaches_on g a c b r q)

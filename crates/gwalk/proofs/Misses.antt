@@ -1,4 +1,4 @@
--- What is missing where nothing is marked, and where no parent is missing.
+-- What is missing where nothing is marked, and where the graph is closed.
 use Rattle.std.proofs.Common.{◌≡◌, ℕ, zero, suc, arith, false, List, [], get_or, All, Contains, Option, Some, None, refl, sym, subst, ◌∙◌, ◌∷◌, ◌++◌}
 use Rattle.std.specs.Option.{MatchOption}
 use Rattle.std.proofs.lemmas.Bool.{false≢true}
@@ -9,7 +9,7 @@ use Rattle.ghistory.specs.Reach.{IsFull, here}
 use Rattle.ghistory.specs.Walks.{Misses}
 use Rattle.gwalk.specs.Marks.{AreFull}
 
--- where each id that is held is full, the ids themselves are looked up
+-- where each id that is held is connected, the ids themselves are looked up
 pub held_misses : {A : Type 0} (g : List (Entry A)) (ids : List (List ℕ)) (o : Option (List ℕ)) → ((a : List ℕ) → Holds g a → IsFull g a) → MatchOption o (All (Holds g) ids) (IsFirstAbsent g ids) → Misses g ids o
 held_misses g ids None full all = λ k d inside. full (get_or ids k d) (all k d inside)
 held_misses g ids (Some b) full found =

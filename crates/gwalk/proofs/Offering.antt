@@ -105,7 +105,7 @@ module _ {A : Type 0} (g : List (Entry A)) (tips reached others : List (List ℕ
         let cut : take n (filter T (front ++ back)) ≡ list = ap (take n) whole ∙ take_all n list few in
         offer_by_filter g commons reached others levels tips (front ++ back) all n list (sym cut)
 
--- the id at the place of an id is that id
+-- the id at the position of an id is that id
 pub id_taken : {A : Type 0} (g : List (Entry A)) (a b : List ℕ) (p : ℕ) → place_of g a ≡ Some p → option_map (λ (entry : Entry A). entry.id) (slice_get g p) ≡ Some b → b ≡ a
 id_taken {A} g a b p e is =
     let h = found_at g a p e in

@@ -22,7 +22,7 @@ use Rattle.gwalk.proofs.LevelReach.{met_reached, reached_met}
 use Rattle.gwalk.proofs.Stopping.{bare_if, stop_place, stop_slice, stopped_entry, mapped}
 use Rattle.ghistory.proofs.Places.{id_at_place}
 
--- the marked places are those of the ids that are reached
+-- the marked positions are those of the ids that are reached
 pub marks_reached : {A : Type 0} (g : List (Entry A)) (starts : List (List ℕ)) (marks : List Bool) (met : List ℕ) (lost : Option (List ℕ)) (parents : ℕ) → IdsDiffer g → IsWalk g starts marks met lost parents → AreMarked (SomeReaches g starts) g marks
 marks_reached g starts marks met lost parents differ walk = record {
   long = walk.has_met.long;
@@ -33,7 +33,7 @@ marks_reached g starts marks met lost parents differ walk = record {
       );
 }
 
--- ---- the entries at marked places
+-- ---- the entries at marked positions
 
 pub marked_selects : {A : Type 0} (P : Entry A → Type 0) (g : List (Entry A)) (marks : List Bool) → length marks ≡ length g → ((k : ℕ) (entry : Entry A) → slice_get g k ≡ Some entry → (get_or marks k false ≡ true) ↔ P entry) → Selects P g (marked g marks)
 marked_selects P [] marks long each = none
@@ -73,7 +73,7 @@ counts_reached {A} g starts marks met lost parents differ walk =
       parents_are = walk.has_met.parents_are ∙ marked_sum g marks m.long;
     }
 
--- ---- what is missing, where the walk stopped at ids that are full
+-- ---- what is missing, where the walk stopped at connected ids
 
 -- the entry that holds an id
 pub record IsHeldBy {A : Type 0} (g : List (Entry A)) (a : List ℕ) (node : Node A) : Type 0 where
@@ -175,7 +175,7 @@ module _ {A : Type 0} (known : List Bool) (g : List (Entry A)) where
   stop_reaches a b here = here
   stop_reaches a b (onward {b = c} parent more) = onward (stop_parent a c parent) (stop_reaches c b more)
 
-  -- a step leaves an id that is full, or is a step here
+  -- a step leaves a connected id, or is a step here
   step_here : AreFull g known → (a b : List ℕ) → HasParent g a b → IsFull g b ⊎ HasParent (stop_at known g) a b
   step_here full a b parent = by (get_or known h.place false) refl
     where

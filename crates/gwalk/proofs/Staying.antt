@@ -22,7 +22,7 @@ stay_full {A} keeps law g h marks grows full place t =
     let at = subst (λ (l : List (Entry A)). slice_get l place ≡ Some f.0) (sym grows.1) (slice_in_front g grows.0 place f.0 f.1) in
     (f.0, at, (law g h (f.0).id (keeps g h grows) f.2).0)
 
--- what a full id reaches in the grown graph it reached before, at the same place
+-- what a connected id reaches in the grown graph it reached before, at the same position
 pub covering_stays : {A : Type 0} → GrowingKeeps A → FullStaysFull A → CoveringStays A
 covering_stays {A} keeps law g h ids marks grows differ full covers place entry at reaches =
     let a = reaches.0 in

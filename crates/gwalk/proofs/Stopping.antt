@@ -52,7 +52,7 @@ pub mapped : {X Y : Type 0} (f : X → Y) (o : Option X) (y : Y) → option_map 
 mapped f None y e = absurd (none-some y e)
 mapped f (Some x) y e = (x, refl, let e2 : Some (f x) ≡ Some y = e in cc)
 
--- what stands at a place here is the entry that stands there, perhaps without parents
+-- what stands at a position here is the entry that stands there, perhaps without parents
 pub stopped_entry : {A : Type 0} (marks : List Bool) (g : List (Entry A)) (p : ℕ) (entry : Entry A) → slice_get (stop_at marks g) p ≡ Some entry → (whole : Entry A) × (slice_get g p ≡ Some whole) × (bare_if (get_or marks p false) whole ≡ entry)
 stopped_entry marks g p entry at = mapped (bare_if (get_or marks p false)) (slice_get g p) entry (sym (stop_slice marks g p) ∙ at)
 

@@ -299,6 +299,6 @@ lent_parents {A} g a p parents e are =
     let n = parents_are g a p parents e are in
     sym (ap (λ (o : Option (Node A)). unwrap_or (option_map (λ (node : Node A). node.parents) o) []) n.1 ∙ n.2)
 
--- the place of an id is inside the marks, and the mark there was read
+-- the position of an id is inside the marks, and the mark there was read
 pub mark_inside : {A : Type 0} (g : List (Entry A)) (ids : List (List ℕ)) (marks : List Bool) (met : List ℕ) (lost : Option (List ℕ)) (parents : ℕ) (a : List ℕ) (p : ℕ) → HasMet g ids marks met lost parents → place_of g a ≡ Some p → p < length marks
 mark_inside g ids marks met lost parents a p h e = let i = place_inside g a p e in let l = h.long in omega arith

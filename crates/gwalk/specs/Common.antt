@@ -6,11 +6,11 @@ use Rattle.std.specs.Option.{option_map}
 use Rattle.gobject.specs.declared.node.Entry.{Entry}
 use Rattle.gobject.specs.Objects.{node_at, place_of}
 
--- the ids at some places, in order
+-- the ids at some positions, in order
 abbrev pub ids_at : {A : Type 0} → List (Entry A) → List ℕ → List (List ℕ)
 ids_at g numbers = filter_map (λ number. option_map (λ entry. entry.id) (slice_get g number)) numbers
 
--- what a walk looks for, by look-ups: a mark at the place of each id that is held, and the others
+-- what a walk looks for, by look-ups: a mark at the position of each id that is held, and the others
 pub record AreGoals {A : Type 0} (g : List (Entry A)) (ids : List (List ℕ)) (marks : List Bool)
     (absent : List (List ℕ)) : Type 0 where
   pub long : length marks ≡ length g

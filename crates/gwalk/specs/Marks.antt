@@ -1,4 +1,4 @@
--- Marks of ids by their numbers, which are their places in store order. A number past the end has no mark.
+-- Marks of ids by their positions in store order. A position past the end has no mark.
 use Rattle.std.specs.Prelude.{◌≡◌, ◌≤◌, ◌⊎◌, ◌↔◌, ℕ, Bool, true, false, cond, List, [], ◌∷◌, length, slice_get, All}
 use Rattle.std.specs.Prelude.{slice_index_or, sum_by, Contains, Some}
 use Rattle.gobject.specs.declared.node.Entry.{Entry}
@@ -8,7 +8,7 @@ use Rattle.ghistory.specs.Reach.{Reaches, IsFull, SomeReaches, Grows}
 use Rattle.ghistory.specs.Selecting.{Selects}
 use Rattle.ghistory.specs.Walks.{CountsReached}
 
--- each mark is that of an id whose whole ancestry is held
+-- each marked id is connected
 abbrev pub AreFull : {A : Type 0} → List (Entry A) → List Bool → Type 0
 AreFull {A} g marks =
     (place : ℕ) → slice_index_or marks place false ≡ true →
@@ -21,7 +21,7 @@ stop_at (mark ∷ marks) [] = []
 stop_at (mark ∷ marks) (entry ∷ g) =
     cond mark (entry_of entry.id (node_of entry.node.kind [])) entry ∷ stop_at marks g
 
--- the id is held, and its place has no mark
+-- the id is held, and its position has no mark
 abbrev pub IsUnmarked : {A : Type 0} → List (Entry A) → List Bool → List ℕ → Type 0
 IsUnmarked g marks a = (place : ℕ) × (place_of g a ≡ Some place) × (slice_index_or marks place false ≡ false)
 
@@ -71,7 +71,7 @@ Covers {A} g ids marks =
     (place : ℕ) (entry : Entry A) → slice_get g place ≡ Some entry → SomeReaches g ids entry.id
     → slice_index_or marks place false ≡ true
 
--- marks that cover ids whose whole ancestry is held still do where a graph grows
+-- marks that cover connected ids still do where a graph grows
 abbrev pub CoveringStays : Type 0 → Type 0
 CoveringStays A =
     (g h : List (Entry A)) (ids : List (List ℕ)) (marks : List Bool)

@@ -11,7 +11,7 @@ pub record IsTagFrom {A : Type 0} (g : List (Entry A)) (tip a : List ℕ) : Type
   pub next : List ℕ
   pub tag : IsTagOf g a next
 
--- a chain of tags leads from the id to a commit whose place is marked
+-- a chain of tags leads from the id to a commit whose position is marked
 pub record LeadsToMarked {A : Type 0} (g : List (Entry A)) (marks : List Bool) (a : List ℕ) : Type 0 where
   pub commit : List ℕ
   pub peels : PeelsTo g a commit
@@ -27,7 +27,7 @@ pub record IsTagAmong {A : Type 0} (g : List (Entry A)) (marks : List Bool) (tip
   pub lead : LeadsToMarked g marks tip
   pub from : IsTagFrom g tip a
 
--- the marks, and one at the place of each such tag
+-- the marks, and one at the position of each such tag
 pub record AreTagged {A : Type 0} (g : List (Entry A)) (new : List Bool) (tips : List (List ℕ))
     (marks : List Bool) : Type 0 where
   pub long : length marks ≡ length g

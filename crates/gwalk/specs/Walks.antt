@@ -1,4 +1,4 @@
--- What a walk keeps, and what it ends with. The numbers of ids are their places in store order.
+-- What a walk keeps, and what it ends with. Positions are those in store order.
 use Rattle.std.specs.Prelude.{◌≡◌, ◌↔◌, ℕ, ◌+◌, Bool, true, false, cond, List, [], ◌∷◌, length, slice_get}
 use Rattle.std.specs.Prelude.{slice_index_or, count_by, Contains, Option, None, Some}
 use Rattle.std.specs.List.{filter_map}
@@ -7,17 +7,17 @@ use Rattle.gobject.specs.Objects.{node_at, place_of}
 use Rattle.ghistory.specs.Graphs.{Holds}
 use Rattle.ghistory.specs.Levels.{AreLevels}
 
--- the places of those of some ids that are held, in order
+-- the positions of those of some ids that are held, in order
 abbrev pub places : {A : Type 0} → List (Entry A) → List (List ℕ) → List ℕ
 places g ids = filter_map (place_of g) ids
 
--- how many parents the nodes at marked places have
+-- how many parents the nodes at marked positions have
 abbrev pub marked_parents : {A : Type 0} → List (Entry A) → List Bool → ℕ
 marked_parents [] marks = 0
 marked_parents (entry ∷ g) [] = 0
 marked_parents (entry ∷ g) (mark ∷ marks) = cond mark (length entry.node.parents) 0 + marked_parents g marks
 
--- the entries at marked places
+-- the entries at marked positions
 abbrev pub marked : {A : Type 0} → List (Entry A) → List Bool → List (Entry A)
 marked [] marks = []
 marked (entry ∷ g) [] = []
@@ -35,8 +35,8 @@ abbrev pub IsLost : {A : Type 0} → List (Entry A) → List (List ℕ) → Opti
 IsLost g ids None = (a : List ℕ) → Contains ids a → Holds g a
 IsLost g ids (Some b) = Contains ids b × (node_at g b ≡ None)
 
--- what a walk keeps when it has met some ids: a mark for each that is held; the places of these, in order; one that is
--- lost; and how many parents the held ones have
+-- what a walk keeps when it has met some ids: a mark for each that is held; the positions of these, in order; one
+-- that is not held; and how many parents the held ones have
 pub record HasMet {A : Type 0} (g : List (Entry A)) (ids : List (List ℕ)) (marks : List Bool) (met : List ℕ)
     (lost : Option (List ℕ)) (parents : ℕ) : Type 0 where
   pub long : length marks ≡ length g

@@ -18,12 +18,12 @@ use std::alloc::Allocator;
 pub struct Count {
     /// How many ids it took up. No id is taken up twice.
     pub ids: u64,
-    /// How many parents their nodes have.
+    /// How many parents their nodes have, those of marked ids left out.
     pub parents: u64,
 }
 
-/// What is missing of the ancestries of some ids: `None` where every id that one of them reaches is
-/// held, the ids themselves too, and else one such id that is not held.
+/// What is missing of the ancestries of some ids: `None` where each of them is connected, and else
+/// an id that one of them reaches and that is not held.
 ///
 /// In an ordered graph it looks the ids up, and takes no memory. It fails with `Memory` alone.
 pub fn missing<A: Allocator + Copy>(

@@ -89,7 +89,7 @@ fn all_reach<A: Allocator + Copy>(
     Ok(true)
 }
 
-// The walk that has met the ids and went no further.
+/// The walk that has met the ids and went no further. It fails where there is no memory.
 pub fn met_of<A: Allocator + Copy>(graph: &Graph<A>, ids: &[Oid]) -> Result<Walk<A>, AllocError>
     ensures { IfOk result (λ walk. HasMet graph.now.entries (new_ids [] ids.now)
         walk.marks.items walk.met.items walk.lost walk.parents) }
@@ -99,7 +99,7 @@ pub fn met_of<A: Allocator + Copy>(graph: &Graph<A>, ids: &[Oid]) -> Result<Walk
     Ok(walk)
 }
 
-// The ids with some numbers.
+// The ids at some positions.
 fn ids_at<A: Allocator + Copy>(
     graph: &Graph<A>,
     numbers: &[usize],
@@ -144,7 +144,7 @@ fn has_one(list: &[Oid], ids: &[Oid]) -> bool
     false
 }
 
-// Ids that a walk looks for: a mark at the number of each that is held, and the others.
+// Ids that a walk looks for: a mark at the position of each that is held, and the others.
 #[derive(Drop)]
 struct Goals<A: Allocator + Copy> {
     marks: Vec<bool, A>,

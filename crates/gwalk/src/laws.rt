@@ -6,7 +6,7 @@ ghost use Rattle.gwalk.specs.Marks.{CoveringStays, MarksStayFull, StopsAtMarks};
 use ghistory::laws::{full_stays_full, growing_keeps};
 use std::alloc::Allocator;
 
-/// Where objects only came to a graph, marks of ids whose whole ancestry was held are such marks yet.
+/// Where objects only came to a graph, marks of connected ids are such marks yet.
 pub fn marks_stay_full<A: Allocator + Copy>()
     ensures { MarksStayFull A }
 {
@@ -14,8 +14,8 @@ pub fn marks_stay_full<A: Allocator + Copy>()
     growing_keeps::<A>();
 }
 
-/// Where objects only came to a graph, marks that cover ids whose whole ancestry was held still cover them: all
-/// that these ids reach is marked.
+/// Where objects only came to a graph, marks that cover connected ids still cover them: all that
+/// these ids reach is marked.
 pub fn covering_stays<A: Allocator + Copy>()
     ensures { CoveringStays A }
 {

@@ -3,12 +3,12 @@
 //!
 //! # Proved
 //!
-//! - [`missing`] answers `None` where the whole ancestry of each id is held, and else an id that one of the
-//!   given ids reaches and that is not held. In an ordered graph it never reports that memory is missing.
+//! - [`missing`] answers `None` where each id is connected, and else an id that one of the given
+//!   ids reaches and that is not held. In an ordered graph it never reports out of memory.
 //! - [`missing_counted`] answers the same, and exactly how many held ids the given ones reach, with how many
 //!   parents. No id counts twice.
-//! - [`mark_full`] marks the ids that the given ones reach, and leaves all other marks. Where there is no
-//!   memory, [`FullMarks`] stay as they were. Marks of ids whose whole ancestry is held are such marks after it,
+//! - [`mark_full`] marks the ids that the given ones reach, and leaves all other marks. Where there
+//!   is no memory, [`FullMarks`] stay as they were. Marks of connected ids are such marks after it,
 //!   and where objects come to the graph ([`laws`]).
 //! - [`missing_known`] answers what `missing` does by a walk that doesn't go on from marked ids, and counts
 //!   exactly the ids that are reached by steps that leave unmarked ids, and the parents of the unmarked ones of
@@ -22,17 +22,19 @@
 //!
 //! # What the contracts do not rule out
 //!
-//! Where several ids are missing it may answer any. It may report out of memory as often as it likes, but
-//! where it is proved that a call does not. It may take as long as it likes, and more memory than it needs: no
-//! clause says that a walk takes time linear in the objects and parents that it meets, that `ready` walks no
-//! further from a want than to a common id, or `haves` no further than to the level where it has enough.
+//! Where several ids are missing it may answer any. It may report out of memory as often as it
+//! likes, but not where it is proved that a call does not. It may take as long as it likes, and
+//! more memory than it needs: no clause says that a walk takes time linear in the objects and
+//! parents that it meets, that `ready` walks no further from a want than to a common id, or `haves`
+//! no further than to the level where it has enough.
 //!
 //! There are no tests here. The program `conformance` asks each call of worked histories, among them one with more
 //! paths than can be walked one by one.
 //!
 //! # Stands on
 //!
-//! `ghistory` for graphs, `gobject` for their objects, `gname` for ids, `grefs` for the refs whose tags are sent.
+//! `ghistory` for graphs, `gpass` for passes over ordered ones, `gobject` for their objects,
+//! `gname` for ids, `grefs` for the refs whose tags are sent.
 #![tactic(auto)]
 
 mod ancestry;

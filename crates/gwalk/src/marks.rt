@@ -1,4 +1,4 @@
-//! Marks of ids whose whole ancestry is held.
+//! Marks of connected ids.
 #![tactic(auto)]
 
 ghost use Rattle.std.specs.Prelude.{◌≡◌, ℕ, List, [], length, IfOk, ◌||◌, OnOk, OnErr, IfErr, All, slice_index_or, false};
@@ -13,7 +13,7 @@ use gname::Oid;
 use std::alloc::{AllocError, Allocator, Global};
 use std::marker::Model;
 
-/// Marks of ids by their numbers, which are their places in a graph's store order.
+/// Marks of connected ids, by their positions in a graph's store order.
 #[derive(Debug, Drop)]
 pub struct FullMarks<A: Allocator + Copy = Global> {
     marks: Vec<bool, A>,
@@ -38,14 +38,14 @@ impl<A: Allocator + Copy> FullMarks<A> {
         }
     }
 
-    /// Whether the id with the number is marked. A number past the end has no mark. It takes no memory.
+    /// Whether the id at the position is marked. Past the end there is no mark. It takes no memory.
     pub fn marked(&self, number: usize) -> bool
         ensures { result ≡ slice_index_or self.now number false }
     {
         is_marked(self.marks.as_slice(), number)
     }
 
-    // The marks by number.
+    // The marks by position.
     pub(crate) fn as_slice(&self) -> &[bool]
         ensures { result.now ≡ self.now }
     {
@@ -53,7 +53,7 @@ impl<A: Allocator + Copy> FullMarks<A> {
     }
 }
 
-/// Marks all ids that the given ones reach. The others are marked as before.
+/// Marks all ids that the given ones, which are connected, reach. The others are marked as before.
 ///
 /// The marks then stand in memory of the graph's allocator. It fails with `Memory` alone, and leaves the marks
 /// as they were.
@@ -92,7 +92,7 @@ fn either<A: Allocator + Copy>(
     Ok(marks)
 }
 
-/// Whether a number is marked. One past the end is not.
+/// Whether a position is marked. One past the end is not.
 pub fn is_marked(marks: &[bool], number: usize) -> bool
     ensures { result ≡ slice_index_or marks.now number false }
 {

@@ -36,7 +36,7 @@ pub fn haves<A: Allocator + Copy>(
     Ok(first_untold(graph, tips, &known, &sent, n)?)
 }
 
-// Whether neither walk has met the number.
+// Whether neither walk has met the id at the position.
 fn is_untold<A: Allocator + Copy>(known: &Walk<A>, sent: &Walk<A>, number: usize) -> bool
     requires known { number < length known.now.marks.items }
     requires sent { number < length sent.now.marks.items }

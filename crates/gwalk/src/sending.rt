@@ -20,7 +20,7 @@ use gobject::{Entry, Kind};
 use grefs::Refs;
 use std::alloc::{AllocError, Allocator};
 
-/// The entries to send for the wants to one who has the common ids with their ancestries
+/// The entries to send for the wants to one in whose graph the common ids are connected
 /// (gitprotocol-v2(5), "fetch": `want`, `have`): those that some want reaches and no common id reaches,
 /// in store order.
 ///
@@ -126,7 +126,7 @@ fn leads_to_marked<A: Allocator + Copy>(graph: &Graph<A>, marks: &[bool], id: &O
     is_marked(marks, number)
 }
 
-// A tag's number, and the id that it names.
+// A tag's position, and the id that it names.
 #[derive(Clone, Copy)]
 struct Tag {
     number: usize,
@@ -167,7 +167,7 @@ fn mark_chain<A: Allocator + Copy>(graph: &Graph<A>, marks: &mut Vec<bool, A>, i
     }
 }
 
-// A mark at the number of each entry that some want reaches and no common id does.
+// A mark at the position of each entry that some want reaches and no common id does.
 fn new_marks<A: Allocator + Copy>(
     graph: &Graph<A>,
     wants: &[Oid],
@@ -188,7 +188,7 @@ fn new_marks<A: Allocator + Copy>(
     Ok(marks)
 }
 
-// The entries at marked places, in store order.
+// The entries at marked positions, in store order.
 fn entries_at<A: Allocator + Copy>(
     graph: &Graph<A>,
     marks: &[bool],

@@ -13,17 +13,20 @@ use ghistory::Graph;
 use gname::Oid;
 use std::alloc::{AllocError, Allocator};
 
-// What a walk has met so far: the numbers of the held ids, level by level, and one id that is not held, where
-// there is one. Each number is taken up once.
+/// What a walk has met so far. Each held id is taken up once.
 #[derive(Drop)]
 pub struct Walk<A: Allocator + Copy> {
+    /// A mark at the position of each held id that was met.
     pub marks: Vec<bool, A>,
+    /// The positions of these, level by level.
     pub met: Vec<usize, A>,
+    /// An id that was met and is not held, where there is one.
     pub lost: Option<Oid>,
+    /// How many parents the met nodes have, those of known ones left out.
     pub parents: u64,
 }
 
-// The parents of the node at a place; none where the place is marked as known.
+/// The parents of the node at a position; none where the position is marked as known.
 pub fn parents_past<'a, A: Allocator + Copy>(
     graph: &'a Graph<A>,
     known: &[bool],
@@ -40,7 +43,7 @@ pub fn parents_past<'a, A: Allocator + Copy>(
 }
 
 impl<A: Allocator + Copy> Walk<A> {
-    // A walk that has met nothing.
+    /// A walk that has met nothing. It fails where there is no memory.
     pub fn new(graph: &Graph<A>) -> Result<Walk<A>, AllocError>
         ensures graph { IsGraph graph.now }
         ensures met { IfOk result (λ walk. (known : List Bool) →
@@ -56,7 +59,7 @@ impl<A: Allocator + Copy> Walk<A> {
         })
     }
 
-    // Meets an id.
+    /// Meets an id. It fails where there is no memory; the walk is then of no use.
     pub fn meet(&mut self, graph: &Graph<A>, known: &[bool], id: &Oid) -> Result<(), AllocError>
         requires graph { IsGraph graph.now }
         requires has { (ids : List (List ℕ)) × HasMet (stop_at known.now graph.now.entries) ids
@@ -79,7 +82,7 @@ impl<A: Allocator + Copy> Walk<A> {
         Ok(())
     }
 
-    // Meets some ids, in order.
+    /// Meets some ids, in order. It fails as `meet` does.
     pub fn meet_all(
         &mut self,
         graph: &Graph<A>,
@@ -102,7 +105,8 @@ impl<A: Allocator + Copy> Walk<A> {
     }
 }
 
-// Walks from the ids to all that they reach by steps that leave places which are not known.
+/// Walks from the ids to all that they reach by steps that leave ids which are not known. It fails
+/// where there is no memory.
 pub fn walk_past<A: Allocator + Copy>(
     graph: &Graph<A>,
     known: &[bool],
@@ -123,7 +127,7 @@ pub fn walk_past<A: Allocator + Copy>(
     Ok(walk)
 }
 
-// Walks from the ids to all that they reach.
+/// Walks from the ids to all that they reach. It fails where there is no memory.
 pub fn walk_from<A: Allocator + Copy>(
     graph: &Graph<A>,
     starts: &[Oid],

@@ -4,7 +4,7 @@ use Rattle.gobject.specs.Objects.{place_of}
 use Rattle.ghistory.proofs.Reaching.{node_at_none}
 use Rattle.gwalk.proofs.sending.tag_at.Goals as goal
 
--- the node was found, so the id has a number
+-- the node was found, so the id has a position
 pub returns-in_err-number-clause-only : goal.returns-in_err-number-clause-only
 returns-in_err-number-clause-only g c =
     λ b tag.
