@@ -3,7 +3,8 @@
 //!
 //! # Proved
 //!
-//! That it is safe and ends, whatever the words, the files and the streams are.
+//! That it ends, with no index out of range, no sum that wraps and no use after free, whatever the words, the files
+//! and the streams are.
 //!
 //! # Only tested
 //!
@@ -95,7 +96,7 @@ fn fail<E: Sink>(fault: ProgramFault<Global>, errors: &mut E) -> u8 {
     cmd_failed(fault, errors)
 }
 
-// The first fault where a file can't be read: that of a file before it, if that of the server, or of the client, is none.
+// The first fault where a file can't be read: that of the server's or the client's file, where one of them is none.
 fn unread(alloc: Global, server: &[u8], client: Option<&[u8]>) -> ProgramFault<Global> {
     if let Err(fault) = load_server(alloc, server) {
         return fault;
@@ -124,7 +125,7 @@ where
     cmd_check(rt.alloc(), text.as_slice(), &mut output, errors)
 }
 
-// Shows the packet lines of standard input on standard output.
+// Shows the packets of standard input on standard output.
 fn show_lines<R, E>(rt: &R, errors: &mut E) -> u8
 where
     R: Input + Print + AllocGlobal,
@@ -369,7 +370,7 @@ where
 }
 
 // Writes the file anew where it has a new text. Where there is no report to be shown then, it fails with the status
-// with which the program ends. Of two faults only the first is printed: where there was no memory for the report, that
+// with which the program ends. Of two faults only the first is printed: where it was out of memory for the report, that
 // the file can't be written is not.
 fn keep<R, E>(rt: &R, file: &str, run: &FetchRun, errors: &mut E) -> Result<(), u8>
 where

@@ -71,7 +71,7 @@ pub(crate) enum Command {
 }
 
 /// The command that the words name, the first of which is the program's own. `None` where they name
-/// none, or ask for help, and where there is no memory to read them.
+/// none, or ask for help, and out of memory to read them.
 pub(crate) fn read(alloc: Global, words: &[String]) -> Option<Command> {
     if words.iter().any(|word| word.as_str() == "--") {
         return None;
@@ -216,7 +216,7 @@ enum Way {
     Tcp,
 }
 
-// By the flag, without a place; or by a place, without the flag.
+// By the flag, without an address or a path; or by these, without the flag.
 fn way_of(matches: &ArgMatches<'_>, flag: &str) -> Option<Way> {
     let is_named = matches.get_str("tcp").is_some() || matches.get_str("path").is_some();
     match (matches.get_flag(flag), is_named) {
@@ -353,7 +353,7 @@ mod tests {
         }
     }
 
-    // What the words of a line ask for, if they are a line of the usage.
+    // What a line of words asks for, if it is of the usage.
     fn read_line(alloc: Global, line: &str) -> Result<Option<Command>, AllocError> {
         let mut words = Vec::new(alloc);
         for word in line.split(' ') {
@@ -362,7 +362,7 @@ mod tests {
         Ok(read(alloc, words.as_slice()))
     }
 
-    // The command and the file that the words name, where they are a line of the usage. `lines` has no file.
+    // The command and the file that a line of words names, if it is of the usage. `lines` has no file.
     fn command_in(alloc: Global, line: &str) -> Result<Option<(&'static str, String)>, AllocError> {
         match read_line(alloc, line)? {
             Some(Command::LsStdioServer { file }) => Ok(Some(("ls --stdio-server", file))),

@@ -29,17 +29,17 @@ module _ {X : Type 0} (line : X → List ℕ) (xs : List X) (place : ℕ) where
 
 -- ---- faults
 
--- a wrong line is told
+-- a wrong line is reported
 pub prints_scenario : (errors : Output) (fault : ScenarioFault) (line : ℕ) → fault ≡ scenario.Scenario line → Prints errors (wrong_line line)
     → Prints errors (scenario_line fault)
 prints_scenario errors fault line same h = subst (λ (f : ScenarioFault). Prints errors (scenario_line f)) (sym same) h
 
--- and that there was no memory
+-- and that it was out of memory
 pub prints_no_memory : (errors : Output) (fault : ScenarioFault) → fault ≡ scenario.Memory → Prints errors (codes "gitv2: fault 91 Memory\n")
     → Prints errors (scenario_line fault)
 prints_no_memory errors fault same h = subst (λ (f : ScenarioFault). Prints errors (scenario_line f)) (sym same) h
 
--- the id that two objects have is told
+-- the id that two objects have is reported
 pub prints_disagreement : (errors : Output) (fault : WorldFault) (id : List ℕ) → fault ≡ world.Disagree id → Prints errors (disagreement id)
     → Prints errors (world_line fault)
 prints_disagreement errors fault id same h = subst (λ (f : WorldFault). Prints errors (world_line f)) (sym same) h
@@ -50,6 +50,6 @@ pub prints_two_formats : (errors : Output) (fault : WorldFault) → fault ≡ wo
 prints_two_formats errors fault same h = subst (λ (f : WorldFault). Prints errors (world_line f)) (sym same) h
 
 module _ {A : Type 0} (errors : Output) (fault : SimulationFault A) where
-  -- each kind of fault is told by its own line
+  -- each kind of fault is reported by its own line
   pub prints_fault : (same : SimulationFault A) → fault ≡ same → Prints errors (simulation_fault_line same) → Prints errors (simulation_fault_line fault)
   prints_fault other same h = subst (λ (f : SimulationFault A). Prints errors (simulation_fault_line f)) (sym same) h

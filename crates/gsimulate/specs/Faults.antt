@@ -23,7 +23,7 @@ simulation_fault_row faults.Memory = (91, codes "Memory")
 
 -- ---- the lines that are printed
 
--- there is no memory to go on
+-- out of memory to go on
 abbrev pub memory_line : List ℕ
 memory_line = codes "gitv2: fault 91 Memory\n"
 

@@ -70,7 +70,7 @@ BeginsWith {A} files begun events =
     HasWorld {A = A} files (λ w happening. (begun.world ≡ w) × (events ≡ happening))
 
 -- why no event happens: the first file is no server's; or the second no client's; or the third has a wrong line, or
--- there is no memory for it; or no world can begin between server and client
+-- it is out of memory for it; or no world can begin between server and client
 abbrev pub CannotBegin : {A : Type 0} → Simulation → SimulationFault A → Type 0
 CannotBegin {A} files (faults.Program fault) =
     RefusesFile {A = A} files.server.now fault
@@ -83,7 +83,7 @@ CannotBegin files faults.Memory = ⊥
 
 -- ---- what is shown
 
--- the text is written and passed on; or the output failed at it; or there is no memory for it
+-- the text is written and passed on; or the output failed at it; or out of memory for it
 abbrev pub Shows : {A : Type 0} → List ℕ → Output → Ending A → Type 0
 Shows text output (Ok done) = Sends output text
 Shows text output (Err (faults.Program program.WriteFailed)) = BreaksOff output text
@@ -98,13 +98,13 @@ pub record IsRun {A : Type 0} (output : Output) (ending : Ending A) (w : WorldSt
   pub run : RunWith (Promises (plain_tools A)) w events outcomes new
   pub shows : Shows (simulated_text outcomes new.repo.refs) output ending
 
--- the run stopped for want of memory before an event, and nothing is shown
+-- the run stopped out of memory before an event, and nothing is shown
 pub record IsStopped {A : Type 0} (w : WorldState A) (events : List (Event A)) : Type 0 where
   pub outcomes : List Outcome
   pub new : WorldState A
   pub front : RunsFront (Promises (plain_tools A)) w events outcomes new
 
--- ---- the whole
+-- ---- the simulation
 
 -- what a simulation does: that; or a fault was met before, and nothing is written
 abbrev pub StopsBefore : {A : Type 0} → Simulation → SimulationFault A → Type 0

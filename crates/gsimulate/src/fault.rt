@@ -13,14 +13,14 @@ use std::fmt;
 /// Why a simulation ends with status 1. One line is printed of it.
 #[derive(Debug, Drop)]
 pub enum SimulationFault<A: Allocator + Copy = Global> {
-    /// 64, 67, 68, 71, 80: a file is none of a server or of a client, or there is no memory for it, or for what is to be
+    /// 64, 67, 68, 71, 80: a file is none of a server or of a client, or out of memory for it, or for what is to be
     /// shown; 27: the output failed.
     Program(ProgramFault<A>),
-    /// 92, 91: a line of the scenario is wrong, or there is no memory for its events.
+    /// 92, 91: a line of the scenario is wrong, or out of memory for its events.
     Scenario(ScenarioFault),
     /// 97, 90: no world can begin between this server and this client.
     World(WorldFault),
-    /// 91: there was no memory for the next event.
+    /// 91: out of memory for the next event.
     Memory,
 }
 

@@ -12,7 +12,7 @@ use gworld::Outcome;
 use itoa::{Buffer, Integer};
 use std::alloc::{AllocError, Allocator};
 
-/// A line for each outcome, and then one for each ref. It fails where there is no memory.
+/// A line for each outcome, and then one for each ref. It fails out of memory.
 pub(crate) fn text_of<A: Allocator + Copy>(
     alloc: A,
     outcomes: &[Outcome],
@@ -89,7 +89,7 @@ fn put_taken<A: Allocator + Copy>(
     put_count(text, b" wants=", wants)
 }
 
-// How many refs moved, stood there already, and stayed.
+// How many refs moved, stood at their ids already, and stayed because the move would have been no fast-forward.
 fn put_settled<A: Allocator + Copy>(
     text: &mut Vec<u8, A>,
     moved: usize,

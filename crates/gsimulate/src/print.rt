@@ -76,7 +76,7 @@ fn print_world<A: Allocator + Copy, E: Sink>(fault: &WorldFault, errors: &mut E)
     }
 }
 
-// Prints the line of a scenario that is wrong.
+// Prints which line of a scenario is wrong.
 fn print_wrong_line<A: Allocator + Copy, E: Sink>(line: usize, errors: &mut E)
     ensures printed { Prints (output_of E.contents E.passed_on E.is_down errors.old errors.new) (wrong_line line) }
     ensures loans { E.loans errors.new ≡ E.loans errors.old }

@@ -16,19 +16,22 @@ use gpkt::Sink;
 use gworld::{Event, Outcome, Scenario, World};
 use std::alloc::Allocator;
 
-/// What is simulated: the texts of the repository that is served, of the client's, and of the scenario.
+/// What is simulated, by the texts of its files.
 #[derive(Clone, Copy)]
 pub struct Simulation<'a> {
+    /// The text of the repository that is served.
     pub server: &'a [u8],
+    /// The text of the client's repository.
     pub client: &'a [u8],
+    /// The text of the scenario.
     pub scenario: &'a [u8],
 }
 
-/// `gitv2 simulate SERVERFILE CLIENTFILE SCENARIO`: runs the events of a scenario between a server and a client that fetches
-/// from it, with plain packs (gitprotocol-v2(5)). What came of each event is a line on `output`, and then each ref of the
-/// client is one, `ref ID NAME`, in the byte order of the names. A fault is one line on `errors`: the first that is met in
-/// the server's file, the client's, the scenario, between the two repositories, and as the events happen. What is refused
-/// to an event is no fault but its outcome.
+/// `gitv2 simulate SERVERFILE CLIENTFILE SCENARIO`: runs the events of a scenario between a server and a client that
+/// fetches from it, with plain packs (gitprotocol-v2(5)). What came of each event is a line on `output`, and then
+/// each ref of the client is one, `ref ID NAME`, in the byte order of the names. A fault is one line on `errors`: the
+/// first that is met in the server's file, the client's, the scenario, between the two repositories, and as the
+/// events happen. What is refused to an event is no fault but its outcome.
 ///
 /// It answers the exit status: 0 where the lines are written and passed on, 1 where a fault was met. Nothing is written
 /// then, save a beginning where the output failed.
