@@ -64,14 +64,10 @@ impl<A: Allocator + Copy> Parts<A> {
                 None => Ok(Outcome::Fault {
                     code: NO_OPEN_REQUEST,
                 }),
-                Some(session) => bring(
-                    kept,
-                    count,
-                    session,
-                    &mut self.repo,
-                    &mut self.answered,
-                    indexer,
-                ),
+                Some(session) => {
+                    let coming = Coming { kept, count };
+                    bring(coming, session, &mut self.repo, &mut self.answered, indexer)
+                }
             },
         }
     }
@@ -111,24 +107,34 @@ impl<A: Allocator + Copy> Parts<A> {
     }
 }
 
+// A kept reply that comes, and how many of its bytes do.
+struct Coming<'a, A: Allocator + Copy> {
+    kept: &'a KeptReply<A>,
+    count: usize,
+}
+
 // A kept reply comes to the session.
 fn bring<A: Allocator + Copy, K: Indexer<A>>(
-    kept: &KeptReply<A>,
-    count: usize,
+    coming: Coming<'_, A>,
     session: &mut Session<A>,
     repo: &mut Repo<A>,
     mark: &mut bool,
     indexer: &K,
 ) -> Result<Outcome, AllocError>
     ensures { MatchResult result
-        (λ outcome. BringsTo (K.indexes indexer.now) (K.index_fails indexer.now) kept.now count session.old.pending
-        session.old repo.old mark.old outcome session.new repo.new mark.new)
+        (λ outcome. BringsTo (K.indexes indexer.now) (K.index_fails indexer.now) coming.entry.kept.now coming.entry.count
+        session.old.pending session.old repo.old mark.old outcome session.new repo.new mark.new)
         (λ _. (session.new ≡ session.old) × (repo.new ≡ repo.old) × (mark.new ≡ mark.old)) }
 {
-    let bytes = kept.bytes(repo.graph().allocator())?;
-    let same = kept.answers_open(session);
-    let all = bytes.len() <= count;
-    match take_bytes(session, repo, front(bytes.as_slice(), count), indexer)? {
+    let bytes = coming.kept.bytes(repo.graph().allocator())?;
+    let same = coming.kept.answers_open(session);
+    let all = bytes.len() <= coming.count;
+    match take_bytes(
+        session,
+        repo,
+        front(bytes.as_slice(), coming.count),
+        indexer,
+    )? {
         Some(outcome) => {
             *mark = same && all && is_pack_taken(outcome);
             Ok(outcome)
