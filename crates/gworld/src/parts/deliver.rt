@@ -108,6 +108,7 @@ impl<A: Allocator + Copy> Parts<A> {
 }
 
 // A kept reply that comes, and how many of its bytes do.
+#[derive(Drop)]
 struct Coming<'a, A: Allocator + Copy> {
     kept: &'a KeptReply<A>,
     count: usize,
