@@ -2,7 +2,7 @@
 //! pack, of a payload that is to be written, and of one that was read from a side band.
 //!
 //! Due is `ok`, of a pack with the number of its entries, of a first line with its host and its path, of a payload with its
-//! band and how many bytes are on it; or the number and the name of the fault, and its place or its line.
+//! band and how many bytes are on it; or the number and the name of the fault, and its position or its line.
 
 use crate::device::{Hindrance, Reader, Writer};
 use crate::script::Fact;
@@ -217,7 +217,7 @@ pub fn told(alloc: Global, code: u32, name: &str) -> Result<String, Trouble> {
     Ok(format!(in alloc; "{code} {name}")?)
 }
 
-// The same, and its place.
+// The same, and its position.
 fn told_at(
     alloc: Global,
     code: u32,

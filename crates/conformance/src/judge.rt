@@ -182,7 +182,7 @@ pub fn is_errors_failed(row: &Row<'_>, played: &Played) -> bool {
         && has_file(played, row.new_file)
 }
 
-/// Whether the run went well, or ended as it is to where an allocation is refused: it tells of it, after a beginning of the
+/// Whether the run went well, or ended as it is to where an allocation is refused: it reports it, after a beginning of the
 /// output up to the end of a message. A server that serves says it to the client, too.
 pub fn is_scarce(row: &Row<'_>, played: &Played) -> bool {
     is_as_due(row, played)
@@ -213,7 +213,7 @@ fn is_refusal_of_memory(line: &[u8]) -> bool {
     }
 }
 
-/// Whether the run ended for want of memory before anything was written: no memory for the repository itself.
+/// Whether the run was out of memory before anything was written: there was none for the repository itself.
 pub fn is_unserved(row: &Row<'_>, played: &Played) -> bool {
     row.command.program.serves()
         && is_out_of_memory(played)
@@ -312,7 +312,7 @@ fn is_outcome(
     }
 }
 
-/// What is told of the fault that is printed, if one is.
+/// What is reported of the fault that is printed, if one is.
 pub fn told(errors: &[u8]) -> Option<&[u8]> {
     errors.strip_prefix(b"gitv2: fault ")?.strip_suffix(b"\n")
 }
@@ -394,13 +394,13 @@ fn has_same_refs(row: &Row<'_>, text: &[u8]) -> bool {
     refs == old_refs
 }
 
-// Whether a text has all objects of the row's, and refs whose whole ancestry is there.
+// Whether a text has all objects of the row's, and connected refs.
 fn is_grown(alloc: Global, row: &Row<'_>, text: &[u8]) -> bool {
     let (objects, _) = parts_of(row.file);
     text.starts_with(objects) && is_safe(alloc, text)
 }
 
-// Whether the whole ancestry of each ref is there.
+// Whether each ref is connected.
 fn is_safe(alloc: Global, file: &[u8]) -> bool {
     let mut output = Writer::new(alloc, Hindrance::NONE);
     let mut errors = Writer::new(alloc, Hindrance::NONE);

@@ -1,6 +1,6 @@
 //! Runs over a packer or an indexer that is not the plain one. No program of `gcmd` has another, so what stands around it
 //! there is done here: the file is read, a fault is printed, the file is written, and a fetch reports. What the client's
-//! repository is in the end is told, too.
+//! repository is in the end is shown, too.
 
 use crate::command::Program;
 use crate::connected::{hello_of, serve_connection};

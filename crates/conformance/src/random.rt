@@ -1,7 +1,7 @@
 //! Worlds in which events happen by chance: `random whole: SEED COUNT / CLIENT`, with the text of the client's repository, and
 //! as its graph that of the server's. So many events happen, with plain packers and indexers, with allocations refused, and
-//! with each of those that lie; each time, after each event, the client is to hold the whole ancestry of its refs. Of the
-//! outcomes each kind is to come with plain packs; rounds of acknowledgments where `rounds` stands behind the count.
+//! with each of those that lie; each time, after each event, the client's refs are to be connected. Of the
+//! outcomes each kind is to come with plain packs; rounds of acknowledgments where `rounds` stands after the count.
 
 use crate::chance::Chance;
 use crate::liars::Liar;
@@ -34,7 +34,7 @@ const LIARS: [Liar; 12] = [
     Liar::FinishFails,
 ];
 
-/// What stands behind a count.
+/// What may stand after a count.
 const ROUNDS: &[u8] = b"rounds";
 
 /// Of more allocations the first are not refused.
@@ -221,7 +221,7 @@ const KINDS: [&str; 8] = [
 
 const ROUND: &str = "round";
 
-// The place of the kind of an outcome in the list; a place past its end for others.
+// The position of the kind of an outcome in the list; one past its end for others.
 fn kind_of(outcome: Outcome) -> usize {
     match outcome {
         Outcome::Asked { .. } => 0,

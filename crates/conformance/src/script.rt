@@ -18,7 +18,7 @@
 //! | `report TEXT` | a line of a fetch's report |
 //! | `file NAME` | the text that the client's file has afterwards |
 //! | `times N` | the next line counts N times; in a text, too |
-//! | `packer NAME`, `indexer NAME` | one that fails or lies, in the place of the plain one (`liars.rt`) |
+//! | `packer NAME`, `indexer NAME` | one that fails or lies, in place of the plain one (`liars.rt`) |
 //! | `memory TEXT` | of the faults that are met where an allocation is refused, the next that differs from the one before |
 //! | `packets N..` | where the packets of the last message begin that is read, and where it ends, counted from its beginning |
 //! | `cut ..`, `change ..` | what is due where the request is cut or changed (`table.rt`) |
@@ -31,7 +31,7 @@
 //! first line of a repository and the object format of an advertisement are those of SHA-256, and after each line
 //! `C: command=` stands the object format.
 //!
-//! A line `KIND DUE: TEXT` says what is made of a text (`fact.rt`), what is told of a fault (`shown.rt`), and after
+//! A line `KIND DUE: TEXT` says what is made of a text (`fact.rt`), what is printed of a fault (`shown.rt`), and after
 //! `graph NAME` what is found in a repository (`history.rt`, `known.rt`), or what comes of events by chance (`random.rt`).
 
 use crate::command::first_of;

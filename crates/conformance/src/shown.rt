@@ -15,12 +15,12 @@ use std::alloc::Global;
 /// What a line about a fault begins with.
 pub const KIND: &str = "shown";
 
-/// The digits of the id that is told, of one format and of the other.
+/// The digits of the id that is shown, of one format and of the other.
 const ID: &[u8] = b"00112233445566778899aabbccddeeff00112233";
 
 const LONG_ID: &[u8] = b"00112233445566778899aabbccddeeff00112233445566778899aabbccddeeff";
 
-/// The name that is told.
+/// The name that is shown.
 const NAME: &[u8] = b"refs/heads/a\x80";
 
 /// A line without `gitv2: fault`, and a short text.

@@ -79,7 +79,7 @@ pub struct Happened {
     pub outcomes: Vec<Outcome>,
     /// The lines of what came, and of the client's refs at the end.
     pub text: String,
-    /// Whether the client's refs were whole at each look.
+    /// Whether the client's refs were connected at each look.
     pub is_whole: bool,
     /// Whether there was an allocation to be refused.
     pub was_refused: bool,
@@ -87,7 +87,7 @@ pub struct Happened {
 
 impl Happened {
     /// Whether this came of the events where an allocation was refused, of which the other comes with memory: the same, up
-    /// to the first event for which there was no memory.
+    /// to the first event that was out of memory.
     pub fn may_become(&self, other: &Happened) -> bool {
         self.is_whole
             && self.outcomes.len() == other.outcomes.len()
@@ -95,7 +95,7 @@ impl Happened {
     }
 }
 
-// Whether the outcomes are the same up to the first for which there was no memory.
+// Whether the outcomes are the same up to the first that was out of memory.
 fn agree(outcomes: &[Outcome], others: &[Outcome]) -> bool {
     for (outcome, other) in outcomes.iter().zip(others) {
         if outcome != other {
@@ -178,7 +178,7 @@ pub fn run_one_by_one(
     })
 }
 
-// Whether the refs were whole after each event.
+// Whether the refs were connected after each event.
 fn step_through<'m>(
     alloc: Global,
     world: &mut World<Tools, Memory<'m>>,

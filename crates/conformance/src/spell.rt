@@ -5,7 +5,7 @@
 //! `{a-4}` four less; `{a*64}` are sixty-four of them, `{ab*3}` is `ababab`, and `{NAME}`, of two and more characters, the
 //! text of that name. In a line that counts several times, `{#4}` is the number of the time, from 1, with four digits, and
 //! `{#4+16}` sixteen more, and `{#4*2+16}` sixteen more than twice it; `{#}` and `{#+16}` are these numbers with as many digits as an id has, and `{#=17}` is so the
-//! number 17. `{@2}` is the place of a packet: 2, or 3 where ids are those of SHA-256, since a line that names the format
+//! number 17. `{@2}` is the position of a packet: 2, or 3 where ids are those of SHA-256, since a line that names the format
 //! stands before it then.
 
 use crate::trouble::Trouble;

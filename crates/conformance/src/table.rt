@@ -1,13 +1,13 @@
-//! Tables of what is due where a request is cut, or a byte of it is changed. A line of a row says it for some places:
+//! Tables of what is due where a request is cut, or a byte of it is changed. A line of a row says it for some positions:
 //!
 //! | Line | Meaning |
 //! |---|---|
 //! | `cut 1-17 = OUTCOME` | where the input ends after so many bytes |
-//! | `change 18 2-9 a-f = OUTCOME` | where the byte at a place is one of these; a place is named once for each outcome |
+//! | `change 18 2-9 a-f = OUTCOME` | where the byte at a position is one of these; a position is named once for each outcome |
 //! | `change 18 other = OUTCOME` | the same for all other bytes |
 //!
 //! An outcome is `nothing`; `as it stands`; `use NAME`, what is said in a talk; or `TEXT \| FAULT`, the text of an error to
-//! the client and the line of the fault, in which `{}` stands for the bytes at these places in lower case.
+//! the client and the line of the fault, in which `{}` stands for the bytes at these positions in lower case.
 
 use crate::packet::packet;
 use crate::spell::{digit, number_of};
@@ -19,7 +19,7 @@ use std::alloc::Global;
 pub enum Change {
     /// It is cut after so many bytes.
     Cut(usize),
-    /// The byte at the place is this one.
+    /// The byte at the position is this one.
     Byte(usize, u8),
 }
 
@@ -87,7 +87,7 @@ pub struct Outcome<'a> {
 }
 
 impl<'a> Outcome<'a> {
-    /// The line of these places and bytes.
+    /// The line of these positions and bytes.
     pub fn new(is_cut: bool, places: &'a str, due: Due<'a>) -> Outcome<'a> {
         let (places, bytes) = match places.split_once(' ') {
             Some((places, bytes)) => (places, bytes),
@@ -120,7 +120,7 @@ impl<'a> Outcome<'a> {
         self.first <= place && place <= self.last
     }
 
-    /// What is said by the line of the input at its places.
+    /// What is said by the line of the input at its positions.
     pub fn filled(&self, alloc: Global, text: &str, input: &[u8]) -> Result<Vec<u8>, Trouble> {
         let mut bytes = Vec::new(alloc);
         let Some((before, after)) = text.split_once("{}") else {

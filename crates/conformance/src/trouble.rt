@@ -30,7 +30,7 @@ pub enum Trouble {
 }
 
 impl Trouble {
-    /// What is told of it.
+    /// What is printed of it.
     pub fn text(self) -> &'static str {
         match self {
             Trouble::Memory => "out of memory",

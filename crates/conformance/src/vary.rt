@@ -52,7 +52,7 @@ impl Way {
         Way::Scarce,
     ];
 
-    /// What is told of the way.
+    /// What is printed of the way.
     pub fn name(self) -> &'static str {
         match self {
             Way::Whole => "as it stands",
@@ -390,7 +390,7 @@ impl<'a, 'b> Bench<'a, 'b> {
         Ok(None)
     }
 
-    // With the byte at a place changed in each of its bits, in one of them, or to each other value.
+    // With the byte at a position changed in each of its bits, in one of them, or to each other value.
     fn changed_at(
         &mut self,
         at: usize,
@@ -489,7 +489,7 @@ impl<'a, 'b> Bench<'a, 'b> {
         Ok(Some(MOST_TRIES))
     }
 
-    // The faults that the row names are met in their order. Once a server has told of a fault to the client, it does so at
+    // The faults that the row names are met in their order. Once a server has reported a fault to the client, it does so at
     // each later allocation.
     fn scarce_in_turn(&mut self) -> Result<Option<usize>, Trouble> {
         let mut met = 0usize;
@@ -543,7 +543,7 @@ impl<'a, 'b> Bench<'a, 'b> {
     }
 }
 
-// Whether this text is named at the place.
+// Whether this text is named at the position.
 fn is_at(named: &[Vec<u8>], place: usize, text: &[u8]) -> bool {
     match named.get(place) {
         Some(name) => name.as_slice() == text,
@@ -551,7 +551,7 @@ fn is_at(named: &[Vec<u8>], place: usize, text: &[u8]) -> bool {
     }
 }
 
-// Whether the byte at a place is changed so.
+// Whether the byte at a position is changed so.
 fn is_tried(reach: Reach, at: usize, change: u8) -> bool {
     match reach {
         Reach::Deep => true,

@@ -78,7 +78,7 @@ pub fn run<'m>(
     }
 }
 
-/// Whether the client holds the whole ancestry of each id at which one of its refs stands. There is to be memory.
+/// Whether each ref of the client is connected. There is to be memory.
 pub fn is_whole(alloc: Global, world: &World<Tools, Memory<'_>>) -> Result<bool, Trouble> {
     let repo = world.client();
     let mut ids: Vec<Oid> = Vec::new(alloc);
@@ -91,7 +91,7 @@ pub fn is_whole(alloc: Global, world: &World<Tools, Memory<'_>>) -> Result<bool,
     }
 }
 
-/// Whether what came of an event is that there was no memory for it.
+/// Whether what came of an event is that it was out of memory.
 pub fn is_out_of_memory(outcome: Outcome) -> bool {
     match outcome {
         Outcome::Fault { code } => matches!(code, 18 | 28 | 53 | 64 | 65 | 66),
