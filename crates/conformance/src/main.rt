@@ -3,7 +3,7 @@
 //! The words of the command line name files of cases, after `--quick` where no byte is to be changed, or `--once` where all
 //! is tried as it stands alone; `script.rt` says how one is written. Each case is run through its programs, with ids of both
 //! formats and with replies that have ends of their own, where it does not say otherwise: as it stands; in pieces; over std's
-//! devices; with an indexer that watches; with each call of each device failing in turn; cut after each byte; with each byte
+//! devices; over a socket; with an indexer that watches; with each call of each device failing in turn; cut after each byte; with each byte
 //! changed; by a table of what is due then, where it has one; and with each allocation refused in turn. What is made of a
 //! text is tried in pieces, too, and with each allocation refused. Simulations are tried in worlds of their own, too, and in
 //! others events happen by chance. Both ends of a pair are tried as they stand, over sockets. A try that goes wrong is a line
@@ -45,6 +45,7 @@ mod report;
 mod script;
 mod shown;
 mod simulated;
+mod socket;
 mod spell;
 mod table;
 mod talk;
@@ -357,12 +358,15 @@ where
     }
 }
 
-fn try_run<'b, R: Print + AllocGlobal>(
+fn try_run<'b, R>(
     rt: &R,
     script: &'b Script<'b>,
     run: Attempt<'b>,
     tally: &mut Tally,
-) -> io::Result<()> {
+) -> io::Result<()>
+where
+    R: Print + AllocGlobal + Net<Stream = TcpStream, Listener = TcpListener>,
+{
     match row_of(rt.alloc(), script, run) {
         Ok(Some(row)) => try_row(rt, run, &row, tally),
         Ok(None) => Ok(()),
@@ -447,19 +451,17 @@ fn text<'b>(script: &'b Script<'_>, name: &str) -> Result<&'b [u8], Trouble> {
 }
 
 // Tries a row in each way. Where it is wrong as it stands the other ways would say no more.
-fn try_row<R: Print + AllocGlobal>(
-    rt: &R,
-    run: Attempt<'_>,
-    row: &Row<'_>,
-    tally: &mut Tally,
-) -> io::Result<()> {
+fn try_row<R>(rt: &R, run: Attempt<'_>, row: &Row<'_>, tally: &mut Tally) -> io::Result<()>
+where
+    R: Print + AllocGlobal + Net<Stream = TcpStream, Listener = TcpListener>,
+{
     tally.count_row();
     for way in Way::ALL {
         if (row.is_long && !way.is_short()) || !tally.depth.has(way) {
             continue;
         }
         let mut bench = Bench::new(rt.alloc(), row);
-        let found = match bench.try_way(way) {
+        let found = match bench.try_way(rt, way) {
             Ok(found) => found,
             Err(trouble) => {
                 return tell_trouble(rt, run.case.source, run.case.line, trouble, tally);

@@ -67,7 +67,8 @@ where
     Ok(cmd_pair(net, &pair, output, errors))
 }
 
-fn listed(alloc: Global, words: &str) -> Result<Vec<String>, Trouble> {
+/// The words of a text.
+pub fn listed(alloc: Global, words: &str) -> Result<Vec<String>, Trouble> {
     let mut list = Vec::new(alloc);
     for word in words.split(' ') {
         list.push(String::from_str(alloc, word)?)?;

@@ -40,7 +40,7 @@ pub struct Tally {
     pub facts: u64,
     /// How often facts were tried.
     pub tries: u64,
-    pub runs: [u64; 12],
+    pub runs: [u64; Way::ALL.len()],
     pub wrong: u64,
 }
 
@@ -51,7 +51,7 @@ impl Tally {
             rows: 0,
             facts: 0,
             tries: 0,
-            runs: [0; 12],
+            runs: [0; Way::ALL.len()],
             wrong: 0,
         }
     }

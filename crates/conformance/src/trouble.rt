@@ -1,6 +1,7 @@
 //! Why no verdict can be given.
 
 use std::alloc::{AllocError, AllocFailed};
+use std::io;
 
 /// Why the cases can't be tried.
 #[derive(Clone, Copy)]
@@ -27,6 +28,8 @@ pub enum Trouble {
     NoWorld,
     /// A text is no scenario.
     NoScenario,
+    /// A socket of this process failed.
+    NoSocket,
 }
 
 impl Trouble {
@@ -44,6 +47,7 @@ impl Trouble {
             Trouble::NoId => "a word is no id",
             Trouble::NoWorld => "there is no such world",
             Trouble::NoScenario => "the text is no scenario",
+            Trouble::NoSocket => "a socket failed",
         }
     }
 }
@@ -51,6 +55,12 @@ impl Trouble {
 impl From<AllocError> for Trouble {
     fn from(_error: AllocError) -> Trouble {
         Trouble::Memory
+    }
+}
+
+impl From<io::Error> for Trouble {
+    fn from(_error: io::Error) -> Trouble {
+        Trouble::NoSocket
     }
 }
 

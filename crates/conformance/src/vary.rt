@@ -9,9 +9,11 @@ use crate::judge::{
 use crate::liars::Liar;
 use crate::play::{Played, Trial, play};
 use crate::simulated::{run_one_by_one, run_scarcely};
+use crate::socket;
 use crate::table::Change;
 use crate::trouble::Trouble;
 use std::alloc::Global;
+use std::net::{Net, TcpListener, TcpStream};
 
 /// More calls of a device, and more allocations, than any row has.
 const MOST_TRIES: usize = 1_000_000;
@@ -25,6 +27,7 @@ pub enum Way {
     Whole,
     Pieces,
     OverStd,
+    OverSocket,
     Watched,
     FailingReads,
     FailingWrites,
@@ -37,10 +40,11 @@ pub enum Way {
 }
 
 impl Way {
-    pub const ALL: [Way; 12] = [
+    pub const ALL: [Way; 13] = [
         Way::Whole,
         Way::Pieces,
         Way::OverStd,
+        Way::OverSocket,
         Way::Watched,
         Way::FailingReads,
         Way::FailingWrites,
@@ -58,6 +62,7 @@ impl Way {
             Way::Whole => "as it stands",
             Way::Pieces => "in pieces",
             Way::OverStd => "over std's devices",
+            Way::OverSocket => "over a socket",
             Way::Watched => "with an indexer that watches",
             Way::FailingReads => "with a read that fails",
             Way::FailingWrites => "with a write that fails",
@@ -125,11 +130,15 @@ impl<'a, 'b> Bench<'a, 'b> {
     }
 
     /// Tries the row in this way, and answers the first try that went wrong.
-    pub fn try_way(&mut self, way: Way) -> Result<Option<usize>, Trouble> {
+    pub fn try_way<N>(&mut self, net: &N, way: Way) -> Result<Option<usize>, Trouble>
+    where
+        N: Net<Stream = TcpStream, Listener = TcpListener>,
+    {
         match way {
             Way::Whole => self.whole(),
             Way::Pieces => self.in_pieces(),
             Way::OverStd => self.over_std(),
+            Way::OverSocket => self.over_socket(net),
             Way::Watched => self.watched(),
             Way::FailingReads => self.failing_reads(),
             Way::FailingWrites => self.failing_writes(),
@@ -172,6 +181,23 @@ impl<'a, 'b> Bench<'a, 'b> {
             return Ok(wrong);
         }
         self.one_by_one()
+    }
+
+    // Over a socket, to which the other end writes all at once, or a byte at a time.
+    fn over_socket<N>(&mut self, net: &N) -> Result<Option<usize>, Trouble>
+    where
+        N: Net<Stream = TcpStream, Listener = TcpListener>,
+    {
+        if !socket::is_tried(self.row) {
+            return Ok(None);
+        }
+        for most in [usize::MAX, 1] {
+            self.runs = self.runs.saturating_add(1);
+            if !socket::is_as_due(net, self.alloc, self.row, most)? {
+                return Ok(Some(most));
+            }
+        }
+        Ok(None)
     }
 
     // Whether the row is a simulation that begins.
