@@ -66,25 +66,35 @@ pub fn fetch_over<S: Source, W: Sink, A: Allocator + Copy, K: Indexer<A>>(
     ensures sink_loans { W.loans sink.new ≡ W.loans sink.old }
 {
     let mut writer = LineWriter::new(sink);
-    let fetched = fetch_to(repo, source, &mut writer, indexer, specs, limit, ends);
+    let options = FetchOptions { specs, limit, ends };
+    let fetched = fetch_to(repo, source, &mut writer, indexer, &options);
     let _sink = writer.into_inner();
     // Laws.
     let _format = repo.format();
     fetched
 }
 
+// What is fetched, and how.
+#[derive(Clone, Copy)]
+struct FetchOptions<'a, A: Allocator + Copy> {
+    specs: &'a [Spec<A>],
+    // The most bytes of a pack.
+    limit: PackLimit,
+    // How each reply ends.
+    ends: Ends,
+}
+
+// Fetches over a writer that is well.
 fn fetch_to<S: Source, W: Sink, A: Allocator + Copy, K: Indexer<A>>(
     repo: &mut Repo<A>,
     source: &mut S,
     writer: &mut LineWriter<W>,
     indexer: &K,
-    specs: &[Spec<A>],
-    limit: PackLimit,
-    ends: Ends,
+    options: &FetchOptions<'_, A>,
 ) -> Result<Fetched<A>, FetchFault<A>>
     requires { writer.old.failed ≡ false }
     ensures fetches { FetchesOver (K.indexes indexer.now) (K.index_fails indexer.now)
-        (start_of repo.old specs.now limit ends)
+        (start_of repo.old options.now.specs.now options.now.limit options.now.ends)
         (input_of S.remaining S.is_down source.old source.new)
         (output_of W.contents W.passed_on W.is_down writer.old.sink writer.new.sink) repo.new result }
     ensures bound { IfOk result (λ fetched. (held parents : ℕ)
@@ -93,7 +103,7 @@ fn fetch_to<S: Source, W: Sink, A: Allocator + Copy, K: Indexer<A>>(
     ensures sink_loans { W.loans writer.new.sink ≡ W.loans writer.old.sink }
 {
     let alloc = repo.graph().allocator();
-    let mut session = Session::begin(alloc, repo, specs, limit, ends)?;
+    let mut session = Session::begin(alloc, repo, options.specs, options.limit, options.ends)?;
     let buffer = match LineBuffer::new(alloc) {
         Ok(buffer) => buffer,
         Err(_) => return Err(FetchFault::NoBuffer),

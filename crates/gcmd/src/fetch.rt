@@ -60,23 +60,38 @@ pub fn cmd_fetch<A: Allocator + Copy, S: Source, W: Sink, R: Sink, E: Sink>(
     ensures report_loans { R.loans report.new ≡ R.loans report.old }
     ensures errors_loans { E.loans errors.new ≡ E.loans errors.old }
 {
-    let (outcome, file) = fetch_into(alloc, file, specs, limit, ends, input, output, report);
+    let fetch = FileFetch {
+        file,
+        specs,
+        limit,
+        ends,
+    };
+    let (outcome, file) = fetch_into(alloc, &fetch, input, output, report);
     let status = finish(outcome, errors);
     FetchRun { status, file }
+}
+
+// What is fetched into a file, and how.
+#[derive(Clone, Copy)]
+struct FileFetch<'a, A: Allocator + Copy> {
+    // The text of the client's repository.
+    file: &'a [u8],
+    specs: &'a [Spec<A>],
+    // The most bytes of a pack.
+    limit: PackLimit,
+    // How each reply ends.
+    ends: Ends,
 }
 
 // Fetches, and answers how that came out, and the new text of the file where there is one.
 fn fetch_into<A: Allocator + Copy, S: Source, W: Sink, R: Sink>(
     alloc: A,
-    file: &[u8],
-    specs: &[Spec<A>],
-    limit: PackLimit,
-    ends: Ends,
+    fetch: &FileFetch<'_, A>,
     input: &mut S,
     output: &mut W,
     report: &mut R,
 ) -> (Result<(), ProgramFault<A>>, Option<Vec<u8, A>>)
-    ensures fetches { FetchesFile {A = A} file.now specs.now limit ends
+    ensures fetches { FetchesFile {A = A} fetch.now.file.now fetch.now.specs.now fetch.now.limit fetch.now.ends
         (input_of S.remaining S.is_down input.old input.new)
         (output_of W.contents W.passed_on W.is_down output.old output.new)
         (output_of R.contents R.passed_on R.is_down report.old report.new)
@@ -85,24 +100,22 @@ fn fetch_into<A: Allocator + Copy, S: Source, W: Sink, R: Sink>(
     ensures output_loans { W.loans output.new ≡ W.loans output.old }
     ensures report_loans { R.loans report.new ≡ R.loans report.old }
 {
-    match open_client(alloc, file) {
-        Ok(mut repo) => fetch_for(alloc, &mut repo, specs, limit, ends, input, output, report),
+    match open_client(alloc, fetch.file) {
+        Ok(mut repo) => fetch_for(&mut repo, fetch, input, output, report),
         Err(fault) => (Err(fault), None),
     }
 }
 
-// The same for the client's repository of a file.
+// The same for the client's repository of the file.
 fn fetch_for<A: Allocator + Copy, S: Source, W: Sink, R: Sink>(
-    alloc: A,
     repo: &mut Repo<A>,
-    specs: &[Spec<A>],
-    limit: PackLimit,
-    ends: Ends,
+    fetch: &FileFetch<'_, A>,
     input: &mut S,
     output: &mut W,
     report: &mut R,
 ) -> (Result<(), ProgramFault<A>>, Option<Vec<u8, A>>)
-    ensures fetches { (file : List ℕ) → NamesClient file repo.old → IsFetched {A = A} file specs.now limit ends
+    ensures fetches { (file : List ℕ) → NamesClient file repo.old
+        → IsFetched {A = A} file fetch.now.specs.now fetch.now.limit fetch.now.ends
         (input_of S.remaining S.is_down input.old input.new)
         (output_of W.contents W.passed_on W.is_down output.old output.new)
         (output_of R.contents R.passed_on R.is_down report.old report.new)
@@ -111,7 +124,16 @@ fn fetch_for<A: Allocator + Copy, S: Source, W: Sink, R: Sink>(
     ensures output_loans { W.loans output.new ≡ W.loans output.old }
     ensures report_loans { R.loans report.new ≡ R.loans report.old }
 {
-    match fetch_over(repo, input, output, &PlainPack, specs, limit, ends) {
+    let alloc = repo.graph().allocator();
+    match fetch_over(
+        repo,
+        input,
+        output,
+        &PlainPack,
+        fetch.specs,
+        fetch.limit,
+        fetch.ends,
+    ) {
         Ok(fetched) => conclude(alloc, repo, &fetched, report),
         Err(fault) => (Err(ProgramFault::Fetch(fault)), None),
     }

@@ -13,7 +13,7 @@ pub returns-in_err-session-clause-fetches : goal.returns-in_err-session-clause-f
 returns-in_err-session-clause-fetches g c =
     let indexes = g.K.Indexer.indexes c.args.indexer.now in
     let fails = g.K.Indexer.index_fails c.args.indexer.now in
-    let start = start_of c.args.repo.now c.args.specs.now c.args.limit c.args.ends in
+    let start = start_of c.args.repo.now c.args.options.now.specs.now c.args.options.now.limit c.args.options.now.ends in
     let input = input_of g.S.Source.remaining g.S.Source.is_down c.args.source.now c.args.source.now in
     let output = output_of g.W.Sink.contents g.W.Sink.passed_on g.W.Sink.is_down c.args.writer.now.sink
     c.args.writer.now.sink in
@@ -40,7 +40,7 @@ pub returns-clause-fetches : goal.returns-clause-fetches
 returns-clause-fetches g c =
     let indexes = g.K.Indexer.indexes c.args.indexer.now in
     let fails = g.K.Indexer.index_fails c.args.indexer.now in
-    let start = start_of c.args.repo.now c.args.specs.now c.args.limit c.args.ends in
+    let start = start_of c.args.repo.now c.args.options.now.specs.now c.args.options.now.limit c.args.options.now.ends in
     let read = λ (s t : g.row.S.Denot). input_of g.S.Source.remaining g.S.Source.is_down s t in
     let output = output_of g.W.Sink.contents g.W.Sink.passed_on g.W.Sink.is_down c.args.writer.now.sink
     c.converse-fetched.new.writer.sink in

@@ -2,7 +2,7 @@ use Rattle.std.proofs.Common.{inl, inr, refl}
 use Rattle.gcmd.proofs.fetch.fetch_into.Goals as goal
 
 pub returns-in-Ok-clause-fetches : goal.returns-in-Ok-clause-fetches
-returns-in-Ok-clause-fetches g c = inl (c.fetch_for.ensures.fetches c.args.file.now c.in-Ok.ensures)
+returns-in-Ok-clause-fetches g c = inl (c.fetch_for.ensures.fetches c.args.fetch.now.file.now c.in-Ok.ensures)
 
 pub returns-in-Err-clause-fetches : goal.returns-in-Err-clause-fetches
 returns-in-Err-clause-fetches g c =
