@@ -53,8 +53,6 @@ mod prefixes;
 mod remote;
 mod serving;
 mod stream;
-#[cfg(test)]
-mod tests;
 
 pub use crate::fetching::{fetch_on, ls_on};
 pub use crate::message::{MAX_MESSAGE, MessageSink};
