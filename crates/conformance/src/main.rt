@@ -3,11 +3,11 @@
 //! The words of the command line name files of cases, after `--quick` where no byte is to be changed, or `--once` where all
 //! is tried as it stands alone; `script.rt` says how one is written. Each case is run through its programs, with ids of both
 //! formats and with replies that have ends of their own, where it does not say otherwise: as it stands; in pieces; over std's
-//! devices; over a socket; with an indexer that watches; with each call of each device failing in turn; cut after each byte; with each byte
-//! changed; by a table of what is due then, where it has one; and with each allocation refused in turn. What is made of a
-//! text is tried in pieces, too, and with each allocation refused. Simulations are tried in worlds of their own, too, and in
-//! others events happen by chance. Both ends of a pair are tried as they stand, over sockets. A try that goes wrong is a line
-//! on standard output, and the last lines count the tries.
+//! devices; over a socket of this process, from the first line of a connection on; with an indexer that watches; with each
+//! call of each device failing in turn; cut after each byte; with each byte changed; by a table of what is due then, where it
+//! has one; and with each allocation refused in turn. What is made of a text is tried in pieces, too, and with each allocation
+//! refused. Simulations are tried in worlds of their own, too, and in others events happen by chance. Both ends of a pair are
+//! tried as they stand, over sockets. A try that goes wrong is a line on standard output, and the last lines count the tries.
 //!
 //! # Proved
 //!
@@ -20,8 +20,8 @@
 //! # Stands on
 //!
 //! `gcmd` and `gsimulate` for the programs, `gconnect` and `gtcp` for those of the network; `gworld` and `gscenario` for
-//! events; `gserve` and `gclient` where a packer or an
-//! indexer lies or watches; `ggraph`, `ghello`, `gpkt` and `gname` for what is made of texts; `scarce` for memory that ends.
+//! events; `gserve` and `gclient` where a packer or an indexer lies or watches; `ggraph`, `ghello`, `gpkt` and `gname` for
+//! what is made of texts; `scarce` for memory that ends.
 #![tactic(auto)]
 
 mod chance;
