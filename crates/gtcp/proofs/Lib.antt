@@ -1,3 +1,7 @@
 mod TellingLemmas
 mod ListingLemmas
 mod PrefixLemmas
+mod ServingLemmas
+mod PlaceLemmas
+mod PairLemmas
+mod PortLemmas
