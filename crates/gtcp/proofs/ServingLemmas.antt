@@ -40,14 +40,15 @@ module _ {A W : Type 0} (contents passed_on : W → Option (List ℕ)) (is_down 
     }
 
     -- all of them
-    pub serves_all : (a b : W) (is_up : Bool) (connections : ℕ)
-        → ServesSoFar server packs fails path ends (output_of contents passed_on is_down a b) is_up connections
+    pub serves_all : (a b : W) (is_up : Bool) (number connections : ℕ)
+        → ServesSoFar server packs fails path ends (output_of contents passed_on is_down a b) is_up number
+        → number ≡ connections
         → ServesEach server packs fails path ends (output_of contents passed_on is_down a b) connections (Ok tt)
-    serves_all a b is_up connections so_far = record {
+    serves_all a b is_up number connections so_far same = record {
       outcomes = so_far.outcomes;
       each = so_far.each;
       prints = tells_all (output_of contents passed_on is_down a b) _ is_up so_far.prints;
-      count = so_far.count;
+      count = so_far.count ∙ same;
     }
 
     -- one of them can't be accepted
