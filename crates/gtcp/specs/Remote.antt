@@ -50,14 +50,14 @@ Announces output (Err _) = ⊥
 abbrev pub ServesNobody : {A : Type 0} → List ℕ → Output → ProgramFault A → Type 0
 ServesNobody {A} file output fault =
     (RefusesFile file fault × IsUnwritten output)
-    ⊎ ((server : Server A) × NamesServer file server × Announces {A} output (Err fault))
+    ⊎ ((server : Server A) × NamesServer file server × Announces {A = A} output (Err fault))
 
 module _ {A : Type 0} (file path : List ℕ) (ends : Ends) (connections : ℕ) (output : Output) where
   -- the port is shown, and the repository that the file names is served to so many
   pub record IsServedToAll (errors : Output) (outcome : Outcome A) : Type 0 where
     pub server : Server A
     pub names : NamesServer file server
-    pub announces : Announces {A} output (Ok tt)
+    pub announces : Announces {A = A} output (Ok tt)
     pub serves : ServesEach server plain_packs plain_pack_fails path ends errors connections outcome
 
   -- what `serve` does before it ends: that; or it is served to nobody
@@ -78,7 +78,7 @@ pub record RunsServing (A : Type 0) {E : Type 0} (errors : E → E → Output) (
 -- what asking the server at a place answers: a reply as it came over a socket; or there are too many prefixes, or there
 -- is no socket, or the conversation failed
 abbrev pub AsksRemote : {A : Type 0} → List (List ℕ) → Hello → Result LsReply (ProgramFault A) → Type 0
-AsksRemote {A} prefixes hello (Ok reply) = ListsFrom {A} (asked_for prefixes) hello (Ok reply)
+AsksRemote {A} prefixes hello (Ok reply) = ListsFrom {A = A} (asked_for prefixes) hello (Ok reply)
 AsksRemote prefixes hello (Err program.Socket) = ⊤
 AsksRemote prefixes hello (Err (program.Fetch fault)) =
     ListsFrom (asked_for prefixes) hello (Err fault)
@@ -93,7 +93,7 @@ ShowsReply reply output outcome =
 -- what `ls --tcp` does: that, of the server's reply; or a fault was met before
 abbrev pub ListsRemote : {A : Type 0} → List (List ℕ) → Hello → Output → Outcome A → Type 0
 ListsRemote {A} prefixes hello output outcome =
-    ((reply : LsReply) × AsksRemote {A} prefixes hello (Ok reply) × ShowsReply reply output outcome)
+    ((reply : LsReply) × AsksRemote {A = A} prefixes hello (Ok reply) × ShowsReply reply output outcome)
     ⊎ StopsBefore (λ fault. AsksRemote prefixes hello (Err fault)) output outcome
 
 -- ---- fetching
