@@ -4,4 +4,3 @@ mod PrefixLemmas
 mod ServingLemmas
 mod PlaceLemmas
 mod PairLemmas
-mod PortLemmas
