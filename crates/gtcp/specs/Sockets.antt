@@ -24,7 +24,6 @@ use Rattle.gconnect.specs.declared.serving.GitEnd.{GitEnd}
 use Rattle.gconnect.specs.declared.serving.GitEnd.TheVariants as git
 use Rattle.gcmd.specs.Programs.{Outcome}
 use Rattle.gcmd.specs.Serving.{outcome_of_connection}
-use Rattle.gcmd.specs.declared.fault.ProgramFault.{ProgramFault}
 use Rattle.gcmd.specs.declared.fault.ProgramFault.TheVariants as program
 use Rattle.gtcp.specs.Telling.{PrintsFaults, PrintsSoFar, faults_of}
 

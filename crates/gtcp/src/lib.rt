@@ -6,13 +6,14 @@
 //!
 //! # Proved
 //!
-//! - [`serve_listener`] serves so many connections, one after the other, each so, and prints the faults of all of them,
-//!   a line each, in their order, each passed on; where the errors' sink fails, a beginning of these lines stands
-//!   (`specs/Sockets.antt`, `Telling.antt`). That its client asks for another path is no fault of a connection. It fails
-//!   with `Socket` alone, and then it served fewer.
+//! - [`serve_listener`] serves so many connections, one after the other, each so, or closes one on which no limit of
+//!   its peer's silence can be set. It prints the faults of all of them, a line each, in their order, each passed on;
+//!   where the errors' sink fails, a beginning of these lines stands (`specs/Sockets.antt`, `Telling.antt`). That its
+//!   client asks for another path is no fault of a connection. It fails with `Socket` alone, and then it served fewer.
 //! - [`fetch_on`] holds a fetch by the refspecs, the limit and the end of replies that it is given, from the first line
-//!   of this host and path on, with every promise of `gclient::fetch_over`. Or there is no such first line, or no memory
-//!   for its buffers, and nothing came. [`ls_on`] holds a listing likewise, of these prefixes, or there are too many.
+//!   of this host and path on, with every promise of `gclient::fetch_over`. Or there is no such first line, or out of
+//!   memory for its buffers, and nothing came. [`ls_on`] holds a listing likewise, of these prefixes; or there are too
+//!   many.
 //! - [`cmd_ls_remote`] writes the lines of the reply to such a listing and passes them on; or nothing, save where its
 //!   output fails (`specs/Listing.antt`, `Remote.antt`). [`read_prefixes`] reads words as prefixes, each as it stands.
 //! - [`cmd_fetch_remote`] has a new file only where the refs were settled: then it is the text of the repository as the
@@ -21,19 +22,19 @@
 //! - [`cmd_serve`] shows the number of a port, and then does as [`serve_listener`] with the repository that its file
 //!   names; or it shows no line, or a beginning of it, and serves nobody.
 //! - Each program ends with status 0 and prints nothing more, or with 1 and the line of the fault that was met, or a
-//!   beginning of it: why the file is refused, how the conversation failed, or that there is no socket or no memory.
-//!   Before that [`cmd_serve`] prints the faults of connections alone, and the others print nothing.
+//!   beginning of it: why the file is refused, how the conversation failed, no socket, out of memory, or a failed
+//!   output. Before that [`cmd_serve`] prints the faults of connections alone, and the others print nothing.
 //! - A [`Place`] has the address and the path that it is given. Its host is the text before a port, which is a decimal
 //!   number up to 65,535 (`specs/Places.antt`).
 //! - What a [`MessageSink`] wrote and holds are all the bytes that it was given. It holds bytes without writing any,
-//!   and none of a message that is too long with them (`MessageSink::hold`, `specs/Messages.antt`). In a pair such a
-//!   message is the fault 94 at either end, and so is a fetch that failed by it.
+//!   and none of a message that is too long with them (`MessageSink::hold`, `specs/Messages.antt`). Where the fetch of
+//!   a pair failed, such a message at either end makes it fault 94.
 //!
 //! # Only tested
 //!
-//! By `examples/over-tcp.sh`, by hand: all that passes through a socket; that the port that is shown is listened at; the
-//! time that a peer may be silent; that input left unread hides no line; which connection a pair accepts. Two tests hold
-//! a conversation in one process.
+//! By `examples/over-tcp.sh`, by hand: all that passes through a socket; that the port that is shown is listened at;
+//! the time that a peer may be silent; that input left unread hides no line; which connection a pair accepts. Two tests
+//! hold a conversation in one process.
 //!
 //! # What the contracts do not rule out
 //!
@@ -50,8 +51,8 @@
 //! # Stands on
 //!
 //! `gconnect` for connections, `gcmd` for what programs share; `ganswer`, `gserve` and `gclient` for server and client,
-//! `ghello`, `grequest`, `glsreply` and `gfetchreply` for messages, `ggrammar` and `gpkt` for what these share, `ggraph`
-//! for plain packs, `gname` for prefixes.
+//! `ghello`, `grequest`, `glsreply` and `gfetchreply` for messages, `ggrammar` and `gpkt` for what these share,
+//! `ggraph` for plain packs, `gname` for prefixes.
 #![tactic(auto)]
 
 mod fetching;

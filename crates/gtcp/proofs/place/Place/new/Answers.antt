@@ -1,6 +1,6 @@
 use Rattle.std.proofs.Common.{◌≡◌, ◌++◌, List, ℕ, sym, ap, ◌∙◌}
 use Rattle.std.specs.Prelude.{codes, string_bytes}
-use Rattle.ghello.specs.Hello.{Hello, IsHello}
+use Rattle.ghello.specs.Hello.{Hello}
 use Rattle.gtcp.proofs.PlaceLemmas.{hello_taken, split_at_colon, taken}
 use Rattle.gtcp.proofs.place.Place.new.Goals as goal
 
