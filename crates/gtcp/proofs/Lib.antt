@@ -1,3 +1,6 @@
 mod TellingLemmas
 mod ListingLemmas
 mod PrefixLemmas
+mod ServingLemmas
+mod PlaceLemmas
+mod PairLemmas

@@ -1,7 +1,7 @@
 -- Faults that are printed, one more at a time.
-use Rattle.std.proofs.Common.{◌≡◌, ◌⊎◌, ℕ, ◌+◌, ◌≤◌, Bool, true, false, List, [], ◌∷◌, ◌++◌, length, Option, Result, Ok, Err, inl, inr, refl, sym, ap, subst, ◌∙◌, append_assoc, arith}
+use Rattle.std.proofs.Common.{◌≡◌, ◌⊎◌, ℕ, Bool, true, false, List, [], ◌∷◌, ◌++◌, Option, Result, Ok, Err, inl, inr, sym, ap, subst, ◌∙◌, append_assoc}
 use Rattle.std.proofs.lemmas.Bool.{false≢true}
-use Rattle.std.proofs.lemmas.List.{append-nil, flat_map_more, length-append}
+use Rattle.std.proofs.lemmas.List.{append-nil, flat_map_more}
 use Rattle.std.specs.Io.KnownBytes.{Appends}
 use Rattle.std.specs.Prelude.{IsSome, is_ok}
 use Rattle.gpkt.specs.Sending.{Output, output_of, IsUnwritten, Passes, Sends, SendsSome}
@@ -11,7 +11,7 @@ use Rattle.gcmd.specs.Outputs.{IsSent}
 use Rattle.gcmd.specs.Printing.{fault_line}
 use Rattle.gcmd.specs.Programs.{Outcome}
 use Rattle.gcmd.specs.declared.fault.ProgramFault.{ProgramFault}
-use Rattle.gtcp.specs.Telling.{PrintsFaults, PrintsFew, PrintsNone, PrintsSoFar, Tells, fault_lines}
+use Rattle.gtcp.specs.Telling.{PrintsFaults, PrintsNone, PrintsSoFar, Tells, fault_in, fault_lines, faults_of}
 
 module _ {W : Type 0} (contents passed_on : W → Option (List ℕ)) (is_down : W → Bool) where
   -- a beginning stays so where nothing more is written
@@ -24,6 +24,16 @@ module _ {W : Type 0} (contents passed_on : W → Option (List ℕ)) (is_down : 
     written = subst (λ (now : Option (List ℕ)). Appends (contents a) now some.front) (sym still.written) some.written;
     down = still.down ∙ some.down;
   }
+
+-- a beginning of some bytes is one of more
+some_longer : (output : Output) (bytes more : List ℕ) → SendsSome output bytes → SendsSome output (bytes ++ more)
+some_longer output bytes more some = record {
+  front = some.front;
+  rest = some.rest ++ more;
+  parts = ap (λ (now : List ℕ). now ++ more) some.parts ∙ append_assoc some.front some.rest more;
+  written = some.written;
+  down = some.down;
+}
 
 -- the line of a fault was to be printed
 pub tells_printed : {A : Type 0} (output : Output) (fault : ProgramFault A) (printed : Result (Unit {0}) Down) (could : Bool)
@@ -40,15 +50,6 @@ tells_printed output fault (Err down) true h (inr at_flush) = record {
 }
 
 module _ {A W : Type 0} (contents passed_on : W → Option (List ℕ)) (is_down : W → Bool) where
-  -- before the first
-  pub tells_none : (a : W) → PrintsSoFar A (output_of contents passed_on is_down a a) true 0
-  tells_none a = record {
-    faults = [];
-    prints = inl (refl, record { written = refl; passed_on = refl; down = refl });
-    up = λ h. inl (refl, record { written = refl; passed_on = refl; down = refl });
-    few = omega arith;
-  }
-
   -- ---- where nothing more is written
 
   none_still : (a b c : W) (faults : List (ProgramFault A)) → PrintsNone (output_of contents passed_on is_down a b) faults
@@ -61,12 +62,6 @@ module _ {A W : Type 0} (contents passed_on : W → Option (List ℕ)) (is_down 
       down = still.down ∙ none.1.down;
     },
   )
-
-  prints_still : (a b c : W) (faults : List (ProgramFault A)) → PrintsFaults (output_of contents passed_on is_down a b) faults
-      → IsUnwritten (output_of contents passed_on is_down b c) → PrintsFaults (output_of contents passed_on is_down a c) faults
-  prints_still a b c faults (inl none) still = inl (none_still a b c faults none still)
-  prints_still a b c faults (inr (inl all)) still = inr (inl (passes_still contents passed_on is_down a b c (fault_lines faults) all still))
-  prints_still a b c faults (inr (inr some)) still = inr (inr (some_still contents passed_on is_down a b c (fault_lines faults) some still))
 
   up_still : (a b c : W) (faults : List (ProgramFault A))
       → PrintsNone (output_of contents passed_on is_down a b) faults ⊎ Passes (output_of contents passed_on is_down a b) (fault_lines faults)
@@ -127,49 +122,47 @@ module _ {A W : Type 0} (contents passed_on : W → Option (List ℕ)) (is_down 
         down = next.down;
       })
 
-  few_more : (faults : List (ProgramFault A)) (fault : ProgramFault A) (most : ℕ) → length faults ≤ most
-      → length (faults ++ fault ∷ []) ≤ most + 1
-  few_more faults fault most few =
-      let long : length (faults ++ fault ∷ []) ≡ length faults + 1 = length-append faults (fault ∷ []) in
-      omega (arith, long, few)
-
   -- ---- a connection more
 
-  pub tells_next : (a b c : W) (outcome : Outcome A) (could can : Bool) (most : ℕ)
-      → PrintsSoFar A (output_of contents passed_on is_down a b) could most
+  still_so : (a b c : W) (faults : List (ProgramFault A)) (is_up : Bool)
+      → PrintsSoFar (output_of contents passed_on is_down a b) faults is_up
+      → IsUnwritten (output_of contents passed_on is_down b c)
+      → PrintsSoFar (output_of contents passed_on is_down a c) faults is_up
+  still_so a b c faults true so_far still = up_still a b c faults so_far still
+  still_so a b c faults false so_far still =
+      some_still contents passed_on is_down a b c (fault_lines faults) so_far still
+
+  prints_next : (a b c : W) (faults : List (ProgramFault A)) (outcome : Outcome A) (could can : Bool)
+      → PrintsSoFar (output_of contents passed_on is_down a b) faults could
       → Tells outcome could can (output_of contents passed_on is_down b c)
-      → PrintsSoFar A (output_of contents passed_on is_down a c) can (most + 1)
-  tells_next a b c (Ok done) could can most so_far (still, same) = record {
-    faults = so_far.faults;
-    prints = prints_still a b c so_far.faults so_far.prints still;
-    up = λ h. up_still a b c so_far.faults (so_far.up (sym same ∙ h)) still;
-    few = omega (arith, so_far.few);
-  }
-  tells_next a b c (Err fault) false can most so_far (still, same) = record {
-    faults = so_far.faults;
-    prints = prints_still a b c so_far.faults so_far.prints still;
-    up = λ h. absurd (false≢true (sym same ∙ h));
-    few = omega (arith, so_far.few);
-  }
-  tells_next a b c (Err fault) true true most so_far next = record {
-    faults = so_far.faults ++ fault ∷ [];
-    prints = inr (inl (all_more a b c so_far.faults fault (so_far.up refl) next));
-    up = λ h. inr (all_more a b c so_far.faults fault (so_far.up refl) next);
-    few = few_more so_far.faults fault most so_far.few;
-  }
-  tells_next a b c (Err fault) true false most so_far next = record {
-    faults = so_far.faults ++ fault ∷ [];
-    prints = inr (inr (some_more a b c so_far.faults fault (so_far.up refl) next));
-    up = λ h. absurd (false≢true h);
-    few = few_more so_far.faults fault most so_far.few;
-  }
+      → PrintsSoFar (output_of contents passed_on is_down a c) (faults ++ fault_in outcome) can
+  prints_next a b c faults (Ok done) could can so_far (still, same) =
+      subst (λ (all : List (ProgramFault A)). PrintsSoFar (output_of contents passed_on is_down a c) all can)
+      (sym (append-nil faults))
+      (subst (PrintsSoFar (output_of contents passed_on is_down a c) faults) (sym same)
+      (still_so a b c faults could so_far still))
+  prints_next a b c faults (Err fault) false can so_far (still, same) =
+      subst (PrintsSoFar (output_of contents passed_on is_down a c) (faults ++ fault ∷ [])) (sym same)
+      (subst (SendsSome (output_of contents passed_on is_down a c)) (lines_more faults fault)
+      (some_longer (output_of contents passed_on is_down a c) (fault_lines faults) (fault_line fault)
+      (some_still contents passed_on is_down a b c (fault_lines faults) so_far still)))
+  prints_next a b c faults (Err fault) true true so_far next = inr (all_more a b c faults fault so_far next)
+  prints_next a b c faults (Err fault) true false so_far next = some_more a b c faults fault so_far next
 
-  -- ---- the end
+  -- so of the faults of connections
+  pub tells_next : (a b c : W) (outcomes : List (Outcome A)) (outcome : Outcome A) (could can : Bool)
+      → PrintsSoFar (output_of contents passed_on is_down a b) (faults_of outcomes) could
+      → Tells outcome could can (output_of contents passed_on is_down b c)
+      → PrintsSoFar (output_of contents passed_on is_down a c) (faults_of (outcomes ++ outcome ∷ [])) can
+  tells_next a b c outcomes outcome could can so_far next =
+      subst (λ (all : List (ProgramFault A)). PrintsSoFar (output_of contents passed_on is_down a c) all can)
+      (flat_map_more fault_in [] outcomes outcome)
+      (prints_next a b c (faults_of outcomes) outcome could can so_far next)
 
-  pub tells_few : (a b : W) (is_up : Bool) (most all : ℕ) → PrintsSoFar A (output_of contents passed_on is_down a b) is_up most
-      → most ≤ all → PrintsFew A (output_of contents passed_on is_down a b) all
-  tells_few a b is_up most all so_far within =
-      record { faults = so_far.faults; prints = so_far.prints; few = omega (arith, so_far.few, within) }
+-- ---- the end
 
-  pub tells_nothing : (a : W) (most : ℕ) → PrintsFew A (output_of contents passed_on is_down a a) most
-  tells_nothing a most = tells_few a a true 0 most (tells_none a) (omega arith)
+pub tells_all : {A : Type 0} (output : Output) (faults : List (ProgramFault A)) (is_up : Bool)
+    → PrintsSoFar output faults is_up → PrintsFaults output faults
+tells_all output faults true (inl none) = inl none
+tells_all output faults true (inr all) = inr (inl all)
+tells_all output faults false some = inr (inr some)

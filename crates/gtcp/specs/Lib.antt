@@ -2,3 +2,5 @@ pub mod Telling
 pub mod Listing
 pub mod Messages
 pub mod Remote
+pub mod Sockets
+pub mod Places

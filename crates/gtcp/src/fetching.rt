@@ -1,9 +1,13 @@
 //! A server at the other end of a stream, as its client.
 
-ghost use Rattle.std.specs.Prelude.{◌≡◌, IfOk, OnErr};
+ghost use Rattle.std.specs.Prelude.{◌≡◌, ◌≤◌, ◌+◌, ℕ, IfOk, OnErr};
 ghost use Rattle.ghistory.specs.Reach.{Grows};
+ghost use Rattle.ghistory.specs.Walks.{CountsReached};
 ghost use Rattle.grepo.specs.Repos.{IsWhole};
 ghost use Rattle.grepo.specs.Settling.{Settles};
+ghost use Rattle.gsession.specs.Sessions.{tips_of};
+ghost use Rattle.gclient.specs.Conversations.{start_of};
+ghost use Rattle.gtcp.specs.Sockets.{FetchesFrom, FetchesOn, ListsFrom, ListsOn, MakesRequest};
 
 use crate::stream::{MESSAGE_BUFFER, send_at_once};
 use gclient::{FetchFault, Fetched, Repo, Spec};
@@ -44,11 +48,15 @@ pub fn fetch_on<A: Allocator + Copy, K: Indexer<A>>(
     limit: PackLimit,
     ends: Ends,
 ) -> Result<Fetched<A>, FetchFault<A>>
+    ensures fetches { FetchesOn (K.indexes indexer.now) (K.index_fails indexer.now)
+        (start_of repo.old specs.now limit ends) (record { path = path.now; host = host.now }) repo.new result }
     ensures settled { IfOk result (λ fetched. Settles repo.new.graph.entries repo.old.refs fetched.settled.asks
         fetched.settled.updates.items repo.new.refs) }
     ensures refs { OnErr result (repo.new.refs ≡ repo.old.refs) }
     ensures grows { Grows repo.old.graph.entries repo.new.graph.entries }
     ensures safe { IsWhole repo.new }
+    ensures bound { IfOk result (λ fetched. (held parents : ℕ)
+        → CountsReached repo.old.graph.entries (tips_of repo.old) held parents → fetched.requests ≤ held + 1) }
 {
     // A look-up says that the repository is whole.
     let _format = repo.format();
@@ -68,11 +76,15 @@ pub(crate) fn fetch_from<A: Allocator + Copy, K: Indexer<A>>(
     indexer: &K,
     wanted: &Wanted<'_, A>,
 ) -> Result<Fetched<A>, FetchFault<A>>
+    ensures fetches { FetchesFrom (K.indexes indexer.now) (K.index_fails indexer.now)
+        (start_of repo.old wanted.now.specs.now wanted.now.limit wanted.now.ends) hello.now repo.new result }
     ensures settled { IfOk result (λ fetched. Settles repo.new.graph.entries repo.old.refs fetched.settled.asks
         fetched.settled.updates.items repo.new.refs) }
     ensures refs { OnErr result (repo.new.refs ≡ repo.old.refs) }
     ensures grows { Grows repo.old.graph.entries repo.new.graph.entries }
     ensures safe { IsWhole repo.new }
+    ensures bound { IfOk result (λ fetched. (held parents : ℕ)
+        → CountsReached repo.old.graph.entries (tips_of repo.old) held parents → fetched.requests ≤ held + 1) }
 {
     // A look-up says that the repository is whole.
     let _format = repo.format();
@@ -111,7 +123,9 @@ pub fn ls_on<A: Allocator + Copy>(
     host: &[u8],
     path: &[u8],
     prefixes: &[Prefix<A>],
-) -> Result<LsReply<A>, FetchFault<A>> {
+) -> Result<LsReply<A>, FetchFault<A>>
+    ensures { ListsOn prefixes.now (record { path = path.now; host = host.now }) result }
+{
     let asked = match request_for(alloc, prefixes) {
         Ok(asked) => asked,
         Err(fault) => return Err(FetchFault::from(fault)),
@@ -128,7 +142,9 @@ pub(crate) fn ls_from<A: Allocator + Copy>(
     stream: &TcpStream,
     hello: &Hello<A>,
     asked: LsRefsRequest<A>,
-) -> Result<LsReply<A>, FetchFault<A>> {
+) -> Result<LsReply<A>, FetchFault<A>>
+    ensures { ListsFrom asked hello.now result }
+{
     send_at_once(stream);
     let Ok(mut reader) = BufReader::new(alloc, stream) else {
         return Err(FetchFault::NoBuffer);
@@ -147,7 +163,9 @@ pub(crate) fn ls_from<A: Allocator + Copy>(
 pub(crate) fn request_for<A: Allocator + Copy>(
     alloc: A,
     prefixes: &[Prefix<A>],
-) -> Result<LsRefsRequest<A>, MessageFault> {
+) -> Result<LsRefsRequest<A>, MessageFault>
+    ensures { MakesRequest prefixes.now result }
+{
     let mut asked = LsRefsRequest::new(alloc);
     asked.set_symrefs(true);
     asked.set_peel(true);

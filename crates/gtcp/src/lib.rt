@@ -1,47 +1,58 @@
 //! The programs of gitv2 that open sockets, as functions over the network: a repository is served to those who
 //! connect, the refs of a server are listed, a fetch from it, and both ends in one process.
 //!
-//! No clause says what a socket gives or takes; what is read and written on a connection for which bytes is said in
-//! `gconnect`, of any devices.
+//! No clause can say which bytes a socket gives or takes. So of a call over one it is said that there are bytes that
+//! were read and written, over which it holds a conversation as `gconnect` says of any devices (`specs/Sockets.antt`).
 //!
 //! # Proved
 //!
-//! - [`serve_listener`] prints the lines of the faults of connections, one after the other, each passed on, and no more
-//!   of them than connections; where the errors' sink fails, a beginning of them stands (`specs/Telling.antt`). It
-//!   fails with `Socket` alone.
-//! - [`cmd_ls_remote`] writes the lines of a reply and passes them on; or nothing, save where its output fails
-//!   (`specs/Listing.antt`, `Remote.antt`). [`read_prefixes`] reads words as prefixes, each as it stands.
+//! - [`serve_listener`] serves so many connections, one after the other, each so, or closes one on which no limit of
+//!   its peer's silence can be set. It prints the faults of all of them, a line each, in their order, each passed on;
+//!   where the errors' sink fails, a beginning of these lines stands (`specs/Sockets.antt`, `Telling.antt`). That its
+//!   client asks for another path is no fault of a connection. It fails with `Socket` alone, and then it served fewer.
+//! - [`fetch_on`] holds a fetch by the refspecs, the limit and the end of replies that it is given, from the first line
+//!   of this host and path on, with every promise of `gclient::fetch_over`. Or there is no such first line, or out of
+//!   memory for its buffers, and nothing came. [`ls_on`] holds a listing likewise, of these prefixes; or there are too
+//!   many.
+//! - [`cmd_ls_remote`] writes the lines of the reply to such a listing and passes them on; or nothing, save where its
+//!   output fails (`specs/Listing.antt`, `Remote.antt`). [`read_prefixes`] reads words as prefixes, each as it stands.
 //! - [`cmd_fetch_remote`] has a new file only where the refs were settled: then it is the text of the repository as the
 //!   fetch left it, objects only came, and the report says what became of each ask. [`cmd_pair`] reports of such a
-//!   fetch (`specs/Remote.antt`). [`fetch_on`] leaves the refs as they were at every fault.
+//!   fetch (`specs/Remote.antt`).
+//! - [`cmd_serve`] shows the number of a port, and then does as [`serve_listener`] with the repository that its file
+//!   names; or it shows no line, or a beginning of it, and serves nobody.
 //! - Each program ends with status 0 and prints nothing more, or with 1 and the line of the fault that was met, or a
-//!   beginning of it. Before that [`cmd_serve`] prints the faults of connections, as [`serve_listener`] does, and the
-//!   others print nothing.
+//!   beginning of it: why the file is refused, how the conversation failed, no socket, out of memory, or a failed
+//!   output. Before that [`cmd_serve`] prints the faults of connections alone, and the others print nothing.
+//! - A [`Place`] has the address and the path that it is given. Its host is the text before a port, which is a decimal
+//!   number up to 65,535 (`specs/Places.antt`).
 //! - What a [`MessageSink`] wrote and holds are all the bytes that it was given. It holds bytes without writing any,
-//!   and none of a message that is too long with them (`MessageSink::hold`, `specs/Messages.antt`).
+//!   and none of a message that is too long with them (`MessageSink::hold`, `specs/Messages.antt`). Where the fetch of
+//!   a pair failed, such a message at either end makes it fault 94.
 //!
 //! # Only tested
 //!
-//! By `examples/over-tcp.sh`, by hand: all that passes through a socket; the port that is shown; the time that a peer may
-//! be silent; that input left unread hides no line; which connection a pair accepts. Two tests hold a conversation in
-//! one process.
+//! By `examples/over-tcp.sh`, by hand: all that passes through a socket; that the port that is shown is listened at;
+//! the time that a peer may be silent; that input left unread hides no line; which connection a pair accepts. Two tests
+//! hold a conversation in one process.
 //!
 //! # What the contracts do not rule out
 //!
-//! [`serve_listener`] may serve a connection otherwise than `gconnect` does, or report any fault of it; it may serve
-//! fewer than it is asked to, also where it answers that all were served, and fail with `Socket` where every connection
-//! can be accepted. [`cmd_serve`] may end with any fault, also one that was not met, and show any line, or none. The
-//! clients may answer any reply, or fetch any objects and have refs moved by the rule; one body serves all peers.
-//! Nothing is said of the time that a peer may be silent.
+//! The bytes of a conversation are some that fit what was answered, and no clause says that they are the peer's. So a
+//! body may answer any reply, bring any objects, or call any connection served, where some peer's bytes would lead to
+//! it; and it may send what it likes. It may fail with `Socket` where a connection can be accepted or made, or report
+//! out of memory; in a pair also call any fetch that fails one of a message that is too long. [`cmd_serve`] may show
+//! another port than the one that is listened at. Nothing is said of the time that a peer may be silent.
+//! [`Place::new`] may answer none.
 //!
 //! As a sink, a [`MessageSink`] may write what it holds before it is flushed, so long as the sink inside passes nothing
-//! on by that. It may call any failure one of memory, or none.
+//! on by that.
 //!
 //! # Stands on
 //!
 //! `gconnect` for connections, `gcmd` for what programs share; `ganswer`, `gserve` and `gclient` for server and client,
-//! `ghello`, `grequest`, `glsreply` and `gfetchreply` for messages, `ggrammar` and `gpkt` for what these share, `ggraph`
-//! for plain packs, `gname` for prefixes.
+//! `ghello`, `grequest`, `glsreply` and `gfetchreply` for messages, `ggrammar` and `gpkt` for what these share,
+//! `ggraph` for plain packs, `gname` for prefixes.
 #![tactic(auto)]
 
 mod fetching;

@@ -1,7 +1,7 @@
 //! Messages held back until they are whole.
 
 ghost use Rattle.std.specs.Prelude.{◌≡◌, ◌≤◌, ◌<◌, ◌+◌, ◌++◌, ◌||◌, [], false, true};
-ghost use Rattle.std.specs.Prelude.{length, take, drop, nat_lt, IsErr, IsOk, OnErr, OnOk};
+ghost use Rattle.std.specs.Prelude.{◌&&◌, length, take, drop, nat_lt, not, is_err, IsErr, IsOk, OnErr, OnOk};
 ghost use Rattle.std.specs.Io.KnownBytes.{Appends, Keeps, append_known};
 ghost use Rattle.gtcp.specs.Messages.{max_message};
 
@@ -39,6 +39,7 @@ impl<W, A: Allocator + Copy> Model for MessageSink<W, A> {
       held = s.held.items;
       written = s.written;
       too_long = s.is_too_long;
+      lacks_memory = s.lacks_memory;
       down = s.is_down;
     } };
 
@@ -48,7 +49,7 @@ impl<W, A: Allocator + Copy> Model for MessageSink<W, A> {
 impl<W, A: Allocator + Copy> MessageSink<W, A> {
     /// A sink that holds nothing. It takes no memory yet.
     pub fn new(alloc: A, sink: W) -> MessageSink<W, A>
-        ensures { result ≡ record { inner = sink; held = []; written = 0; too_long = false; down = false } }
+        ensures { result ≡ record { inner = sink; held = []; written = 0; too_long = false; lacks_memory = false; down = false } }
     {
         MessageSink {
             sink,
@@ -75,7 +76,9 @@ impl<W, A: Allocator + Copy> MessageSink<W, A> {
     }
 
     /// Whether there was no memory to hold a message.
-    pub fn lacks_memory(&self) -> bool {
+    pub fn lacks_memory(&self) -> bool
+        ensures { result ≡ self.now.lacks_memory }
+    {
         self.lacks_memory
     }
 
@@ -109,6 +112,9 @@ impl<W: Sink, A: Allocator + Copy> MessageSink<W, A> {
         ensures fits { OnOk result (length (self.old.held ++ bytes.now) ≤ max_message) }
         ensures too_long { self.new.too_long
             ≡ (nat_lt max_message (length self.old.held + length bytes.now) || self.old.too_long) }
+        ensures lacks { self.new.lacks_memory
+            ≡ ((is_err result && not (nat_lt max_message (length self.old.held + length bytes.now)))
+            || self.old.lacks_memory) }
         ensures written { self.new.written ≡ self.old.written }
         ensures down { OnErr result (self.new.down ≡ true) }
         ensures up { OnOk result (self.new.down ≡ false) }

@@ -1,8 +1,10 @@
 //! Both ends of a connection in one process, turn by turn.
 
-ghost use Rattle.std.specs.Prelude.{◌≡◌, [], None, true, IfOk, IsErr};
+ghost use Rattle.std.specs.Prelude.{◌≡◌, ◌||◌, [], None, true, IfOk, IsErr};
 ghost use Rattle.ghistory.specs.Reach.{Grows};
 ghost use Rattle.grepo.specs.Settling.{Settles};
+ghost use Rattle.ghello.specs.Hello.{MakesHello};
+ghost use Rattle.gtcp.specs.Remote.{FetchesAsClient, FetchesInPair, IsPairFault, pair_hello};
 
 use crate::message::MessageSink;
 use crate::stream::set_up;
@@ -11,7 +13,7 @@ use gclient::{FetchFault, Fetched, Repo, Spec};
 use gcmd::ProgramFault;
 use gconnect::{fetch_git, hear};
 use gfetchreply::PackLimit;
-use ggrammar::Ends;
+use ggrammar::{Ends, MessageFault};
 use ggraph::PlainPack;
 use ghello::Hello;
 use gpkt::memory::SliceSource;
@@ -195,6 +197,7 @@ pub(crate) fn fetch_in_pair<A: Allocator + Copy, N>(
 ) -> Result<Fetched<A>, ProgramFault<A>>
 where
     N: Net<Stream = TcpStream, Listener = TcpListener>,
+    ensures fetches { FetchesInPair repo.old specs.now repo.new result }
     ensures settled { IfOk result (λ fetched. Settles repo.new.graph.entries repo.old.refs fetched.settled.asks
         fetched.settled.updates.items repo.new.refs) }
     ensures grows { Grows repo.old.graph.entries repo.new.graph.entries }
@@ -213,6 +216,7 @@ fn fetch_between<A: Allocator + Copy>(
     near: &TcpStream,
     far: &TcpStream,
 ) -> Result<Fetched<A>, ProgramFault<A>>
+    ensures fetches { FetchesInPair repo.old specs.now repo.new result }
     ensures settled { IfOk result (λ fetched. Settles repo.new.graph.entries repo.old.refs fetched.settled.asks
         fetched.settled.updates.items repo.new.refs) }
     ensures grows { Grows repo.old.graph.entries repo.new.graph.entries }
@@ -254,6 +258,7 @@ where
     V: Sink + Drop,
     F: Source + Drop,
     W: Sink + Drop,
+    ensures fetches { FetchesInPair repo.old specs.now repo.new result }
     ensures settled { IfOk result (λ fetched. Settles repo.new.graph.entries repo.old.refs fetched.settled.asks
         fetched.settled.updates.items repo.new.refs) }
     ensures grows { Grows repo.old.graph.entries repo.new.graph.entries }
@@ -276,7 +281,10 @@ fn fault_of<V: Sink, W: Sink, A: Allocator + Copy>(
     fault: FetchFault<A>,
     requests: &MessageSink<V, A>,
     replies: &MessageSink<W, A>,
-) -> ProgramFault<A> {
+) -> ProgramFault<A>
+    ensures { IsPairFault fault (requests.now.too_long || replies.now.too_long)
+        (requests.now.lacks_memory || replies.now.lacks_memory) result }
+{
     if requests.is_too_long() || replies.is_too_long() {
         return ProgramFault::PairLimit;
     }
@@ -293,11 +301,12 @@ fn fetch_as_client<A: Allocator + Copy, S: Source, W: Sink>(
     answers: &mut S,
     requests: &mut W,
 ) -> Result<Fetched<A>, FetchFault<A>>
+    ensures fetches { FetchesAsClient repo.old specs.now repo.new result }
     ensures settled { IfOk result (λ fetched. Settles repo.new.graph.entries repo.old.refs fetched.settled.asks
         fetched.settled.updates.items repo.new.refs) }
     ensures grows { Grows repo.old.graph.entries repo.new.graph.entries }
 {
-    let hello = match Hello::new(repo.graph().allocator(), PATH, HOST) {
+    let hello = match hello_of_pair(repo.graph().allocator()) {
         Ok(hello) => hello,
         Err(fault) => return Err(FetchFault::from(fault)),
     };
@@ -312,4 +321,11 @@ fn fetch_as_client<A: Allocator + Copy, S: Source, W: Sink>(
         limit,
         Ends::Plain,
     )
+}
+
+// The first line that the client writes.
+fn hello_of_pair<A: Allocator + Copy>(alloc: A) -> Result<Hello<A>, MessageFault>
+    ensures { MakesHello pair_hello result }
+{
+    Hello::new(alloc, PATH, HOST)
 }

@@ -1,5 +1,8 @@
 //! Where a repository is served.
 
+ghost use Rattle.std.specs.Prelude.{◌≡◌, IfSome, IsTrue, string_bytes};
+ghost use Rattle.gtcp.specs.Places.{IsPlace, IsPort};
+
 use ghello::Hello;
 use std::alloc::{Allocator, Global};
 
@@ -17,7 +20,9 @@ impl<A: Allocator + Copy> Place<A> {
     ///
     /// `None` where the address is not so, where the host or the path is not well-formed (gitprotocol-pack(5), "Git
     /// Transport"), and where there is no memory to keep them.
-    pub fn new(alloc: A, address: &str, path: &str) -> Option<Place<A>> {
+    pub fn new(alloc: A, address: &str, path: &str) -> Option<Place<A>>
+        ensures { IfSome result (λ place. IsPlace address.now path.now (string_bytes place.address) place.hello) }
+    {
         let (host, port) = address.rsplit_once(':')?;
         if !is_port(port) {
             return None;
@@ -28,17 +33,23 @@ impl<A: Allocator + Copy> Place<A> {
     }
 
     /// The text of the address.
-    pub fn address(&self) -> &str {
+    pub fn address(&self) -> &str
+        ensures { result.now ≡ string_bytes self.now.address }
+    {
         self.address.as_str()
     }
 
     /// The first line of a connection to it.
-    pub fn hello(&self) -> &Hello<A> {
+    pub fn hello(&self) -> &Hello<A>
+        ensures { result.now ≡ self.now.hello }
+    {
         &self.hello
     }
 }
 
 // Whether the text is a decimal number up to 65,535.
-fn is_port(text: &str) -> bool {
+fn is_port(text: &str) -> bool
+    ensures { IsTrue result → IsPort text.now }
+{
     text.as_bytes().iter().all(|byte| byte.is_ascii_digit()) && text.parse::<u16>().is_ok()
 }

@@ -1,13 +1,14 @@
 //! The programs that open sockets, as functions over the network, bytes and sinks.
 
-ghost use Rattle.std.specs.Prelude.{◌≡◌, ℕ, List, IfOk, option_map};
+ghost use Rattle.std.specs.Prelude.{◌≡◌, ℕ, List, IfErr, IfOk, option_map};
 ghost use Rattle.ghistory.specs.Reach.{Grows};
 ghost use Rattle.gpkt.specs.Sending.{output_of};
 ghost use Rattle.grepo.specs.Settling.{Settles};
 ghost use Rattle.gcmd.specs.Fetching.{NamesClient};
 ghost use Rattle.gcmd.specs.Programs.{Runs};
-ghost use Rattle.gtcp.specs.Remote.{FetchesRemote, ListsRemote, Meets, ShowsReply};
-ghost use Rattle.gtcp.specs.Telling.{PrintsFew, RunsServing};
+ghost use Rattle.gcmd.specs.declared.fault.ProgramFault.TheVariants.{Socket};
+ghost use Rattle.gtcp.specs.Remote.{Announces, AsksRemote, FetchesAt, FetchesRemote, ListsRemote, Meets};
+ghost use Rattle.gtcp.specs.Remote.{RunsServing, ServesRemote, ShowsReply};
 
 use crate::fetching::{Wanted, fetch_from, ls_from, request_for};
 use crate::listing::text_of;
@@ -56,7 +57,8 @@ pub fn cmd_serve<A: Allocator + Copy, N, W: Sink, E: Sink>(
 where
     N: Net<Stream = TcpStream, Listener = TcpListener>,
     ensures runs { RunsServing A (output_of E.contents E.passed_on E.is_down) errors.old errors.new
-        service.now.connections result }
+        (ServesRemote service.now.file.now service.now.place.now.hello.path service.now.ends
+        service.now.connections (output_of W.contents W.passed_on W.is_down output.old output.new)) result }
     ensures output_loans { W.loans output.new ≡ W.loans output.old }
     ensures errors_loans { E.loans errors.new ≡ E.loans errors.old }
 {
@@ -74,8 +76,9 @@ fn serve_all<A: Allocator + Copy, N, W: Sink, E: Sink>(
 ) -> Result<(), ProgramFault<A>>
 where
     N: Net<Stream = TcpStream, Listener = TcpListener>,
-    ensures told { PrintsFew A (output_of E.contents E.passed_on E.is_down errors.old errors.new)
-        service.now.connections }
+    ensures serves { ServesRemote service.now.file.now service.now.place.now.hello.path service.now.ends
+        service.now.connections (output_of W.contents W.passed_on W.is_down output.old output.new)
+        (output_of E.contents E.passed_on E.is_down errors.old errors.new) result }
     ensures output_loans { W.loans output.new ≡ W.loans output.old }
     ensures errors_loans { E.loans errors.new ≡ E.loans errors.old }
 {
@@ -103,6 +106,7 @@ fn announce<A: Allocator + Copy, W: Sink>(
     listener: &TcpListener,
     output: &mut W,
 ) -> Result<(), ProgramFault<A>>
+    ensures announces { Announces {A = A} (output_of W.contents W.passed_on W.is_down output.old output.new) result }
     ensures loans { W.loans output.new ≡ W.loans output.old }
 {
     match listener.local_addr() {
@@ -116,6 +120,7 @@ fn show_port<A: Allocator + Copy, W: Sink>(
     port: u16,
     output: &mut W,
 ) -> Result<(), ProgramFault<A>>
+    ensures announces { Announces {A = A} (output_of W.contents W.passed_on W.is_down output.old output.new) result }
     ensures loans { W.loans output.new ≡ W.loans output.old }
 {
     match format!(in alloc; "listening {port}\n") {
@@ -128,6 +133,7 @@ fn show_port<A: Allocator + Copy, W: Sink>(
 fn connect<A: Allocator + Copy, N>(net: &N, place: &Place<A>) -> Result<TcpStream, ProgramFault<A>>
 where
     N: Net<Stream = TcpStream, Listener = TcpListener>,
+    ensures { IfErr result (λ fault. fault ≡ Socket) }
 {
     match TcpStream::connect(net, place.address()) {
         Ok(stream) => Ok(stream),
@@ -158,7 +164,8 @@ pub fn cmd_ls_remote<A: Allocator + Copy, N, W: Sink, E: Sink>(
 ) -> u8
 where
     N: Net<Stream = TcpStream, Listener = TcpListener>,
-    ensures runs { Runs {A = A} (ListsRemote (output_of W.contents W.passed_on W.is_down output.old output.new))
+    ensures runs { Runs {A = A} (ListsRemote listing.now.prefixes.now listing.now.place.now.hello
+        (output_of W.contents W.passed_on W.is_down output.old output.new))
         (output_of E.contents E.passed_on E.is_down errors.old errors.new) result }
     ensures output_loans { W.loans output.new ≡ W.loans output.old }
     ensures errors_loans { E.loans errors.new ≡ E.loans errors.old }
@@ -174,7 +181,8 @@ fn list_remote<A: Allocator + Copy, N, W: Sink>(
 ) -> Result<(), ProgramFault<A>>
 where
     N: Net<Stream = TcpStream, Listener = TcpListener>,
-    ensures lists { ListsRemote {A = A} (output_of W.contents W.passed_on W.is_down output.old output.new) result }
+    ensures lists { ListsRemote {A = A} listing.now.prefixes.now listing.now.place.now.hello
+        (output_of W.contents W.passed_on W.is_down output.old output.new) result }
     ensures loans { W.loans output.new ≡ W.loans output.old }
 {
     match ask_remote(net, alloc, listing) {
@@ -191,6 +199,7 @@ fn ask_remote<A: Allocator + Copy, N>(
 ) -> Result<LsReply<A>, ProgramFault<A>>
 where
     N: Net<Stream = TcpStream, Listener = TcpListener>,
+    ensures { AsksRemote listing.now.prefixes.now listing.now.place.now.hello result }
 {
     let asked = match request_for(alloc, listing.prefixes) {
         Ok(asked) => asked,
@@ -247,7 +256,8 @@ pub fn cmd_fetch_remote<A: Allocator + Copy, N, R: Sink, E: Sink>(
 where
     N: Net<Stream = TcpStream, Listener = TcpListener>,
     ensures runs { Runs {A = A}
-        (FetchesRemote fetch.now.file.now (output_of R.contents R.passed_on R.is_down report.old report.new)
+        (FetchesRemote fetch.now.file.now fetch.now.specs.now fetch.now.limit fetch.now.ends fetch.now.place.now.hello
+        (output_of R.contents R.passed_on R.is_down report.old report.new)
         (option_map (λ text. text.items) result.file))
         (output_of E.contents E.passed_on E.is_down errors.old errors.new) result.status }
     ensures report_loans { R.loans report.new ≡ R.loans report.old }
@@ -267,7 +277,8 @@ fn fetch_remote<A: Allocator + Copy, N, R: Sink>(
 ) -> (Result<(), ProgramFault<A>>, Option<Vec<u8, A>>)
 where
     N: Net<Stream = TcpStream, Listener = TcpListener>,
-    ensures fetches { FetchesRemote {A = A} fetch.now.file.now
+    ensures fetches { FetchesRemote {A = A} fetch.now.file.now fetch.now.specs.now fetch.now.limit fetch.now.ends
+        fetch.now.place.now.hello
         (output_of R.contents R.passed_on R.is_down report.old report.new)
         (option_map (λ text. text.items) result.1) result.0 }
     ensures loans { R.loans report.new ≡ R.loans report.old }
@@ -288,7 +299,8 @@ fn fetch_for<A: Allocator + Copy, N, R: Sink>(
 ) -> (Result<(), ProgramFault<A>>, Option<Vec<u8, A>>)
 where
     N: Net<Stream = TcpStream, Listener = TcpListener>,
-    ensures fetches { (file : List ℕ) → NamesClient file repo.old → FetchesRemote {A = A} file
+    ensures fetches { (file : List ℕ) → NamesClient file repo.old
+        → FetchesRemote {A = A} file fetch.now.specs.now fetch.now.limit fetch.now.ends fetch.now.place.now.hello
         (output_of R.contents R.passed_on R.is_down report.old report.new)
         (option_map (λ text. text.items) result.1) result.0 }
     ensures loans { R.loans report.new ≡ R.loans report.old }
@@ -307,6 +319,8 @@ fn fetch_at<A: Allocator + Copy, N>(
 ) -> Result<Fetched<A>, ProgramFault<A>>
 where
     N: Net<Stream = TcpStream, Listener = TcpListener>,
+    ensures fetches { FetchesAt repo.old fetch.now.specs.now fetch.now.limit fetch.now.ends fetch.now.place.now.hello
+        repo.new result }
     ensures settled { IfOk result (λ fetched. Settles repo.new.graph.entries repo.old.refs fetched.settled.asks
         fetched.settled.updates.items repo.new.refs) }
     ensures grows { Grows repo.old.graph.entries repo.new.graph.entries }
@@ -350,7 +364,8 @@ pub fn cmd_pair<A: Allocator + Copy, N, W: Sink, E: Sink>(
 where
     N: Net<Stream = TcpStream, Listener = TcpListener>,
     ensures runs { Runs {A = A}
-        (Meets pair.now.client.now (output_of W.contents W.passed_on W.is_down output.old output.new))
+        (Meets pair.now.client.now pair.now.specs.now
+        (output_of W.contents W.passed_on W.is_down output.old output.new))
         (output_of E.contents E.passed_on E.is_down errors.old errors.new) result }
     ensures output_loans { W.loans output.new ≡ W.loans output.old }
     ensures errors_loans { E.loans errors.new ≡ E.loans errors.old }
@@ -365,7 +380,7 @@ fn meet<A: Allocator + Copy, N, W: Sink>(
 ) -> Result<(), ProgramFault<A>>
 where
     N: Net<Stream = TcpStream, Listener = TcpListener>,
-    ensures meets { Meets {A = A} pair.now.client.now
+    ensures meets { Meets {A = A} pair.now.client.now pair.now.specs.now
         (output_of W.contents W.passed_on W.is_down output.old output.new) result }
     ensures loans { W.loans output.new ≡ W.loans output.old }
 {
@@ -386,7 +401,7 @@ fn meet_client<A: Allocator + Copy, N, W: Sink>(
 where
     N: Net<Stream = TcpStream, Listener = TcpListener>,
     ensures meets { (file : List ℕ) → NamesClient file repo.old
-        → Meets {A = A} file (output_of W.contents W.passed_on W.is_down output.old output.new) result }
+        → Meets {A = A} file specs.now (output_of W.contents W.passed_on W.is_down output.old output.new) result }
     ensures loans { W.loans output.new ≡ W.loans output.old }
 {
     match fetch_in_pair(net, server, repo, specs) {

@@ -1,9 +1,10 @@
 //! A repository served to those who connect.
 
-ghost use Rattle.std.specs.Prelude.{◌≡◌, IfErr};
+ghost use Rattle.std.specs.Prelude.{◌≡◌};
 ghost use Rattle.gpkt.specs.Sending.{output_of};
-ghost use Rattle.gcmd.specs.declared.fault.ProgramFault.TheVariants.{Socket};
-ghost use Rattle.gtcp.specs.Telling.{PrintsFew, Tells};
+ghost use Rattle.gcmd.specs.Serving.{outcome_of_connection};
+ghost use Rattle.gtcp.specs.Sockets.{HoldsServing, IsServed, ServesEach, outcome_of};
+ghost use Rattle.gtcp.specs.Telling.{Tells};
 
 use crate::stream::{MESSAGE_BUFFER, hang_up, set_up};
 use ganswer::Server;
@@ -42,8 +43,8 @@ pub fn serve_listener<A: Allocator + Copy, K: Packer<A>, E: Sink>(
     ends: Ends,
     errors: &mut E,
 ) -> Result<(), ProgramFault<A>>
-    ensures told { PrintsFew A (output_of E.contents E.passed_on E.is_down errors.old errors.new) connections }
-    ensures fault { IfErr result (λ fault. fault ≡ Socket) }
+    ensures serves { ServesEach server.now (K.packs packer.now) (K.pack_fails packer.now) path.now ends
+        (output_of E.contents E.passed_on E.is_down errors.old errors.new) connections result }
     ensures loans { E.loans errors.new ≡ E.loans errors.old }
 {
     let site = Site {
@@ -62,8 +63,9 @@ fn serve_each<A: Allocator + Copy, K: Packer<A>, E: Sink>(
     connections: u32,
     errors: &mut E,
 ) -> Result<(), ProgramFault<A>>
-    ensures told { PrintsFew A (output_of E.contents E.passed_on E.is_down errors.old errors.new) connections }
-    ensures fault { IfErr result (λ fault. fault ≡ Socket) }
+    ensures serves { ServesEach site.now.server.now (K.packs site.now.packer.now) (K.pack_fails site.now.packer.now)
+        site.now.path.now site.now.ends
+        (output_of E.contents E.passed_on E.is_down errors.old errors.new) connections result }
     ensures loans { E.loans errors.new ≡ E.loans errors.old }
 {
     let mut can_tell = true;
@@ -96,7 +98,10 @@ fn tell<A: Allocator + Copy, E: Sink>(
 fn serve_stream<A: Allocator + Copy, K: Packer<A>>(
     site: &Site<'_, K, A>,
     stream: &TcpStream,
-) -> Result<(), ProgramFault<A>> {
+) -> Result<(), ProgramFault<A>>
+    ensures { IsServed site.now.server.now (K.packs site.now.packer.now) (K.pack_fails site.now.packer.now)
+        site.now.path.now site.now.ends result }
+{
     if set_up(stream).is_err() {
         return Err(ProgramFault::WriteFailed);
     }
@@ -109,7 +114,10 @@ fn serve_stream<A: Allocator + Copy, K: Packer<A>>(
 fn serve_buffered<A: Allocator + Copy, K: Packer<A>>(
     site: &Site<'_, K, A>,
     stream: &TcpStream,
-) -> GitEnd {
+) -> GitEnd
+    ensures { HoldsServing site.now.server.now (K.packs site.now.packer.now) (K.pack_fails site.now.packer.now)
+        site.now.path.now site.now.ends result }
+{
     match BufReader::new(site.server.graph().allocator(), stream) {
         Ok(mut reader) => serve_from(site, &mut reader, stream),
         Err(_) => {
@@ -124,7 +132,10 @@ fn serve_from<A: Allocator + Copy, K: Packer<A>, R: Read>(
     site: &Site<'_, K, A>,
     reader: &mut R,
     stream: &TcpStream,
-) -> GitEnd {
+) -> GitEnd
+    ensures { HoldsServing site.now.server.now (K.packs site.now.packer.now) (K.pack_fails site.now.packer.now)
+        site.now.path.now site.now.ends result }
+{
     let alloc = site.server.graph().allocator();
     match BufWriter::with_capacity(alloc, MESSAGE_BUFFER, stream) {
         Ok(mut writer) => {
@@ -145,22 +156,31 @@ fn serve_between<A: Allocator + Copy, K: Packer<A>, R: Read, W: Write>(
     site: &Site<'_, K, A>,
     reader: &mut R,
     writer: &mut W,
-) -> GitEnd {
+) -> GitEnd
+    ensures { HoldsServing site.now.server.now (K.packs site.now.packer.now) (K.pack_fails site.now.packer.now)
+        site.now.path.now site.now.ends result }
+{
     let mut source = FromRead::new(reader);
     let mut sink = ToWrite::new(writer);
     serve_devices(site, &mut source, &mut sink)
 }
 
+// Serves it between devices.
 fn serve_devices<A: Allocator + Copy, K: Packer<A>, S: Source, W: Sink>(
     site: &Site<'_, K, A>,
     source: &mut S,
     sink: &mut W,
-) -> GitEnd {
+) -> GitEnd
+    ensures { HoldsServing site.now.server.now (K.packs site.now.packer.now) (K.pack_fails site.now.packer.now)
+        site.now.path.now site.now.ends result }
+{
     serve_git(site.server, site.packer, site.path, site.ends, source, sink)
 }
 
 // How a connection came out. That its client asked for another path is no fault of it.
-fn outcome_of<A: Allocator + Copy>(ended: GitEnd) -> Result<(), ProgramFault<A>> {
+fn outcome_of<A: Allocator + Copy>(ended: GitEnd) -> Result<(), ProgramFault<A>>
+    ensures { result ≡ outcome_of ended }
+{
     match ended {
         GitEnd::Served(served) => outcome_of_end(served.end),
         GitEnd::Elsewhere => Ok(()),
@@ -169,7 +189,9 @@ fn outcome_of<A: Allocator + Copy>(ended: GitEnd) -> Result<(), ProgramFault<A>>
     }
 }
 
-fn outcome_of_end<A: Allocator + Copy>(ended: End) -> Result<(), ProgramFault<A>> {
+fn outcome_of_end<A: Allocator + Copy>(ended: End) -> Result<(), ProgramFault<A>>
+    ensures { result ≡ outcome_of_connection ended }
+{
     match ended {
         End::Closed | End::Ended => Ok(()),
         End::Refused(fault) => Err(ProgramFault::Request(fault)),

@@ -11,9 +11,18 @@ returns-in-Ok-clause-fetches g c = λ file names. inl (record {
   names = names;
   new = c.fetch_at.new.repo;
   fetched = c.in-Ok.fetched;
+  fetches = c.in-Ok.ensures.fetches;
   concludes = c.conclude.ensures.concludes c.args.repo.now (record { grows = c.in-Ok.ensures.grows; settles = c.in-Ok.ensures.settled });
 })
 
 pub returns-in-Err-clause-fetches : goal.returns-in-Err-clause-fetches
 returns-in-Err-clause-fetches g c = λ file names.
-    inr ((c.in-Err.fault, refl, record { written = refl; passed_on = refl; down = refl }), refl)
+    inr (
+      (
+        c.in-Err.fault,
+        inr (c.args.repo.now, c.fetch_at.new.repo, names, c.in-Err.ensures.fetches),
+        refl,
+        record { written = refl; passed_on = refl; down = refl },
+      ),
+      refl,
+    )

@@ -1,4 +1,4 @@
-use Rattle.std.proofs.Common.{inr, refl}
+use Rattle.std.proofs.Common.{inl, inr, refl}
 use Rattle.gtcp.proofs.remote.fetch_remote.Goals as goal
 
 pub returns-in-Ok-clause-fetches : goal.returns-in-Ok-clause-fetches
@@ -6,4 +6,4 @@ returns-in-Ok-clause-fetches g c = c.fetch_for.ensures.fetches c.args.fetch.now.
 
 pub returns-in-Err-clause-fetches : goal.returns-in-Err-clause-fetches
 returns-in-Err-clause-fetches g c =
-    inr ((c.in-Err.fault, refl, record { written = refl; passed_on = refl; down = refl }), refl)
+    inr ((c.in-Err.fault, inl c.in-Err.ensures, refl, record { written = refl; passed_on = refl; down = refl }), refl)

@@ -11,9 +11,16 @@ returns-in-Ok-clause-meets g c = λ file names. inl (record {
   names = names;
   new = c.fetch_in_pair.new.repo;
   fetched = c.in-Ok.fetched;
+  fetches = c.in-Ok.ensures.fetches;
   into = record { grows = c.in-Ok.ensures.grows; settles = c.in-Ok.ensures.settled };
   reports = c.send_report.ensures.reports;
 })
 
 pub returns-in-Err-clause-meets : goal.returns-in-Err-clause-meets
-returns-in-Err-clause-meets g c = λ file names. inr (c.in-Err.fault, refl, record { written = refl; passed_on = refl; down = refl })
+returns-in-Err-clause-meets g c = λ file names.
+    inr (
+      c.in-Err.fault,
+      inr (c.args.repo.now, c.fetch_in_pair.new.repo, names, c.in-Err.ensures.fetches),
+      refl,
+      record { written = refl; passed_on = refl; down = refl },
+    )

@@ -1,12 +1,33 @@
-use Rattle.std.proofs.Common.{◌∙◌}
-use Rattle.gtcp.proofs.TellingLemmas.{tells_next}
+use Rattle.std.proofs.Common.{◌≡◌, refl, ◌∙◌, arith}
+use Rattle.gtcp.proofs.ServingLemmas.{serves_all, serves_fewer, serves_next, serves_none}
 use Rattle.gtcp.proofs.serving.serve_each.Goals as goal
+
+pub loop-number-init : goal.loop-number-init
+loop-number-init g c = record {
+  serves =
+      serves_none g.E.Sink.contents g.E.Sink.passed_on g.E.Sink.is_down c.args.site.now.server.now
+      (g.K.Packer.packs c.args.site.now.packer.now) (g.K.Packer.pack_fails c.args.site.now.packer.now) c.args.site.now.path.now
+      c.args.site.now.ends c.args.errors.now;
+  same_loans = refl;
+}
 
 pub loop-number-preserved : goal.loop-number-preserved
 loop-number-preserved g c = record {
-  told =
-      tells_next g.E.Sink.contents g.E.Sink.passed_on g.E.Sink.is_down c.args.errors.now c.loop-number.errors c.tell-can_tell.new.errors
-      c.serve_stream.result c.loop-number.can_tell c.tell-can_tell.result c.loop-number._number c.loop-number.invariant.told
-      c.tell-can_tell.ensures.tells;
+  serves =
+      serves_next g.E.Sink.contents g.E.Sink.passed_on g.E.Sink.is_down _ _ _ _ _ c.args.errors.now c.loop-number.errors
+      c.tell-can_tell.new.errors c.serve_stream.result c.loop-number.can_tell c.tell-can_tell.result c.loop-number._number
+      c.loop-number.invariant.serves c.serve_stream.ensures c.tell-can_tell.ensures.tells;
   same_loans = c.tell-can_tell.ensures.loans ∙ c.loop-number.invariant.same_loans;
 }
+
+pub returns-in_default-clause-serves : goal.returns-in_default-clause-serves
+returns-in_default-clause-serves g c =
+    serves_fewer g.E.Sink.contents g.E.Sink.passed_on g.E.Sink.is_down _ _ _ _ _ c.args.errors.now c.loop-number.errors
+    c.loop-number.can_tell c.loop-number._number c.args.connections c.loop-number.invariant.serves c.loop-number-test.true
+
+pub returns-clause-serves : goal.returns-clause-serves
+returns-clause-serves g c =
+    let all : c.loop-number._number ≡ c.args.connections =
+    let within = c.loop-number.auto._number-end in omega (arith, within, c.loop-number-test.false) in
+    serves_all g.E.Sink.contents g.E.Sink.passed_on g.E.Sink.is_down _ _ _ _ _ c.args.errors.now c.loop-number.errors
+    c.loop-number.can_tell c.loop-number._number c.args.connections c.loop-number.invariant.serves all

@@ -1,10 +1,12 @@
 use Rattle.std.proofs.Common.{◌≡◌}
 use Rattle.gpkt.specs.Sending.{output_of}
-use Rattle.gtcp.specs.Telling.{PrintsSoFar}
+use Rattle.gtcp.specs.Sockets.{ServesSoFar}
 use Rattle.gtcp.proofs.serving.serve_each.Given as goal
 
 abbrev pub invariant-loop-number : goal.invariant-loop-number
 invariant-loop-number g l = record {
-  told : PrintsSoFar g.row.A.Denot (output_of g.E.Sink.contents g.E.Sink.passed_on g.E.Sink.is_down l.initial.errors l.errors) l.can_tell l._number;
+  serves : ServesSoFar l.site.server.now (g.K.Packer.packs l.site.packer.now) (g.K.Packer.pack_fails l.site.packer.now)
+      l.site.path.now l.site.ends
+      (output_of g.E.Sink.contents g.E.Sink.passed_on g.E.Sink.is_down l.initial.errors l.errors) l.can_tell l._number;
   same_loans : g.E.Sink.loans l.errors ≡ g.E.Sink.loans l.initial.errors;
 }

@@ -1,0 +1,65 @@
+-- Connections that are served, one more at a time.
+use Rattle.std.proofs.Common.{◌≡◌, ℕ, ◌+◌, ◌<◌, Bool, true, List, [], ◌∷◌, ◌++◌, Option, Ok, Err, inl, refl, ◌∙◌, ap, arith}
+use Rattle.std.proofs.lemmas.List.{length-append}
+use Rattle.std.proofs.lemmas.List.Elements.{All-append, All-from_recursion}
+use Rattle.gobject.specs.Packs.{PackFails, Packs}
+use Rattle.ggrammar.specs.declared.ends.Ends.{Ends}
+use Rattle.gpkt.specs.Sending.{output_of}
+use Rattle.ganswer.specs.Servers.{Server}
+use Rattle.gcmd.specs.Programs.{Outcome}
+use Rattle.gcmd.specs.declared.fault.ProgramFault.TheVariants as program
+use Rattle.gtcp.specs.Sockets.{IsServed, ServesEach, ServesSoFar}
+use Rattle.gtcp.specs.Telling.{Tells}
+use Rattle.gtcp.proofs.TellingLemmas.{tells_all, tells_next}
+
+module _ {A W : Type 0} (contents passed_on : W → Option (List ℕ)) (is_down : W → Bool) (server : Server A)
+    (packs : Packs A) (fails : PackFails A) (path : List ℕ) (ends : Ends)
+  where
+    -- before the first
+    pub serves_none : (a : W) → ServesSoFar server packs fails path ends (output_of contents passed_on is_down a a) true 0
+    serves_none a = record {
+      outcomes = [];
+      each = All-from_recursion (IsServed server packs fails path ends) [] tt;
+      prints = inl (refl, record { written = refl; passed_on = refl; down = refl });
+      count = refl;
+    }
+
+    -- one more
+    pub serves_next : (a b c : W) (outcome : Outcome A) (could can : Bool) (count : ℕ)
+        → ServesSoFar server packs fails path ends (output_of contents passed_on is_down a b) could count
+        → IsServed server packs fails path ends outcome
+        → Tells outcome could can (output_of contents passed_on is_down b c)
+        → ServesSoFar server packs fails path ends (output_of contents passed_on is_down a c) can (count + 1)
+    serves_next a b c outcome could can count so_far served told = record {
+      outcomes = so_far.outcomes ++ outcome ∷ [];
+      each =
+          All-append (IsServed server packs fails path ends) so_far.outcomes (outcome ∷ []) so_far.each
+          (All-from_recursion (IsServed server packs fails path ends) (outcome ∷ []) (served, tt));
+      prints = tells_next contents passed_on is_down a b c so_far.outcomes outcome could can so_far.prints told;
+      count = length-append so_far.outcomes (outcome ∷ []) ∙ ap (λ (n : ℕ). n + 1) so_far.count;
+    }
+
+    -- all of them
+    pub serves_all : (a b : W) (is_up : Bool) (number connections : ℕ)
+        → ServesSoFar server packs fails path ends (output_of contents passed_on is_down a b) is_up number
+        → number ≡ connections
+        → ServesEach server packs fails path ends (output_of contents passed_on is_down a b) connections (Ok tt)
+    serves_all a b is_up number connections so_far same = record {
+      outcomes = so_far.outcomes;
+      each = so_far.each;
+      prints = tells_all (output_of contents passed_on is_down a b) _ is_up so_far.prints;
+      count = so_far.count ∙ same;
+    }
+
+    -- one of them can't be accepted
+    pub serves_fewer : (a b : W) (is_up : Bool) (number connections : ℕ)
+        → ServesSoFar server packs fails path ends (output_of contents passed_on is_down a b) is_up number
+        → number < connections
+        → ServesEach server packs fails path ends (output_of contents passed_on is_down a b) connections
+        (Err program.Socket)
+    serves_fewer a b is_up number connections so_far fewer = record {
+      outcomes = so_far.outcomes;
+      each = so_far.each;
+      prints = tells_all (output_of contents passed_on is_down a b) _ is_up so_far.prints;
+      count = (refl, omega (arith, so_far.count, fewer));
+    }

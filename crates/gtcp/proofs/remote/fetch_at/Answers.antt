@@ -1,0 +1,13 @@
+use Rattle.std.proofs.Common.{Ok, subst}
+use Rattle.ghello.specs.Hello.{Hello}
+use Rattle.gclient.specs.Conversations.{start_of}
+use Rattle.gcmd.specs.Fetching.{plain_index_fails, plain_indexes}
+use Rattle.gtcp.specs.Sockets.{FetchesFrom}
+use Rattle.gtcp.proofs.remote.fetch_at.Goals as goal
+
+pub returns-in-Ok-fetch_from-clause-fetches : goal.returns-in-Ok-fetch_from-clause-fetches
+returns-in-Ok-fetch_from-clause-fetches g c =
+    let fetch = c.args.fetch.now in
+    subst (λ (hello : Hello). FetchesFrom plain_indexes (plain_index_fails g.row.A.Denot)
+    (start_of c.args.repo.now fetch.specs.now fetch.limit fetch.ends) hello c.fetch_from.new.repo (Ok c.in-Ok-fetch_from.fetched))
+    c.hello.ensures c.in-Ok-fetch_from.ensures.fetches

@@ -1,0 +1,124 @@
+-- Conversations over a socket. Which bytes pass through one is not known to any clause: a call holds one where it
+-- does as over other devices, of some bytes that were read and written.
+use Rattle.std.specs.Prelude.{◌≡◌, ◌⊎◌, ◌<◌, ℕ, Bool, true, false, List, length, All, Result, Ok, Err}
+use Rattle.gpkt.specs.Sending.{Input, Output}
+use Rattle.ggrammar.specs.Building.{IsBuildReason}
+use Rattle.ggrammar.specs.declared.ends.Ends.{Ends}
+use Rattle.ggrammar.specs.declared.fault.MessageFault.{MessageFault}
+use Rattle.ghello.specs.Hello.{Hello, MakesHello}
+use Rattle.glsreply.specs.LsReplies.{LsReply}
+use Rattle.gobject.specs.Packs.{Indexes, IndexFails, PackFails, Packs}
+use Rattle.grepo.specs.Repos.{RepoState}
+use Rattle.grequest.specs.Asked.{LsRefsAsked, max_prefixes}
+use Rattle.grequest.specs.Building.{no_ls_refs}
+use Rattle.ganswer.specs.Servers.{Server}
+use Rattle.gsession.specs.declared.fault.ClientFault.TheVariants as client
+use Rattle.gclient.specs.Conversations.{Start}
+use Rattle.gclient.specs.declared.fault.FetchFault.{FetchFault}
+use Rattle.gclient.specs.declared.fault.FetchFault.TheVariants as fetch
+use Rattle.gclient.specs.declared.fetched.Fetched.{Fetched}
+use Rattle.gconnect.specs.GitConnections.{ServesGit}
+use Rattle.gconnect.specs.GitFetches.{FetchesGit}
+use Rattle.gconnect.specs.Listings.{ListsGit}
+use Rattle.gconnect.specs.declared.serving.GitEnd.{GitEnd}
+use Rattle.gconnect.specs.declared.serving.GitEnd.TheVariants as git
+use Rattle.gcmd.specs.Programs.{Outcome}
+use Rattle.gcmd.specs.Serving.{outcome_of_connection}
+use Rattle.gcmd.specs.declared.fault.ProgramFault.TheVariants as program
+use Rattle.gtcp.specs.Telling.{PrintsFaults, PrintsSoFar, faults_of}
+
+-- ---- fetching
+
+module _ {A : Type 0} (indexes : Indexes A) (index_fails : IndexFails) (start : Start A) (hello : Hello) where
+  -- a fetch is held over a socket, from the first line on
+  pub record HoldsFetch (new : RepoState A) (result : Result (Fetched A) (FetchFault A)) : Type 0 where
+    pub input : Input
+    pub output : Output
+    pub fetches : FetchesGit indexes index_fails start hello input output new result
+
+  -- that; or there is no memory for the buffers of the socket, and nothing came
+  abbrev pub FetchesFrom : RepoState A → Result (Fetched A) (FetchFault A) → Type 0
+  FetchesFrom new result = HoldsFetch new result ⊎ ((result ≡ Err fetch.NoBuffer) × (new ≡ start.repo))
+
+  -- that; or there is no such first line, and nothing came
+  abbrev pub FetchesOn : RepoState A → Result (Fetched A) (FetchFault A) → Type 0
+  FetchesOn new result =
+      FetchesFrom new result
+      ⊎ ((cause : MessageFault) × MakesHello hello (Err cause)
+      × (result ≡ Err (fetch.Client (client.Message cause))) × (new ≡ start.repo))
+
+-- ---- listing
+
+-- what is asked: the refs with these prefixes, what symbolic refs point at, and what tags lead to
+abbrev pub asked_for : List (List ℕ) → LsRefsAsked
+asked_for prefixes = record no_ls_refs { symrefs = true; peel = true; prefixes = prefixes }
+
+-- why it is not asked: there are too many prefixes, or there is no memory for them
+abbrev pub RefusesPrefixes : List (List ℕ) → MessageFault → Type 0
+RefusesPrefixes prefixes cause =
+    (cause.frame ≡ 0) × ((has_room : Bool) × IsBuildReason true has_room cause.why
+    × (has_room ≡ false → max_prefixes < length prefixes))
+
+-- the request for these prefixes, or why there is none
+abbrev pub MakesRequest : List (List ℕ) → Result LsRefsAsked MessageFault → Type 0
+MakesRequest prefixes (Ok asked) = asked ≡ asked_for prefixes
+MakesRequest prefixes (Err cause) = RefusesPrefixes prefixes cause
+
+module _ {A : Type 0} (asked : LsRefsAsked) (hello : Hello) where
+  -- a listing is held over a socket, from the first line on
+  pub record HoldsListing (result : Result LsReply (FetchFault A)) : Type 0 where
+    pub input : Input
+    pub output : Output
+    pub lists : ListsGit asked hello input output result
+
+  -- that; or there is no memory for the buffers of the socket
+  abbrev pub ListsFrom : Result LsReply (FetchFault A) → Type 0
+  ListsFrom result = HoldsListing result ⊎ (result ≡ Err fetch.NoBuffer)
+
+-- that, of these prefixes; or there is no such request, or no such first line
+abbrev pub ListsOn : {A : Type 0} → List (List ℕ) → Hello → Result LsReply (FetchFault A) → Type 0
+ListsOn prefixes hello result =
+    ListsFrom (asked_for prefixes) hello result
+    ⊎ ((cause : MessageFault) × (RefusesPrefixes prefixes cause ⊎ MakesHello hello (Err cause))
+    × (result ≡ Err (fetch.Client (client.Message cause))))
+
+-- ---- serving
+
+-- how a connection comes out; that its client asked for another path is no fault of it
+abbrev pub outcome_of : {A : Type 0} → GitEnd → Outcome A
+outcome_of (git.Served served) = outcome_of_connection served.end
+outcome_of git.Elsewhere = Ok tt
+outcome_of (git.Refused fault) = Err (program.Request fault)
+outcome_of git.WriteFailed = Err program.WriteFailed
+
+-- all are served, or fewer
+abbrev pub IsCount : {A : Type 0} → List (Outcome A) → ℕ → Outcome A → Type 0
+IsCount outcomes connections (Ok done) = length outcomes ≡ connections
+IsCount outcomes connections (Err fault) = (fault ≡ program.Socket) × (length outcomes < connections)
+
+module _ {A : Type 0} (server : Server A) (packs : Packs A) (fails : PackFails A) (path : List ℕ) (ends : Ends) where
+  -- a connection is served over a socket, and how it ended
+  pub record HoldsServing (ended : GitEnd) : Type 0 where
+    pub input : Input
+    pub output : Output
+    pub serves : ServesGit server packs fails path ends input output ended
+
+  -- a connection is served, and comes out so; or its peer's silence can't be limited, and it is closed
+  abbrev pub IsServed : Outcome A → Type 0
+  IsServed outcome =
+      ((ended : GitEnd) × HoldsServing ended × (outcome ≡ outcome_of ended)) ⊎ (outcome ≡ Err program.WriteFailed)
+
+  -- So many connections are served, one after the other, and the faults of all of them are printed, a line each, in
+  -- their order. Or one of them can't be accepted, and those before it are.
+  pub record ServesEach (errors : Output) (connections : ℕ) (result : Outcome A) : Type 0 where
+    pub outcomes : List (Outcome A)
+    pub each : All IsServed outcomes
+    pub prints : PrintsFaults errors (faults_of outcomes)
+    pub count : IsCount outcomes connections result
+
+  -- the same of the connections so far, where it is known whether the sink of the faults is well still
+  pub record ServesSoFar (errors : Output) (is_up : Bool) (connections : ℕ) : Type 0 where
+    pub outcomes : List (Outcome A)
+    pub each : All IsServed outcomes
+    pub prints : PrintsSoFar errors (faults_of outcomes) is_up
+    pub count : length outcomes ≡ connections
