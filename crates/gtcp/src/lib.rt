@@ -32,9 +32,9 @@
 //!
 //! # Only tested
 //!
-//! By `examples/over-tcp.sh`, by hand: all that passes through a socket; that the port that is shown is listened at;
-//! the time that a peer may be silent; that input left unread hides no line; which connection a pair accepts. Two tests
-//! hold a conversation in one process.
+//! The program `conformance` holds connections and pairs over sockets of its own process. By `examples/over-tcp.sh`, by
+//! hand: conversations with git and its daemon; that the port that is shown is listened at; the time that a peer may be
+//! silent; that input left unread hides no line; which connection a pair accepts.
 //!
 //! # What the contracts do not rule out
 //!
