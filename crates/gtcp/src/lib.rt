@@ -27,8 +27,8 @@
 //! - A [`Place`] has the address and the path that it is given. Its host is the text before a port, which is a decimal
 //!   number up to 65,535 (`specs/Places.antt`).
 //! - What a [`MessageSink`] wrote and holds are all the bytes that it was given. It holds bytes without writing any,
-//!   and none of a message that is too long with them (`MessageSink::hold`, `specs/Messages.antt`). Where the fetch of
-//!   a pair failed, such a message at either end makes it fault 94.
+//!   and none of a message that is too long with them (`MessageSink::hold`, `specs/Messages.antt`). Fault 94 is that of
+//!   a pair alone whose fetch failed.
 //!
 //! # Only tested
 //!
@@ -41,12 +41,15 @@
 //! The bytes of a conversation are some that fit what was answered, and no clause says that they are the peer's. So a
 //! body may answer any reply, bring any objects, or call any connection served, where some peer's bytes would lead to
 //! it; and it may send what it likes. It may fail with `Socket` where a connection can be accepted or made, or report
-//! out of memory; in a pair also call any fetch that fails one of a message that is too long. [`cmd_serve`] may show
-//! another port than the one that is listened at. Nothing is said of the time that a peer may be silent.
-//! [`Place::new`] may answer none.
+//! out of memory; and in a pair call a fetch that fails one of a message that is too long, or not.
 //!
-//! As a sink, a [`MessageSink`] may write what it holds before it is flushed, so long as the sink inside passes nothing
-//! on by that.
+//! [`serve_listener`] may close any connection unserved, with fault 27, as one whose peer's silence can't be limited,
+//! and accept others between those that it serves. [`cmd_serve`] may listen at another address than it is given, and
+//! show another port. Nothing is said of the time that a peer may be silent. [`Place::new`] may answer none, and
+//! [`read_prefixes`] refuse any words with a fault of names.
+//!
+//! As a sink, a [`MessageSink`] may write what it holds before it is flushed, and at a flush that fails, so long as the
+//! sink inside passes nothing on by that. `is_too_long` and `bytes_written` may forget what a `write` or a flush did.
 //!
 //! # Stands on
 //!
