@@ -1,5 +1,5 @@
 -- Conversations over a socket. Which bytes pass through one is not known to any clause: a call holds one where it
--- does as over other devices, of some bytes that were read and written.
+-- does as over other devices, of some input and output.
 use Rattle.std.specs.Prelude.{◌≡◌, ◌⊎◌, ◌<◌, ℕ, Bool, true, false, List, length, All, Result, Ok, Err}
 use Rattle.gpkt.specs.Sending.{Input, Output}
 use Rattle.ggrammar.specs.Building.{IsBuildReason}

@@ -35,9 +35,9 @@ pub(crate) struct Wanted<'a, A: Allocator + Copy> {
 /// Fetches by refspecs from the server at the other end of the stream: writes the first line of a `git://` connection
 /// (gitprotocol-pack(5), "Git Transport"), which names the host and the path, and then does as `gclient::fetch_over`.
 ///
-/// It fails with 42 at packet 0 where the host or the path is not well-formed, and with 53 or 28 where there is no
-/// memory; nothing is read or written then. Else as `fetch_over` fails: the refs are as before, and to the graph objects
-/// only came.
+/// It fails with 42 at packet 0 where the host or the path is not well-formed, and, out of memory, with 53 for the first
+/// line and 28 for the stream's buffers; nothing is read or written then. Else as `fetch_over` fails: the refs are as
+/// before, and to the graph objects only came.
 pub fn fetch_on<A: Allocator + Copy, K: Indexer<A>>(
     stream: TcpStream,
     host: &[u8],
@@ -112,11 +112,12 @@ pub(crate) fn fetch_from<A: Allocator + Copy, K: Indexer<A>>(
 }
 
 /// Lists the refs of the server at the other end of the stream that begin with one of the prefixes, or all where there
-/// is none, with what symbolic refs point at and tags lead to, and an unborn `HEAD` where the server offers to tell of
-/// it (gitprotocol-v2(5), "ls-refs").
+/// is none, with what symbolic refs point at and tags lead to, and an unborn `HEAD` where the server offers it
+/// (gitprotocol-v2(5), "ls-refs").
 ///
-/// It fails with 48 at packet 0 at a 65th prefix, with 42 at packet 0 where the host or the path is not well-formed,
-/// and with 53 or 28 where there is no memory; nothing is read or written then. Else as `gconnect::list_git` fails.
+/// It fails with 48 at packet 0 at a 65th prefix, with 42 at packet 0 where the host or the path is not well-formed, and,
+/// out of memory, with 53 for the request and the first line and 28 for the stream's buffers; nothing is read or written
+/// then. Else as `gconnect::list_git` fails.
 pub fn ls_on<A: Allocator + Copy>(
     alloc: A,
     stream: TcpStream,

@@ -1,13 +1,14 @@
 //! The programs of gitv2 that open sockets, as functions over the network: a repository is served to those who
 //! connect, the refs of a server are listed, a fetch from it, and both ends in one process.
 //!
-//! No clause can say which bytes a socket gives or takes. So of a call over one it is said that there are bytes that
-//! were read and written, over which it holds a conversation as `gconnect` says of any devices (`specs/Sockets.antt`).
+//! No clause can say which bytes a socket gives or takes. So of a call over one it is said that it holds a conversation
+//! as `gconnect` says of any devices, over some input and output, of which the bytes need not be known
+//! (`specs/Sockets.antt`).
 //!
 //! # Proved
 //!
 //! - [`serve_listener`] serves so many connections, one after the other, each so, or closes one on which no limit of
-//!   its peer's silence can be set. It prints the faults of all of them, a line each, in their order, each passed on;
+//!   its peer's silence can be set. It prints the faults of all of them, a line each, in their order, and passes them on;
 //!   where the errors' sink fails, a beginning of these lines stands (`specs/Sockets.antt`, `Telling.antt`). That its
 //!   client asks for another path is no fault of a connection. It fails with `Socket` alone, and then it served fewer.
 //! - [`fetch_on`] holds a fetch by the refspecs, the limit and the end of replies that it is given, from the first line
@@ -19,7 +20,7 @@
 //! - [`cmd_fetch_remote`] has a new file only where the refs were settled: then it is the text of the repository as the
 //!   fetch left it, objects only came, and the report says what became of each ask. [`cmd_pair`] reports of such a
 //!   fetch (`specs/Remote.antt`).
-//! - [`cmd_serve`] shows the number of a port, and then does as [`serve_listener`] with the repository that its file
+//! - [`cmd_serve`] shows the number of a port, and does as [`serve_listener`] with the repository that its file
 //!   names; or it shows no line, or a beginning of it, and serves nobody.
 //! - Each program ends with status 0 and prints nothing more, or with 1 and the line of the fault that was met, or a
 //!   beginning of it: why the file is refused, how the conversation failed, no socket, out of memory, or a failed
@@ -33,19 +34,19 @@
 //! # Only tested
 //!
 //! The program `conformance` holds connections and pairs over sockets of its own process. By `examples/over-tcp.sh`, by
-//! hand: conversations with git and its daemon; that the port that is shown is listened at; the time that a peer may be
-//! silent; that input left unread hides no line; which connection a pair accepts.
+//! hand, `serve`, `ls --tcp` and `fetch --tcp`: conversations with git and its daemon; that the port that is shown is
+//! listened at; the time that a peer may be silent; that input left unread hides no line.
 //!
 //! # What the contracts do not rule out
 //!
-//! The bytes of a conversation are some that fit what was answered, and no clause says that they are the peer's. So a
-//! body may answer any reply, bring any objects, or call any connection served, where some peer's bytes would lead to
+//! The bytes of a conversation are some that fit what was answered. No clause says that they are the peer's, nor that a
+//! connection is made, accepted, read or written, nor what a pair's server does. So a body may answer any reply, bring any objects, or call any connection served, where some peer's bytes would lead to
 //! it; and it may send what it likes. It may fail with `Socket` where a connection can be accepted or made, or report
 //! out of memory; and in a pair call a fetch that fails one of a message that is too long, or not.
 //!
 //! [`serve_listener`] may close any connection unserved, with fault 27, as one whose peer's silence can't be limited,
 //! and accept others between those that it serves. [`cmd_serve`] may listen at another address than it is given, and
-//! show another port. Nothing is said of the time that a peer may be silent. [`Place::new`] may answer none, and
+//! show another port, and at another time. Nothing is said of the time that a peer may be silent. [`Place::new`] may answer none, and
 //! [`read_prefixes`] refuse any words with a fault of names.
 //!
 //! As a sink, a [`MessageSink`] may write what it holds before it is flushed, and at a flush that fails, so long as the

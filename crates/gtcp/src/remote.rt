@@ -150,9 +150,9 @@ pub struct Listing<'a, A: Allocator + Copy> {
     pub prefixes: &'a [Prefix<A>],
 }
 
-/// `gitv2 ls --tcp ADDR --path PATH [PREFIX]...`: lists the refs of a server, a line each on `output`, as its reply has
-/// them (gitprotocol-v2(5), "ls-refs"). An unborn `HEAD` comes first, where the server tells of it. A fault is one line
-/// on `errors`.
+/// `gitv2 ls --tcp ADDR --path PATH [PREFIX]...`: lists the refs of a server, a line each on `output`, as a reply that is
+/// written spells it (gitprotocol-v2(5), "ls-refs"). An unborn `HEAD` comes first, where the server has one. A fault is
+/// one line on `errors`.
 ///
 /// It answers the exit status: 0 where the lines are written and passed on, 1 where a fault was met.
 pub fn cmd_ls_remote<A: Allocator + Copy, N, W: Sink, E: Sink>(
