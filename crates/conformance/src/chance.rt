@@ -5,6 +5,7 @@ use crate::dice::Dice;
 use crate::forgery::{Forger, hex_of};
 use crate::spell::add_number;
 use crate::trouble::Trouble;
+use crate::worlds::Files;
 use gname::Format;
 use gworld::Outcome;
 use std::alloc::Global;
@@ -54,16 +55,11 @@ pub struct Chance {
 
 impl Chance {
     /// Of a world of these two repositories.
-    pub fn new(
-        alloc: Global,
-        format: Format,
-        seed: usize,
-        server: &[u8],
-        client: &[u8],
-    ) -> Result<Chance, Trouble> {
+    pub fn new(alloc: Global, seed: usize, files: Files<'_>) -> Result<Chance, Trouble> {
+        let format = files.tools.format;
         let mut ids = Vec::new(alloc);
-        add_ids(alloc, server, &mut ids)?;
-        add_ids(alloc, client, &mut ids)?;
+        add_ids(alloc, files.server, &mut ids)?;
+        add_ids(alloc, files.client, &mut ids)?;
         add_new_ids(alloc, format, &mut ids)?;
         Ok(Chance {
             alloc,

@@ -9,11 +9,11 @@ use crate::script::Fact;
 use crate::spell::number_of;
 use crate::tools::Tools;
 use crate::trouble::Trouble;
-use crate::worlds::{Memory, events_of, is_whole, run, text_of, world_of};
+use crate::worlds::{Files, events_of, is_whole, run, text_of, world_of};
 use gname::Format;
-use gworld::{Outcome, World};
+use gworld::{Event, Outcome, World};
 use scarce::Scarce;
-use std::alloc::Global;
+use std::alloc::{Allocator, Global};
 
 /// What a line about such a world begins with.
 pub const KIND: &str = "random";
@@ -43,9 +43,7 @@ const MOST_REFUSED: usize = 30;
 // How the events happen.
 #[derive(Clone, Copy)]
 struct Setting<'b> {
-    server: &'b [u8],
-    client: &'b [u8],
-    tools: Tools,
+    files: Files<'b>,
     seed: usize,
     count: usize,
     // Whether an allocation is refused now and then.
@@ -78,9 +76,12 @@ fn setting_of<'b>(text: &'b [u8], server: &'b [u8], format: Format) -> Setting<'
     let seed = number_of(words.next().unwrap_or(b""));
     let count = number_of(words.next().unwrap_or(b""));
     Setting {
-        server,
-        client: client.strip_prefix(b" ").unwrap_or(client),
-        tools: Tools { liar: None, format },
+        files: Files {
+            server,
+            client: client.strip_prefix(b" ").unwrap_or(client),
+            scenario: b"",
+            tools: Tools { liar: None, format },
+        },
         seed,
         count,
         is_scarce: false,
@@ -100,10 +101,7 @@ fn happen_with_liars(alloc: Global, setting: Setting<'_>) -> Result<Option<Strin
     let mut other = setting;
     other.count = setting.count / 4;
     for liar in LIARS {
-        other.tools = Tools {
-            liar: Some(liar),
-            format: setting.tools.format,
-        };
+        other.files.tools.liar = Some(liar);
         other.seed = other.seed.wrapping_add(1);
         let found = happen(alloc, other)?;
         if found.is_some() {
@@ -116,15 +114,31 @@ fn happen_with_liars(alloc: Global, setting: Setting<'_>) -> Result<Option<Strin
 // What is wrong where the events happen one after the other.
 fn happen(alloc: Global, setting: Setting<'_>) -> Result<Option<String>, Trouble> {
     let memory = Scarce::new(alloc);
-    let mut world = world_of(&memory, setting.server, setting.client, setting.tools)?;
-    let format = setting.tools.format;
-    let mut chance = Chance::new(alloc, format, setting.seed, setting.server, setting.client)?;
+    happen_in(alloc, &memory, &memory, setting)
+}
+
+fn happen_in<A: Allocator + Copy>(
+    alloc: Global,
+    memory: A,
+    scarce: &Scarce<Global>,
+    setting: Setting<'_>,
+) -> Result<Option<String>, Trouble> {
+    let files = setting.files;
+    let mut world = world_of(memory, files)?;
+    let mut chance = Chance::new(alloc, setting.seed, files)?;
     let mut log = String::new(alloc);
     let mut outcomes = Vec::new(alloc);
     for _ in 0..setting.count {
         let line = chance.next_line()?;
+        let events = events_of(memory, line.as_bytes())?;
         let refused = refusal(&mut chance, setting.is_scarce);
-        step(&memory, &mut world, line.as_str(), refused, &mut outcomes)?;
+        step(
+            scarce,
+            refused,
+            &mut world,
+            events.as_slice(),
+            &mut outcomes,
+        )?;
         log.push_str(line.as_str())?;
         if !is_whole(alloc, &world)? {
             return Ok(Some(log));
@@ -145,51 +159,59 @@ fn refusal(chance: &mut Chance, is_scarce: bool) -> u64 {
     }
 }
 
-// Does the event of a line; with memory, where it did not begin without.
-fn step<'m>(
-    memory: Memory<'m>,
-    world: &mut World<Tools, Memory<'m>>,
-    line: &str,
+// Does an event; with memory, where it did not begin without.
+fn step<A: Allocator + Copy>(
+    scarce: &Scarce<Global>,
     refused: u64,
+    world: &mut World<Tools, A>,
+    events: &[Event<A>],
     outcomes: &mut Vec<Outcome>,
 ) -> Result<(), Trouble> {
-    let events = events_of(memory, line.as_bytes())?;
-    memory.refuse(refused);
-    let is_done = run(world, events.as_slice(), outcomes)?;
-    memory.refuse(0);
+    scarce.refuse(refused);
+    let is_done = run(world, events, outcomes)?;
+    scarce.refuse(0);
     if !is_done {
-        run(world, events.as_slice(), outcomes)?;
+        run(world, events, outcomes)?;
     }
     Ok(())
 }
 
 // What is wrong in the end: that one run of all events does not do the same, or that some outcome never came.
-fn conclude(
+fn conclude<A: Allocator + Copy>(
     alloc: Global,
     setting: Setting<'_>,
     log: &str,
     outcomes: &[Outcome],
-    world: &World<Tools, Memory<'_>>,
+    world: &World<Tools, A>,
 ) -> Result<Option<String>, Trouble> {
     if setting.is_scarce {
         return Ok(None);
     }
     let text = text_of(alloc, outcomes, world)?;
-    let again = run_again(alloc, setting, log)?;
+    let again = run_again(alloc, setting.files, log)?;
     if text.as_bytes() != again.as_bytes() {
         return Ok(Some(again));
     }
-    if setting.tools.liar.is_none() {
+    if setting.files.tools.liar.is_none() {
         return never_came(alloc, outcomes, setting.has_rounds);
     }
     Ok(None)
 }
 
 // What comes of all events in one run.
-fn run_again(alloc: Global, setting: Setting<'_>, log: &str) -> Result<String, Trouble> {
+fn run_again(alloc: Global, files: Files<'_>, log: &str) -> Result<String, Trouble> {
     let memory = Scarce::new(alloc);
-    let events = events_of(&memory, log.as_bytes())?;
-    let mut world = world_of(&memory, setting.server, setting.client, setting.tools)?;
+    run_whole(alloc, &memory, files, log)
+}
+
+fn run_whole<A: Allocator + Copy>(
+    alloc: Global,
+    memory: A,
+    files: Files<'_>,
+    log: &str,
+) -> Result<String, Trouble> {
+    let events = events_of(memory, log.as_bytes())?;
+    let mut world = world_of(memory, files)?;
     let mut outcomes = Vec::new(alloc);
     run(&mut world, events.as_slice(), &mut outcomes)?;
     text_of(alloc, outcomes.as_slice(), &world)

@@ -6,14 +6,14 @@ use crate::play::{Devices, Job};
 use crate::tools::Tools;
 use crate::trouble::Trouble;
 use crate::worlds::{
-    Files, Memory, ends_of, events_of, is_out_of_memory, is_whole, run, text_of, world_of,
+    Files, ends_of, events_of, is_out_of_memory, is_whole, run, text_of, world_of,
 };
 use gcmd::cmd_failed;
 use gpkt::{Sink, write_all};
 use gsimulate::{Simulation, cmd_simulate};
 use gworld::{Event, Outcome, World};
 use scarce::Scarce;
-use std::alloc::Global;
+use std::alloc::{Allocator, Global};
 
 const NO_MEMORY: &[u8] = b"gitv2: fault 91 Memory\n";
 
@@ -31,31 +31,48 @@ pub fn simulate<I, O: Sink, R, E: Sink>(
 }
 
 /// Runs a simulation with a packer or an indexer that is not the plain one. It answers the exit status.
-pub fn simulate_with<'m, I, O: Sink, R, E: Sink>(
-    job: &Job<'_, '_, 'm>,
+pub fn simulate_with<I, O: Sink, R, E: Sink>(
+    job: &Job<'_, '_, '_>,
     devices: &mut Devices<I, O, R, E>,
 ) -> Result<u8, Trouble> {
-    let command = job.command;
-    let tools = tools_of(command);
-    let mut world = match ends_of(job.memory, job.file, command.client, tools) {
+    happen(
+        job.alloc,
+        job.memory,
+        files_of(job.command, job.file),
+        devices,
+    )
+}
+
+fn happen<A: Allocator + Copy, I, O: Sink, R, E: Sink>(
+    alloc: Global,
+    memory: A,
+    files: Files<'_>,
+    devices: &mut Devices<I, O, R, E>,
+) -> Result<u8, Trouble> {
+    let mut world = match ends_of(memory, files) {
         Ok(world) => world,
         Err(fault) => return Ok(cmd_failed(fault, &mut devices.errors)),
     };
-    let Ok(events) = events_of(job.memory, command.scenario) else {
+    let Ok(events) = events_of(memory, files.scenario) else {
         return Ok(failed(devices));
     };
-    let mut outcomes = Vec::new(job.alloc);
+    let mut outcomes = Vec::new(alloc);
     if !run(&mut world, events.as_slice(), &mut outcomes)? {
         return Ok(failed(devices));
     }
-    let text = text_of(job.alloc, outcomes.as_slice(), &world)?;
+    let text = text_of(alloc, outcomes.as_slice(), &world)?;
     Ok(shown(text.as_bytes(), devices))
 }
 
-fn tools_of(command: Command<'_>) -> Tools {
-    Tools {
-        liar: command.liar,
-        format: command.format,
+fn files_of<'b>(command: Command<'b>, server: &'b [u8]) -> Files<'b> {
+    Files {
+        server,
+        client: command.client,
+        scenario: command.scenario,
+        tools: Tools {
+            liar: command.liar,
+            format: command.format,
+        },
     }
 }
 
@@ -105,31 +122,32 @@ fn agree(outcomes: &[Outcome], others: &[Outcome]) -> bool {
     true
 }
 
-fn files_of<'b>(command: Command<'b>, server: &'b [u8]) -> Files<'b> {
-    Files {
-        server,
-        client: command.client,
-        scenario: command.scenario,
-    }
-}
-
 /// Runs the events in a world, the allocation of this number being refused. Where the run stops, the events that were not
 /// done are run with memory in the same world.
-pub fn run_scarcely(
+pub fn run_scarcely<'b>(
     alloc: Global,
-    command: Command<'_>,
-    server: &[u8],
+    command: Command<'b>,
+    server: &'b [u8],
     refused: u64,
 ) -> Result<Happened, Trouble> {
     let memory = Scarce::new(alloc);
-    let files = files_of(command, server);
-    let events = events_of(&memory, files.scenario)?;
-    let mut world = world_of(&memory, files.server, files.client, tools_of(command))?;
+    happen_scarcely(alloc, &memory, &memory, files_of(command, server), refused)
+}
+
+fn happen_scarcely<A: Allocator + Copy>(
+    alloc: Global,
+    memory: A,
+    scarce: &Scarce<Global>,
+    files: Files<'_>,
+    refused: u64,
+) -> Result<Happened, Trouble> {
+    let events = events_of(memory, files.scenario)?;
+    let mut world = world_of(memory, files)?;
     let mut outcomes = Vec::new(alloc);
-    memory.refuse(refused);
+    scarce.refuse(refused);
     let is_done = run(&mut world, events.as_slice(), &mut outcomes)?;
-    let was_refused = !memory.is_due();
-    memory.refuse(0);
+    let was_refused = !scarce.is_due();
+    scarce.refuse(0);
     let was_whole = is_whole(alloc, &world)?;
     if !is_done {
         finish(&mut world, events.as_slice(), &mut outcomes)?;
@@ -145,9 +163,9 @@ pub fn run_scarcely(
 }
 
 // Runs the events that were not done.
-fn finish<'m>(
-    world: &mut World<Tools, Memory<'m>>,
-    events: &[Event<Memory<'m>>],
+fn finish<A: Allocator + Copy>(
+    world: &mut World<Tools, A>,
+    events: &[Event<A>],
     outcomes: &mut Vec<Outcome>,
 ) -> Result<(), Trouble> {
     let Some(rest) = events.get(outcomes.len()..) else {
@@ -158,15 +176,22 @@ fn finish<'m>(
 }
 
 /// Runs the events one by one in a world, and looks at the client's refs after each.
-pub fn run_one_by_one(
+pub fn run_one_by_one<'b>(
     alloc: Global,
-    command: Command<'_>,
-    server: &[u8],
+    command: Command<'b>,
+    server: &'b [u8],
 ) -> Result<Happened, Trouble> {
     let memory = Scarce::new(alloc);
-    let files = files_of(command, server);
-    let events = events_of(&memory, files.scenario)?;
-    let mut world = world_of(&memory, files.server, files.client, tools_of(command))?;
+    happen_one_by_one(alloc, &memory, files_of(command, server))
+}
+
+fn happen_one_by_one<A: Allocator + Copy>(
+    alloc: Global,
+    memory: A,
+    files: Files<'_>,
+) -> Result<Happened, Trouble> {
+    let events = events_of(memory, files.scenario)?;
+    let mut world = world_of(memory, files)?;
     let mut outcomes = Vec::new(alloc);
     let is_whole = step_through(alloc, &mut world, events.as_slice(), &mut outcomes)?;
     let text = text_of(alloc, outcomes.as_slice(), &world)?;
@@ -179,10 +204,10 @@ pub fn run_one_by_one(
 }
 
 // Whether the refs were connected after each event.
-fn step_through<'m>(
+fn step_through<A: Allocator + Copy>(
     alloc: Global,
-    world: &mut World<Tools, Memory<'m>>,
-    events: &[Event<Memory<'m>>],
+    world: &mut World<Tools, A>,
+    events: &[Event<A>],
     outcomes: &mut Vec<Outcome>,
 ) -> Result<bool, Trouble> {
     let mut has_stayed = true;

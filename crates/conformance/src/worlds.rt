@@ -7,53 +7,46 @@ use gcmd::{ProgramFault, load_server, open_client};
 use ggraph::missing;
 use gname::Oid;
 use gworld::{Event, Outcome, RunFault, Scenario, World};
-use scarce::Scarce;
-use std::alloc::Global;
+use std::alloc::{Allocator, Global};
 
-/// The memory of a world.
-pub type Memory<'m> = &'m Scarce<Global>;
-
-/// The texts of the repositories of a world, and of the events that happen to it.
+/// The texts of the repositories of a world, and of the events that happen to it; its packer and indexer.
 #[derive(Clone, Copy)]
 pub struct Files<'b> {
     pub server: &'b [u8],
     pub client: &'b [u8],
     pub scenario: &'b [u8],
+    pub tools: Tools,
 }
 
 /// The world of two repositories.
-pub fn world_of<'m>(
-    memory: Memory<'m>,
-    server: &[u8],
-    client: &[u8],
-    tools: Tools,
-) -> Result<World<Tools, Memory<'m>>, Trouble> {
-    match ends_of(memory, server, client, tools) {
+pub fn world_of<A: Allocator + Copy>(
+    memory: A,
+    files: Files<'_>,
+) -> Result<World<Tools, A>, Trouble> {
+    match ends_of(memory, files) {
         Ok(world) => Ok(world),
         Err(_) => Err(Trouble::NoWorld),
     }
 }
 
-/// The same, or why one of the ends can't be made. Where they fit no world it is as if there were no memory.
-pub fn ends_of<'m>(
-    memory: Memory<'m>,
-    server: &[u8],
-    client: &[u8],
-    tools: Tools,
-) -> Result<World<Tools, Memory<'m>>, ProgramFault<Memory<'m>>> {
-    let server = load_server(memory, server)?;
-    let repo = open_client(memory, client)?;
-    match World::new(server, repo, tools) {
+/// The same, or why one of the ends can't be made. Where they fit no world it is as if it were out of memory.
+pub fn ends_of<A: Allocator + Copy>(
+    memory: A,
+    files: Files<'_>,
+) -> Result<World<Tools, A>, ProgramFault<A>> {
+    let server = load_server(memory, files.server)?;
+    let repo = open_client(memory, files.client)?;
+    match World::new(server, repo, files.tools) {
         Ok(world) => Ok(world),
         Err(_) => Err(ProgramFault::Memory),
     }
 }
 
 /// The events of a scenario.
-pub fn events_of<'m>(
-    memory: Memory<'m>,
+pub fn events_of<A: Allocator + Copy>(
+    memory: A,
     scenario: &[u8],
-) -> Result<Vec<Event<Memory<'m>>, Memory<'m>>, Trouble> {
+) -> Result<Vec<Event<A>, A>, Trouble> {
     match Scenario::read(memory, scenario) {
         Ok(events) => Ok(events),
         Err(_) => Err(Trouble::NoScenario),
@@ -61,9 +54,9 @@ pub fn events_of<'m>(
 }
 
 /// Does events, adds what came of those that were done, and answers whether all were.
-pub fn run<'m>(
-    world: &mut World<Tools, Memory<'m>>,
-    events: &[Event<Memory<'m>>],
+pub fn run<A: Allocator + Copy>(
+    world: &mut World<Tools, A>,
+    events: &[Event<A>],
     outcomes: &mut Vec<Outcome>,
 ) -> Result<bool, Trouble> {
     match world.run(events) {
@@ -79,7 +72,10 @@ pub fn run<'m>(
 }
 
 /// Whether each ref of the client is connected. There is to be memory.
-pub fn is_whole(alloc: Global, world: &World<Tools, Memory<'_>>) -> Result<bool, Trouble> {
+pub fn is_whole<A: Allocator + Copy>(
+    alloc: Global,
+    world: &World<Tools, A>,
+) -> Result<bool, Trouble> {
     let repo = world.client();
     let mut ids: Vec<Oid> = Vec::new(alloc);
     for reference in repo.refs().as_slice() {
@@ -100,10 +96,10 @@ pub fn is_out_of_memory(outcome: Outcome) -> bool {
 }
 
 /// A line for what came of each event, and then one for each ref of the client.
-pub fn text_of(
+pub fn text_of<A: Allocator + Copy>(
     alloc: Global,
     outcomes: &[Outcome],
-    world: &World<Tools, Memory<'_>>,
+    world: &World<Tools, A>,
 ) -> Result<String, Trouble> {
     let mut text = String::new(alloc);
     add_outcomes(alloc, outcomes, &mut text)?;
@@ -119,9 +115,9 @@ fn add_outcomes(alloc: Global, outcomes: &[Outcome], text: &mut String) -> Resul
     Ok(())
 }
 
-fn add_refs(
+fn add_refs<A: Allocator + Copy>(
     alloc: Global,
-    world: &World<Tools, Memory<'_>>,
+    world: &World<Tools, A>,
     text: &mut String,
 ) -> Result<(), Trouble> {
     for reference in world.client().refs().as_slice() {
