@@ -1,5 +1,5 @@
 -- The programs that open sockets: what each does and writes, and the new file.
-use Rattle.std.specs.Prelude.{◌≡◌, ◌⊎◌, ◌<◌, List, ℕ, ◌++◌, Bool, true, false, codes, Option, None, Result, Ok, Err}
+use Rattle.std.specs.Prelude.{◌≡◌, ◌⊎◌, ◌<◌, List, ℕ, ◌++◌, codes, Option, None, Result, Ok, Err}
 use Rattle.std.specs.Fmt.{decimal}
 use Rattle.gpkt.specs.Sending.{Output, IsUnwritten, Sends}
 use Rattle.ggrammar.specs.declared.ends.Ends.{Ends}
@@ -137,12 +137,6 @@ module _ {A : Type 0} (old : List ℕ) (specs : List Refspec) (limit : ℕ) (end
 -- the first line of a pair's client
 abbrev pub pair_hello : Hello
 pair_hello = record { path = codes "/"; host = codes "127.0.0.1" }
-
--- why both ends stopped: a message was too long, or there was no memory to hold one, or else the client's fault
-abbrev pub IsPairFault : {A : Type 0} → FetchFault A → Bool → Bool → ProgramFault A → Type 0
-IsPairFault cause true lacks_memory fault = fault ≡ program.PairLimit
-IsPairFault cause false true fault = fault ≡ program.Memory
-IsPairFault cause false false fault = fault ≡ program.Fetch cause
 
 module _ {A : Type 0} (old : RepoState A) (specs : List Refspec) (new : RepoState A) where
   -- the repository of a client fetches from the server of a pair

@@ -26,7 +26,7 @@ use Rattle.gconnect.specs.declared.serving.GitEnd.TheVariants as git
 use Rattle.gcmd.specs.Programs.{Outcome}
 use Rattle.gcmd.specs.Serving.{outcome_of_connection}
 use Rattle.gcmd.specs.declared.fault.ProgramFault.TheVariants as program
-use Rattle.gtcp.specs.Telling.{PrintsFaults, PrintsSoFar, faults_of}
+use Rattle.gtcp.specs.Telling.{PrintsFaults, faults_of}
 
 -- ---- a reader and a writer
 
@@ -84,11 +84,6 @@ RefusesPrefixes prefixes cause =
 -- there are not too many prefixes
 abbrev pub FitPrefixes : List (List ℕ) → Type 0
 FitPrefixes prefixes = length prefixes ≤ max_prefixes
-
--- the request for these prefixes, or why there is none
-abbrev pub MakesRequest : List (List ℕ) → Result LsRefsAsked MessageFault → Type 0
-MakesRequest prefixes (Ok asked) = (asked ≡ asked_for prefixes) × FitPrefixes prefixes
-MakesRequest prefixes (Err cause) = RefusesPrefixes prefixes cause
 
 module _ {A : Type 0} (asked : LsRefsAsked) (hello : Hello) where
   -- a listing is held between a reader and a writer, with this change of what each has
@@ -159,10 +154,3 @@ module _ {A : Type 0} (server : Server A) (packs : Packs A) (fails : PackFails A
     pub each : All IsServed outcomes
     pub prints : PrintsFaults errors (faults_of outcomes)
     pub count : IsCount outcomes connections result
-
-  -- the same of the connections so far, where it is known whether the sink of the faults is well still
-  pub record ServesSoFar (errors : Output) (is_up : Bool) (connections : ℕ) : Type 0 where
-    pub outcomes : List (Outcome A)
-    pub each : All IsServed outcomes
-    pub prints : PrintsSoFar errors (faults_of outcomes) is_up
-    pub count : length outcomes ≡ connections

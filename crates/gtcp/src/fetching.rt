@@ -9,7 +9,8 @@ ghost use Rattle.grepo.specs.Settling.{Settles};
 ghost use Rattle.gsession.specs.Sessions.{tips_of};
 ghost use Rattle.gclient.specs.Conversations.{start_of};
 ghost use Rattle.gtcp.specs.Sockets.{FetchesBetween, FetchesFrom, FetchesOn, ListsBetween, ListsFrom};
-ghost use Rattle.gtcp.specs.Sockets.{ListsOn, MakesRequest};
+ghost use Rattle.gtcp.specs.Sockets.{ListsOn};
+ghost use Rattle.gtcp.specs.Steps.{MakesRequest};
 
 use crate::stream::{MESSAGE_BUFFER, send_at_once};
 use gclient::{FetchFault, Fetched, Repo, Spec};

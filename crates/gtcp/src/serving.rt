@@ -6,7 +6,7 @@ ghost use Rattle.gpkt.specs.Sending.{input_of, output_of};
 ghost use Rattle.gconnect.specs.GitConnections.{ServesGit};
 ghost use Rattle.gcmd.specs.Serving.{outcome_of_connection};
 ghost use Rattle.gtcp.specs.Sockets.{HoldsServing, IsServed, ServesBetween, ServesEach, ServesFrom, outcome_of};
-ghost use Rattle.gtcp.specs.Telling.{Tells};
+ghost use Rattle.gtcp.specs.Steps.{Tells};
 
 use crate::stream::{MESSAGE_BUFFER, hang_up, set_up};
 use ganswer::Server;

@@ -1,5 +1,4 @@
-use Rattle.std.proofs.Common.{◌<◌, ◌≡◌, ℕ, List, length, Err, inr, subst, ◌∙◌, arith}
-use Rattle.std.specs.Prelude.{string_bytes}
+use Rattle.std.proofs.Common.{◌<◌, ℕ, List, length, Err, inr, subst, ◌∙◌, arith}
 use Rattle.std.proofs.lemmas.Result.{err_from_is_err_and}
 use Rattle.gname.specs.Names.{IsPrefix, Owns, prefix_fault}
 use Rattle.gtcp.proofs.PrefixLemmas.{prefixes_more, refuses_prefix, refuses_prefixes, words_more}

@@ -1,5 +1,4 @@
 use Rattle.std.proofs.Common.{refl, rules}
-use Rattle.gpkt.specs.Sending.{input_of, output_of}
 use Rattle.gtcp.proofs.ServingLemmas.{serves_between}
 use Rattle.gtcp.proofs.serving.serve_between.Goals as goal
 
