@@ -1,7 +1,7 @@
 -- The client of a pair: what it did, and why both ends stopped.
 use Rattle.std.proofs.Common.{◌≡◌, ℕ, List, Bool, true, false, Result, Err, inl, sym, subst}
 use Rattle.ggrammar.specs.declared.ends.Ends.TheVariants.{Plain}
-use Rattle.ghello.specs.Hello.{Hello}
+use Rattle.ghello.specs.Hello.{Hello, IsHello}
 use Rattle.gfetchreply.specs.Values.{default_limit}
 use Rattle.gpkt.specs.Sending.{Input, Output}
 use Rattle.gspec.specs.Refspecs.{Refspec}
@@ -12,27 +12,31 @@ use Rattle.gclient.specs.declared.fetched.Fetched.{Fetched}
 use Rattle.gconnect.specs.GitFetches.{FetchesGit}
 use Rattle.gcmd.specs.Fetching.{plain_index_fails, plain_indexes}
 use Rattle.gcmd.specs.declared.fault.ProgramFault.{ProgramFault}
-use Rattle.gtcp.specs.Remote.{FetchesAsClient, FetchesInPair, IsPairFault, pair_hello}
+use Rattle.gtcp.specs.Remote.{FetchesAsClient, FetchesInPair, pair_hello}
+use Rattle.gtcp.specs.Steps.{IsPairFault}
 
 module _ {A : Type 0} (old : RepoState A) (specs : List Refspec) (new : RepoState A) where
   -- it held a fetch with the default limit, over the first line of a pair
   pub fetched_as_client : (limit : ℕ) (hello : Hello) (input : Input) (output : Output)
-      (result : Result (Fetched A) (FetchFault A)) → limit ≡ default_limit → hello ≡ pair_hello
+      (result : Result (Fetched A) (FetchFault A)) → limit ≡ default_limit → hello ≡ pair_hello → IsHello hello
       → FetchesGit plain_indexes (plain_index_fails A) (start_of old specs limit Plain) hello input output new result
       → FetchesAsClient old specs new result
-  fetched_as_client limit hello input output result same_limit same_hello fetches =
+  fetched_as_client limit hello input output result same_limit same_hello form fetches =
       let of_limit : FetchesGit plain_indexes (plain_index_fails A) (start_of old specs default_limit Plain) hello input output new result =
       subst
       (λ (most : ℕ). FetchesGit plain_indexes (plain_index_fails A) (start_of old specs most Plain) hello input output new result)
       same_limit fetches in
-      inl (inl (record {
-        input = input;
-        output = output;
-        fetches =
-            subst
-            (λ (line : Hello). FetchesGit plain_indexes (plain_index_fails A) (start_of old specs default_limit Plain) line input output new result)
-            same_hello of_limit;
-      }))
+      inl (
+        subst IsHello same_hello form,
+        inl (record {
+          input = input;
+          output = output;
+          fetches =
+              subst
+              (λ (line : Hello). FetchesGit plain_indexes (plain_index_fails A) (start_of old specs default_limit Plain) line input output new result)
+              same_hello of_limit;
+        }),
+      )
 
   -- it failed, and so both ends stopped
   pub pair_fails : (cause : FetchFault A) (too_long lacks_memory : Bool) (fault : ProgramFault A)

@@ -1,16 +1,39 @@
 -- Connections that are served, one more at a time.
-use Rattle.std.proofs.Common.{◌≡◌, ℕ, ◌+◌, ◌<◌, Bool, true, List, [], ◌∷◌, ◌++◌, Option, Ok, Err, inl, refl, ◌∙◌, ap, arith}
+use Rattle.std.proofs.Common.{◌≡◌, ℕ, ◌+◌, ◌<◌, Bool, true, false, List, [], ◌∷◌, ◌++◌, Option, None, Ok, Err, inl, refl, ◌∙◌, ap, subst, arith}
 use Rattle.std.proofs.lemmas.List.{length-append}
 use Rattle.std.proofs.lemmas.List.Elements.{All-append, All-from_recursion}
 use Rattle.gobject.specs.Packs.{PackFails, Packs}
 use Rattle.ggrammar.specs.declared.ends.Ends.{Ends}
-use Rattle.gpkt.specs.Sending.{output_of}
+use Rattle.gpkt.specs.Change.{Change}
+use Rattle.gpkt.specs.Sending.{Input, Output, output_of}
 use Rattle.ganswer.specs.Servers.{Server}
+use Rattle.gconnect.specs.GitConnections.{ServesGit}
+use Rattle.gconnect.specs.declared.serving.GitEnd.{GitEnd}
 use Rattle.gcmd.specs.Programs.{Outcome}
 use Rattle.gcmd.specs.declared.fault.ProgramFault.TheVariants as program
-use Rattle.gtcp.specs.Sockets.{IsServed, ServesEach, ServesSoFar}
-use Rattle.gtcp.specs.Telling.{Tells}
+use Rattle.gtcp.specs.Sockets.{IsServed, ServesBetween, ServesEach, input_by, output_by}
+use Rattle.gtcp.specs.Steps.{ServesSoFar, Tells}
 use Rattle.gtcp.proofs.TellingLemmas.{tells_all, tells_next}
+
+module _ {A : Type 0} (server : Server A) (packs : Packs A) (fails : PackFails A) (path : List ℕ) (ends : Ends) where
+  -- devices that begin well, over a reader and a writer
+  pub serves_between : (read written : Change) (input : Input) (output : Output) (ended : GitEnd) → input.read ≡ read
+      → output.written ≡ written → output.passed_on ≡ record { old = None; new = None } → input.was_down ≡ false
+      → output.was_down ≡ false → ServesGit server packs fails path ends input output ended
+      → ServesBetween server packs fails path ends read written ended
+  serves_between read written input output ended same_read same_written unknown well up serves =
+      let same_input : input ≡ input_by read input.is_down =
+      ap (λ (change : Change). record input { read = change }) same_read
+      ∙ ap (λ (was : Bool). record { read = read; was_down = was; is_down = input.is_down }) well in
+      let same_output : output ≡ output_by written output.is_down =
+      ap (λ (change : Change). record output { written = change }) same_written
+      ∙ ap (λ (change : Change). record output { written = written; passed_on = change }) unknown
+      ∙ ap (λ (was : Bool). record (output_by written output.is_down) { was_down = was }) up in (
+        input.is_down,
+        output.is_down,
+        subst (λ (i : Input). ServesGit server packs fails path ends i (output_by written output.is_down) ended) same_input
+            (subst (λ (o : Output). ServesGit server packs fails path ends input o ended) same_output serves),
+      )
 
 module _ {A W : Type 0} (contents passed_on : W → Option (List ℕ)) (is_down : W → Bool) (server : Server A)
     (packs : Packs A) (fails : PackFails A) (path : List ℕ) (ends : Ends)

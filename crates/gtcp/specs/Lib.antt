@@ -4,3 +4,5 @@ pub mod Messages
 pub mod Remote
 pub mod Sockets
 pub mod Places
+pub mod Prefixes
+pub mod Steps

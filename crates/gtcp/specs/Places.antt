@@ -8,10 +8,9 @@ abbrev pub IsPort : List ℕ → Type 0
 IsPort port = IsNumeral 10 port × (digits_value 10 port < 65_536)
 
 -- The place of an address and a path. The host is the text of the address before its port.
-pub record IsPlace (address path kept : List ℕ) (hello : Hello) : Type 0 where
+pub record IsPlace (address path : List ℕ) (hello : Hello) : Type 0 where
   pub port : List ℕ
   pub is_port : IsPort port
   pub parts : address ≡ hello.host ++ codes ":" ++ port
   pub path_is : hello.path ≡ path
-  pub kept_is : kept ≡ address
   pub form : IsHello hello

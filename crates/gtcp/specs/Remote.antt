@@ -1,5 +1,5 @@
 -- The programs that open sockets: what each does and writes, and the new file.
-use Rattle.std.specs.Prelude.{◌≡◌, ◌⊎◌, ⊤, ◌<◌, List, ℕ, ◌++◌, Bool, true, false, codes, Option, None, Result, Ok, Err}
+use Rattle.std.specs.Prelude.{◌≡◌, ◌⊎◌, ◌<◌, List, ℕ, ◌++◌, codes, Option, None, Result, Ok, Err}
 use Rattle.std.specs.Fmt.{decimal}
 use Rattle.gpkt.specs.Sending.{Output, IsUnwritten, Sends}
 use Rattle.ggrammar.specs.declared.ends.Ends.{Ends}
@@ -24,7 +24,7 @@ use Rattle.gcmd.specs.Serving.{NamesServer, RefusesFile, plain_pack_fails, plain
 use Rattle.gcmd.specs.declared.fault.ProgramFault.{ProgramFault}
 use Rattle.gcmd.specs.declared.fault.ProgramFault.TheVariants as program
 use Rattle.gtcp.specs.Listing.{reply_lines}
-use Rattle.gtcp.specs.Sockets.{FetchesFrom, FetchesOn, ListsFrom, RefusesPrefixes, ServesEach, asked_for}
+use Rattle.gtcp.specs.Sockets.{FetchesFrom, FetchesOn, FitPrefixes, ListsFrom, RefusesPrefixes, ServesEach, asked_for}
 
 -- a fault was met for such a cause, and nothing is written
 abbrev pub StopsBefore : {A : Type 0} → (ProgramFault A → Type 0) → Output → Outcome A → Type 0
@@ -78,10 +78,11 @@ pub record RunsServing (A : Type 0) {E : Type 0} (errors : E → E → Output) (
 -- what asking the server at a place answers: a reply as it came over a socket; or there are too many prefixes, or there
 -- is no socket, or the conversation failed
 abbrev pub AsksRemote : {A : Type 0} → List (List ℕ) → Hello → Result LsReply (ProgramFault A) → Type 0
-AsksRemote {A} prefixes hello (Ok reply) = ListsFrom {A = A} (asked_for prefixes) hello (Ok reply)
-AsksRemote prefixes hello (Err program.Socket) = ⊤
+AsksRemote {A} prefixes hello (Ok reply) =
+    FitPrefixes prefixes × ListsFrom {A = A} (asked_for prefixes) hello (Ok reply)
+AsksRemote prefixes hello (Err program.Socket) = FitPrefixes prefixes
 AsksRemote prefixes hello (Err (program.Fetch fault)) =
-    ListsFrom (asked_for prefixes) hello (Err fault)
+    (FitPrefixes prefixes × ListsFrom (asked_for prefixes) hello (Err fault))
     ⊎ ((cause : MessageFault) × RefusesPrefixes prefixes cause × (fault ≡ fetch.Client (client.Message cause)))
 AsksRemote prefixes hello (Err _) = ⊥
 
@@ -136,12 +137,6 @@ module _ {A : Type 0} (old : List ℕ) (specs : List Refspec) (limit : ℕ) (end
 -- the first line of a pair's client
 abbrev pub pair_hello : Hello
 pair_hello = record { path = codes "/"; host = codes "127.0.0.1" }
-
--- why both ends stopped: a message was too long, or there was no memory to hold one, or else the client's fault
-abbrev pub IsPairFault : {A : Type 0} → FetchFault A → Bool → Bool → ProgramFault A → Type 0
-IsPairFault cause true lacks_memory fault = fault ≡ program.PairLimit
-IsPairFault cause false true fault = fault ≡ program.Memory
-IsPairFault cause false false fault = fault ≡ program.Fetch cause
 
 module _ {A : Type 0} (old : RepoState A) (specs : List Refspec) (new : RepoState A) where
   -- the repository of a client fetches from the server of a pair

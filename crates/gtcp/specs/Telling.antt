@@ -1,7 +1,7 @@
 -- What is printed of the faults of connections.
-use Rattle.std.specs.Prelude.{◌≡◌, ◌⊎◌, ℕ, Bool, true, false, List, [], ◌∷◌, Ok, Err}
+use Rattle.std.specs.Prelude.{◌≡◌, ◌⊎◌, ℕ, List, [], ◌∷◌, Ok, Err}
 use Rattle.std.specs.List.{flat_map}
-use Rattle.gpkt.specs.Sending.{Output, IsUnwritten, Passes, Sends, SendsSome}
+use Rattle.gpkt.specs.Sending.{Output, IsUnwritten, Passes, SendsSome}
 use Rattle.gcmd.specs.Printing.{fault_line}
 use Rattle.gcmd.specs.Programs.{Outcome}
 use Rattle.gcmd.specs.declared.fault.ProgramFault.{ProgramFault}
@@ -20,11 +20,6 @@ abbrev pub PrintsFaults : {A : Type 0} → Output → List (ProgramFault A) → 
 PrintsFaults errors faults =
     PrintsNone errors faults ⊎ (Passes errors (fault_lines faults) ⊎ SendsSome errors (fault_lines faults))
 
--- the same, where it is known whether the sink is well still
-abbrev pub PrintsSoFar : {A : Type 0} → Output → List (ProgramFault A) → Bool → Type 0
-PrintsSoFar errors faults true = PrintsNone errors faults ⊎ Passes errors (fault_lines faults)
-PrintsSoFar errors faults false = SendsSome errors (fault_lines faults)
-
 -- ---- the faults of connections
 
 -- that of a connection, if it had one
@@ -35,10 +30,3 @@ fault_in (Err fault) = fault ∷ []
 -- those of connections, in their order
 abbrev pub faults_of : {A : Type 0} → List (Outcome A) → List (ProgramFault A)
 faults_of outcomes = flat_map fault_in outcomes
-
--- what telling of a connection does: its fault is printed where there is one, and all before could be printed
-abbrev pub Tells : {A : Type 0} → Outcome A → Bool → Bool → Output → Type 0
-Tells (Ok done) could can errors = IsUnwritten errors × (can ≡ could)
-Tells (Err fault) false can errors = IsUnwritten errors × (can ≡ false)
-Tells (Err fault) true true errors = Sends errors (fault_line fault)
-Tells (Err fault) true false errors = SendsSome errors (fault_line fault)

@@ -3,11 +3,14 @@
 ghost use Rattle.std.specs.Prelude.{◌≡◌, ◌≤◌, ◌+◌, ℕ, IfOk, OnErr};
 ghost use Rattle.ghistory.specs.Reach.{Grows};
 ghost use Rattle.ghistory.specs.Walks.{CountsReached};
+ghost use Rattle.gpkt.specs.Change.{change_of};
 ghost use Rattle.grepo.specs.Repos.{IsWhole};
 ghost use Rattle.grepo.specs.Settling.{Settles};
 ghost use Rattle.gsession.specs.Sessions.{tips_of};
 ghost use Rattle.gclient.specs.Conversations.{start_of};
-ghost use Rattle.gtcp.specs.Sockets.{FetchesFrom, FetchesOn, ListsFrom, ListsOn, MakesRequest};
+ghost use Rattle.gtcp.specs.Sockets.{FetchesBetween, FetchesFrom, FetchesOn, ListsBetween, ListsFrom};
+ghost use Rattle.gtcp.specs.Sockets.{ListsOn};
+ghost use Rattle.gtcp.specs.Steps.{MakesRequest};
 
 use crate::stream::{MESSAGE_BUFFER, send_at_once};
 use gclient::{FetchFault, Fetched, Repo, Spec};
@@ -21,12 +24,13 @@ use gname::Prefix;
 use gpkt::{FromRead, ToWrite};
 use grequest::LsRefsRequest;
 use std::alloc::Allocator;
-use std::io::{BufReader, BufWriter};
+use std::io::{BufReader, BufWriter, Read, Write};
 use std::net::TcpStream;
 
-/// What is fetched, and how.
+/// From where, what is fetched, and how.
 #[derive(Clone, Copy)]
 pub(crate) struct Wanted<'a, A: Allocator + Copy> {
+    pub(crate) hello: &'a Hello<A>,
     pub(crate) specs: &'a [Spec<A>],
     pub(crate) limit: PackLimit,
     pub(crate) ends: Ends,
@@ -64,20 +68,24 @@ pub fn fetch_on<A: Allocator + Copy, K: Indexer<A>>(
         Ok(hello) => hello,
         Err(fault) => return Err(FetchFault::from(fault)),
     };
-    let wanted = Wanted { specs, limit, ends };
-    fetch_from(&stream, &hello, repo, indexer, &wanted)
+    let wanted = Wanted {
+        hello: &hello,
+        specs,
+        limit,
+        ends,
+    };
+    fetch_from(&stream, repo, indexer, &wanted)
 }
 
 /// Fetches as [`fetch_on`] does, with a first line that is made.
 pub(crate) fn fetch_from<A: Allocator + Copy, K: Indexer<A>>(
     stream: &TcpStream,
-    hello: &Hello<A>,
     repo: &mut Repo<A>,
     indexer: &K,
     wanted: &Wanted<'_, A>,
 ) -> Result<Fetched<A>, FetchFault<A>>
     ensures fetches { FetchesFrom (K.indexes indexer.now) (K.index_fails indexer.now)
-        (start_of repo.old wanted.now.specs.now wanted.now.limit wanted.now.ends) hello.now repo.new result }
+        (start_of repo.old wanted.now.specs.now wanted.now.limit wanted.now.ends) wanted.now.hello.now repo.new result }
     ensures settled { IfOk result (λ fetched. Settles repo.new.graph.entries repo.old.refs fetched.settled.asks
         fetched.settled.updates.items repo.new.refs) }
     ensures refs { OnErr result (repo.new.refs ≡ repo.old.refs) }
@@ -96,9 +104,34 @@ pub(crate) fn fetch_from<A: Allocator + Copy, K: Indexer<A>>(
     let Ok(mut writer) = BufWriter::with_capacity(alloc, MESSAGE_BUFFER, stream) else {
         return Err(FetchFault::NoBuffer);
     };
-    let mut source = FromRead::new(&mut reader);
-    let mut sink = ToWrite::new(&mut writer);
-    let (specs, limit, ends) = (wanted.specs, wanted.limit, wanted.ends);
+    let fetched = fetch_between(&mut reader, &mut writer, repo, indexer, wanted);
+    // What could not be written is not tried again.
+    let (_stream, _unwritten) = writer.into_parts();
+    fetched
+}
+
+// Fetches between a reader and a writer.
+fn fetch_between<A: Allocator + Copy, K: Indexer<A>, R: Read, W: Write>(
+    reader: &mut R,
+    writer: &mut W,
+    repo: &mut Repo<A>,
+    indexer: &K,
+    wanted: &Wanted<'_, A>,
+) -> Result<Fetched<A>, FetchFault<A>>
+    ensures fetches { FetchesBetween (K.indexes indexer.now) (K.index_fails indexer.now)
+        (start_of repo.old wanted.now.specs.now wanted.now.limit wanted.now.ends) wanted.now.hello.now
+        (change_of R.remaining reader.old reader.new) (change_of W.contents writer.old writer.new) repo.new result }
+    ensures settled { IfOk result (λ fetched. Settles repo.new.graph.entries repo.old.refs fetched.settled.asks
+        fetched.settled.updates.items repo.new.refs) }
+    ensures refs { OnErr result (repo.new.refs ≡ repo.old.refs) }
+    ensures grows { Grows repo.old.graph.entries repo.new.graph.entries }
+    ensures safe { IsWhole repo.new }
+    ensures bound { IfOk result (λ fetched. (held parents : ℕ)
+        → CountsReached repo.old.graph.entries (tips_of repo.old) held parents → fetched.requests ≤ held + 1) }
+{
+    let mut source = FromRead::new(reader);
+    let mut sink = ToWrite::new(writer);
+    let (hello, specs, limit, ends) = (wanted.hello, wanted.specs, wanted.limit, wanted.ends);
     fetch_git(
         repo,
         hello,
@@ -153,8 +186,25 @@ pub(crate) fn ls_from<A: Allocator + Copy>(
     let Ok(mut writer) = BufWriter::with_capacity(alloc, MESSAGE_BUFFER, stream) else {
         return Err(FetchFault::NoBuffer);
     };
-    let mut source = FromRead::new(&mut reader);
-    let mut sink = ToWrite::new(&mut writer);
+    let listed = list_between(alloc, &mut reader, &mut writer, hello, asked);
+    // What could not be written is not tried again.
+    let (_stream, _unwritten) = writer.into_parts();
+    listed
+}
+
+// Lists refs between a reader and a writer.
+fn list_between<A: Allocator + Copy, R: Read, W: Write>(
+    alloc: A,
+    reader: &mut R,
+    writer: &mut W,
+    hello: &Hello<A>,
+    asked: LsRefsRequest<A>,
+) -> Result<LsReply<A>, FetchFault<A>>
+    ensures { ListsBetween asked hello.now (change_of R.remaining reader.old reader.new)
+        (change_of W.contents writer.old writer.new) result }
+{
+    let mut source = FromRead::new(reader);
+    let mut sink = ToWrite::new(writer);
     list_git(hello, &mut source, &mut sink, asked, alloc)
 }
 

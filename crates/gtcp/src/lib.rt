@@ -3,7 +3,8 @@
 //!
 //! No clause can say which bytes a socket gives or takes. So of a call over one it is said that it holds a conversation
 //! as `gconnect` says of any devices, over some input and output, of which the bytes need not be known
-//! (`specs/Sockets.antt`).
+//! (`specs/Sockets.antt`). Within the crate, of a conversation between any reader and writer, it is said which of their
+//! bytes it read and wrote.
 //!
 //! # Proved
 //!
@@ -13,10 +14,12 @@
 //!   client asks for another path is no fault of a connection. It fails with `Socket` alone, and then it served fewer.
 //! - [`fetch_on`] holds a fetch by the refspecs, the limit and the end of replies that it is given, from the first line
 //!   of this host and path on, with every promise of `gclient::fetch_over`. Or there is no such first line, or out of
-//!   memory for its buffers, and nothing came. [`ls_on`] holds a listing likewise, of these prefixes; or there are too
-//!   many.
+//!   memory for its buffers, and nothing came. [`ls_on`] holds a listing likewise, of these prefixes. A host or a path
+//!   that is not well-formed is always refused, and so are more than 64 prefixes.
 //! - [`cmd_ls_remote`] writes the lines of the reply to such a listing and passes them on; or nothing, save where its
-//!   output fails (`specs/Listing.antt`, `Remote.antt`). [`read_prefixes`] reads words as prefixes, each as it stands.
+//!   output fails (`specs/Listing.antt`, `Remote.antt`). Too many prefixes are refused before a socket is asked for.
+//! - [`read_prefixes`] reads words as prefixes, each as it stands; or it fails at the first that is none, with its fault,
+//!   or at one that can't be kept, out of memory (`specs/Prefixes.antt`).
 //! - [`cmd_fetch_remote`] has a new file only where the refs were settled: then it is the text of the repository as the
 //!   fetch left it, objects only came, and the report says what became of each ask. [`cmd_pair`] reports of such a
 //!   fetch (`specs/Remote.antt`).
@@ -28,8 +31,9 @@
 //! - A [`Place`] has the address and the path that it is given. Its host is the text before a port, which is a decimal
 //!   number up to 65,535 (`specs/Places.antt`).
 //! - What a [`MessageSink`] wrote and holds are all the bytes that it was given. It holds bytes without writing any,
-//!   and none of a message that is too long with them (`MessageSink::hold`, `specs/Messages.antt`). Fault 94 is that of
-//!   a pair alone whose fetch failed.
+//!   and none of a message that is too long with them (`MessageSink::hold`, `specs/Messages.antt`). As a sink it passes
+//!   on what it writes to the sink inside: nothing before a flush, and then all that it holds, at most 32,768 bytes.
+//!   Fault 94 is that of a pair alone whose fetch failed.
 //!
 //! # Only tested
 //!
@@ -46,11 +50,12 @@
 //!
 //! [`serve_listener`] may close any connection unserved, with fault 27, as one whose peer's silence can't be limited,
 //! and accept others between those that it serves. [`cmd_serve`] may listen at another address than it is given, and
-//! show another port, and at another time. Nothing is said of the time that a peer may be silent. [`Place::new`] may answer none, and
-//! [`read_prefixes`] refuse any words with a fault of names.
+//! show another port, and at another time. Nothing is said of the time that a peer may be silent. [`Place::new`] may
+//! answer none.
 //!
-//! As a sink, a [`MessageSink`] may write what it holds before it is flushed, and at a flush that fails, so long as the
-//! sink inside passes nothing on by that. `is_too_long` and `bytes_written` may forget what a `write` or a flush did.
+//! A [`MessageSink`] need not flush the sink inside, and at a flush that fails it may write a part of what it holds. Where
+//! the bytes of the sink inside are not known, nothing is said of when it writes. `is_too_long` and `bytes_written` may
+//! forget what a `write` or a flush did.
 //!
 //! # Stands on
 //!

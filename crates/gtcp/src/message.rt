@@ -3,6 +3,8 @@
 ghost use Rattle.std.specs.Prelude.{◌≡◌, ◌≤◌, ◌<◌, ◌+◌, ◌++◌, ◌||◌, [], false, true};
 ghost use Rattle.std.specs.Prelude.{◌&&◌, length, take, drop, nat_lt, not, is_err, IsErr, IsOk, OnErr, OnOk};
 ghost use Rattle.std.specs.Io.KnownBytes.{Appends, Keeps, append_known};
+ghost use Rattle.gpkt.specs.Change.{change_of};
+ghost use Rattle.gpkt.specs.Devices.{KeepsPassed};
 ghost use Rattle.gtcp.specs.Messages.{max_message};
 
 use gpkt::{Down, Sink};
@@ -136,7 +138,7 @@ impl<W: Sink, A: Allocator + Copy> MessageSink<W, A> {
     fn write_held(&mut self) -> Result<(), Down>
         ensures bytes { Keeps (append_known (W.contents self.old.inner) self.old.held)
             (append_known (W.contents self.new.inner) self.new.held) }
-        ensures passed_on { Keeps (W.passed_on self.old.inner) (W.passed_on self.new.inner) }
+        ensures grows { KeepsPassed (change_of W.contents self.old.inner self.new.inner) }
         ensures all { OnOk result (self.new.held ≡ []) }
         ensures down { self.new.down ≡ self.old.down }
         ensures loans { W.loans self.new.inner ≡ W.loans self.old.inner }
@@ -153,7 +155,6 @@ fn write_front<W: Sink>(bytes: &[u8], sink: &mut W) -> (usize, Result<(), Down>)
     ensures bound { result.0 ≤ length bytes.now }
     ensures all { OnOk result.1 (result.0 ≡ length bytes.now) }
     ensures bytes { Appends (W.contents sink.old) (W.contents sink.new) (take result.0 bytes.now) }
-    ensures passed_on { Keeps (W.passed_on sink.old) (W.passed_on sink.new) }
     ensures loans { W.loans sink.new ≡ W.loans sink.old }
 {
     let mut count = 0;
@@ -176,10 +177,11 @@ fn remove_front<A: Allocator>(held: &mut Vec<u8, A>, count: usize)
     held.truncate(len - count);
 }
 
+// What it writes to the sink inside it has passed on: so nothing is written there before a flush.
 impl<W: Sink, A: Allocator + Copy> Sink for MessageSink<W, A> {
     ghost contents = { λ h. append_known (W.contents h.inner) h.held };
 
-    ghost passed_on = { λ h. W.passed_on h.inner };
+    ghost passed_on = { λ h. W.contents h.inner };
 
     ghost is_down = { λ h. h.down };
 

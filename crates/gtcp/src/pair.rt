@@ -4,7 +4,8 @@ ghost use Rattle.std.specs.Prelude.{◌≡◌, ◌||◌, [], None, true, IfOk, I
 ghost use Rattle.ghistory.specs.Reach.{Grows};
 ghost use Rattle.grepo.specs.Settling.{Settles};
 ghost use Rattle.ghello.specs.Hello.{MakesHello};
-ghost use Rattle.gtcp.specs.Remote.{FetchesAsClient, FetchesInPair, IsPairFault, pair_hello};
+ghost use Rattle.gtcp.specs.Remote.{FetchesAsClient, FetchesInPair, pair_hello};
+ghost use Rattle.gtcp.specs.Steps.{IsPairFault};
 
 use crate::message::MessageSink;
 use crate::stream::set_up;

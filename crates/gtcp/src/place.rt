@@ -21,7 +21,8 @@ impl<A: Allocator + Copy> Place<A> {
     /// `None` where the address is not so, where the host or the path is not well-formed (gitprotocol-pack(5), "Git
     /// Transport"), and where there is no memory to keep them.
     pub fn new(alloc: A, address: &str, path: &str) -> Option<Place<A>>
-        ensures { IfSome result (λ place. IsPlace address.now path.now (string_bytes place.address) place.hello) }
+        ensures { IfSome result (λ place. (string_bytes place.address ≡ address.now)
+            × IsPlace address.now path.now place.hello) }
     {
         let (host, port) = address.rsplit_once(':')?;
         if !is_port(port) {

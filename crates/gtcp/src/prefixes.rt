@@ -1,8 +1,8 @@
 //! Prefixes of names, from words.
 
-ghost use Rattle.std.specs.Prelude.{◌≡◌, ◌++◌, ◌∷◌, [], MatchResult, OnOk, map, string_bytes};
-ghost use Rattle.gname.specs.declared.faults.NameFault.{NameFault};
-ghost use Rattle.gcmd.specs.declared.fault.ProgramFault.TheVariants.{Name};
+ghost use Rattle.std.specs.Prelude.{◌≡◌, ◌++◌, ◌∷◌, [], Err, IfErr, MatchResult, Ok, OnOk, map, string_bytes};
+ghost use Rattle.gname.specs.declared.faults.NameFault.TheVariants.{Memory};
+ghost use Rattle.gtcp.specs.Prefixes.{ReadsPrefixes};
 
 use gcmd::ProgramFault;
 use gname::{NameFault, Prefix};
@@ -15,8 +15,8 @@ pub fn read_prefixes<A: Allocator + Copy>(
     alloc: A,
     words: &[String<A>],
 ) -> Result<Vec<Prefix<A>, A>, ProgramFault<A>>
-    ensures { MatchResult result (λ prefixes. prefixes.items ≡ map string_bytes words.now)
-        (λ fault. (cause : NameFault) × (fault ≡ Name cause)) }
+    ensures { MatchResult result (λ prefixes. ReadsPrefixes {A = A} (map string_bytes words.now) (Ok prefixes.items))
+        (λ fault. ReadsPrefixes (map string_bytes words.now) (Err fault)) }
 {
     let mut prefixes = Vec::new(alloc);
     for word in words {
@@ -32,6 +32,7 @@ fn keep<A: Allocator + Copy>(
     prefix: Prefix<A>,
 ) -> Result<(), NameFault>
     ensures kept { OnOk result (prefixes.new.items ≡ prefixes.old.items ++ prefix ∷ []) }
+    ensures fault { IfErr result (λ fault. fault ≡ Memory) }
 {
     match prefixes.push(prefix) {
         Ok(()) => Ok(()),

@@ -330,11 +330,12 @@ where
         Err(fault) => return Err(fault),
     };
     let wanted = Wanted {
+        hello: fetch.place.hello(),
         specs: fetch.specs,
         limit: fetch.limit,
         ends: fetch.ends,
     };
-    match fetch_from(&stream, fetch.place.hello(), repo, &PlainPack, &wanted) {
+    match fetch_from(&stream, repo, &PlainPack, &wanted) {
         Ok(fetched) => Ok(fetched),
         Err(fault) => Err(ProgramFault::Fetch(fault)),
     }

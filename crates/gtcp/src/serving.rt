@@ -1,10 +1,12 @@
 //! A repository served to those who connect.
 
 ghost use Rattle.std.specs.Prelude.{◌≡◌};
-ghost use Rattle.gpkt.specs.Sending.{output_of};
+ghost use Rattle.gpkt.specs.Change.{change_of};
+ghost use Rattle.gpkt.specs.Sending.{input_of, output_of};
+ghost use Rattle.gconnect.specs.GitConnections.{ServesGit};
 ghost use Rattle.gcmd.specs.Serving.{outcome_of_connection};
-ghost use Rattle.gtcp.specs.Sockets.{HoldsServing, IsServed, ServesEach, outcome_of};
-ghost use Rattle.gtcp.specs.Telling.{Tells};
+ghost use Rattle.gtcp.specs.Sockets.{HoldsServing, IsServed, ServesBetween, ServesEach, ServesFrom, outcome_of};
+ghost use Rattle.gtcp.specs.Steps.{Tells};
 
 use crate::stream::{MESSAGE_BUFFER, hang_up, set_up};
 use ganswer::Server;
@@ -133,8 +135,8 @@ fn serve_from<A: Allocator + Copy, K: Packer<A>, R: Read>(
     reader: &mut R,
     stream: &TcpStream,
 ) -> GitEnd
-    ensures { HoldsServing site.now.server.now (K.packs site.now.packer.now) (K.pack_fails site.now.packer.now)
-        site.now.path.now site.now.ends result }
+    ensures { ServesFrom site.now.server.now (K.packs site.now.packer.now) (K.pack_fails site.now.packer.now)
+        site.now.path.now site.now.ends (change_of R.remaining reader.old reader.new) result }
 {
     let alloc = site.server.graph().allocator();
     match BufWriter::with_capacity(alloc, MESSAGE_BUFFER, stream) {
@@ -157,8 +159,9 @@ fn serve_between<A: Allocator + Copy, K: Packer<A>, R: Read, W: Write>(
     reader: &mut R,
     writer: &mut W,
 ) -> GitEnd
-    ensures { HoldsServing site.now.server.now (K.packs site.now.packer.now) (K.pack_fails site.now.packer.now)
-        site.now.path.now site.now.ends result }
+    ensures { ServesBetween site.now.server.now (K.packs site.now.packer.now) (K.pack_fails site.now.packer.now)
+        site.now.path.now site.now.ends (change_of R.remaining reader.old reader.new)
+        (change_of W.contents writer.old writer.new) result }
 {
     let mut source = FromRead::new(reader);
     let mut sink = ToWrite::new(writer);
@@ -171,8 +174,11 @@ fn serve_devices<A: Allocator + Copy, K: Packer<A>, S: Source, W: Sink>(
     source: &mut S,
     sink: &mut W,
 ) -> GitEnd
-    ensures { HoldsServing site.now.server.now (K.packs site.now.packer.now) (K.pack_fails site.now.packer.now)
-        site.now.path.now site.now.ends result }
+    ensures serves { ServesGit site.now.server.now (K.packs site.now.packer.now) (K.pack_fails site.now.packer.now)
+        site.now.path.now site.now.ends (input_of S.remaining S.is_down source.old source.new)
+        (output_of W.contents W.passed_on W.is_down sink.old sink.new) result }
+    ensures source_loans { S.loans source.new ≡ S.loans source.old }
+    ensures sink_loans { W.loans sink.new ≡ W.loans sink.old }
 {
     serve_git(site.server, site.packer, site.path, site.ends, source, sink)
 }

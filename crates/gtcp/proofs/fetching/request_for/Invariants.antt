@@ -1,6 +1,10 @@
-use Rattle.std.proofs.Common.{◌≡◌, take}
+use Rattle.std.proofs.Common.{◌≡◌, ◌≤◌, length, take}
+use Rattle.grequest.specs.Asked.{max_prefixes}
 use Rattle.gtcp.specs.Sockets.{asked_for}
 use Rattle.gtcp.proofs.fetching.request_for.Given as goal
 
 abbrev pub invariant-loop-prefix : goal.invariant-loop-prefix
-invariant-loop-prefix g l = l.asked ≡ asked_for (take l.prefix-index l.prefixes)
+invariant-loop-prefix g l = record {
+  same : l.asked ≡ asked_for (take l.prefix-index l.prefixes);
+  fits : length l.asked.prefixes ≤ max_prefixes;
+}

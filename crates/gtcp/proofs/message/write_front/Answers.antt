@@ -1,5 +1,5 @@
 use Rattle.std.proofs.Common.{take, rules, sym, subst}
-use Rattle.std.proofs.KnownBytes.{Appends-trans, Keeps-trans}
+use Rattle.std.proofs.KnownBytes.{Appends-trans}
 use Rattle.std.proofs.Math.Seq.{take-add}
 use Rattle.std.proofs.lemmas.List.{take_rest}
 use Rattle.std.specs.Io.KnownBytes.{Appends}
@@ -18,6 +18,5 @@ loop-count-preserved g c =
           subst (Appends old new) (sym (take-add count c.in-Ok.more bytes))
           (Appends-trans old mid new _ _ c.loop-count.invariant.bytes
           (subst (λ rest. Appends mid new (take c.in-Ok.more rest)) (take_rest bytes count) c.in-Ok.ensures.bytes));
-      passed_on = Keeps-trans _ _ _ c.loop-count.invariant.passed_on c.in-Ok.ensures.passed_on;
       same_loans = search rules;
     }

@@ -1,12 +1,11 @@
 use Rattle.std.proofs.Common.{◌≡◌, ◌≤◌, ◌-◌, length, take}
-use Rattle.std.specs.Io.KnownBytes.{Appends, Keeps}
+use Rattle.std.specs.Io.KnownBytes.{Appends}
 use Rattle.gtcp.proofs.message.write_front.Given as goal
 
 abbrev pub invariant-loop-count : goal.invariant-loop-count
 invariant-loop-count g l = record {
   within : l.count ≤ length l.bytes;
   bytes : Appends (g.W.Sink.contents l.initial.sink) (g.W.Sink.contents l.sink) (take l.count l.bytes);
-  passed_on : Keeps (g.W.Sink.passed_on l.initial.sink) (g.W.Sink.passed_on l.sink);
   same_loans : g.W.Sink.loans l.sink ≡ g.W.Sink.loans l.initial.sink;
 }
 

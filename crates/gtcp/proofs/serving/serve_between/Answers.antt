@@ -1,0 +1,10 @@
+use Rattle.std.proofs.Common.{refl, rules}
+use Rattle.gtcp.proofs.ServingLemmas.{serves_between}
+use Rattle.gtcp.proofs.serving.serve_between.Goals as goal
+
+pub returns : goal.returns
+returns g c =
+    serves_between c.args.site.now.server.now (g.K.Packer.packs c.args.site.now.packer.now)
+    (g.K.Packer.pack_fails c.args.site.now.packer.now) c.args.site.now.path.now c.args.site.now.ends _ _ _ _
+    c.serve_devices.result (search rules) (search rules) refl c.new-source.ensures.down c.new-sink.ensures.down
+    c.serve_devices.ensures.serves
