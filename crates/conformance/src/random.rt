@@ -96,19 +96,37 @@ fn happen_scarcely(alloc: Global, setting: Setting<'_>) -> Result<Option<String>
     happen(alloc, scarce)
 }
 
-// With each packer and indexer that lies, and a fourth of the events.
+// With each packer and indexer that lies.
 fn happen_with_liars(alloc: Global, setting: Setting<'_>) -> Result<Option<String>, Trouble> {
-    let mut other = setting;
-    other.count = setting.count / 4;
+    let mut seed = setting.seed;
     for liar in LIARS {
-        other.files.tools.liar = Some(liar);
-        other.seed = other.seed.wrapping_add(1);
-        let found = happen(alloc, other)?;
+        seed = seed.wrapping_add(1);
+        let found = happen(alloc, setting_with(setting, liar, seed))?;
         if found.is_some() {
             return Ok(found);
         }
     }
     Ok(None)
+}
+
+// A fourth of the events, with a packer or an indexer that lies.
+fn setting_with(setting: Setting<'_>, liar: Liar, seed: usize) -> Setting<'_> {
+    let files = Files {
+        server: setting.files.server,
+        client: setting.files.client,
+        scenario: setting.files.scenario,
+        tools: Tools {
+            liar: Some(liar),
+            format: setting.files.tools.format,
+        },
+    };
+    Setting {
+        files,
+        seed,
+        count: setting.count / 4,
+        is_scarce: setting.is_scarce,
+        has_rounds: setting.has_rounds,
+    }
 }
 
 // What is wrong where the events happen one after the other.
