@@ -25,17 +25,14 @@ pub fn is_tried(row: &Row<'_>) -> bool {
     command.has_hello() && command.liar.is_none() && fits && ends_well
 }
 
-/// Whether the connection comes out as the row says, where the other end writes so many bytes at a time.
-pub fn is_as_due<N>(net: &N, alloc: Global, row: &Row<'_>, most: usize) -> Result<bool, Trouble>
+/// Whether the connection comes out as the row says, where the other end writes a byte at a time, or all at once.
+pub fn is_as_due<N>(net: &N, alloc: Global, row: &Row<'_>, is_slow: bool) -> Result<bool, Trouble>
 where
     N: Net<Stream = TcpStream, Listener = TcpListener>,
 {
     let listener = TcpListener::bind(net, "127.0.0.1:0")?;
     let mut other = TcpStream::connect(net, listener.local_addr()?)?;
-    for piece in row.talk.input.as_slice().chunks(most) {
-        other.write_all(piece)?;
-    }
-    other.shutdown(Shutdown::Write)?;
+    say(&mut other, row.talk.input.as_slice(), is_slow)?;
     let is_right = match row.command.program {
         Program::Serve => is_served(alloc, row, listener)?,
         Program::Fetch => is_fetched(alloc, row, &listener)?,
@@ -44,6 +41,19 @@ where
     let mut read = Vec::new(alloc);
     other.read_to_end(&mut read)?;
     Ok(is_right && read.as_slice() == row.talk.output.as_slice())
+}
+
+// Writes what the other end says, and then no more.
+fn say(other: &mut TcpStream, bytes: &[u8], is_slow: bool) -> Result<(), Trouble> {
+    if is_slow {
+        for byte in bytes.chunks(1) {
+            other.write_all(byte)?;
+        }
+    } else {
+        other.write_all(bytes)?;
+    }
+    other.shutdown(Shutdown::Write)?;
+    Ok(())
 }
 
 // Whether one connection is served, and its fault is printed.
