@@ -164,7 +164,7 @@ class Bench:
         )
 
     def ls_refs(self, commits, refs):
-        file, folder = self.repository("refs", Shape(commits, refs))
+        file, folder = self.repository("refs", Shape(commits, refs - 1))
         size = f"{commits:,} commits, {refs:,} refs"
         self.row("load", size, lambda: self.best([self.program, "upload", file]), None)
         for words in [[], ["peel", "symrefs"]]:

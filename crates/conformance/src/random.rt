@@ -141,35 +141,38 @@ fn happen_in<A: Allocator + Copy>(
     scarce: &Scarce<Global>,
     setting: Setting<'_>,
 ) -> Result<Option<String>, Trouble> {
-    let files = setting.files;
-    let mut world = world_of(memory, files)?;
-    let mut chance = Chance::new(alloc, setting.seed, files)?;
+    let mut world = world_of(memory, setting.files)?;
+    happen_to(alloc, memory, scarce, setting, &mut world)
+}
+
+fn happen_to<A: Allocator + Copy>(
+    alloc: Global,
+    memory: A,
+    scarce: &Scarce<Global>,
+    setting: Setting<'_>,
+    world: &mut World<Tools, A>,
+) -> Result<Option<String>, Trouble> {
+    let mut chance = Chance::new(alloc, setting.seed, setting.files)?;
     let mut log = String::new(alloc);
     let mut outcomes = Vec::new(alloc);
     for _ in 0..setting.count {
         let line = chance.next_line()?;
-        let events = events_of(memory, line.as_bytes())?;
-        let refused = refusal(&mut chance, setting.is_scarce);
-        step(
-            scarce,
-            refused,
-            &mut world,
-            events.as_slice(),
-            &mut outcomes,
-        )?;
+        let number = refused_number(&mut chance, setting.is_scarce);
+        let refusal = Refusal { scarce, number };
+        step(memory, refusal, world, line.as_str(), &mut outcomes)?;
         log.push_str(line.as_str())?;
-        if !is_whole(alloc, &world)? {
+        if !is_whole(alloc, &*world)? {
             return Ok(Some(log));
         }
         if let Some(outcome) = outcomes.last() {
             chance.learn(line.as_str(), *outcome);
         }
     }
-    conclude(alloc, setting, log.as_str(), outcomes.as_slice(), &world)
+    conclude(alloc, setting, log.as_str(), outcomes.as_slice(), &*world)
 }
 
-// The allocation that is refused, if one is.
-fn refusal(chance: &mut Chance, is_scarce: bool) -> u64 {
+// The number of the allocation that is refused; 0 where none is.
+fn refused_number(chance: &mut Chance, is_scarce: bool) -> u64 {
     if is_scarce && chance.roll(3) == 0 {
         (chance.roll(MOST_REFUSED) as u64).saturating_add(1)
     } else {
@@ -177,19 +180,27 @@ fn refusal(chance: &mut Chance, is_scarce: bool) -> u64 {
     }
 }
 
-// Does an event; with memory, where it did not begin without.
+// Which allocation is refused; none where the number is 0.
+#[derive(Clone, Copy)]
+struct Refusal<'m> {
+    scarce: &'m Scarce<Global>,
+    number: u64,
+}
+
+// Does the event of a line; with memory, where it did not begin without.
 fn step<A: Allocator + Copy>(
-    scarce: &Scarce<Global>,
-    refused: u64,
+    memory: A,
+    refusal: Refusal<'_>,
     world: &mut World<Tools, A>,
-    events: &[Event<A>],
+    line: &str,
     outcomes: &mut Vec<Outcome>,
 ) -> Result<(), Trouble> {
-    scarce.refuse(refused);
-    let is_done = run(world, events, outcomes)?;
-    scarce.refuse(0);
+    let events = events_of(memory, line.as_bytes())?;
+    refusal.scarce.refuse(refusal.number);
+    let is_done = run(world, events.as_slice(), outcomes)?;
+    refusal.scarce.refuse(0);
     if !is_done {
-        run(world, events, outcomes)?;
+        run(world, events.as_slice(), outcomes)?;
     }
     Ok(())
 }
@@ -230,9 +241,17 @@ fn run_whole<A: Allocator + Copy>(
 ) -> Result<String, Trouble> {
     let events = events_of(memory, log.as_bytes())?;
     let mut world = world_of(memory, files)?;
+    text_after(alloc, &mut world, events.as_slice())
+}
+
+fn text_after<A: Allocator + Copy>(
+    alloc: Global,
+    world: &mut World<Tools, A>,
+    events: &[Event<A>],
+) -> Result<String, Trouble> {
     let mut outcomes = Vec::new(alloc);
-    run(&mut world, events.as_slice(), &mut outcomes)?;
-    text_of(alloc, outcomes.as_slice(), &world)
+    run(world, events, &mut outcomes)?;
+    text_of(alloc, outcomes.as_slice(), &*world)
 }
 
 // The first kind of outcome that never came.

@@ -53,14 +53,24 @@ fn happen<A: Allocator + Copy, I, O: Sink, R, E: Sink>(
         Ok(world) => world,
         Err(fault) => return Ok(cmd_failed(fault, &mut devices.errors)),
     };
-    let Ok(events) = events_of(memory, files.scenario) else {
-        return Ok(failed(devices));
-    };
+    match events_of(memory, files.scenario) {
+        Ok(events) => happen_to(alloc, &mut world, events.as_slice(), devices),
+        Err(_) => Ok(failed(devices)),
+    }
+}
+
+// The events happen to a world, and what came of them is shown.
+fn happen_to<A: Allocator + Copy, I, O: Sink, R, E: Sink>(
+    alloc: Global,
+    world: &mut World<Tools, A>,
+    events: &[Event<A>],
+    devices: &mut Devices<I, O, R, E>,
+) -> Result<u8, Trouble> {
     let mut outcomes = Vec::new(alloc);
-    if !run(&mut world, events.as_slice(), &mut outcomes)? {
+    if !run(world, events, &mut outcomes)? {
         return Ok(failed(devices));
     }
-    let text = text_of(alloc, outcomes.as_slice(), &world)?;
+    let text = text_of(alloc, outcomes.as_slice(), &*world)?;
     Ok(shown(text.as_bytes(), devices))
 }
 
@@ -143,17 +153,28 @@ fn happen_scarcely<A: Allocator + Copy>(
 ) -> Result<Happened, Trouble> {
     let events = events_of(memory, files.scenario)?;
     let mut world = world_of(memory, files)?;
+    run_with_refusal(alloc, scarce, refused, &mut world, events.as_slice())
+}
+
+// The events happen to a world, the allocation of this number being refused.
+fn run_with_refusal<A: Allocator + Copy>(
+    alloc: Global,
+    scarce: &Scarce<Global>,
+    refused: u64,
+    world: &mut World<Tools, A>,
+    events: &[Event<A>],
+) -> Result<Happened, Trouble> {
     let mut outcomes = Vec::new(alloc);
     scarce.refuse(refused);
-    let is_done = run(&mut world, events.as_slice(), &mut outcomes)?;
+    let is_done = run(world, events, &mut outcomes)?;
     let was_refused = !scarce.is_due();
     scarce.refuse(0);
-    let was_whole = is_whole(alloc, &world)?;
+    let was_whole = is_whole(alloc, &*world)?;
     if !is_done {
-        finish(&mut world, events.as_slice(), &mut outcomes)?;
+        finish(world, events, &mut outcomes)?;
     }
-    let text = text_of(alloc, outcomes.as_slice(), &world)?;
-    let is_whole = was_whole && is_whole(alloc, &world)?;
+    let text = text_of(alloc, outcomes.as_slice(), &*world)?;
+    let is_whole = was_whole && is_whole(alloc, &*world)?;
     Ok(Happened {
         outcomes,
         text,
@@ -192,9 +213,17 @@ fn happen_one_by_one<A: Allocator + Copy>(
 ) -> Result<Happened, Trouble> {
     let events = events_of(memory, files.scenario)?;
     let mut world = world_of(memory, files)?;
+    run_in_steps(alloc, &mut world, events.as_slice())
+}
+
+fn run_in_steps<A: Allocator + Copy>(
+    alloc: Global,
+    world: &mut World<Tools, A>,
+    events: &[Event<A>],
+) -> Result<Happened, Trouble> {
     let mut outcomes = Vec::new(alloc);
-    let is_whole = step_through(alloc, &mut world, events.as_slice(), &mut outcomes)?;
-    let text = text_of(alloc, outcomes.as_slice(), &world)?;
+    let is_whole = step_through(alloc, world, events, &mut outcomes)?;
+    let text = text_of(alloc, outcomes.as_slice(), &*world)?;
     Ok(Happened {
         outcomes,
         text,
