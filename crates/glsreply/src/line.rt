@@ -1,6 +1,6 @@
 //! The texts of a reply, read from left to right.
 
-ghost use Rattle.std.specs.Prelude.{◌≡◌, ◌∷◌, ◌<◌, codes, length, position, IfSome, Ok};
+ghost use Rattle.std.specs.Prelude.{◌≡◌, ◌∷◌, ◌<◌, codes, length, position, IfSome, None, Ok};
 ghost use Rattle.ggrammar.specs.PeerErrors.{after_word};
 ghost use Rattle.glsreply.specs.RefTexts.{is_space, parts_of, is_name, attribute_of, with_attributes, line_with_name, line_of, first_form, unborn_target, unborn_of_parts, unborn_after_head};
 ghost use Rattle.glsreply.specs.LineViews.{line_parts, line_read, attribute_view, form_view, target_read, parts_left};
@@ -81,50 +81,52 @@ fn line_with_name(format: Format, id: Oid, rest: &[u8]) -> Result<LineParts<'_>,
     if !is_name(name) {
         return Err(Why::BadName);
     }
-    with_attributes(format, id, name, None, None, attributes)
+    with_attributes(format, id, name, attributes)
 }
 
-// The line with its attributes, of which each comes once; so this goes at most three calls deep.
+// The line with its attributes, of which each comes once.
 fn with_attributes<'a>(
     format: Format,
     id: Oid,
     name: &'a [u8],
-    symref: Option<&'a [u8]>,
-    peeled: Option<Oid>,
-    rest: Option<&'a [u8]>,
+    attributes: Option<&'a [u8]>,
 ) -> Result<LineParts<'a>, Why>
-    ensures { line_read result ≡ with_attributes format (Ok (line_parts id name.now symref.entry peeled)) (parts_left rest.entry) }
+    ensures { line_read result ≡ with_attributes format (Ok (line_parts id name.now None None)) (parts_left attributes.entry) }
 {
-    let Some(text) = rest else {
-        return Ok(LineParts {
-            id,
-            name,
-            symref,
-            peeled,
-        });
-    };
-    let (part, rest) = cut(text);
-    match attribute_of(part) {
-        Attribute::Symref(target) => {
-            if symref.is_some() {
-                return Err(Why::BadText);
+    let mut symref = None;
+    let mut peeled = None;
+    let mut rest = attributes;
+    while let Some(text) = rest {
+        let (part, after) = cut(text);
+        match attribute_of(part) {
+            Attribute::Symref(target) => {
+                if symref.is_some() {
+                    return Err(Why::BadText);
+                }
+                if !is_name(target) {
+                    return Err(Why::BadName);
+                }
+                symref = Some(target);
             }
-            if !is_name(target) {
-                return Err(Why::BadName);
+            Attribute::Peeled(text) => {
+                if peeled.is_some() {
+                    return Err(Why::BadText);
+                }
+                let Some(id) = id_of_text(format, text) else {
+                    return Err(Why::BadId);
+                };
+                peeled = Some(id);
             }
-            with_attributes(format, id, name, Some(target), peeled, rest)
+            Attribute::Unknown => return Err(Why::BadText),
         }
-        Attribute::Peeled(text) => {
-            if peeled.is_some() {
-                return Err(Why::BadText);
-            }
-            let Some(peeled) = id_of_text(format, text) else {
-                return Err(Why::BadId);
-            };
-            with_attributes(format, id, name, symref, Some(peeled), rest)
-        }
-        Attribute::Unknown => Err(Why::BadText),
+        rest = after;
     }
+    Ok(LineParts {
+        id,
+        name,
+        symref,
+        peeled,
+    })
 }
 
 #[tactic(auto, unfolding(crate::specs::RefTexts::attribute_of))]
