@@ -31,23 +31,39 @@ pub(crate) fn format_of(line: &[u8]) -> Option<Format>
     }
 }
 
-/// The kind of a node's line, and what follows its letter.
-pub(crate) fn node_parts(line: &[u8]) -> Option<(Kind, &[u8])>
-    ensures { MatchOption result (IsNoNode line.now) (λ parts. line.now ≡ letter parts.0 ∷ parts.1.now) }
+/// The line of a node: its kind, and the text of its ids, which follows the letter.
+#[derive(Clone, Copy)]
+pub(crate) struct NodeLine<'a> {
+    pub kind: Kind,
+    pub ids: &'a [u8],
+}
+
+/// The line of a ref: its id, and its name, which nobody has judged yet.
+#[derive(Clone, Copy)]
+pub(crate) struct RefLine<'a> {
+    pub id: Oid,
+    pub name: &'a [u8],
+}
+
+/// The parts of a node's line.
+pub(crate) fn node_parts(line: &[u8]) -> Option<NodeLine<'_>>
+    ensures { MatchOption result (IsNoNode line.now) (λ node. line.now ≡ letter node.kind ∷ node.ids.now) }
 {
     if let Some(ids) = line.strip_prefix(b"c") {
-        return Some((Kind::Commit, ids));
+        let kind = Kind::Commit;
+        return Some(NodeLine { kind, ids });
     }
     if let Some(ids) = line.strip_prefix(b"t") {
-        return Some((Kind::Tag, ids));
+        let kind = Kind::Tag;
+        return Some(NodeLine { kind, ids });
     }
     None
 }
 
-/// The id of a ref's line, and the text after the space that follows it.
-pub(crate) fn ref_parts(format: Format, text: &[u8]) -> Option<(Oid, &[u8])>
-    ensures { MatchOption result (BeginsWithNoRefId format text.now) (λ parts.
-        (text.now ≡ id_text parts.0 ++ (codes " " ++ parts.1.now)) × IsIdOf format parts.0) }
+/// The parts of a ref's line, after its first word.
+pub(crate) fn ref_parts(format: Format, text: &[u8]) -> Option<RefLine<'_>>
+    ensures { MatchOption result (BeginsWithNoRefId format text.now) (λ it.
+        (text.now ≡ id_text it.id ++ (codes " " ++ it.name.now)) × IsIdOf format it.id) }
 {
     text_laws();
     let Some(first) = take_id(format, text) else {
@@ -56,7 +72,8 @@ pub(crate) fn ref_parts(format: Format, text: &[u8]) -> Option<(Oid, &[u8])>
     let Some(name) = first.1.strip_prefix(b" ") else {
         return None;
     };
-    Some((first.0, name))
+    let id = first.0;
+    Some(RefLine { id, name })
 }
 
 /// What HEAD stands at by a line, if it is that of HEAD. It fails where out of memory for the name

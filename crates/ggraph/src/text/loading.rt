@@ -46,7 +46,7 @@ pub fn load<A: Allocator + Copy>(
     let mut rest = text;
     let mut number = 1;
     while let Some(pair) = split_line(rest) {
-        reading.take(alloc, &mut room, order, pair.0, number)?;
+        reading.take(&mut room, order, pair.0, number)?;
         rest = pair.1;
         number += 1;
     }

@@ -12,7 +12,7 @@ ghost use Rattle.ggraph.specs.Reading.{RefusesEntry, RefusesRef, with_entry};
 use crate::fault::LoadFault;
 use crate::text::Order;
 use crate::text::laws::text_laws;
-use crate::text::lines::{format_of, head_of, node_parts, ref_parts};
+use crate::text::lines::{NodeLine, RefLine, format_of, head_of, node_parts, ref_parts};
 use crate::text::parts::{Room, name_of, take_spaced};
 use ghistory::{Graph, MAX_NODES};
 use gname::{Format, Oid};
@@ -64,7 +64,6 @@ impl<A: Allocator + Copy> Reading<A> {
     /// Takes the next line, of this number in the text. Its parents are read in the room.
     pub(crate) fn take<'a>(
         &mut self,
-        alloc: A,
         room: &mut Room<'a>,
         order: Order,
         line: &'a [u8],
@@ -74,25 +73,19 @@ impl<A: Allocator + Copy> Reading<A> {
         ensures refused { IfErr result (RefusesLine order self.old line.now number) }
     {
         match self.stage {
-            Stage::First => self.take_first(alloc, room.nodes, line, number),
+            Stage::First => self.take_first(room.nodes, line, number),
             Stage::Nodes => match node_parts(line) {
-                Some(parts) => self.take_node(alloc, room, order, parts.0, parts.1, number),
-                None => self.take_ref(alloc, line, number),
+                Some(node) => self.take_node(room, order, node, number),
+                None => self.take_ref(line, number),
             },
-            Stage::Refs => self.take_ref(alloc, line, number),
+            Stage::Refs => self.take_ref(line, number),
             Stage::Last => self.take_last(line, number),
             Stage::Done => Err(LoadFault::Text { line: number }),
         }
     }
 
     // Takes the first line, and makes room for the nodes that are expected.
-    fn take_first(
-        &mut self,
-        alloc: A,
-        nodes: usize,
-        line: &[u8],
-        number: usize,
-    ) -> Result<(), LoadFault>
+    fn take_first(&mut self, nodes: usize, line: &[u8], number: usize) -> Result<(), LoadFault>
         requires { self.old.stage ≡ Stage.First }
         ensures ok { ((order : Order) → OnOk result (ComesNext order self.old line.now self.new)) }
         ensures refused { ((order : Order) → IfErr result (RefusesLine order self.old line.now number)) }
@@ -100,7 +93,7 @@ impl<A: Allocator + Copy> Reading<A> {
         match format_of(line) {
             Some(format) => {
                 self.stage = Stage::Nodes;
-                self.graph = Graph::new_in(alloc, format);
+                self.graph = Graph::new_in(self.graph.allocator(), format);
                 self.graph.make_room(nodes);
                 Ok(())
             }
@@ -120,43 +113,40 @@ impl<A: Allocator + Copy> Reading<A> {
         Ok(())
     }
 
-    // Takes the line of a node: the letter of its kind, and then this text.
+    // Takes the line of a node.
     fn take_node<'a>(
         &mut self,
-        alloc: A,
         room: &mut Room<'a>,
         order: Order,
-        kind: Kind,
-        text: &'a [u8],
+        line: NodeLine<'a>,
         number: usize,
     ) -> Result<(), LoadFault>
         requires { self.old.stage ≡ Stage.Nodes }
-        ensures ok { OnOk result (ComesNext order self.old (letter kind ∷ text.now) self.new) }
-        ensures refused { IfErr result (RefusesLine order self.old (letter kind ∷ text.now) number) }
+        ensures ok { OnOk result
+            (ComesNext order self.old (letter line.entry.kind ∷ line.entry.ids.now) self.new) }
+        ensures refused { IfErr result
+            (RefusesLine order self.old (letter line.entry.kind ∷ line.entry.ids.now) number) }
     {
         text_laws();
         let format = self.graph.format();
-        let Some(first) = take_spaced(format, text) else {
+        let Some(first) = take_spaced(format, line.ids) else {
             return Err(LoadFault::Text { line: number });
         };
         let Some(parents) = room.read(format, first.rest) else {
             return Err(LoadFault::Text { line: number });
         };
-        let added = add_node(
-            &mut self.graph,
-            alloc,
-            order,
-            kind,
-            first.id,
+        let node = NewNode {
+            kind: line.kind,
+            id: first.id,
             parents,
-            number,
-        );
+        };
+        let added = add_node(&mut self.graph, order, node, number);
         room.recent.keep(first.digits, first.id);
         added
     }
 
     // Takes the line of a ref or of HEAD.
-    fn take_ref(&mut self, alloc: A, line: &[u8], number: usize) -> Result<(), LoadFault>
+    fn take_ref(&mut self, line: &[u8], number: usize) -> Result<(), LoadFault>
         requires due { RefMayCome self.old.stage }
         requires no_node { self.old.stage ≡ Stage.Nodes → IsNoNode line.now }
         ensures ok { ((order : Order) → OnOk result (ComesNext order self.old line.now self.new)) }
@@ -164,24 +154,25 @@ impl<A: Allocator + Copy> Reading<A> {
     {
         text_laws();
         let Some(text) = line.strip_prefix(b"r ") else {
-            return self.take_head(alloc, line, number);
+            return self.take_head(line, number);
         };
         let format = self.graph.format();
-        let Some(parts) = ref_parts(format, text) else {
+        let Some(found) = ref_parts(format, text) else {
             return Err(LoadFault::Text { line: number });
         };
         self.stage = Stage::Refs;
-        add_ref(&mut self.refs, alloc, format, parts.0, parts.1, number)
+        let alloc = self.graph.allocator();
+        add_ref(&mut self.refs, alloc, format, found, number)
     }
 
-    fn take_head(&mut self, alloc: A, line: &[u8], number: usize) -> Result<(), LoadFault>
+    fn take_head(&mut self, line: &[u8], number: usize) -> Result<(), LoadFault>
         requires due { RefMayCome self.old.stage }
         requires no_node { self.old.stage ≡ Stage.Nodes → IsNoNode line.now }
         requires no_ref { IsNoRef line.now }
         ensures ok { ((order : Order) → OnOk result (ComesNext order self.old line.now self.new)) }
         ensures refused { ((order : Order) → IfErr result (RefusesLine order self.old line.now number)) }
     {
-        match head_of(alloc, self.graph.format(), line)? {
+        match head_of(self.graph.allocator(), self.graph.format(), line)? {
             Some(head) => {
                 self.head = head;
                 self.stage = Stage::Last;
@@ -192,21 +183,31 @@ impl<A: Allocator + Copy> Reading<A> {
     }
 }
 
+// The node of a line, whose parents stand in the room.
+#[derive(Clone, Copy)]
+struct NewNode<'a> {
+    kind: Kind,
+    id: Oid,
+    parents: &'a [Oid],
+}
+
 // Adds the node of a line to the graph. Memory is asked for last.
 fn add_node<A: Allocator + Copy>(
     graph: &mut Graph<A>,
-    alloc: A,
     order: Order,
-    kind: Kind,
-    id: Oid,
-    parents: &[Oid],
+    node: NewNode<'_>,
     number: usize,
 ) -> Result<(), LoadFault>
-    requires { HasIdsOf graph.old.format (entry_of {A = A} id (node_of kind parents.now)) }
-    ensures ok { OnOk result (MayFollow order graph.old.format graph.old.entries (entry_of id (node_of kind parents.now))
-        × (graph.new ≡ with_entry graph.old (entry_of id (node_of kind parents.now)))) }
-    ensures refused { IfErr result (RefusesEntry order graph.old (entry_of id (node_of kind parents.now)) number) }
+    requires { HasIdsOf graph.old.format
+        (entry_of {A = A} node.id (node_of node.kind node.parents.now)) }
+    ensures ok { OnOk result (MayFollow order graph.old.format graph.old.entries
+        (entry_of node.entry.id (node_of node.entry.kind node.entry.parents.now))
+        × (graph.new ≡ with_entry graph.old
+        (entry_of node.entry.id (node_of node.entry.kind node.entry.parents.now)))) }
+    ensures refused { IfErr result (RefusesEntry order graph.old
+        (entry_of node.entry.id (node_of node.entry.kind node.entry.parents.now)) number) }
 {
+    let NewNode { kind, id, parents } = node;
     if graph.len() >= MAX_NODES || !is_shaped(kind, parents) || graph.contains(&id) {
         return Err(LoadFault::Text { line: number });
     }
@@ -214,7 +215,7 @@ fn add_node<A: Allocator + Copy>(
     if order == Order::ParentsFirst && !parents_held {
         return Err(LoadFault::ParentLater { line: number });
     }
-    let parents = Parents::from_slice(alloc, parents)?;
+    let parents = Parents::from_slice(graph.allocator(), parents)?;
     let node = Node { kind, parents };
     match graph.push_after(Entry { id, node }, parents_held) {
         Ok(()) => Ok(()),
@@ -237,20 +238,21 @@ fn add_ref<A: Allocator + Copy>(
     refs: &mut Refs<A>,
     alloc: A,
     format: Format,
-    id: Oid,
-    name: &[u8],
+    line: RefLine<'_>,
     number: usize,
 ) -> Result<(), LoadFault>
-    requires id { IsIdOf format id }
-    ensures ok { OnOk result (RefMayFollow format refs.old (name.now, id) × (refs.new ≡ refs.old ++ (name.now, id) ∷ [])) }
-    ensures refused { IfErr result (RefusesRef format refs.old (name.now, id) number) }
+    requires id { IsIdOf format line.id }
+    ensures ok { OnOk result (RefMayFollow format refs.old (line.entry.name.now, line.entry.id)
+        × (refs.new ≡ refs.old ++ (line.entry.name.now, line.entry.id) ∷ [])) }
+    ensures refused { IfErr result
+        (RefusesRef format refs.old (line.entry.name.now, line.entry.id) number) }
 {
-    if refs.len() >= MAX_REFS || !refs.are_below(name) {
+    if refs.len() >= MAX_REFS || !refs.are_below(line.name) {
         return Err(LoadFault::Text { line: number });
     }
-    match name_of(alloc, name)? {
+    match name_of(alloc, line.name)? {
         Some(name) => {
-            refs.push(name, id)?;
+            refs.push(name, line.id)?;
             Ok(())
         }
         None => Err(LoadFault::Text { line: number }),
