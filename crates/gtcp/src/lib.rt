@@ -17,7 +17,8 @@
 //!   memory for its buffers, and nothing came. [`ls_on`] holds a listing likewise, of these prefixes. A host or a path
 //!   that is not well-formed is always refused, and so are more than 64 prefixes.
 //! - [`cmd_ls_remote`] writes the lines of the reply to such a listing and passes them on; or nothing, save where its
-//!   output fails (`specs/Listing.antt`, `Remote.antt`). Too many prefixes are refused before a socket is asked for.
+//!   output fails (`specs/Listing.antt`, `Remote.antt`). More than 64 prefixes are refused as such, or out
+//!   of memory, and not for want of a socket.
 //! - [`read_prefixes`] reads words as prefixes, each as it stands; or it fails at the first that is none, with its fault,
 //!   or at one that can't be kept, out of memory (`specs/Prefixes.antt`).
 //! - [`cmd_fetch_remote`] has a new file only where the refs were settled: then it is the text of the repository as the
@@ -44,9 +45,10 @@
 //! # What the contracts do not rule out
 //!
 //! The bytes of a conversation are some that fit what was answered. No clause says that they are the peer's, nor that a
-//! connection is made, accepted, read or written, nor what a pair's server does. So a body may answer any reply, bring any objects, or call any connection served, where some peer's bytes would lead to
-//! it; and it may send what it likes. It may fail with `Socket` where a connection can be accepted or made, or report
-//! out of memory; and in a pair call a fetch that fails one of a message that is too long, or not.
+//! connection is made, accepted, read or written, nor what a pair's server does. So a body may answer any reply, bring
+//! any objects, or call any connection served, where some peer's bytes would lead to it; and it may send what it likes.
+//! It may fail with `Socket` where a connection can be accepted or made, or report out of memory; and in a pair call a
+//! fetch that fails one of a message that is too long, or not.
 //!
 //! [`serve_listener`] may close any connection unserved, with fault 27, as one whose peer's silence can't be limited,
 //! and accept others between those that it serves. [`cmd_serve`] may listen at another address than it is given, and
