@@ -4,6 +4,7 @@ pub mod ChangeLemmas
 pub mod FetchLemmas
 pub mod FitLemmas
 pub mod FormatLemmas
+pub mod KnownPeels
 pub mod LawLemmas
 pub mod LsBuilding
 pub mod LsLemmas

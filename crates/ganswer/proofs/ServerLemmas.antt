@@ -1,8 +1,8 @@
 -- What is missing of a server's parts.
-use Rattle.std.proofs.Common.{◌≡◌, ℕ, ◌+◌, ◌<◌, zero, suc, List, [], ◌∷◌, ◌++◌, length, get_or, take, drop, sym, ap, ◌∙◌, subst, append_assoc, append-nil, add-one, drop-cons, Some, Err, IsSome, All, Contains}
+use Rattle.std.proofs.Common.{◌≡◌, ℕ, ◌+◌, ◌<◌, zero, suc, List, [], ◌∷◌, ◌++◌, length, get_or, take, drop, sym, ap, ◌∙◌, subst, append_assoc, append-nil, Some, None, All, Contains}
 use Rattle.std.specs.List.{slice_get}
 use Rattle.std.specs.Option.{option_map}
-use Rattle.std.proofs.lemmas.List.{take_more, take-append-drop}
+use Rattle.std.proofs.lemmas.List.{take_more}
 use Rattle.std.proofs.lemmas.List.Concat.{flat_map-append}
 use Rattle.std.proofs.lemmas.List.Elements.{All-append, All-contains, All-map, Contains-append_left, Contains-append_right}
 use Rattle.std.proofs.lemmas.Option.{none-some, same_Some, slice_get_within, get_or_from_slice_get}
@@ -10,13 +10,12 @@ use Rattle.gobject.specs.declared.node.Entry.{Entry}
 use Rattle.gobject.specs.Objects.{node_at, entry_of, IdsDiffer}
 use Rattle.ghistory.proofs.ClosedLemmas.{parents_entry}
 use Rattle.ghistory.proofs.Growing.{at_front}
-use Rattle.ghistory.proofs.Holding.{not_held}
 use Rattle.ghistory.specs.Graphs.{Holds, IsFirstAbsent}
 use Rattle.ghistory.specs.Laws.{PlacesAreNodes}
 use Rattle.ghistory.specs.Reach.{IsClosed}
 use Rattle.grefs.specs.RefLists.{RefList}
 use Rattle.ganswer.specs.Servers.{HoldsRefs, IsFirstDangling, parents_in}
-use Rattle.ganswer.specs.Steps.{ChecksRefs, ReportsRef}
+use Rattle.ganswer.specs.Steps.{MissesRef, ReportsRef}
 use Rattle.ganswer.specs.declared.fault.BuildFault.{BuildFault}
 use Rattle.ganswer.specs.declared.fault.BuildFault.TheVariants as build
 
@@ -75,17 +74,17 @@ module _ {A : Type 0} where
   holds_refs g refs held = All-map (Holds g) (λ (ref : List ℕ × List ℕ). ref.1) refs held
 
   pub first_dangling : (g : List (Entry A)) (refs : RefList) (k : ℕ) (ref : List ℕ × List ℕ) → k < length refs → ref ≡ get_or refs k ref
-      → All (λ (ref : List ℕ × List ℕ). Holds g ref.1) (take k refs) → ¬ (Holds g ref.1) → IsFirstDangling g refs ref.0
+      → All (λ (ref : List ℕ × List ℕ). Holds g ref.1) (take k refs) → node_at g ref.1 ≡ None → IsFirstDangling g refs ref.0
   first_dangling g refs k ref inside is before missing = record {
     front = take k refs;
     id = ref.1;
     back = drop (k + 1) refs;
     parts = at_front refs k ref inside is;
     held = holds_refs g (take k refs) before;
-    absent = not_held g ref.1 missing;
+    absent = missing;
   }
 
-  pub dangling : (g : List (Entry A)) (refs : RefList) (name : List ℕ) (cause : BuildFault A) → IsFirstDangling g refs name → ReportsRef name cause → ChecksRefs g refs (Err cause)
+  pub dangling : (g : List (Entry A)) (refs : RefList) (name : List ℕ) (cause : BuildFault A) → IsFirstDangling g refs name → ReportsRef name cause → MissesRef g refs cause
   dangling g refs name (build.RefMissing missing) first is = subst (IsFirstDangling g refs) (sym is) first
   dangling g refs name build.Memory first is = (name, first)
   dangling g refs name (build.Graph other) first is = absurd is

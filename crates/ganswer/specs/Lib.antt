@@ -4,6 +4,7 @@ pub mod Changes
 pub mod FaultViews
 pub mod Faults
 pub mod FetchAnswers
+pub mod KnownPeels
 pub mod Laws
 pub mod LsAnswers
 pub mod LsBuilding

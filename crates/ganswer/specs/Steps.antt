@@ -6,7 +6,7 @@ use Rattle.ghistory.specs.Graphs.{Holds, IsFirstAbsent}
 use Rattle.grefs.specs.RefLists.{RefList}
 use Rattle.grequest.specs.Asked.{FetchAsked}
 use Rattle.ganswer.specs.FetchAnswers.{FailsToPack, SendsPack}
-use Rattle.ganswer.specs.Servers.{Server, HoldsRefs, IsFirstDangling}
+use Rattle.ganswer.specs.Servers.{Server, IsFirstDangling}
 use Rattle.ganswer.specs.declared.fault.BuildFault.{BuildFault}
 use Rattle.ganswer.specs.declared.fault.BuildFault.TheVariants as build
 use Rattle.ganswer.specs.declared.fault.ServeFault.{ServeFault}
@@ -14,12 +14,11 @@ use Rattle.ganswer.specs.declared.fault.ServeFault.TheVariants as serve
 
 -- ---- making a server
 
--- what looking the refs up answers: the id of each is held, or why there is no such server
-abbrev pub ChecksRefs : {A : Type 0} → List (Entry A) → RefList → Result (Unit {0}) (BuildFault A) → Type 0
-ChecksRefs g refs (Ok _) = HoldsRefs g refs
-ChecksRefs g refs (Err (build.RefMissing name)) = IsFirstDangling g refs name
-ChecksRefs g refs (Err build.Memory) = (name : List ℕ) × IsFirstDangling g refs name
-ChecksRefs g refs (Err _) = ⊥
+-- why looking the refs up finds no server: the id of a ref is not held, the first; for its name it may be out of memory
+abbrev pub MissesRef : {A : Type 0} → List (Entry A) → RefList → BuildFault A → Type 0
+MissesRef g refs (build.RefMissing name) = IsFirstDangling g refs name
+MissesRef g refs build.Memory = (name : List ℕ) × IsFirstDangling g refs name
+MissesRef g refs _ = ⊥
 
 -- the fault of a ref at an id that is not held, or out of memory for its name
 abbrev pub ReportsRef : {A : Type 0} → List ℕ → BuildFault A → Type 0

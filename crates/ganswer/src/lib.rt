@@ -56,6 +56,7 @@ mod fetch;
 pub mod laws;
 mod ls;
 mod one_pack;
+mod peels;
 mod server;
 mod write;
 

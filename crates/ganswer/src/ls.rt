@@ -1,20 +1,21 @@
 //! What ls-refs answers (gitprotocol-v2(5), "ls-refs").
 
-ghost use Rattle.std.specs.Prelude.{◌≡◌, ◌∷◌, ◌++◌, [], nat_eq, IfOk, IfErr, OnOk};
+ghost use Rattle.std.specs.Prelude.{◌≡◌, ◌∷◌, ◌++◌, [], nat_eq, IfOk, IfErr, IfSome, OnOk};
 ghost use Rattle.std.specs.List.{list_any, starts_with};
 ghost use Rattle.std.specs.Option.{option_copied};
 ghost use Rattle.ggrammar.specs.declared.fault.Why.TheVariants as why;
 ghost use Rattle.glsreply.specs.LentViews.{lent_view};
 ghost use Rattle.grefs.specs.RefLists.{RefList};
-ghost use Rattle.ganswer.specs.LsAnswers.{IsPeeled, IsPeeledIf, LsAnswer, ShowsLines, all_refs, head_id, head_ref, is_asked, missing_target, symref_of, target_of, unborn_of};
+ghost use Rattle.ganswer.specs.LsAnswers.{IsPeeled, LsAnswer, ShowsLines, all_refs, head_id, head_ref, is_asked, missing_target, symref_of, target_of, unborn_of};
 ghost use Rattle.ganswer.specs.LsBuilding.{IsAnswering, IsNextRef, line_list};
 ghost use Rattle.ganswer.specs.declared.fault.ServeFault.TheVariants.{Memory};
 
 use crate::fault::ServeFault;
+use crate::peels::peeled_if;
 use crate::server::Server;
 use ggrammar::MessageFault;
+use ggraph::Head;
 use ggraph::graph_laws::places_are_nodes;
-use ggraph::{Graph, Head, Kind};
 use glsreply::{LentLine, LsReply, RefLine};
 use gname::laws::ids_have_one_format;
 use gname::{Oid, Prefix, RefName};
@@ -52,7 +53,7 @@ impl<A: Allocator + Copy> Server<A> {
         ensures fault { IfErr result (λ fault. fault ≡ Memory) }
     {
         match self.head_id() {
-            Some(id) => self.add_line(asked, self.name_of_head(), id, reply),
+            Some(id) => self.add_line(asked, self.name_of_head(), id, None, reply),
             None => Ok(()),
         }
     }
@@ -69,21 +70,24 @@ impl<A: Allocator + Copy> Server<A> {
         ensures all { OnOk result (IsAnswering self.now asked.now (all_refs self.now) reply.new) }
         ensures fault { IfErr result (λ fault. fault ≡ Memory) }
     {
-        for reference in refs {
-            self.add_line(asked, &reference.0, reference.1, reply)?;
+        for (place, reference) in refs.iter().enumerate() {
+            let known = self.peeled_at(place);
+            self.add_line(asked, &reference.0, reference.1, known, reply)?;
         }
         Ok(())
     }
 
-    // Adds the line of a ref, where it is asked for.
+    // Adds the line of a ref, where it is asked for. What the id peels to may be known.
     fn add_line(
         &self,
         asked: &LsRefsRequest<A>,
         name: &RefName<A>,
         id: Oid,
+        known: Option<Option<Oid>>,
         reply: &mut LsReply<A>,
     ) -> Result<(), ServeFault>
-        requires { IsNextRef self.now asked.now (name.now, id) reply.old }
+        requires next { IsNextRef self.now asked.now (name.now, id) reply.old }
+        requires known { IfSome known (IsPeeled self.now.graph.entries id) }
         ensures added { OnOk result ((front : RefList) → IsAnswering self.now asked.now front reply.old
             → IsAnswering self.now asked.now (front ++ (name.now, id) ∷ []) reply.new) }
         ensures fault { IfErr result (λ fault. fault ≡ Memory) }
@@ -92,7 +96,7 @@ impl<A: Allocator + Copy> Server<A> {
         places_are_nodes::<A>();
         ids_have_one_format();
         let _refs = self.refs();
-        let Some(line) = self.line(asked, name, id) else {
+        let Some(line) = self.line(asked, name, id, known) else {
             return Ok(());
         };
         let line = own_line(line)?;
@@ -102,13 +106,15 @@ impl<A: Allocator + Copy> Server<A> {
         }
     }
 
-    // The line of a ref with the attributes that are asked for, where it is asked for.
+    // The line of a ref with the attributes asked for, where it is asked for. What the id peels to may be known.
     pub(crate) fn line<'a>(
         &'a self,
         asked: &LsRefsRequest<A>,
         name: &'a RefName<A>,
         id: Oid,
+        known: Option<Option<Oid>>,
     ) -> Option<LentLine<'a, A>>
+        requires { IfSome known (IsPeeled self.now.graph.entries id) }
         ensures { ShowsLines self.now asked.now ((name.now, id) ∷ []) (line_list result) }
     {
         if !is_asked(asked.prefixes(), name) {
@@ -118,7 +124,7 @@ impl<A: Allocator + Copy> Server<A> {
             id,
             name,
             symref: self.symref(asked, name),
-            peeled: peeled_if(asked.peel(), self.graph(), &id),
+            peeled: peeled_if(asked.peel(), self.graph(), &id, known),
         })
     }
 
@@ -191,23 +197,6 @@ fn own_line<A: Allocator + Copy>(line: LentLine<'_, A>) -> Result<RefLine<A>, Al
         symref,
         peeled: line.peeled,
     })
-}
-
-// The commit to which the tag leads, where it is asked for.
-fn peeled_if<A: Allocator + Copy>(is_asked: bool, graph: &Graph<A>, id: &Oid) -> Option<Oid>
-    ensures { IsPeeledIf is_asked graph.now.entries id.now result }
-{
-    if is_asked { peeled(graph, id) } else { None }
-}
-
-// The commit to which a tag leads, and nothing for other objects.
-fn peeled<A: Allocator + Copy>(graph: &Graph<A>, id: &Oid) -> Option<Oid>
-    ensures { IsPeeled graph.now.entries id.now result }
-{
-    match graph.node(id)?.kind {
-        Kind::Tag => graph.peel(id),
-        Kind::Commit => None,
-    }
 }
 
 // Whether the name begins with one of the prefixes, or there is none.

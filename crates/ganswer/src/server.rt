@@ -1,16 +1,19 @@
 //! The repository that is served, and its changes.
 
-ghost use Rattle.std.specs.Prelude.{◌≡◌, ◌↔◌, IsTrue, MatchOption, MatchResult, All, None};
+ghost use Rattle.std.specs.Prelude.{◌≡◌, ◌↔◌, ℕ, List, slice_get, IfOk, IfSome, IsTrue, MatchOption, MatchResult, All, None, Some};
 ghost use Rattle.gobject.specs.Objects.{node_at};
 ghost use Rattle.ghistory.specs.Graphs.{Holds, IsFirstAbsent};
 ghost use Rattle.ghistory.specs.Reach.{Grows, IsClosed};
 ghost use Rattle.grefs.specs.RefLists.{IsRefs};
 ghost use Rattle.ganswer.specs.Changes.{Adds, Sets, SetsHead};
-ghost use Rattle.ganswer.specs.Servers.{HoldsHead, IsServer, IsUnserved, Makes, PointsBelowRefs, parents_in, served};
-ghost use Rattle.ganswer.specs.Steps.{ChecksRefs, ReportsRef};
+ghost use Rattle.ganswer.specs.KnownPeels.{KnowsPeels};
+ghost use Rattle.ganswer.specs.LsAnswers.{IsPeeled};
+ghost use Rattle.ganswer.specs.Servers.{HoldsHead, HoldsRefs, IsServer, IsUnserved, Makes, PointsBelowRefs, parents_in, served};
+ghost use Rattle.ganswer.specs.Steps.{MissesRef, ReportsRef};
 ghost use Rattle.gname.specs.Names.{head_name};
 
 use crate::fault::BuildFault;
+use crate::peels::{keep_peeled, look_up, no_peels};
 use ggraph::graph_laws::{closed_stays, ordered_is_closed, places_are_nodes};
 use ggraph::{Entry, Graph, Head, Refs};
 use gname::{Oid, RefName};
@@ -26,18 +29,22 @@ pub struct Server<A: Allocator + Copy = Global> {
     head: Head<A>,
     // The name HEAD, which answers lend.
     name_of_head: RefName<A>,
+    // What the ids of the refs peel to where they are those of tags, in the order of the refs, so that a request for it
+    // looks up no object; or nothing, where there was no memory for that, or a ref was set.
+    peels: Vec<Option<Oid>, A>,
 }
 
 impl<A: Allocator + Copy> Model for Server<A> {
     ghost use Rattle.std.specs.Prelude.{◌≡◌};
     ghost use Rattle.gname.specs.Names.{head_name};
+    ghost use Rattle.ganswer.specs.KnownPeels.{KnowsPeels};
     ghost use Rattle.ganswer.specs.Servers.{Server, IsServer};
 
     ghost Value = { Server A };
 
     ghost view = { λ server. record { graph = server.graph; refs = server.refs; head = server.head } };
 
-    ghost invariant = { λ server. IsServer (record { graph = server.graph; refs = server.refs; head = server.head }) × (server.name_of_head ≡ head_name) };
+    ghost invariant = { λ server. IsServer (record { graph = server.graph; refs = server.refs; head = server.head }) × (server.name_of_head ≡ head_name) × KnowsPeels server.graph.entries server.refs server.peels.items };
 }
 
 impl<A: Allocator + Copy> Server<A> {
@@ -50,13 +57,14 @@ impl<A: Allocator + Copy> Server<A> {
     pub fn new(graph: Graph<A>, refs: Refs<A>, head: Head<A>) -> Result<Server<A>, BuildFault<A>>
         ensures { Makes (served graph refs head) result }
     {
-        check_parts(&graph, &refs, &head)?;
+        let peels = check_parts(&graph, &refs, &head)?;
         let name_of_head = RefName::head(graph.allocator())?;
         Ok(Server {
             graph,
             refs,
             head,
             name_of_head,
+            peels,
         })
     }
 
@@ -117,7 +125,10 @@ impl<A: Allocator + Copy> Server<A> {
             return Err(BuildFault::RefMissing { name });
         }
         match self.refs.set(name, id) {
-            Ok(()) => Ok(()),
+            Ok(()) => {
+                self.peels = Vec::new(self.graph.allocator());
+                Ok(())
+            }
             Err(cause) => Err(BuildFault::Refs(cause)),
         }
     }
@@ -144,15 +155,24 @@ impl<A: Allocator + Copy> Server<A> {
     {
         &self.name_of_head
     }
+
+    // What the id of the ref at a position peels to where it is that of a tag, if that is known.
+    pub(crate) fn peeled_at(&self, place: usize) -> Option<Option<Oid>>
+        ensures { (ref : List ℕ × List ℕ) → slice_get self.now.refs place ≡ Some ref
+            → IfSome result (IsPeeled self.now.graph.entries ref.1) }
+    {
+        self.peels.get(place).copied()
+    }
 }
 
-// Whether nothing is missing of these parts.
+// Whether nothing is missing of these parts, and what the ids of the refs peel to.
 fn check_parts<A: Allocator + Copy>(
     graph: &Graph<A>,
     refs: &Refs<A>,
     head: &Head<A>,
-) -> Result<(), BuildFault<A>>
-    ensures { let parts = served graph.now refs.now head.now in MatchResult result (λ _. IsServer parts) (IsUnserved parts) }
+) -> Result<Vec<Option<Oid>, A>, BuildFault<A>>
+    ensures parts { let parts = served graph.now refs.now head.now in MatchResult result (λ _. IsServer parts) (IsUnserved parts) }
+    ensures peels { IfOk result (λ peels. KnowsPeels graph.now.entries refs.now peels.items) }
 {
     // Laws.
     let _objects = graph.len();
@@ -160,9 +180,9 @@ fn check_parts<A: Allocator + Copy>(
     if let Some(id) = missing_parent(graph) {
         return Err(BuildFault::NotClosed { id });
     }
-    check_refs(graph, refs.as_slice())?;
+    let peels = check_refs(graph, refs.as_slice())?;
     if holds_head(graph, head) {
-        Ok(())
+        Ok(peels)
     } else {
         Err(BuildFault::HeadMissing)
     }
@@ -196,19 +216,22 @@ fn first_missing_parent<A: Allocator + Copy>(graph: &Graph<A>) -> Option<Oid>
     None
 }
 
-// Whether the id of each ref is held.
+// Whether the id of each ref is held, and what it peels to where there is memory for that.
 fn check_refs<A: Allocator + Copy>(
     graph: &Graph<A>,
     refs: &[(RefName<A>, Oid)],
-) -> Result<(), BuildFault<A>>
-    ensures { ChecksRefs graph.now.entries refs.now result }
+) -> Result<Vec<Option<Oid>, A>, BuildFault<A>>
+    ensures held { MatchResult result (λ _. HoldsRefs graph.now.entries refs.now) (MissesRef graph.now.entries refs.now) }
+    ensures peels { IfOk result (λ peels. KnowsPeels graph.now.entries refs.now peels.items) }
 {
-    for reference in refs {
-        if !graph.contains(&reference.1) {
+    let mut peels = no_peels(graph.allocator(), refs.len());
+    for (place, reference) in refs.iter().enumerate() {
+        let Some(peeled) = look_up(graph, &reference.1) else {
             return Err(ref_missing(&reference.0));
-        }
+        };
+        keep_peeled(&mut peels, place, peeled);
     }
-    Ok(())
+    Ok(peels)
 }
 
 // The fault of a ref of this name, or out of memory for the name.

@@ -1,19 +1,20 @@
 //! Writing an answer to ls-refs line by line, with names that the server lends.
 
-ghost use Rattle.std.specs.Prelude.{◌≡◌, ◌∷◌, ◌++◌, [], List, map};
+ghost use Rattle.std.specs.Prelude.{◌∷◌, ◌++◌, [], List, map};
+ghost use Rattle.std.specs.Option.{option_copied};
 ghost use Rattle.gpkt.specs.Packets.{Flush};
 ghost use Rattle.ggrammar.specs.Endings.{ends_with};
 ghost use Rattle.ggrammar.specs.Writing.{WritesLines, WritesPart};
 ghost use Rattle.glsreply.specs.LsReplies.{LsReply, canonical_reply, ref_packet};
 ghost use Rattle.glsreply.specs.RefTexts.{RefLine};
 ghost use Rattle.ganswer.specs.LsAnswers.{LsAnswer, ShowsLines, all_refs, head_id, head_ref};
+ghost use Rattle.ganswer.specs.LsBuilding.{line_list};
 
 use crate::server::Server;
 use ggrammar::Ends;
 use ggrammar::laws::writes_lines;
 use ggraph::graph_laws::peels_to_one;
-use glsreply::{RefText, write_end, write_ref, write_unborn};
-use gname::{Oid, RefName};
+use glsreply::{LentLine, RefText, write_end, write_ref, write_unborn};
 use gpkt::{LineWriter, Sink, WriteFault};
 use grequest::LsRefsRequest;
 use std::alloc::Allocator;
@@ -54,7 +55,7 @@ impl<A: Allocator + Copy> Server<A> {
         writes_lines::<W>();
         let mut text = RefText::new();
         self.write_head(asked, &mut text, writer)?;
-        self.write_refs(asked, self.refs().as_slice(), &mut text, writer)?;
+        self.write_refs(asked, &mut text, writer)?;
         write_end(ends, writer)
     }
 
@@ -72,7 +73,10 @@ impl<A: Allocator + Copy> Server<A> {
         writes_lines::<W>();
         peels_to_one::<A>();
         match self.head_id() {
-            Some(id) => self.write_line(asked, self.name_of_head(), id, text, writer),
+            Some(id) => {
+                let line = self.line(asked, self.name_of_head(), id, None);
+                write_line(line.as_ref(), text, writer)
+            }
             None => Ok(()),
         }
     }
@@ -81,40 +85,36 @@ impl<A: Allocator + Copy> Server<A> {
     fn write_refs<W: Sink>(
         &self,
         asked: &LsRefsRequest<A>,
-        refs: &[(RefName<A>, Oid)],
         text: &mut RefText,
         writer: &mut LineWriter<W>,
     ) -> Result<(), WriteFault>
-        ensures { (lines : List RefLine) → ShowsLines self.now asked.now refs.now lines
+        ensures { (lines : List RefLine) → ShowsLines self.now asked.now self.now.refs lines
             → WritesPart W.contents W.passed_on W.is_down W.loans writer.old writer.new result (map ref_packet lines) }
     {
         // Laws.
         writes_lines::<W>();
         peels_to_one::<A>();
-        for reference in refs {
-            self.write_line(asked, &reference.0, reference.1, text, writer)?;
+        for (place, reference) in self.refs().as_slice().iter().enumerate() {
+            let known = self.peeled_at(place);
+            let line = self.line(asked, &reference.0, reference.1, known);
+            write_line(line.as_ref(), text, writer)?;
         }
         Ok(())
     }
+}
 
-    // Writes the line of a ref, where it is asked for.
-    fn write_line<W: Sink>(
-        &self,
-        asked: &LsRefsRequest<A>,
-        name: &RefName<A>,
-        id: Oid,
-        text: &mut RefText,
-        writer: &mut LineWriter<W>,
-    ) -> Result<(), WriteFault>
-        ensures { (lines : List RefLine) → ShowsLines self.now asked.now ((name.now, id) ∷ []) lines
-            → WritesPart W.contents W.passed_on W.is_down W.loans writer.old writer.new result (map ref_packet lines) }
-    {
-        // Laws.
-        writes_lines::<W>();
-        peels_to_one::<A>();
-        match self.line(asked, name, id) {
-            Some(line) => write_ref(&line, text, writer),
-            None => Ok(()),
-        }
+// Writes a line, where there is one.
+fn write_line<A: Allocator + Copy, W: Sink>(
+    line: Option<&LentLine<'_, A>>,
+    text: &mut RefText,
+    writer: &mut LineWriter<W>,
+) -> Result<(), WriteFault>
+    ensures { WritesPart W.contents W.passed_on W.is_down W.loans writer.old writer.new result (map ref_packet (line_list (option_copied line.entry))) }
+{
+    // Laws.
+    writes_lines::<W>();
+    match line {
+        Some(line) => write_ref(line, text, writer),
+        None => Ok(()),
     }
 }

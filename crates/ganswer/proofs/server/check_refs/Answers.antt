@@ -1,25 +1,34 @@
-use Rattle.std.proofs.Common.{ℕ, List, ◌≤◌, length, sym, subst, ◌∙◌, arith}
-use Rattle.std.proofs.lemmas.Bool.{false≢true}
+use Rattle.std.proofs.Common.{ℕ, List, ◌≤◌, length, refl, subst, arith}
 use Rattle.std.proofs.lemmas.List.{take_all}
 use Rattle.std.proofs.lemmas.List.Elements.{All-more}
+use Rattle.std.proofs.lemmas.Option.{slice_get_read}
 use Rattle.ghistory.specs.Graphs.{Holds}
+use Rattle.ganswer.proofs.KnownPeels.{knows_next}
 use Rattle.ganswer.proofs.ServerLemmas.{dangling, first_dangling, holds_refs}
 use Rattle.ganswer.proofs.server.check_refs.Goals as goal
 
-pub returns-then-not-contains : goal.returns-then-not-contains
-returns-then-not-contains g c =
-    dangling c.args.graph.now.entries c.args.refs.now c.reference-item.result.0 c.ref_missing.result
-    (first_dangling c.args.graph.now.entries c.args.refs.now c.loop-reference.reference-index c.reference-item.result c.loop-reference-test.true c.reference-item.is
-    c.loop-reference.invariant (λ h. false≢true (sym c.if-not-contains.true ∙ c.contains.ensures.1 h)))
+pub returns-in_default-clause-held : goal.returns-in_default-clause-held
+returns-in_default-clause-held g c =
+    let entries = c.args.graph.now.entries in
+    let refs = c.args.refs.now in
+    let ref : List ℕ × List ℕ = c.index-refs-place.result in
+    dangling entries refs ref.0 c.ref_missing.result
+    (first_dangling entries refs c.loop-place.place ref c.loop-place-test.true c.index-refs-place.is c.loop-place.invariant.0 c.in_default.ensures)
     c.ref_missing.ensures
 
-pub loop-reference-preserved : goal.loop-reference-preserved
-loop-reference-preserved g c =
-    let P : List ℕ × List ℕ → Type 0 = λ ref. Holds c.args.graph.now.entries ref.1 in
-    All-more P c.args.refs.now c.loop-reference.reference-index c.reference-item.result c.loop-reference-test.true c.loop-reference.invariant
-    (subst P c.reference-item.is (c.contains.ensures.0 c.if-not-contains.false))
+pub loop-place-preserved : goal.loop-place-preserved
+loop-place-preserved g c =
+    let entries = c.args.graph.now.entries in
+    let refs : List (List ℕ × List ℕ) = c.args.refs.now in
+    let place = c.loop-place.place in
+    let ref : List ℕ × List ℕ = c.index-refs-place.result in
+    let P : List ℕ × List ℕ → Type 0 = λ ref. Holds entries ref.1 in (
+      All-more P refs place ref c.loop-place-test.true c.loop-place.invariant.0 (subst P c.index-refs-place.is c.in-Some.ensures.0),
+      knows_next entries refs c.loop-place.peels.items c.keep_peeled.new.peels.items place ref c.in-Some.peeled c.loop-place.invariant.1
+          (slice_get_read refs (length refs) place ref refl c.loop-place-test.true c.index-refs-place.is) c.in-Some.ensures.1 c.keep_peeled.ensures,
+    )
 
-pub returns : goal.returns
-returns g c =
-    let past : length c.args.refs.now ≤ c.loop-reference.reference-index = omega (arith, c.loop-reference-test.false) in
-    holds_refs c.args.graph.now.entries c.args.refs.now (rw (take_all c.loop-reference.reference-index c.args.refs.now past) at c.loop-reference.invariant)
+pub returns-clause-held : goal.returns-clause-held
+returns-clause-held g c =
+    let past : length c.args.refs.now ≤ c.loop-place.place = omega (arith, c.loop-place-test.false) in
+    holds_refs c.args.graph.now.entries c.args.refs.now (rw (take_all c.loop-place.place c.args.refs.now past) at c.loop-place.invariant.0)

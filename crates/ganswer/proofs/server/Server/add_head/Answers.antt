@@ -1,8 +1,8 @@
 use Rattle.ganswer.proofs.LsBuilding.{head_added, head_next}
 use Rattle.ganswer.proofs.server.Server.add_head.Goals as goal
 
-pub add_line-requires : goal.add_line-requires
-add_line-requires g c =
+pub add_line-requires-clause-next : goal.add_line-requires-clause-next
+add_line-requires-clause-next g c =
     head_next c.args.self.now c.args.asked.now c.name_of_head.result.now c.in-Some.id c.args.reply.now c.name_of_head.ensures c.in-Some.ensures c.requires
 
 pub returns-in-Some-clause-head : goal.returns-in-Some-clause-head

@@ -3,6 +3,6 @@ use Rattle.ganswer.specs.LsAnswers.{head_id, head_ref}
 use Rattle.ganswer.specs.LsBuilding.{IsAnswering}
 use Rattle.ganswer.proofs.server.Server.add_refs.Given as goal
 
-abbrev pub invariant-loop-reference : goal.invariant-loop-reference
-invariant-loop-reference g l =
-    IsAnswering l.self l.asked (head_ref (head_id l.self.head l.self.refs) ++ take l.reference-index l.self.refs) l.reply
+abbrev pub invariant-loop-place : goal.invariant-loop-place
+invariant-loop-place g l =
+    IsAnswering l.self l.asked (head_ref (head_id l.self.head l.self.refs) ++ take l.place l.self.refs) l.reply

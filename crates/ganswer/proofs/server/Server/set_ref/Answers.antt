@@ -1,4 +1,7 @@
+use Rattle.std.proofs.Common.{sym, subst}
+use Rattle.ganswer.specs.KnownPeels.{KnowsPeels}
 use Rattle.ganswer.proofs.ChangeLemmas.{with_ref_or_same}
+use Rattle.ganswer.proofs.KnownPeels.{knows_none}
 use Rattle.ganswer.proofs.server.Server.set_ref.Goals as goal
 
 pub invariant_of-self : goal.invariant_of-self
@@ -7,10 +10,11 @@ invariant_of-self g c =
       with_ref_or_same inside.graph inside.refs c.set.new.self inside.head c.args.name c.args.id c.self.invariant.0
           (c.contains.ensures.0 c.if-not-contains.false) c.set.result c.set.ensures.ok c.set.ensures.err c.set.ensures.refs,
       c.self.invariant.1,
+      subst (KnowsPeels inside.graph.entries c.set.new.self) (sym c.new.ensures.items) (knows_none inside.graph.entries c.set.new.self),
     )
 
-pub returns-clause-server : goal.returns-clause-server
-returns-clause-server g c =
+pub returns-in-Ok-clause-server : goal.returns-in-Ok-clause-server
+returns-in-Ok-clause-server g c =
     let inside = c.self.inside in
     with_ref_or_same inside.graph inside.refs c.set.new.self inside.head c.args.name c.args.id c.self.invariant.0
     (c.contains.ensures.0 c.if-not-contains.false) c.set.result c.set.ensures.ok c.set.ensures.err c.set.ensures.refs

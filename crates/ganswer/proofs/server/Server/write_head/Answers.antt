@@ -1,9 +1,10 @@
 use Rattle.std.proofs.Common.{ℕ, List, [], ◌∷◌, map, sym, ap, ◌∙◌, subst}
-use Rattle.ggrammar.specs.Writing.{IsWriting}
+use Rattle.ggrammar.specs.Writing.{IsWriting, WritesPart}
 use Rattle.grefs.specs.RefLists.{RefList}
 use Rattle.glsreply.specs.LsReplies.{ref_packet}
 use Rattle.glsreply.specs.RefTexts.{RefLine}
 use Rattle.ganswer.specs.LsAnswers.{ShowsLines, head_ref}
+use Rattle.ganswer.specs.LsBuilding.{line_list}
 use Rattle.ganswer.proofs.LsLemmas.{one_list, shows_none}
 use Rattle.ganswer.proofs.server.Server.write_head.Goals as goal
 
@@ -11,7 +12,10 @@ pub returns-in-Some : goal.returns-in-Some
 returns-in-Some g c =
     λ lines shows.
     let refs = ap head_ref (sym c.in-Some.ensures) ∙ ap (λ (n : List ℕ). (n, c.in-Some.id) ∷ []) (sym c.name_of_head.ensures) in
-    c.write_line.ensures lines (subst (λ (r : RefList). ShowsLines c.args.self.now c.args.asked.now r lines) refs shows)
+    let here = subst (λ (r : RefList). ShowsLines c.args.self.now c.args.asked.now r lines) refs shows in
+    let same = one_list c.args.self.now c.args.asked.now c.peels_to_one.ensures ((c.name_of_head.result.now, c.in-Some.id) ∷ []) lines (line_list c.line-line.result) here c.line-line.ensures in
+    subst (λ (l : List RefLine). WritesPart g.W.Sink.contents g.W.Sink.passed_on g.W.Sink.is_down g.W.Sink.loans c.args.writer.now c.write_line.new.writer c.write_line.result (map ref_packet l))
+    (ap line_list c.as_ref.ensures.value ∙ sym same) c.write_line.ensures
 
 pub returns-in-None : goal.returns-in-None
 returns-in-None g c =

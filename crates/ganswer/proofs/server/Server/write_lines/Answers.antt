@@ -1,7 +1,6 @@
-use Rattle.std.proofs.Common.{map, refl, sym, ◌∙◌, subst}
-use Rattle.grefs.specs.RefLists.{RefList}
+use Rattle.std.proofs.Common.{map, refl}
 use Rattle.glsreply.specs.LsReplies.{ref_packet}
-use Rattle.ganswer.specs.LsAnswers.{ShowsLines, head_id, head_ref}
+use Rattle.ganswer.specs.LsAnswers.{head_id, head_ref}
 use Rattle.ganswer.proofs.LsLemmas.{split}
 use Rattle.ganswer.proofs.LsWriting.{ending, lines_and_ending, two_parts}
 use Rattle.ganswer.proofs.server.Server.write_lines.Goals as goal
@@ -25,9 +24,8 @@ returns-in_err-write_refs g c =
     let all = lines_and_ending c.args.ends lines in
     let after = law.after_part _ _ _ all all (map ref_packet parts.first) (lines_and_ending c.args.ends parts.second) (law.starts _ all)
     (two_parts c.args.ends lines parts.first parts.second parts.parts) (c.in_ok-write_head.ensures parts.first parts.left) in
-    let right = subst (λ (r : RefList). ShowsLines server c.args.asked.now r parts.second) (sym (c.as_slice.ensures.refs ∙ c.refs.ensures.refs)) parts.right in
     law.fails _ _ _ all (lines_and_ending c.args.ends parts.second) (map ref_packet parts.second) (ending c.args.ends) _ _ after refl
-    (c.in_err-write_refs.ensures parts.second right) c.from_residual-in_err-write_refs.ensures.1
+    (c.in_err-write_refs.ensures parts.second parts.right) c.from_residual-in_err-write_refs.ensures.1
 
 pub returns : goal.returns
 returns g c =
@@ -38,7 +36,6 @@ returns g c =
     let all = lines_and_ending c.args.ends lines in
     let after = law.after_part _ _ _ all all (map ref_packet parts.first) (lines_and_ending c.args.ends parts.second) (law.starts _ all)
     (two_parts c.args.ends lines parts.first parts.second parts.parts) (c.in_ok-write_head.ensures parts.first parts.left) in
-    let right = subst (λ (r : RefList). ShowsLines server c.args.asked.now r parts.second) (sym (c.as_slice.ensures.refs ∙ c.refs.ensures.refs)) parts.right in
     law.ends _ _ _ all (ending c.args.ends) _
-    (law.after_part _ _ _ all (lines_and_ending c.args.ends parts.second) (map ref_packet parts.second) (ending c.args.ends) after refl (c.in_ok-write_refs.ensures parts.second right))
+    (law.after_part _ _ _ all (lines_and_ending c.args.ends parts.second) (map ref_packet parts.second) (ending c.args.ends) after refl (c.in_ok-write_refs.ensures parts.second parts.right))
     c.write_end.ensures

@@ -1,12 +1,13 @@
-use Rattle.std.proofs.Common.{◌≡◌, ℕ, zero, suc, List, Option, Some, None, sym, ap, ◌∙◌}
+use Rattle.std.proofs.Common.{◌≡◌, ℕ, zero, suc, List, Option, Some, None, IsSome, refl, sym, subst, ap, ◌∙◌}
 use Rattle.std.specs.Option.{IfSome}
 use Rattle.gobject.specs.declared.node.Kind.TheVariants.{Tag}
 use Rattle.gobject.specs.declared.node.Node.{Node}
 use Rattle.gobject.specs.declared.node.Entry.{Entry}
 use Rattle.gobject.specs.Objects.{node_at}
+use Rattle.ghistory.specs.Graphs.{Holds}
 use Rattle.ghistory.specs.Peeling.{PeelsTo}
 use Rattle.ganswer.specs.LsAnswers.{IsPeeled, TagPeelsTo}
-use Rattle.ganswer.proofs.ls.peeled.Goals as goal
+use Rattle.ganswer.proofs.peels.look_up.Goals as goal
 
 tag_peels : {A : Type 0} (g : List (Entry A)) (id : List ℕ) (node : Node A) → node_at g id ≡ Some node → node.kind ≡ Tag → (commit : List ℕ) → PeelsTo g id commit → TagPeelsTo g id commit
 tag_peels g id node held tag commit (zero, same, is) =
@@ -18,8 +19,14 @@ tag_peels g id node held tag commit (suc m, (next, first, rest), is) = record { 
 
 is_peeled : {A : Type 0} (g : List (Entry A)) (id : List ℕ) (node : Node A) → node_at g id ≡ Some node → node.kind ≡ Tag → (peeled : Option (List ℕ)) → IfSome peeled (PeelsTo g id)
     → ((commit : List ℕ) → PeelsTo g id commit → peeled ≡ Some commit) → IsPeeled g id peeled
-is_peeled g id node held tag None found only = λ commit leads. let e = only commit leads.peels in cc
-is_peeled g id node held tag (Some commit) found only = tag_peels g id node held tag commit found
+is_peeled g id node held tag None leads only = λ commit other. let e = only commit other.peels in cc
+is_peeled g id node held tag (Some commit) leads only = tag_peels g id node held tag commit leads
+
+found : {A : Type 0} (g : List (Entry A)) (id : List ℕ) (node : Node A) → Some node ≡ node_at g id → node.kind ≡ Tag → (peeled : Option (List ℕ)) → IfSome peeled (PeelsTo g id)
+    → ((commit : List ℕ) → PeelsTo g id commit → peeled ≡ Some commit) → Holds g id × IsPeeled g id peeled
+found {A} g id node held tag peeled leads only =
+    (subst (λ (o : Option (Node A)). IsSome o) held refl, is_peeled g id node (sym held) tag peeled leads only)
 
 pub returns-in-Tag : goal.returns-in-Tag
-returns-in-Tag g c = is_peeled c.args.graph.now.entries c.args.id.now c.in_ok-node.field-0.now (sym c.in_ok-node.ensures) c.in-Tag.is c.peel.result c.peel.ensures.found c.peel.ensures.only
+returns-in-Tag g c =
+    found c.args.graph.now.entries c.args.id.now c.in_ok-node.field-0.now c.in_ok-node.ensures c.in-Tag.is c.peel.result c.peel.ensures.found c.peel.ensures.only
