@@ -18,6 +18,7 @@
 //! - A conversation asks for objects at most once more than there are ids that the refs reached when it began, also
 //!   where it fails; the rounds that its session counts are these requests ([`laws`]). So it ends where each call of
 //!   its devices returns, whatever the server says.
+//! - [`send_request`] writes a request and passes it on, for those who hold another conversation.
 //! - Each fault has the number, the name and the text of its row.
 //!
 //! # Only tested
@@ -50,6 +51,7 @@ mod turn;
 pub use crate::conversation::fetch_over;
 pub use crate::fault::FetchFault;
 pub use crate::fetched::Fetched;
+pub use crate::send::send_request;
 pub use grepo::{Ask, Asks, RefUpdate, Repo, RepoFault};
 pub use gsession::{ClientFault, LsTaken, MAX_SPECS, Session, Settled, Taken};
 pub use gspec::{Spec, SpecFault};

@@ -1,4 +1,4 @@
-//! What is written and passed on.
+//! Requests, written and passed on.
 #![tactic(auto)]
 
 ghost use Rattle.std.specs.Prelude.{◌≡◌, false, OnOk};
@@ -13,8 +13,11 @@ use gpkt::{LineWriter, Sink, WriteFault};
 use grequest::{Request, write_request};
 use std::alloc::Allocator;
 
-/// Writes a request, and passes it on. It leaves the writer well, or its sink is down.
-pub(crate) fn send_request<W: Sink, A: Allocator + Copy>(
+/// Writes a request in its one spelling (gitprotocol-v2(5), "Command Request"), and passes it on.
+///
+/// The writer has not failed, and the ids of the request are of the format. It fails where the sink is down; a beginning
+/// of the request stands written then, and the writer takes no more.
+pub fn send_request<W: Sink, A: Allocator + Copy>(
     request: &Request<A>,
     format: Format,
     writer: &mut LineWriter<W>,

@@ -6,8 +6,7 @@ ghost use Rattle.gconnect.specs.Listings.{Lists, ListsGit};
 ghost use Rattle.gconnect.specs.Steps.{FitsFormat, HearsServer};
 
 use crate::greeting::greet;
-use crate::request_line::send_request;
-use gclient::FetchFault;
+use gclient::{FetchFault, send_request};
 use ggrammar::{Ends, MessageFault};
 use ghello::{Advert, Hello, read_advert};
 use glsreply::{LsReply, read_ls_reply_in};
