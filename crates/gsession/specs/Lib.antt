@@ -1,4 +1,5 @@
 pub mod Sessions
+pub mod Keeping
 pub mod Asking
 pub mod Requesting
 pub mod TakingRefs
