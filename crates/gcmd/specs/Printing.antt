@@ -62,10 +62,6 @@ row_view row = record {
 abbrev pub max_decimal : ℕ
 max_decimal = 20
 
--- the most digits of an id
-abbrev pub max_id_text : ℕ
-max_id_text = 64
-
 -- the most bytes of a fault's name
 abbrev pub max_fault_name : ℕ
 max_fault_name = 32

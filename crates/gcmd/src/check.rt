@@ -6,11 +6,12 @@ ghost use Rattle.gcmd.specs.Programs.{Runs};
 ghost use Rattle.gpkt.specs.Sending.{output_of};
 ghost use Rattle.gcmd.specs.Outputs.{IsSent};
 
-use crate::compose::{add, add_number};
+use crate::compose::add_number;
 use crate::fault::ProgramFault;
 use crate::program::finish;
 use crate::send::send;
 use arrayvec::ArrayVec;
+use ggrammar::compose::add;
 use ggraph::{GraphFault, Order, Repository, is_safe, load};
 use gpkt::{Down, Sink};
 use std::alloc::Allocator;

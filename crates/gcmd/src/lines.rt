@@ -9,11 +9,12 @@ ghost use Rattle.gcmd.specs.Programs.{Runs};
 ghost use Rattle.gpkt.specs.Sending.{input_of, output_of};
 ghost use Rattle.gcmd.specs.Outputs.{IsPut};
 
-use crate::compose::{add, add_number};
+use crate::compose::add_number;
 use crate::fault::ProgramFault;
 use crate::program::finish;
 use crate::send::put;
 use arrayvec::ArrayVec;
+use ggrammar::compose::add;
 use gpkt::{Down, Line, LineBuffer, LineFault, LineReader, Sink, Source, laws};
 use std::alloc::Allocator;
 

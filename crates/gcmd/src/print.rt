@@ -9,13 +9,14 @@ ghost use Rattle.gpkt.specs.Sending.{output_of};
 ghost use Rattle.gcmd.specs.Outputs.{IsSent};
 
 use crate::client_fault::{frame_in_client, id_in_client, line_in_client, text_in_client};
-use crate::compose::{add, add_id, add_number};
+use crate::compose::add_number;
 use crate::fault::ProgramFault;
 use crate::send::send;
 use arrayvec::ArrayVec;
 use ganswer::{BuildFault, ServeFault};
 use gclient::{ClientFault, FetchFault};
 use ggrammar::Why;
+use ggrammar::compose::{add, add_id};
 use ggraph::{GraphFault, LoadFault};
 use gname::{HEAD, NameFault, Oid};
 use gpkt::{Down, Sink, WriteFault};

@@ -4,6 +4,7 @@ ghost use Rattle.std.specs.Prelude.{◌≡◌, ◌+◌, ◌≤◌, ◌++◌, len
 ghost use Rattle.ggrammar.specs.Faults.{why_row, row_of, line_phrase, kept_text, max_peer_text, message_fault_text};
 ghost use Rattle.ggrammar.specs.FaultViews.{row_view};
 
+use crate::compose::add;
 use arrayvec::ArrayVec;
 use gpkt::{BandFault, LineFault, text_of};
 use std::error::Error;
@@ -36,7 +37,7 @@ impl PeerText {
     {
         let text = text_of(said);
         let mut kept = ArrayVec::new();
-        add_short(&text[..text.len().min(MAX_PEER_TEXT)], &mut kept);
+        add(&text[..text.len().min(MAX_PEER_TEXT)], &mut kept);
         PeerText { text: kept }
     }
 
@@ -47,14 +48,6 @@ impl PeerText {
     {
         self.text.as_slice()
     }
-}
-
-// Adds a piece that fits.
-fn add_short(piece: &[u8], text: &mut ArrayVec<u8, MAX_PEER_TEXT>)
-    requires { length text.old.items + length piece.now ≤ max_peer_text }
-    ensures { text.new.items ≡ text.old.items ++ piece.now }
-{
-    text.try_extend_from_slice(piece).unwrap()
 }
 
 impl fmt::Debug for PeerText {

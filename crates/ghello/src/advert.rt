@@ -17,8 +17,8 @@ ghost use Rattle.ghello.specs.Adverts.{AreCapabilities, Says, brings, canonical_
 ghost use Rattle.ghello.specs.Offers.{IsFormatOf, check_fault, first_with, has_feature, has_format, has_key, has_word, is_name_of, is_space, lacks_command, named_format};
 ghost use Rattle.ghello.specs.AdvertReading.{IsKept, added_by, brings_after, judge_after, capability_list};
 
-use crate::compose::add;
 use arrayvec::ArrayVec;
+use ggrammar::compose::add;
 use ggrammar::laws::{grammars_are_exact, texts_are_classified, texts_are_read, writes_lines};
 use ggrammar::{
     Capability, Message, MessageFault, PeerText, Step, Why, capability_of, is_key, is_value,

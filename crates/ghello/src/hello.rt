@@ -11,8 +11,8 @@ ghost use Rattle.ggrammar.specs.Writing.{WritesLines};
 ghost use Rattle.ghello.specs.Hello.{IsHello, MakesHello, Says, brings, canonical_hello, hello_payload, hello_of, hello_of_parts, hello_with, is_host, is_nul, is_path, judge, judge_payload, max_host, max_path};
 ghost use Rattle.ghello.specs.HelloReading.{hello_in, hello_view};
 
-use crate::compose::add;
 use arrayvec::ArrayVec;
+use ggrammar::compose::add;
 use ggrammar::laws::{grammars_are_exact, writes_lines};
 use ggrammar::{
     Message, MessageFault, Step, Why, after_word, are_graphic, are_printable, read_message,

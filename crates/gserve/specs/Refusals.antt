@@ -15,9 +15,6 @@ max_err_text = 128
 abbrev pub max_phrase : ℕ
 max_phrase = 22
 
-abbrev pub max_id_text : ℕ
-max_id_text = 64
-
 abbrev pub max_detail : ℕ
 max_detail = 65
 

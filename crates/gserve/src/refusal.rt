@@ -1,15 +1,14 @@
 //! What a client reads of a refusal (gitprotocol-pack(5), "error-line").
 
 ghost use Rattle.std.specs.Prelude.{◌≡◌, ◌≤◌, ◌+◌, ◌++◌, drop, length, take};
-ghost use Rattle.gname.specs.Ids.{id_text};
 ghost use Rattle.ggrammar.specs.Writing.{WritesLines};
 ghost use Rattle.ganswer.specs.Faults.{serve_fault_row};
-ghost use Rattle.gserve.specs.Refusals.{detail_of, err_packets, err_text, max_detail, max_err_text, max_id_text, max_phrase};
+ghost use Rattle.gserve.specs.Refusals.{detail_of, err_packets, err_text, max_detail, max_err_text, max_phrase};
 
 use arrayvec::ArrayVec;
 use ganswer::ServeFault;
+use ggrammar::compose::{add, add_id};
 use ggrammar::laws::writes_lines;
-use gname::{MAX_ID_TEXT, Oid};
 use gpkt::{LineWriter, Sink, WriteFault};
 
 /// The most bytes of a refusal's text.
@@ -61,25 +60,6 @@ fn add_detail(fault: &ServeFault, text: &mut ArrayVec<u8, MAX_ERR_TEXT>)
         add(b" ", text);
         add_id(id, text);
     }
-}
-
-fn add_id(id: &Oid, text: &mut ArrayVec<u8, MAX_ERR_TEXT>)
-    requires { length text.old.items + max_id_text ≤ max_err_text }
-    ensures text { text.new.items ≡ text.old.items ++ id_text id.now }
-    ensures long { length text.new.items ≤ length text.old.items + max_id_text }
-{
-    let mut digits = [0; MAX_ID_TEXT];
-    let count = id.to_hex(&mut digits);
-    add(&digits[..count], text);
-}
-
-// Adds a piece for which there is room.
-fn add(piece: &[u8], text: &mut ArrayVec<u8, MAX_ERR_TEXT>)
-    requires { length text.old.items + length piece.now ≤ max_err_text }
-    ensures text { text.new.items ≡ text.old.items ++ piece.now }
-    ensures long { length text.new.items ≡ length text.old.items + length piece.now }
-{
-    text.try_extend_from_slice(piece).unwrap()
 }
 
 /// Writes the packet of a refusal. It takes no memory.

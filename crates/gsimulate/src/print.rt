@@ -10,7 +10,8 @@ ghost use Rattle.gsimulate.specs.Simulating.{ExitsWith};
 use crate::fault::SimulationFault;
 use arrayvec::ArrayVec;
 use gcmd::{ProgramFault, print_fault, send_text};
-use gname::{MAX_ID_TEXT, Oid};
+use ggrammar::compose::{add, add_id};
+use gname::Oid;
 use gpkt::Sink;
 use gworld::{ScenarioFault, WorldFault};
 use itoa::Buffer;
@@ -109,20 +110,10 @@ fn disagreement(id: &Oid) -> ArrayVec<u8, MAX_LINE>
     ensures { result.items ≡ disagreement id.now }
 {
     let mut text = ArrayVec::new();
-    let mut digits = [0; MAX_ID_TEXT];
-    let count = id.to_hex(&mut digits);
     add(b"gitv2: fault 90 Disagree ", &mut text);
-    add(&digits[..count], &mut text);
+    add_id(id, &mut text);
     add(b"\n", &mut text);
     text
-}
-
-fn add(piece: &[u8], text: &mut ArrayVec<u8, MAX_LINE>)
-    requires { length text.old.items + length piece.now ≤ max_line }
-    ensures text { text.new.items ≡ text.old.items ++ piece.now }
-    ensures long { length text.new.items ≡ length text.old.items + length piece.now }
-{
-    text.try_extend_from_slice(piece).unwrap()
 }
 
 fn print_line<A: Allocator + Copy, E: Sink>(line: &[u8], errors: &mut E)

@@ -4,16 +4,16 @@
 ghost use Rattle.std.specs.Prelude.{◌≡◌, ◌++◌, All, IfOk, IsTrue, ◌↔◌, ◌∷◌, ◌<◌, [], MatchOption, MatchResult, OnOk, Some, length, map, slice_get};
 ghost use Rattle.ghistory.specs.Graphs.{IsGraph};
 ghost use Rattle.gobject.specs.declared.node.Entry.{Entry};
-ghost use Rattle.gname.specs.Ids.{IsIdOf, id_text};
-ghost use Rattle.gobject.specs.PlainPackText.{ids_text, line, node_text, text_of};
+ghost use Rattle.gname.specs.Ids.{IsIdOf};
+ghost use Rattle.gobject.specs.PlainPackText.{line, node_text, text_of};
 ghost use Rattle.ggraph.specs.RepositoryText.{IsLoadable, head_line, first_line, ref_line, repository_text};
 ghost use Rattle.ggraph.specs.Saving.{IsFirstOther, PointsBelowRefs, SaveRefuses, head_ids, named_ids, ref_ids};
 
 use crate::fault::SaveFault;
 use crate::text::Order;
 use ghistory::Graph;
-use gname::{Format, MAX_ID_TEXT, Oid, RefName};
-use gobject::{Entry, Kind};
+use gname::{Format, Oid, RefName};
+use gobject::Entry;
 use grefs::{Head, Refs};
 use std::alloc::{AllocError, Allocator};
 
@@ -133,39 +133,7 @@ fn put_node<A: Allocator + Copy>(
         text.new.items ≡ text.old.items ++ line (node_text entry))) }
 {
     let (id, node) = graph.at(place).unwrap();
-    match node.kind {
-        Kind::Commit => text.extend_from_slice(b"c")?,
-        Kind::Tag => text.extend_from_slice(b"t")?,
-    }
-    put_spaced(text, id)?;
-    put_ids(text, node.parents.as_slice())?;
-    text.extend_from_slice(b"\n")
-}
-
-// The ids, a space before each.
-fn put_ids<A: Allocator + Copy>(text: &mut Vec<u8, A>, ids: &[Oid]) -> Result<(), AllocError>
-    ensures { OnOk result (text.new.items ≡ text.old.items ++ ids_text ids.now) }
-{
-    for id in ids {
-        put_spaced(text, id)?;
-    }
-    Ok(())
-}
-
-// The id, a space before it.
-fn put_spaced<A: Allocator + Copy>(text: &mut Vec<u8, A>, id: &Oid) -> Result<(), AllocError>
-    ensures { OnOk result (text.new.items ≡ text.old.items ++ ids_text (id.now ∷ [])) }
-{
-    text.extend_from_slice(b" ")?;
-    put_id(text, id)
-}
-
-fn put_id<A: Allocator + Copy>(text: &mut Vec<u8, A>, id: &Oid) -> Result<(), AllocError>
-    ensures { OnOk result (text.new.items ≡ text.old.items ++ id_text id.now) }
-{
-    let mut digits = [0; MAX_ID_TEXT];
-    let length = id.to_hex(&mut digits);
-    text.extend_from_slice(&digits[..length])
+    node.push_line(id, text)
 }
 
 fn put_refs<A: Allocator + Copy>(
@@ -187,7 +155,7 @@ fn put_ref<A: Allocator + Copy>(
     ensures { OnOk result (text.new.items ≡ text.old.items ++ line (ref_line pair.now)) }
 {
     text.extend_from_slice(b"r ")?;
-    put_id(text, &pair.1)?;
+    pair.1.push_hex(text)?;
     text.extend_from_slice(b" ")?;
     text.extend_from_slice(pair.0.as_bytes())?;
     text.extend_from_slice(b"\n")
@@ -201,7 +169,7 @@ fn put_head<A: Allocator + Copy>(text: &mut Vec<u8, A>, head: &Head<A>) -> Resul
         Head::None => text.extend_from_slice(b"h none\n"),
         Head::Id(id) => {
             text.extend_from_slice(b"h id ")?;
-            put_id(text, id)?;
+            id.push_hex(text)?;
             text.extend_from_slice(b"\n")
         }
         Head::Symref(target) => {
