@@ -34,8 +34,9 @@
 //! # What the contracts do not rule out
 //!
 //! A run may stop at any event as if out of memory, and an event that takes memory may report that there is none,
-//! whatever memory there is. A call may take as long as it likes, and more memory than it needs. Formatting a fault
-//! may answer an error (`fmt::Error`) where the text would be right.
+//! whatever memory there is. What is kept of requests and replies may take its memory from either end's allocator. A
+//! call may take as long as it likes, and more memory than it needs. Formatting a fault may answer an error
+//! (`fmt::Error`) where the text would be right.
 //!
 //! # Stands on
 //!
