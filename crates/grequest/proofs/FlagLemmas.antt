@@ -1,5 +1,5 @@
 -- Facts on tables of flags.
-use Rattle.std.proofs.Common.{◌≡◌, ℕ, ◌&&◌, ◌||◌, Bool, true, false, cond, List, [], ◌∷◌, refl, sym, ap, ◌∙◌, true≢false}
+use Rattle.std.proofs.Common.{◌≡◌, ◌||◌, Bool, true, false, cond, [], ◌∷◌, refl, sym, ap, ◌∙◌, true≢false}
 use Rattle.std.proofs.Math.Bool.{or-false, or-true}
 use Rattle.std.specs.Prelude.{IsTrue}
 use Rattle.std.specs.List.{list_all}
@@ -13,7 +13,7 @@ use Rattle.grequest.specs.declared.flag.FetchFlag.{FetchFlag}
 use Rattle.grequest.specs.declared.flag.FetchFlag.TheVariants.{ThinPack}
 use Rattle.grequest.specs.contracts.flag.LsRefsFlag.{the_type as the_ls_flags}
 use Rattle.grequest.specs.contracts.flag.FetchFlag.{the_type as the_fetch_flags}
-use Rattle.grequest.specs.Flags.{Table, FlagsOf, flags_where, has_flag, with_flag}
+use Rattle.grequest.specs.Flags.{Table, flags_where, has_flag, with_flag}
 use Rattle.grequest.specs.Arguments.{ls_flags, fetch_flags}
 use Rattle.grequest.specs.Asked.{same_ls_flag, same_fetch_flag}
 

@@ -1,6 +1,5 @@
 -- The texts that a request is written from, and their packets.
-use Rattle.std.proofs.Common.{◌≡◌, ℕ, Bool, true, false, List, [], ◌∷◌, ◌++◌, map, codes, Option, Some, None, refl, sym, ap, ◌∙◌}
-use Rattle.std.proofs.lemmas.List.{map-append}
+use Rattle.std.proofs.Common.{◌≡◌, ℕ, false, List, [], ◌∷◌, ◌++◌, map, codes, Option, Some, None, refl, ap}
 use Rattle.gpkt.specs.Packets.{Packet}
 use Rattle.gname.specs.Formats.{format_name}
 use Rattle.gname.specs.Ids.{id_text}

@@ -1,6 +1,6 @@
 -- Flags: the arguments of a command that have no value. A command has a table of them, with a row for each: the flag,
 -- and its text.
-use Rattle.std.specs.Prelude.{ℕ, Bool, true, false, List, [], ◌∷◌, map, if◌then◌else◌, Option, Some, None}
+use Rattle.std.specs.Prelude.{ℕ, Bool, false, List, [], ◌∷◌, map, if◌then◌else◌, Option, Some, None}
 use Rattle.std.specs.Prelude.{slice_index_or}
 use Rattle.std.specs.Str.{bytes_eq}
 use Rattle.std.specs.Borrow.{Bor}

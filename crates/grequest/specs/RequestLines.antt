@@ -1,5 +1,5 @@
 -- What the packets of a request say: where each stands, and what all of a kind say together.
-use Rattle.std.specs.Prelude.{true, false}
+use Rattle.std.specs.Prelude.{false}
 use Rattle.std.specs.Prelude.{ℕ, Bool, List, [], ◌∷◌, Option, Some, None}
 use Rattle.std.specs.List.{filter_map, list_any}
 use Rattle.gpkt.specs.Packets.{Packet, Data, Flush, Delim, ResponseEnd, text}
