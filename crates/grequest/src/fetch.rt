@@ -1,6 +1,6 @@
 //! What a request for fetch asks (gitprotocol-v2(5), "fetch").
 
-ghost use Rattle.std.specs.Prelude.{◌≡◌, ◌↔◌, ◌≤◌, ◌<◌, ◌++◌, ◌∷◌, [], true, false, length, nat_lt, IfOk, IfSome, IsTrue, OnOk, OnErr, Some};
+ghost use Rattle.std.specs.Prelude.{ℕ, All, ◌≡◌, ◌↔◌, ◌≤◌, ◌<◌, ◌++◌, ◌∷◌, [], true, false, length, nat_lt, IfOk, IfSome, IsTrue, OnOk, OnErr, Some};
 ghost use Rattle.std.specs.Option.{option_copied};
 ghost use Rattle.gname.specs.Ids.{IsIdOf};
 ghost use Rattle.ggrammar.specs.Building.{Builds};
@@ -284,7 +284,7 @@ impl<A: Allocator + Copy> FetchRequest<A> {
             self.old self.new (record self.old { asked = record self.old.asked { wants = self.old.asked.wants ++ id ∷ [] } }) result }
     {
         let has_room = self.wants.len() < MAX_WANTS;
-        match self.keep_want(has_room, id) {
+        match keep_id(self.format, &mut self.wants, has_room, id) {
             Ok(()) => Ok(()),
             Err(NotKept::WrongForm) => Err(MessageFault::of_value(Why::BadText)),
             Err(NotKept::NoRoom) => Err(MessageFault::of_value(Why::Limit)),
@@ -301,7 +301,7 @@ impl<A: Allocator + Copy> FetchRequest<A> {
             self.old self.new (record self.old { asked = record self.old.asked { haves = self.old.asked.haves ++ id ∷ [] } }) result }
     {
         let has_room = self.haves.len() < MAX_HAVES;
-        match self.keep_have(has_room, id) {
+        match keep_id(self.format, &mut self.haves, has_room, id) {
             Ok(()) => Ok(()),
             Err(NotKept::WrongForm) => Err(MessageFault::of_value(Why::BadText)),
             Err(NotKept::NoRoom) => Err(MessageFault::of_value(Why::Limit)),
@@ -318,42 +318,6 @@ impl<A: Allocator + Copy> FetchRequest<A> {
         let agent = Vec::from_slice(*self.wants.allocator(), agent)?;
         self.agent = Some(agent);
         Ok(())
-    }
-
-    // Keeps a want where there is room for it.
-    fn keep_want(&mut self, has_room: bool, id: Oid) -> Result<(), NotKept>
-        requires { has_room ≡ true → length self.old.asked.wants < max_wants }
-        ensures { KeepsAs (has_format self.old.format id) has_room
-            self.old self.new (record self.old { asked = record self.old.asked { wants = self.old.asked.wants ++ id ∷ [] } }) result }
-    {
-        if !is_of(self.format, &id) {
-            return Err(NotKept::WrongForm);
-        }
-        if !has_room {
-            return Err(NotKept::NoRoom);
-        }
-        match self.wants.push(id) {
-            Ok(()) => Ok(()),
-            Err(_) => Err(NotKept::NoMemory),
-        }
-    }
-
-    // Keeps a have where there is room for it.
-    fn keep_have(&mut self, has_room: bool, id: Oid) -> Result<(), NotKept>
-        requires { has_room ≡ true → length self.old.asked.haves < max_haves }
-        ensures { KeepsAs (has_format self.old.format id) has_room
-            self.old self.new (record self.old { asked = record self.old.asked { haves = self.old.asked.haves ++ id ∷ [] } }) result }
-    {
-        if !is_of(self.format, &id) {
-            return Err(NotKept::WrongForm);
-        }
-        if !has_room {
-            return Err(NotKept::NoRoom);
-        }
-        match self.haves.push(id) {
-            Ok(()) => Ok(()),
-            Err(_) => Err(NotKept::NoMemory),
-        }
     }
 
     // Takes an argument after so many others.
@@ -385,7 +349,7 @@ impl<A: Allocator + Copy> FetchRequest<A> {
         let has_room = arguments < MAX_ARGUMENTS && self.wants.len() < MAX_WANTS;
         match id_in(self.format, text) {
             None => Err(Why::BadId),
-            Some(id) => match self.keep_want(has_room, id) {
+            Some(id) => match keep_id(self.format, &mut self.wants, has_room, id) {
                 Ok(()) => Ok(()),
                 Err(NotKept::WrongForm) => Err(Why::BadId),
                 Err(NotKept::NoRoom) => Err(Why::Limit),
@@ -403,13 +367,36 @@ impl<A: Allocator + Copy> FetchRequest<A> {
         let has_room = arguments < MAX_ARGUMENTS && self.haves.len() < MAX_HAVES;
         match id_in(self.format, text) {
             None => Err(Why::BadId),
-            Some(id) => match self.keep_have(has_room, id) {
+            Some(id) => match keep_id(self.format, &mut self.haves, has_room, id) {
                 Ok(()) => Ok(()),
                 Err(NotKept::WrongForm) => Err(Why::BadId),
                 Err(NotKept::NoRoom) => Err(Why::Limit),
                 Err(NotKept::NoMemory) => Err(Why::Memory),
             },
         }
+    }
+}
+
+// Keeps an id after the others where there is room for it.
+fn keep_id<A: Allocator + Copy>(
+    format: Format,
+    ids: &mut Vec<Oid, A>,
+    has_room: bool,
+    id: Oid,
+) -> Result<(), NotKept>
+    ensures kept { KeepsAs (has_format format id) has_room ids.old.items ids.new.items (ids.old.items ++ id ∷ []) result }
+    ensures format { All (IsIdOf format) ids.old.items → All (IsIdOf format) ids.new.items }
+    ensures few { (limit : ℕ) → length ids.old.items ≤ limit → (has_room ≡ true → length ids.old.items < limit) → length ids.new.items ≤ limit }
+{
+    if !is_of(format, &id) {
+        return Err(NotKept::WrongForm);
+    }
+    if !has_room {
+        return Err(NotKept::NoRoom);
+    }
+    match ids.push(id) {
+        Ok(()) => Ok(()),
+        Err(_) => Err(NotKept::NoMemory),
     }
 }
 
