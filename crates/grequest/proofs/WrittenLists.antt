@@ -48,9 +48,6 @@ pub flag_among : (p : List ℕ → Bool) (word : List ℕ) (is_set passes : Bool
 flag_among p word false passes is = refl
 flag_among p word true passes is = or-false (p word) ∙ is
 
-pub none_then : (p : List ℕ → Bool) (xs ys : List (List ℕ)) (b : Bool) → list_any p xs ≡ false → list_any p ys ≡ b → list_any p (xs ++ ys) ≡ b
-none_then p xs ys b none e = list_any-append p xs ys ∙ ap (λ (c : Bool). c || list_any p ys) none ∙ e
-
 pub then_none : (p : List ℕ → Bool) (xs ys : List (List ℕ)) (b : Bool) → list_any p xs ≡ b → list_any p ys ≡ false → list_any p (xs ++ ys) ≡ b
 then_none p xs ys b e none = list_any-append p xs ys ∙ ap (λ (c : Bool). list_any p xs || c) none ∙ or-false (list_any p xs) ∙ e
 

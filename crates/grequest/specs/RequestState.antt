@@ -7,8 +7,8 @@ use Rattle.ggrammar.specs.Ids.{id_of_text}
 use Rattle.grequest.specs.declared.command.CommandForm.{CommandForm}
 use Rattle.grequest.specs.declared.command.CommandForm.TheVariants.{Known, Unknown as UnknownCommand, Bad as BadCommand}
 use Rattle.grequest.specs.Arguments.{command_form, CapabilityForm, Agent, ObjectFormat, UnknownCapability, BadCapability}
-use Rattle.grequest.specs.Arguments.{capability_form, LsArgument, KnownLsFlag, RefPrefix, UnknownLsArgument, ls_argument}
-use Rattle.grequest.specs.Arguments.{FetchArgument, KnownFetchFlag, Want, Have, UnknownFetchArgument, fetch_argument}
+use Rattle.grequest.specs.Arguments.{capability_form, LsArgument, KnownLsFlag, RefPrefix, UnknownLsArgument}
+use Rattle.grequest.specs.Arguments.{ls_argument, FetchArgument, KnownFetchFlag, Want, Have, UnknownFetchArgument, fetch_argument}
 use Rattle.grequest.specs.Asked.{LsRefsAsked, FetchAsked, Asked, Empty, Ls, Fetches, ls_with, fetch_with}
 use Rattle.grequest.specs.RequestLines.{Place, First, InCapabilities, InArguments, asked_by_command}
 use Rattle.grequest.specs.Requests.{State}
