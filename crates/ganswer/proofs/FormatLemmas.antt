@@ -166,7 +166,8 @@ module _ {A : Type 0} where
           let sum = length-append next.front (ref ∷ next.back) in
           let all = ap length next.parts in
           let both = length-append (head_ref (head_id server.head server.refs)) server.refs in
-          let one = unborn_or_shown (ls_has asked Unborn && is_asked asked.prefixes head_name) server.head server.refs in
+          let one = unborn_or_shown (ls_has asked Unborn && is_asked asked.prefixes head_name)
+          server.head server.refs in
           let unborn = ap (λ (o : Option (List ℕ)). length (unborn_packets o)) next.so_far.unborn in
           let refs = is.refs.few in
           lt-ltb (line_count reply) max_lines (omega (arith, shown, few, sum, all, both, one, unborn, refs))

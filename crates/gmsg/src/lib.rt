@@ -51,6 +51,6 @@ pub use glsreply::{
     write_ls_reply, write_ref, write_unborn,
 };
 pub use grequest::{
-    FetchFlag, FetchRequest, LsRefsFlag, LsRefsRequest, MAX_HAVES, MAX_PREFIXES, MAX_WANTS, Request,
-    read_request, read_request_in, write_request,
+    FetchFlag, FetchRequest, LsRefsFlag, LsRefsRequest, MAX_HAVES, MAX_PREFIXES, MAX_WANTS,
+    Request, read_request, read_request_in, write_request,
 };

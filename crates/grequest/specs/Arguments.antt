@@ -9,9 +9,9 @@ use Rattle.grequest.specs.declared.command.Command.TheVariants.{LsRefs, Fetch}
 use Rattle.grequest.specs.declared.command.CommandForm.{CommandForm}
 use Rattle.grequest.specs.declared.command.CommandForm.TheVariants.{Known, Unknown as UnknownCommand, Bad as BadCommand}
 use Rattle.grequest.specs.declared.flag.LsRefsFlag.{LsRefsFlag}
-use Rattle.grequest.specs.declared.flag.LsRefsFlag.TheVariants.{Peel, Symrefs, Unborn}
+use Rattle.grequest.specs.declared.flag.LsRefsFlag.TheVariants as ls
 use Rattle.grequest.specs.declared.flag.FetchFlag.{FetchFlag}
-use Rattle.grequest.specs.declared.flag.FetchFlag.TheVariants.{ThinPack, NoProgress, IncludeTag, OfsDelta, Done}
+use Rattle.grequest.specs.declared.flag.FetchFlag.TheVariants as fetch
 use Rattle.grequest.specs.Flags.{Table, flag_in}
 
 -- the text is this word
@@ -76,19 +76,19 @@ capability_form text = capability_with (capability_of text)
 -- the flags of ls-refs, in the order in which they are written
 abbrev pub ls_flags : Table LsRefsFlag
 ls_flags =
-    (Peel, codes "peel")
-    ∷ (Symrefs, codes "symrefs")
-    ∷ (Unborn, codes "unborn")
+    (ls.Peel, codes "peel")
+    ∷ (ls.Symrefs, codes "symrefs")
+    ∷ (ls.Unborn, codes "unborn")
     ∷ []
 
 -- the flags of fetch, in the order in which they are written, but that `done` follows the ids
 abbrev pub fetch_flags : Table FetchFlag
 fetch_flags =
-    (ThinPack, codes "thin-pack")
-    ∷ (NoProgress, codes "no-progress")
-    ∷ (IncludeTag, codes "include-tag")
-    ∷ (OfsDelta, codes "ofs-delta")
-    ∷ (Done, codes "done")
+    (fetch.ThinPack, codes "thin-pack")
+    ∷ (fetch.NoProgress, codes "no-progress")
+    ∷ (fetch.IncludeTag, codes "include-tag")
+    ∷ (fetch.OfsDelta, codes "ofs-delta")
+    ∷ (fetch.Done, codes "done")
     ∷ []
 
 -- ---- arguments

@@ -384,9 +384,11 @@ fn keep_id<A: Allocator + Copy>(
     has_room: bool,
     id: Oid,
 ) -> Result<(), NotKept>
-    ensures kept { KeepsAs (has_format format id) has_room ids.old.items ids.new.items (ids.old.items ++ id ∷ []) result }
+    ensures kept { KeepsAs (has_format format id) has_room
+        ids.old.items ids.new.items (ids.old.items ++ id ∷ []) result }
     ensures format { All (IsIdOf format) ids.old.items → All (IsIdOf format) ids.new.items }
-    ensures few { (limit : ℕ) → length ids.old.items ≤ limit → (has_room ≡ true → length ids.old.items < limit) → length ids.new.items ≤ limit }
+    ensures few { (limit : ℕ) → length ids.old.items ≤ limit
+        → (has_room ≡ true → length ids.old.items < limit) → length ids.new.items ≤ limit }
 {
     if !is_of(format, &id) {
         return Err(NotKept::WrongForm);

@@ -88,7 +88,8 @@ pub(crate) fn are_same_flags<F: Flag>(
     ones: &[bool; MAX_FLAGS],
     others: &[bool; MAX_FLAGS],
 ) -> bool
-    ensures { IsTrue result ↔ (flags_at F.number (table_in table.now) ones.now ≡ flags_at F.number (table_in table.now) others.now) }
+    ensures { IsTrue result ↔ (flags_at F.number (table_in table.now) ones.now
+        ≡ flags_at F.number (table_in table.now) others.now) }
 {
     for (flag, _) in table {
         if ones[flag.number()] != others[flag.number()] {

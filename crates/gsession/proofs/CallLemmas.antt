@@ -104,7 +104,8 @@ module _ {A : Type 0} where
   module _ (indexes : Indexes A) (index_fails : IndexFails) where
     head_does : (g : List (Entry A)) (old : SessionState A) (r : RepoState A) (asked : FetchAsked) (reply : FetchReply)
         (new : SessionState A) (after : RepoState A) (taken : Taken)
-        → Awaits old asked → All (Contains asked.haves) (acknowledged_by reply) → (fetch_has asked Done ≡ true → HasPack reply)
+        → Awaits old asked → All (Contains asked.haves) (acknowledged_by reply)
+        → (fetch_has asked Done ≡ true → HasPack reply)
         → TakesHead indexes index_fails old r reply new after taken → Does g old new
     head_does g old r asked reply new after (Round common) waits named has is =
         does_take asked Fetching (acknowledged_by reply) waits named (λ done. absurd (is.0 (has done))) is.1

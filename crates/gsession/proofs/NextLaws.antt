@@ -41,7 +41,8 @@ module _ {A : Type 0} where
       is.offer (All-contains_itself is.offer)))
 
   new_id : (s : SessionState A) (asked : FetchAsked) (batch : List (List ℕ))
-      → asked ≡ fetch_request s.wants s.commons batch → All (λ a. ¬ (Contains s.sent a)) batch → fetch_has asked Done ≡ false
+      → asked ≡ fetch_request s.wants s.commons batch → All (λ a. ¬ (Contains s.sent a)) batch
+      → fetch_has asked Done ≡ false
       → ((a : List ℕ) × Contains asked.haves a × ¬ (Contains s.sent a))
   new_id s asked [] is fresh goes_on =
       absurd (false≢true (sym goes_on ∙ ap (λ (r : FetchAsked). fetch_has r Done) is))
