@@ -8,7 +8,8 @@ use Rattle.gobject.specs.Packs.{MayPack, PackFails, Packs}
 use Rattle.ghistory.specs.Graphs.{Holds}
 use Rattle.ghistory.specs.Sending.{IsListToSend}
 use Rattle.ghistory.specs.Walks.{IsReady, common_of}
-use Rattle.grequest.specs.Asked.{FetchAsked, is_direct}
+use Rattle.grequest.specs.declared.flag.FetchFlag.TheVariants.{IncludeTag}
+use Rattle.grequest.specs.Asked.{FetchAsked, is_direct, fetch_has}
 use Rattle.gfetchreply.specs.FetchReplies.{FetchReply, Acks, Ready, Pack}
 use Rattle.ganswer.specs.Servers.{Server}
 
@@ -27,7 +28,7 @@ IsReadyFor server asked = IsReady server.graph.entries asked.wants (commons_of s
 
 -- the ids from which tags are sent: those of the refs with `include-tag`, and else none
 abbrev pub tag_tips : {A : Type 0} → Server A → FetchAsked → List (List ℕ)
-tag_tips server asked = if asked.include_tag then values_of server.refs else []
+tag_tips server asked = if fetch_has asked IncludeTag then values_of server.refs else []
 
 -- the objects to send: what the wants reach and the common ids do not, and tags
 abbrev pub IsSent : {A : Type 0} → Server A → FetchAsked → List (Entry A) → Type 0

@@ -10,7 +10,8 @@ use Rattle.ghistory.specs.Peeling.{IsTagOf, PeelsTo}
 use Rattle.grefs.specs.RefLists.{RefList, ref_at}
 use Rattle.grefs.specs.declared.head.Head.{Head}
 use Rattle.grefs.specs.declared.head.Head.TheVariants as heads
-use Rattle.grequest.specs.Asked.{LsRefsAsked}
+use Rattle.grequest.specs.declared.flag.LsRefsFlag.TheVariants.{Peel, Symrefs, Unborn}
+use Rattle.grequest.specs.Asked.{LsRefsAsked, ls_has}
 use Rattle.glsreply.specs.RefTexts.{RefLine}
 use Rattle.glsreply.specs.LsReplies.{LsReply}
 use Rattle.ganswer.specs.Servers.{Server}
@@ -49,7 +50,7 @@ target_of (heads.Symref target) = Some target
 
 -- the target, where targets are asked for and the line is that of HEAD
 abbrev pub symref_of : {A : Type 0} → Head A → LsRefsAsked → List ℕ → Option (List ℕ)
-symref_of head asked name = if asked.symrefs && bytes_eq name head_name then target_of head else None
+symref_of head asked name = if ls_has asked Symrefs && bytes_eq name head_name then target_of head else None
 
 -- the id is that of a tag, and a chain of tags leads from it to the commit
 pub record TagPeelsTo {A : Type 0} (g : List (Entry A)) (id commit : List ℕ) : Type 0 where
@@ -69,7 +70,7 @@ IsPeeledIf true g id peeled = IsPeeled g id peeled
 -- the attributes of a line are those that are asked for
 pub record HasAttributes {A : Type 0} (server : Server A) (asked : LsRefsAsked) (line : RefLine) : Type 0 where
   pub symref : line.symref ≡ symref_of server.head asked line.name
-  pub peeled : IsPeeledIf asked.peel server.graph.entries line.id line.peeled
+  pub peeled : IsPeeledIf (ls_has asked Peel) server.graph.entries line.id line.peeled
 
 -- ---- the lines
 
@@ -93,7 +94,7 @@ missing_target (heads.Symref target) refs = if is_none (ref_at refs target) then
 -- that name, where it is asked for and HEAD is
 abbrev pub unborn_of : {A : Type 0} → Server A → LsRefsAsked → Option (List ℕ)
 unborn_of server asked =
-    if asked.unborn && is_asked asked.prefixes head_name then missing_target server.head server.refs else None
+    if ls_has asked Unborn && is_asked asked.prefixes head_name then missing_target server.head server.refs else None
 
 -- ---- the answer
 

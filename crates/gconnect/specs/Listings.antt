@@ -12,7 +12,8 @@ use Rattle.ghello.specs.Adverts as advert
 use Rattle.ghello.specs.Hello.{Hello}
 use Rattle.ghello.specs.Offers.{check_fault}
 use Rattle.glsreply.specs.LsReplies as ls
-use Rattle.grequest.specs.Asked.{LsRefsAsked, Empty, Ls}
+use Rattle.grequest.specs.declared.flag.LsRefsFlag.TheVariants.{Unborn}
+use Rattle.grequest.specs.Asked.{LsRefsAsked, Empty, Ls, ls_with}
 use Rattle.gsession.specs.Sessions.{tells_unborn}
 use Rattle.gsession.specs.declared.fault.ClientFault.TheVariants as client
 use Rattle.gclient.specs.Conversations.{Advertises, FailsToSend, IsLeft, RefusesToRead, request_bytes, rest_of}
@@ -24,7 +25,7 @@ use Rattle.gconnect.specs.Greetings.{CannotGreet, HasGreeted}
 
 -- what is asked: for an unborn HEAD too exactly where the server offers to report it
 abbrev pub asked_of : List Capability → LsRefsAsked → LsRefsAsked
-asked_of capabilities asked = record asked { unborn = tells_unborn capabilities }
+asked_of capabilities asked = ls_with asked Unborn (tells_unborn capabilities)
 
 -- the request
 abbrev pub asking_bytes : Format → List Capability → LsRefsAsked → List ℕ

@@ -1,6 +1,6 @@
 -- The texts of a request's packets (gitprotocol-v2(5), "Command Request", "ls-refs", "fetch"): what each says, with
 -- the value that it carries. A table each for commands, capabilities and the arguments of a command.
-use Rattle.std.specs.Prelude.{ℕ, Bool, List, codes, if◌then◌else◌, Option, Some, None}
+use Rattle.std.specs.Prelude.{ℕ, Bool, List, [], ◌∷◌, codes, if◌then◌else◌, Option, Some, None}
 use Rattle.std.specs.Str.{bytes_eq}
 use Rattle.ggrammar.specs.PeerErrors.{after_word}
 use Rattle.ggrammar.specs.Capabilities.{Capability, capability_of, is_key, is_word_value}
@@ -8,6 +8,11 @@ use Rattle.grequest.specs.declared.command.Command.{Command}
 use Rattle.grequest.specs.declared.command.Command.TheVariants.{LsRefs, Fetch}
 use Rattle.grequest.specs.declared.command.CommandForm.{CommandForm}
 use Rattle.grequest.specs.declared.command.CommandForm.TheVariants.{Known, Unknown as UnknownCommand, Bad as BadCommand}
+use Rattle.grequest.specs.declared.flag.LsRefsFlag.{LsRefsFlag}
+use Rattle.grequest.specs.declared.flag.LsRefsFlag.TheVariants as ls
+use Rattle.grequest.specs.declared.flag.FetchFlag.{FetchFlag}
+use Rattle.grequest.specs.declared.flag.FetchFlag.TheVariants as fetch
+use Rattle.grequest.specs.Flags.{Table, flag_in}
 
 -- the text is this word
 abbrev pub is_word : List ℕ → List ℕ → Bool
@@ -66,12 +71,36 @@ capability_with (Some capability) = known_capability capability
 unfoldable pub capability_form : List ℕ → CapabilityForm
 capability_form text = capability_with (capability_of text)
 
+-- ---- flags
+
+-- the flags of ls-refs, in the order in which they are written
+abbrev pub ls_flags : Table LsRefsFlag
+ls_flags =
+    (ls.Peel, codes "peel")
+    ∷ (ls.Symrefs, codes "symrefs")
+    ∷ (ls.Unborn, codes "unborn")
+    ∷ []
+
+-- the flags of fetch, in the order in which they are written, but that `done` follows the ids
+abbrev pub fetch_flags : Table FetchFlag
+fetch_flags =
+    (fetch.ThinPack, codes "thin-pack")
+    ∷ (fetch.NoProgress, codes "no-progress")
+    ∷ (fetch.IncludeTag, codes "include-tag")
+    ∷ (fetch.OfsDelta, codes "ofs-delta")
+    ∷ (fetch.Done, codes "done")
+    ∷ []
+
 -- ---- arguments
 
 pub data LsArgument : Type 0 where
-  Symrefs Peel Unborn : LsArgument
+  KnownLsFlag : (flag : LsRefsFlag) → LsArgument
   RefPrefix : (prefix : List ℕ) → LsArgument
   UnknownLsArgument : LsArgument
+
+abbrev pub ls_flag_or_else : Option LsRefsFlag → LsArgument → LsArgument
+ls_flag_or_else None other = other
+ls_flag_or_else (Some flag) other = KnownLsFlag flag
 
 abbrev pub ref_prefix_or_unknown : Option (List ℕ) → LsArgument
 ref_prefix_or_unknown None = UnknownLsArgument
@@ -80,16 +109,17 @@ ref_prefix_or_unknown (Some prefix) = RefPrefix prefix
 -- an argument of ls-refs; `ref-prefix ` has that form whatever follows
 unfoldable pub ls_argument : List ℕ → LsArgument
 ls_argument text =
-    if is_word (codes "symrefs") text then Symrefs
-    else if is_word (codes "peel") text then Peel
-    else if is_word (codes "unborn") text then Unborn
-    else ref_prefix_or_unknown (after_word (codes "ref-prefix ") text)
+    ls_flag_or_else (flag_in ls_flags text) (ref_prefix_or_unknown (after_word (codes "ref-prefix ") text))
 
 pub data FetchArgument : Type 0 where
-  ThinPack NoProgress IncludeTag OfsDelta Done : FetchArgument
+  KnownFetchFlag : (flag : FetchFlag) → FetchArgument
   Want : (id : List ℕ) → FetchArgument
   Have : (id : List ℕ) → FetchArgument
   UnknownFetchArgument : FetchArgument
+
+abbrev pub fetch_flag_or_else : Option FetchFlag → FetchArgument → FetchArgument
+fetch_flag_or_else None other = other
+fetch_flag_or_else (Some flag) other = KnownFetchFlag flag
 
 abbrev pub have_or_unknown : Option (List ℕ) → FetchArgument
 have_or_unknown None = UnknownFetchArgument
@@ -102,9 +132,5 @@ want_or_else (Some id) other = Want id
 -- an argument of fetch; `want ` and `have ` have that form whatever follows
 unfoldable pub fetch_argument : List ℕ → FetchArgument
 fetch_argument text =
-    if is_word (codes "thin-pack") text then ThinPack
-    else if is_word (codes "no-progress") text then NoProgress
-    else if is_word (codes "include-tag") text then IncludeTag
-    else if is_word (codes "ofs-delta") text then OfsDelta
-    else if is_word (codes "done") text then Done
-    else want_or_else (after_word (codes "want ") text) (have_or_unknown (after_word (codes "have ") text))
+    fetch_flag_or_else (flag_in fetch_flags text)
+    (want_or_else (after_word (codes "want ") text) (have_or_unknown (after_word (codes "have ") text)))

@@ -1,3 +1,4 @@
+pub mod Flags
 pub mod Arguments
 pub mod Asked
 pub mod Views

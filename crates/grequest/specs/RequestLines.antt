@@ -1,5 +1,5 @@
 -- What the packets of a request say: where each stands, and what all of a kind say together.
-use Rattle.std.specs.Prelude.{true, false}
+use Rattle.std.specs.Prelude.{false}
 use Rattle.std.specs.Prelude.{ℕ, Bool, List, [], ◌∷◌, Option, Some, None}
 use Rattle.std.specs.List.{filter_map, list_any}
 use Rattle.gpkt.specs.Packets.{Packet, Data, Flush, Delim, ResponseEnd, text}
@@ -11,10 +11,12 @@ use Rattle.grequest.specs.declared.command.Command.TheVariants.{LsRefs, Fetch}
 use Rattle.grequest.specs.declared.command.CommandForm.{CommandForm}
 use Rattle.grequest.specs.declared.command.CommandForm.TheVariants.{Known, Unknown as UnknownCommand, Bad as BadCommand}
 use Rattle.grequest.specs.Arguments.{command_form, CapabilityForm, Agent, ObjectFormat, capability_form}
-use Rattle.grequest.specs.Arguments.{LsArgument, Symrefs, Peel, Unborn, RefPrefix, ls_argument}
-use Rattle.grequest.specs.Arguments.{FetchArgument, ThinPack, NoProgress, IncludeTag, OfsDelta, Done, Want, Have}
-use Rattle.grequest.specs.Arguments.{fetch_argument}
-use Rattle.grequest.specs.Asked.{LsRefsAsked, FetchAsked, Asked, Empty, Ls, Fetches}
+use Rattle.grequest.specs.Arguments.{ls_flags, LsArgument, KnownLsFlag, RefPrefix, ls_argument}
+use Rattle.grequest.specs.Arguments.{fetch_flags, FetchArgument, KnownFetchFlag, Want, Have, fetch_argument}
+use Rattle.grequest.specs.declared.flag.LsRefsFlag.{LsRefsFlag}
+use Rattle.grequest.specs.declared.flag.FetchFlag.{FetchFlag}
+use Rattle.grequest.specs.Flags.{FlagsOf, flags_where}
+use Rattle.grequest.specs.Asked.{LsRefsAsked, FetchAsked, Asked, Empty, Ls, Fetches, same_ls_flag, same_fetch_flag}
 
 -- ---- where a packet stands
 
@@ -100,37 +102,13 @@ haves format texts = filter_map (λ line. have_value format (fetch_argument line
 
 -- ---- flags
 
-abbrev pub is_symrefs : LsArgument → Bool
-is_symrefs Symrefs = true
-is_symrefs _ = false
+abbrev pub is_ls_flag : LsRefsFlag → LsArgument → Bool
+is_ls_flag flag (KnownLsFlag other) = same_ls_flag flag other
+is_ls_flag flag _ = false
 
-abbrev pub is_peel : LsArgument → Bool
-is_peel Peel = true
-is_peel _ = false
-
-abbrev pub is_unborn : LsArgument → Bool
-is_unborn Unborn = true
-is_unborn _ = false
-
-abbrev pub is_thin_pack : FetchArgument → Bool
-is_thin_pack ThinPack = true
-is_thin_pack _ = false
-
-abbrev pub is_no_progress : FetchArgument → Bool
-is_no_progress NoProgress = true
-is_no_progress _ = false
-
-abbrev pub is_include_tag : FetchArgument → Bool
-is_include_tag IncludeTag = true
-is_include_tag _ = false
-
-abbrev pub is_ofs_delta : FetchArgument → Bool
-is_ofs_delta OfsDelta = true
-is_ofs_delta _ = false
-
-abbrev pub is_done : FetchArgument → Bool
-is_done Done = true
-is_done _ = false
+abbrev pub is_fetch_flag : FetchFlag → FetchArgument → Bool
+is_fetch_flag flag (KnownFetchFlag other) = same_fetch_flag flag other
+is_fetch_flag flag _ = false
 
 -- an argument of ls-refs, and one of fetch, is among the texts
 abbrev pub has_ls_argument : (LsArgument → Bool) → List (List ℕ) → Bool
@@ -138,6 +116,13 @@ has_ls_argument is_it texts = list_any (λ line. is_it (ls_argument line)) texts
 
 abbrev pub has_fetch_argument : (FetchArgument → Bool) → List (List ℕ) → Bool
 has_fetch_argument is_it texts = list_any (λ line. is_it (fetch_argument line)) texts
+
+-- the flags that are among the texts
+abbrev pub ls_flags_among : List (List ℕ) → FlagsOf ls_flags
+ls_flags_among texts = flags_where ls_flags (λ flag. has_ls_argument (is_ls_flag flag) texts)
+
+abbrev pub fetch_flags_among : List (List ℕ) → FlagsOf fetch_flags
+fetch_flags_among texts = flags_where fetch_flags (λ flag. has_fetch_argument (is_fetch_flag flag) texts)
 
 abbrev pub first_of : List (List ℕ) → Option (List ℕ)
 first_of [] = None
@@ -148,9 +133,7 @@ first_of (x ∷ xs) = Some x
 abbrev pub ls_refs_asked : List (List ℕ) → List (List ℕ) → LsRefsAsked
 ls_refs_asked capabilities arguments = record {
   agent = first_of (agents capabilities);
-  symrefs = has_ls_argument is_symrefs arguments;
-  peel = has_ls_argument is_peel arguments;
-  unborn = has_ls_argument is_unborn arguments;
+  flags = ls_flags_among arguments;
   prefixes = prefixes arguments;
 }
 
@@ -159,11 +142,7 @@ fetch_asked format capabilities arguments = record {
   agent = first_of (agents capabilities);
   wants = wants format arguments;
   haves = haves format arguments;
-  done = has_fetch_argument is_done arguments;
-  thin_pack = has_fetch_argument is_thin_pack arguments;
-  no_progress = has_fetch_argument is_no_progress arguments;
-  include_tag = has_fetch_argument is_include_tag arguments;
-  ofs_delta = has_fetch_argument is_ofs_delta arguments;
+  flags = fetch_flags_among arguments;
 }
 
 abbrev pub asked_by_command : Format → Command → List (List ℕ) → List (List ℕ) → Asked

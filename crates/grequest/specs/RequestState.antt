@@ -7,10 +7,9 @@ use Rattle.ggrammar.specs.Ids.{id_of_text}
 use Rattle.grequest.specs.declared.command.CommandForm.{CommandForm}
 use Rattle.grequest.specs.declared.command.CommandForm.TheVariants.{Known, Unknown as UnknownCommand, Bad as BadCommand}
 use Rattle.grequest.specs.Arguments.{command_form, CapabilityForm, Agent, ObjectFormat, UnknownCapability, BadCapability}
-use Rattle.grequest.specs.Arguments.{capability_form, LsArgument, Symrefs, Peel, Unborn, RefPrefix, UnknownLsArgument}
-use Rattle.grequest.specs.Arguments.{ls_argument, FetchArgument, ThinPack, NoProgress, IncludeTag, OfsDelta, Done, Want}
-use Rattle.grequest.specs.Arguments.{Have, UnknownFetchArgument, fetch_argument}
-use Rattle.grequest.specs.Asked.{LsRefsAsked, FetchAsked, Asked, Empty, Ls, Fetches}
+use Rattle.grequest.specs.Arguments.{capability_form, LsArgument, KnownLsFlag, RefPrefix, UnknownLsArgument}
+use Rattle.grequest.specs.Arguments.{ls_argument, FetchArgument, KnownFetchFlag, Want, Have, UnknownFetchArgument, fetch_argument}
+use Rattle.grequest.specs.Asked.{LsRefsAsked, FetchAsked, Asked, Empty, Ls, Fetches, ls_with, fetch_with}
 use Rattle.grequest.specs.RequestLines.{Place, First, InCapabilities, InArguments, asked_by_command}
 use Rattle.grequest.specs.Requests.{State}
 
@@ -38,18 +37,12 @@ with_capability state BadCapability = state
 -- ---- arguments
 
 abbrev pub with_ls_argument : LsRefsAsked → LsArgument → LsRefsAsked
-with_ls_argument asked Symrefs = record asked { symrefs = true }
-with_ls_argument asked Peel = record asked { peel = true }
-with_ls_argument asked Unborn = record asked { unborn = true }
+with_ls_argument asked (KnownLsFlag flag) = ls_with asked flag true
 with_ls_argument asked (RefPrefix prefix) = record asked { prefixes = asked.prefixes ++ prefix ∷ [] }
 with_ls_argument asked UnknownLsArgument = asked
 
 abbrev pub with_fetch_argument : Format → FetchAsked → FetchArgument → FetchAsked
-with_fetch_argument format asked ThinPack = record asked { thin_pack = true }
-with_fetch_argument format asked NoProgress = record asked { no_progress = true }
-with_fetch_argument format asked IncludeTag = record asked { include_tag = true }
-with_fetch_argument format asked OfsDelta = record asked { ofs_delta = true }
-with_fetch_argument format asked Done = record asked { done = true }
+with_fetch_argument format asked (KnownFetchFlag flag) = fetch_with asked flag true
 with_fetch_argument format asked (Want id) =
     record asked { wants = asked.wants ++ option_to_list (id_of_text format id) }
 with_fetch_argument format asked (Have id) =

@@ -1,5 +1,7 @@
 -- The packets that are written of a request: each argument that is set, in one order.
-use Rattle.std.specs.Prelude.{◌≡◌, ℕ, Bool, true, false, List, [], ◌∷◌, ◌++◌, map, codes, Option, Some, None}
+use Rattle.std.specs.Prelude.{◌≡◌, ℕ, ◌≤◌, Bool, true, false, List, [], ◌∷◌, ◌++◌, length, map, codes, All}
+use Rattle.std.specs.Prelude.{Option, Some, None}
+use Rattle.std.specs.Borrow.{Bor}
 use Rattle.gpkt.specs.Packets.{Packet, Flush, Delim}
 use Rattle.gname.specs.Ids.{id_text}
 use Rattle.gname.specs.Formats.{format_name}
@@ -7,9 +9,12 @@ use Rattle.gname.specs.declared.formats.Format.{Format}
 use Rattle.gname.specs.declared.formats.Format.TheVariants.{Sha1, Sha256}
 use Rattle.grequest.specs.declared.command.Command.{Command}
 use Rattle.grequest.specs.declared.command.Command.TheVariants.{LsRefs, Fetch}
-use Rattle.grequest.specs.Arguments.{command_name}
+use Rattle.grequest.specs.declared.flag.FetchFlag.TheVariants.{Done}
+use Rattle.grequest.specs.Flags.{Table, FlagsOf}
+use Rattle.grequest.specs.Arguments.{command_name, ls_flags, fetch_flags}
+use Rattle.ggrammar.specs.Capabilities.{max_capability}
 use Rattle.ggrammar.specs.Texts.{text_packet}
-use Rattle.grequest.specs.Asked.{LsRefsAsked, FetchAsked, Asked, Empty, Ls, Fetches}
+use Rattle.grequest.specs.Asked.{LsRefsAsked, FetchAsked, Asked, Empty, Ls, Fetches, fetch_has, fetch_with}
 
 abbrev pub command_packet : Command → Packet
 command_packet command = text_packet (codes "command=" ++ command_name command)
@@ -27,6 +32,11 @@ abbrev pub flag_packets : List ℕ → Bool → List Packet
 flag_packets word false = []
 flag_packets word true = text_packet word ∷ []
 
+-- a packet for each flag of a table that is set, in its order
+abbrev pub flags_packets : {F : Type 0} (table : Table F) → FlagsOf table → List Packet
+flags_packets [] flags = []
+flags_packets (row ∷ rows) flags = flag_packets row.1 flags.0 ++ flags_packets rows flags.1
+
 abbrev pub prefix_packet : List ℕ → Packet
 prefix_packet prefix = text_packet (codes "ref-prefix " ++ prefix)
 
@@ -38,22 +48,21 @@ id_packet word id = text_packet (word ++ id_text id)
 abbrev pub max_word : ℕ
 max_word = 16
 
+-- each text of a table fits a packet
+abbrev pub AreShort : {F : Type 0} → List (F × Bor (List ℕ)) → Type 0
+AreShort rows = All (λ row. length row.1.now ≤ max_capability) rows
+
 abbrev pub ls_argument_packets : LsRefsAsked → List Packet
 ls_argument_packets asked =
-    flag_packets (codes "peel") asked.peel
-    ++ flag_packets (codes "symrefs") asked.symrefs
-    ++ flag_packets (codes "unborn") asked.unborn
-    ++ map prefix_packet asked.prefixes
+    flags_packets ls_flags asked.flags ++ map prefix_packet asked.prefixes
 
+-- `done` comes after the ids
 abbrev pub fetch_argument_packets : FetchAsked → List Packet
 fetch_argument_packets asked =
-    flag_packets (codes "thin-pack") asked.thin_pack
-    ++ flag_packets (codes "no-progress") asked.no_progress
-    ++ flag_packets (codes "include-tag") asked.include_tag
-    ++ flag_packets (codes "ofs-delta") asked.ofs_delta
+    flags_packets fetch_flags (fetch_with asked Done false).flags
     ++ map (id_packet (codes "want ")) asked.wants
     ++ map (id_packet (codes "have ")) asked.haves
-    ++ flag_packets (codes "done") asked.done
+    ++ flag_packets (codes "done") (fetch_has asked Done)
 
 -- a command, its capabilities, a delimiter, its arguments and a flush
 abbrev pub command_packets : Format → Command → Option (List ℕ) → List Packet → List Packet

@@ -8,6 +8,7 @@ ghost use Rattle.grequest.specs.Arguments.{agent_with, format_with, known_capabi
 ghost use Rattle.grequest.specs.RequestReading.{CarriesWord};
 ghost use Rattle.grequest.specs.Views.{capability_in, ls_argument_in, fetch_argument_in};
 
+use crate::flag::{FETCH_FLAGS, FetchFlag, LS_REFS_FLAGS, LsRefsFlag, flag_in};
 use ggrammar::{Capability, after_word, capability_of, is_word_value};
 
 /// A text of a request's capability list (gitprotocol-v2(5), "agent", "object-format").
@@ -23,9 +24,7 @@ pub(crate) enum CapabilityForm<'a> {
 /// An argument of ls-refs.
 #[derive(Clone, Copy, Debug, PartialEq, Eq)]
 pub(crate) enum LsArgument<'a> {
-    Symrefs,
-    Peel,
-    Unborn,
+    Flag(LsRefsFlag),
     RefPrefix(&'a [u8]),
     Unknown,
 }
@@ -33,11 +32,7 @@ pub(crate) enum LsArgument<'a> {
 /// An argument of fetch.
 #[derive(Clone, Copy, Debug, PartialEq, Eq)]
 pub(crate) enum FetchArgument<'a> {
-    ThinPack,
-    NoProgress,
-    IncludeTag,
-    OfsDelta,
-    Done,
+    Flag(FetchFlag),
     Want(&'a [u8]),
     Have(&'a [u8]),
     Unknown,
@@ -93,16 +88,10 @@ fn format_with(value: Option<&[u8]>) -> CapabilityForm<'_>
 pub(crate) fn ls_argument(text: &[u8]) -> LsArgument<'_>
     ensures { ls_argument_in result ≡ ls_argument text.now }
 {
-    if text == b"symrefs".as_slice() {
-        return LsArgument::Symrefs;
+    match flag_in(LS_REFS_FLAGS, text) {
+        Some(flag) => LsArgument::Flag(flag),
+        None => ref_prefix(text),
     }
-    if text == b"peel".as_slice() {
-        return LsArgument::Peel;
-    }
-    if text == b"unborn".as_slice() {
-        return LsArgument::Unborn;
-    }
-    ref_prefix(text)
 }
 
 fn ref_prefix(text: &[u8]) -> LsArgument<'_>
@@ -119,22 +108,10 @@ fn ref_prefix(text: &[u8]) -> LsArgument<'_>
 pub(crate) fn fetch_argument(text: &[u8]) -> FetchArgument<'_>
     ensures { fetch_argument_in result ≡ fetch_argument text.now }
 {
-    if text == b"thin-pack".as_slice() {
-        return FetchArgument::ThinPack;
+    match flag_in(FETCH_FLAGS, text) {
+        Some(flag) => FetchArgument::Flag(flag),
+        None => want_or_have(text),
     }
-    if text == b"no-progress".as_slice() {
-        return FetchArgument::NoProgress;
-    }
-    if text == b"include-tag".as_slice() {
-        return FetchArgument::IncludeTag;
-    }
-    if text == b"ofs-delta".as_slice() {
-        return FetchArgument::OfsDelta;
-    }
-    if text == b"done".as_slice() {
-        return FetchArgument::Done;
-    }
-    want_or_have(text)
 }
 
 fn want_or_have(text: &[u8]) -> FetchArgument<'_>

@@ -7,13 +7,15 @@ ghost use Rattle.gpkt.specs.Packets.{Delim};
 ghost use Rattle.ggrammar.specs.Capabilities.{max_capability};
 ghost use Rattle.ggrammar.specs.Texts.{text_packet};
 ghost use Rattle.ggrammar.specs.Writing.{WritesLines, WritesPart};
+ghost use Rattle.grequest.specs.Flags.{flags_at, table_in};
 ghost use Rattle.grequest.specs.Asked.{Ls, Fetches};
-ghost use Rattle.grequest.specs.RequestWriting.{agent_packets, canonical_request, command_packet, flag_packets, format_packets, id_packet, max_word, prefix_packet};
+ghost use Rattle.grequest.specs.RequestWriting.{AreShort, agent_packets, canonical_request, command_packet, flag_packets, flags_packets, format_packets, id_packet, max_word, prefix_packet};
 ghost use Rattle.grequest.specs.RequestValues.{IsOfFormat, asked_by_request};
 ghost use Rattle.grequest.specs.WellFormed.{IsAgent, IsAsked};
 
 use crate::command::Command;
 use crate::fetch::FetchRequest;
+use crate::flag::{FETCH_FLAGS, Flag, LS_REFS_FLAGS, MAX_FLAGS};
 use crate::ls_refs::LsRefsRequest;
 use crate::request::Request;
 use ggrammar::laws::writes_lines;
@@ -72,9 +74,7 @@ fn write_ls_refs<A: Allocator + Copy, W: Sink>(
 {
     writes_lines::<W>();
     write_head(Command::LsRefs, asked.agent(), format, writer)?;
-    write_flag(b"peel", asked.peel(), writer)?;
-    write_flag(b"symrefs", asked.symrefs(), writer)?;
-    write_flag(b"unborn", asked.unborn(), writer)?;
+    write_flags(LS_REFS_FLAGS, asked.flags(), writer)?;
     write_prefixes(asked.prefixes(), writer)?;
     writer.flush_pkt()
 }
@@ -89,10 +89,7 @@ fn write_fetch<A: Allocator + Copy, W: Sink>(
 {
     writes_lines::<W>();
     write_head(Command::Fetch, asked.agent(), format, writer)?;
-    write_flag(b"thin-pack", asked.thin_pack(), writer)?;
-    write_flag(b"no-progress", asked.no_progress(), writer)?;
-    write_flag(b"include-tag", asked.include_tag(), writer)?;
-    write_flag(b"ofs-delta", asked.ofs_delta(), writer)?;
+    write_flags(FETCH_FLAGS, &asked.early_flags(), writer)?;
     write_ids(b"want ", asked.wants(), writer)?;
     write_ids(b"have ", asked.haves(), writer)?;
     write_flag(b"done", asked.done(), writer)?;
@@ -136,6 +133,23 @@ fn write_format<W: Sink>(format: Format, writer: &mut LineWriter<W>) -> Result<(
         Format::Sha1 => Ok(()),
         Format::Sha256 => write_text(b"object-format=", format.name().as_bytes(), writer),
     }
+}
+
+// Writes the flags of a table that are set.
+fn write_flags<F: Flag, W: Sink>(
+    table: &[(F, &str)],
+    flags: &[bool; MAX_FLAGS],
+    writer: &mut LineWriter<W>,
+) -> Result<(), WriteFault>
+    requires { AreShort table.now }
+    ensures { WritesPart W.contents W.passed_on W.is_down W.loans writer.old writer.new result
+        (flags_packets (table_in table.now) (flags_at F.number (table_in table.now) flags.now)) }
+{
+    writes_lines::<W>();
+    for (flag, word) in table {
+        write_flag(word.as_bytes(), flags[flag.number()], writer)?;
+    }
+    Ok(())
 }
 
 fn write_flag<W: Sink>(

@@ -11,7 +11,8 @@ use Rattle.ghistory.specs.Reach.{Grows, IsFull, SomeReaches}
 use Rattle.ghistory.specs.Walks.{CountsReached}
 use Rattle.gspec.specs.Refspecs.{Refspec}
 use Rattle.grepo.specs.Repos.{IsWhole, RepoState}
-use Rattle.grequest.specs.Asked.{Asked, Fetches, FetchAsked}
+use Rattle.grequest.specs.declared.flag.FetchFlag.TheVariants.{Done}
+use Rattle.grequest.specs.Asked.{Asked, Fetches, FetchAsked, fetch_has}
 use Rattle.gsession.specs.Calls.{HasCalled, IsOutOfTurn}
 use Rattle.gsession.specs.Requesting.{MakesNext, Requests}
 use Rattle.gsession.specs.Sessions.{SessionState, Begins, IsSession}
@@ -67,7 +68,7 @@ OfferedStays {A} indexes index_fails =
 abbrev pub OffersAreNew : Type 0 → Type 0
 OffersAreNew A =
     (g : List (Entry A)) (old new : SessionState A) (asked : FetchAsked)
-    → MakesNext old g new (Fetches asked) → asked.done ≡ false
+    → MakesNext old g new (Fetches asked) → fetch_has asked Done ≡ false
     → ((a : List ℕ) × Contains asked.haves a × ¬ (Contains old.sent a))
 
 -- ---- the last request
@@ -78,13 +79,13 @@ IsPast s = (s.pending ≡ None) × ((s.stage ≡ Settling) ⊎ (s.stage ≡ Over
 
 -- the last request was made: one with `done` waits for its reply, or nothing more is asked for
 abbrev pub HasAskedLast : {A : Type 0} → SessionState A → Type 0
-HasAskedLast s = ((asked : FetchAsked) × Awaits s asked × (asked.done ≡ true)) ⊎ IsPast s
+HasAskedLast s = ((asked : FetchAsked) × Awaits s asked × (fetch_has asked Done ≡ true)) ⊎ IsPast s
 
 -- a request with `done` is the last one
 abbrev pub DoneAsksLast : Type 0 → Type 0
 DoneAsksLast A =
     (g : List (Entry A)) (old new : SessionState A) (asked : FetchAsked)
-    → MakesNext old g new (Fetches asked) → asked.done ≡ true → HasAskedLast new
+    → MakesNext old g new (Fetches asked) → fetch_has asked Done ≡ true → HasAskedLast new
 
 -- so it stays after every call
 abbrev pub LastStays : {A : Type 0} → Indexes A → IndexFails → Type 0

@@ -8,7 +8,8 @@ use Rattle.grepo.specs.declared.ask.RefUpdate.{RefUpdate}
 use Rattle.grepo.specs.Repos.{RepoState}
 use Rattle.glsreply.specs.LsReplies.{LsReply}
 use Rattle.gobject.specs.declared.node.Entry.{Entry}
-use Rattle.grequest.specs.Asked.{Asked, Ls, LsRefsAsked, FetchAsked}
+use Rattle.grequest.specs.declared.flag.FetchFlag.TheVariants.{Done}
+use Rattle.grequest.specs.Asked.{Asked, Ls, LsRefsAsked, FetchAsked, fetch_has}
 use Rattle.gsession.specs.Requesting.{MakesNext, Requests}
 use Rattle.gsession.specs.Sessions.{SessionState, Hears, IsBegun, over}
 use Rattle.gsession.specs.SettlingRefs.{SettlesSession}
@@ -47,7 +48,7 @@ pub data Does {A : Type 0} (g : List (Entry A)) (old new : SessionState A) : Typ
       → new ≡ with_refs old reply wants → Does g old new
   does_take : (asked : FetchAsked) (stage : Stage) (acks : List (List ℕ)) → Awaits old asked
       → All (Contains asked.haves) acks
-      → (asked.done ≡ true → stage ≡ Settling) → new ≡ after_acks old stage acks → Does g old new
+      → (fetch_has asked Done ≡ true → stage ≡ Settling) → new ≡ after_acks old stage acks → Does g old new
   does_settle : old.stage ≡ Settling → new ≡ record (over old) { asks = [] } → Does g old new
 
 -- what a call leaves as it is: what is fetched and how, and the tips; of the ids that were offered none is forgotten

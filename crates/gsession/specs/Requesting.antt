@@ -8,7 +8,10 @@ use Rattle.ghistory.specs.Offer.{IsOffer}
 use Rattle.ghistory.specs.declared.fault.GraphFault.TheVariants as graph
 use Rattle.gspec.specs.Refspecs.{Refspec}
 use Rattle.grepo.specs.declared.fault.RepoFault.TheVariants as repo
-use Rattle.grequest.specs.Asked.{Asked, Empty, Ls, Fetches, LsRefsAsked, FetchAsked, max_haves}
+use Rattle.grequest.specs.declared.flag.LsRefsFlag.TheVariants.{Unborn}
+use Rattle.grequest.specs.declared.flag.FetchFlag.TheVariants.{NoProgress, IncludeTag, Done}
+use Rattle.grequest.specs.Building.{no_ls_refs, no_fetch}
+use Rattle.grequest.specs.Asked.{Asked, Empty, Ls, Fetches, LsRefsAsked, FetchAsked, max_haves, ls_with, fetch_with}
 use Rattle.gsession.specs.Sessions.{SessionState, over}
 use Rattle.gsession.specs.declared.stage.Stage.{Stage}
 use Rattle.gsession.specs.declared.stage.Stage.TheVariants.{Listing, Fetching}
@@ -18,13 +21,8 @@ use Rattle.gsession.specs.declared.fault.ClientFault.TheVariants.{NoOpenRequest,
 -- the request for refs: those whose names begin with the source of a refspec, or of a pattern with what stands before
 -- its `*`; and the target of an unborn HEAD where the server offers to report it
 abbrev pub ls_request : List Refspec → Bool → LsRefsAsked
-ls_request specs unborn = record {
-  agent = None;
-  symrefs = false;
-  peel = false;
-  unborn = unborn;
-  prefixes = distinct_of (map (λ spec. spec.source) specs);
-}
+ls_request specs unborn =
+    record (ls_with no_ls_refs Unborn unborn) { prefixes = distinct_of (map (λ spec. spec.source) specs) }
 
 -- how many ids are offered after so many rounds
 abbrev pub batch_size : ℕ → ℕ
@@ -48,16 +46,10 @@ pub record IsBatch {A : Type 0} (s : SessionState A) (g : List (Entry A)) (batch
 -- the request for the wanted objects: the client has the common ids and those of the batch, and is done without a
 -- batch
 abbrev pub fetch_request : List (List ℕ) → List (List ℕ) → List (List ℕ) → FetchAsked
-fetch_request wants commons batch = record {
-  agent = None;
-  wants = wants;
-  haves = commons ++ batch;
-  done = length batch == 0;
-  thin_pack = false;
-  no_progress = true;
-  include_tag = true;
-  ofs_delta = false;
-}
+fetch_request wants commons batch =
+    let quiet = fetch_with no_fetch NoProgress true in
+    let tagged = fetch_with quiet IncludeTag true in
+    record (fetch_with tagged Done (length batch == 0)) { wants = wants; haves = commons ++ batch }
 
 -- the next request, with its batch: for refs first, then for objects, as often as the server only acknowledged
 abbrev pub IsNext : {A : Type 0} → SessionState A → List (Entry A) → Asked → List (List ℕ) → Type 0

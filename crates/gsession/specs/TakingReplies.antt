@@ -17,7 +17,8 @@ use Rattle.ghistory.specs.declared.fault.GraphFault.{GraphFault}
 use Rattle.ghistory.specs.declared.fault.GraphFault.TheVariants.{Memory}
 use Rattle.grepo.specs.declared.fault.RepoFault.TheVariants.{Graph}
 use Rattle.grepo.specs.Repos.{RepoState}
-use Rattle.grequest.specs.Asked.{Fetches, FetchAsked, is_direct}
+use Rattle.grequest.specs.declared.flag.FetchFlag.TheVariants.{Done}
+use Rattle.grequest.specs.Asked.{Fetches, FetchAsked, is_direct, fetch_has}
 use Rattle.gsession.specs.Sessions.{SessionState, after_fault}
 use Rattle.gsession.specs.declared.stage.Stage.{Stage}
 use Rattle.gsession.specs.declared.stage.Stage.TheVariants.{Fetching, Settling}
@@ -154,5 +155,5 @@ module _ {A : Type 0} (indexes : Indexes A) (index_fails : IndexFails) where
   abbrev pub DoneIsLast : Type 0
   DoneIsLast =
       (old new : SessionState A) (repo repo_new : RepoState A) (change : Change) (asked : FetchAsked) (taken : Taken)
-      → Awaits old asked → asked.done ≡ true → TakesReply old repo change new repo_new (Ok taken)
+      → Awaits old asked → fetch_has asked Done ≡ true → TakesReply old repo change new repo_new (Ok taken)
       → new.stage ≡ Settling

@@ -10,7 +10,8 @@ use Rattle.ghello.specs.Hello.{Hello, IsHello, MakesHello}
 use Rattle.glsreply.specs.LsReplies.{LsReply}
 use Rattle.gobject.specs.Packs.{Indexes, IndexFails, PackFails, Packs}
 use Rattle.grepo.specs.Repos.{RepoState}
-use Rattle.grequest.specs.Asked.{LsRefsAsked, max_prefixes}
+use Rattle.grequest.specs.declared.flag.LsRefsFlag.TheVariants.{Symrefs, Peel}
+use Rattle.grequest.specs.Asked.{LsRefsAsked, ls_with, max_prefixes}
 use Rattle.grequest.specs.Building.{no_ls_refs}
 use Rattle.ganswer.specs.Servers.{Server}
 use Rattle.gsession.specs.declared.fault.ClientFault.TheVariants as client
@@ -73,7 +74,9 @@ module _ {A : Type 0} (indexes : Indexes A) (index_fails : IndexFails) (start : 
 
 -- what is asked: the refs with these prefixes, what symbolic refs point at, and what tags lead to
 abbrev pub asked_for : List (List ℕ) → LsRefsAsked
-asked_for prefixes = record no_ls_refs { symrefs = true; peel = true; prefixes = prefixes }
+asked_for prefixes =
+    let named = ls_with no_ls_refs Symrefs true in
+    record (ls_with named Peel true) { prefixes = prefixes }
 
 -- why it is not asked: there are too many prefixes, or there is no memory for them
 abbrev pub RefusesPrefixes : List (List ℕ) → MessageFault → Type 0
