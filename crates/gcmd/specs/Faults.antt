@@ -1,6 +1,6 @@
 -- The table of the programs' faults: what is printed of each.
 use Rattle.std.specs.Prelude.{ℕ, List, codes, Option, Some, None}
-use Rattle.gname.specs.Faults.{FaultRow, name_fault_row, name_fault_text}
+use Rattle.gname.specs.Faults.{FaultRow, name_fault_row, name_fault_text, out_of_memory, out_of_memory_text}
 use Rattle.gname.specs.declared.faults.NameFault.{NameFault}
 use Rattle.gname.specs.declared.faults.NameFault.TheVariants as name
 use Rattle.gname.specs.Names.{head_name}
@@ -175,7 +175,7 @@ printed_of_fetch fault = plain (fetch_fault_row fault)
 -- ---- the table
 
 abbrev pub printed_of : {A : Type 0} → ProgramFault A → Printed
-printed_of program.Memory = plain (64, codes "Memory")
+printed_of program.Memory = plain out_of_memory
 printed_of program.File = plain (95, codes "File")
 printed_of (program.Text fault) = printed_of_text fault
 printed_of (program.Build fault) = printed_of_build fault
@@ -190,7 +190,7 @@ printed_of program.Socket = plain (96, codes "Socket")
 
 -- ---- their texts
 abbrev pub program_fault_text : {A : Type 0} → ProgramFault A → List ℕ
-program_fault_text program.Memory = codes "out of memory"
+program_fault_text program.Memory = out_of_memory_text
 program_fault_text program.File = codes "the file can't be read"
 program_fault_text (program.Text fault) = load_fault_text fault
 program_fault_text (program.Build fault) = build_fault_text fault

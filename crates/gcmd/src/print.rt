@@ -18,7 +18,7 @@ use gclient::{ClientFault, FetchFault};
 use ggrammar::Why;
 use ggrammar::compose::{add, add_id};
 use ggraph::{GraphFault, LoadFault};
-use gname::{HEAD, NameFault, Oid};
+use gname::{HEAD, NameFault, OUT_OF_MEMORY, Oid};
 use gpkt::{Down, Sink, WriteFault};
 use std::alloc::Allocator;
 
@@ -46,7 +46,7 @@ impl<'a> FaultLine<'a> {
         ensures short { IsShort result }
     {
         match fault {
-            ProgramFault::Memory => FaultLine::plain(64, "Memory"),
+            ProgramFault::Memory => FaultLine::plain(OUT_OF_MEMORY.0, OUT_OF_MEMORY.1),
             ProgramFault::File => FaultLine::plain(95, "File"),
             ProgramFault::Text(fault) => FaultLine::of_text(fault),
             ProgramFault::Build(fault) => FaultLine::of_build(fault),

@@ -2,6 +2,7 @@
 -- of a peer's text.
 use Rattle.std.specs.Prelude.{ℕ, List, ◌++◌, codes, take}
 use Rattle.std.specs.Fmt.{decimal}
+use Rattle.gname.specs.Faults.{out_of_memory_text}
 use Rattle.gpkt.specs.Faults.{FaultRow, band_fault_row, line_fault_row}
 use Rattle.gpkt.specs.Packets.{text}
 use Rattle.gpkt.specs.declared.fault.LineFault.{LineFault}
@@ -35,7 +36,7 @@ line_phrase line.TooLong = codes "bad packet line"
 line_phrase line.Truncated = codes "unexpected end"
 line_phrase line.Io = codes "read failed"
 line_phrase line.Failed = codes "read failed"
-line_phrase line.Memory = codes "out of memory"
+line_phrase line.Memory = out_of_memory_text
 
 -- why a message is refused
 abbrev pub why_row : Why → WhyRow
@@ -53,7 +54,7 @@ why_row (why.RemoteErr said) = row_of (49, codes "RemoteErr") (codes "peer repor
 why_row (why.RemoteFatal said) = row_of (50, codes "RemoteFatal") (codes "refused")
 why_row why.WrongSection = row_of (51, codes "WrongSection") (codes "refused")
 why_row why.Format = row_of (52, codes "Format") (codes "object format mismatch")
-why_row why.Memory = row_of (53, codes "Memory") (codes "out of memory")
+why_row why.Memory = row_of (53, codes "Memory") out_of_memory_text
 why_row why.Ended = row_of (54, codes "Ended") (codes "unexpected end")
 
 -- the text of a fault of a message: the position of its packet, and why

@@ -6,6 +6,7 @@ ghost use Rattle.ggrammar.specs.FaultViews.{row_view};
 
 use crate::compose::add;
 use arrayvec::ArrayVec;
+use gname::OUT_OF_MEMORY_TEXT;
 use gpkt::{BandFault, LineFault, text_of};
 use std::error::Error;
 use std::fmt;
@@ -116,7 +117,7 @@ fn line_phrase(fault: &LineFault) -> &'static str
         LineFault::BadDigits | LineFault::Reserved | LineFault::TooLong => "bad packet line",
         LineFault::Truncated => "unexpected end",
         LineFault::Io | LineFault::Failed => "read failed",
-        LineFault::Memory => "out of memory",
+        LineFault::Memory => OUT_OF_MEMORY_TEXT,
     }
 }
 
@@ -162,7 +163,7 @@ impl Why {
             Why::RemoteFatal(_) => row(50, "RemoteFatal", "refused"),
             Why::WrongSection => row(51, "WrongSection", "refused"),
             Why::Format => row(52, "Format", "object format mismatch"),
-            Why::Memory => row(53, "Memory", "out of memory"),
+            Why::Memory => row(53, "Memory", OUT_OF_MEMORY_TEXT),
             Why::Ended => row(54, "Ended", "unexpected end"),
         }
     }

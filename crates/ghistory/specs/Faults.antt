@@ -1,6 +1,6 @@
 -- The table of faults: the number, the name and the text of each.
 use Rattle.std.specs.Prelude.{ℕ, List, codes}
-use Rattle.gname.specs.Faults.{FaultRow}
+use Rattle.gname.specs.Faults.{FaultRow, out_of_memory, out_of_memory_text}
 use Rattle.ghistory.specs.declared.fault.GraphFault.{GraphFault}
 use Rattle.ghistory.specs.declared.fault.GraphFault.TheVariants as graph
 
@@ -10,7 +10,7 @@ graph_fault_row (graph.Conflict id) = (60, codes "Conflict")
 graph_fault_row graph.TooMany = (61, codes "TooMany")
 graph_fault_row graph.TooManyParents = (62, codes "TooManyParents")
 graph_fault_row graph.TagShape = (63, codes "TagShape")
-graph_fault_row graph.Memory = (64, codes "Memory")
+graph_fault_row graph.Memory = out_of_memory
 graph_fault_row (graph.OtherFormat id) = (75, codes "OtherFormat")
 
 -- their texts
@@ -20,4 +20,4 @@ graph_fault_text (graph.Conflict id) = codes "another object has this id"
 graph_fault_text graph.TooMany = codes "too many objects"
 graph_fault_text graph.TooManyParents = codes "too many parents"
 graph_fault_text graph.TagShape = codes "a tag has one parent"
-graph_fault_text graph.Memory = codes "out of memory"
+graph_fault_text graph.Memory = out_of_memory_text

@@ -5,7 +5,7 @@ ghost use Rattle.std.specs.Prelude.{◌≡◌, Some};
 ghost use Rattle.ghistory.specs.Faults.{graph_fault_row, graph_fault_text};
 ghost use Rattle.ghistory.specs.declared.fault.GraphFault.TheVariants.{Memory};
 
-use gname::Oid;
+use gname::{OUT_OF_MEMORY, OUT_OF_MEMORY_TEXT, Oid};
 use std::alloc::{AllocError, AllocFailed};
 use std::error::Error;
 use std::fmt;
@@ -42,8 +42,8 @@ impl GraphFault {
         self.row().1
     }
 
-    // The table: the number and the name of each fault.
-    fn row(&self) -> (u32, &'static str)
+    /// The table: the number and the name of each fault.
+    pub fn row(&self) -> (u32, &'static str)
         ensures { (result.0, result.1.now) ≡ graph_fault_row self.now }
     {
         match self {
@@ -51,7 +51,7 @@ impl GraphFault {
             GraphFault::TooMany => (61, "TooMany"),
             GraphFault::TooManyParents => (62, "TooManyParents"),
             GraphFault::TagShape => (63, "TagShape"),
-            GraphFault::Memory => (64, "Memory"),
+            GraphFault::Memory => OUT_OF_MEMORY,
             GraphFault::OtherFormat { .. } => (75, "OtherFormat"),
         }
     }
@@ -67,7 +67,7 @@ impl fmt::Display for GraphFault {
             GraphFault::TooMany => f.write_str("too many objects"),
             GraphFault::TooManyParents => f.write_str("too many parents"),
             GraphFault::TagShape => f.write_str("a tag has one parent"),
-            GraphFault::Memory => f.write_str("out of memory"),
+            GraphFault::Memory => f.write_str(OUT_OF_MEMORY_TEXT),
         }
     }
 }

@@ -24,7 +24,7 @@ line_fault_row line.Memory = (28, codes "Memory")
 
 -- why a packet was not written
 abbrev pub write_fault_row : WriteFault → FaultRow
-write_fault_row write.Failed = (25, codes "Failed")
+write_fault_row write.Failed = line_fault_row line.Failed
 write_fault_row write.Payload = (26, codes "Payload")
 write_fault_row write.Io = (27, codes "Io")
 

@@ -1,14 +1,15 @@
 -- The table of faults: the number, the name and the text of each.
 use Rattle.std.specs.Prelude.{ℕ, List, codes}
-use Rattle.gname.specs.Faults.{FaultRow}
+use Rattle.gname.specs.Faults.{FaultRow, missing_parent}
 use Rattle.ghistory.specs.Faults.{graph_fault_row, graph_fault_text}
 use Rattle.grefs.specs.Faults.{refs_fault_row, refs_fault_text}
 use Rattle.grepo.specs.declared.fault.RepoFault.{RepoFault}
-use Rattle.grepo.specs.declared.fault.RepoFault.TheVariants.{UnsafeRef, NotHeld, NotConnected, MissingParent, Graph, Refs}
+use Rattle.grepo.specs.declared.fault.RepoFault.TheVariants.{UnsafeRef, NotHeld, NotConnected, MissingParent}
+use Rattle.grepo.specs.declared.fault.RepoFault.TheVariants.{Graph, Refs}
 
 -- why a call on a repository was refused; a fault of the graph or of the refs has its own row
 abbrev pub repo_fault_row : {A : Type 0} → RepoFault A → FaultRow
-repo_fault_row (MissingParent id) = (72, codes "MissingParent")
+repo_fault_row (MissingParent id) = missing_parent
 repo_fault_row (UnsafeRef name) = (80, codes "UnsafeRef")
 repo_fault_row (NotHeld missing) = (81, codes "NotHeld")
 repo_fault_row (NotConnected missing) = (85, codes "NotConnected")

@@ -7,7 +7,7 @@ ghost use Rattle.grepo.specs.Faults.{repo_fault_row, repo_fault_text};
 ghost use Rattle.grepo.specs.declared.fault.RepoFault.TheVariants as repo;
 
 use ghistory::GraphFault;
-use gname::{Oid, RefName};
+use gname::{MISSING_PARENT, Oid, RefName};
 use grefs::RefsFault;
 use std::alloc::{AllocError, AllocFailed, Allocator, Global};
 use std::error::Error;
@@ -45,17 +45,17 @@ impl<A: Allocator + Copy> RepoFault<A> {
         self.row().1
     }
 
-    // The table: the number and the name of each fault.
-    fn row(&self) -> (u32, &'static str)
+    /// The table: the number and the name of each fault.
+    pub fn row(&self) -> (u32, &'static str)
         ensures { (result.0, result.1.now) ≡ repo_fault_row self.now }
     {
         match self {
-            RepoFault::MissingParent { .. } => (72, "MissingParent"),
+            RepoFault::MissingParent { .. } => MISSING_PARENT,
             RepoFault::UnsafeRef { .. } => (80, "UnsafeRef"),
             RepoFault::NotHeld { .. } => (81, "NotHeld"),
             RepoFault::NotConnected { .. } => (85, "NotConnected"),
-            RepoFault::Graph(fault) => (fault.code(), fault.name()),
-            RepoFault::Refs(fault) => (fault.code(), fault.name()),
+            RepoFault::Graph(fault) => fault.row(),
+            RepoFault::Refs(fault) => fault.row(),
         }
     }
 }

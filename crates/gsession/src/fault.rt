@@ -65,18 +65,18 @@ impl<A: Allocator + Copy> ClientFault<A> {
         }
     }
 
-    // The table: the number and the name of each fault.
-    fn row(&self) -> (u32, &'static str)
+    /// The table: the number and the name of each fault.
+    pub fn row(&self) -> (u32, &'static str)
         ensures { (result.0, result.1.now) ≡ client_fault_row self.now }
     {
         match self {
             ClientFault::Message(fault) => (fault.code(), fault.name()),
-            ClientFault::Index(fault) => (fault.code(), fault.name()),
+            ClientFault::Index(fault) => fault.row(),
             ClientFault::TooManySpecs => (82, "TooManySpecs"),
             ClientFault::NoOpenRequest => (83, "NoOpenRequest"),
             ClientFault::StrangeAck { .. } => (84, "StrangeAck"),
             ClientFault::TooManyWants => (86, "TooManyWants"),
-            ClientFault::Repo(fault) => (fault.code(), fault.name()),
+            ClientFault::Repo(fault) => fault.row(),
         }
     }
 }

@@ -19,7 +19,7 @@ abbrev pub simulation_fault_row : {A : Type 0} → SimulationFault A → FaultRo
 simulation_fault_row (faults.Program fault) = ((printed_of fault).number, (printed_of fault).name)
 simulation_fault_row (faults.Scenario fault) = scenario_fault_row fault
 simulation_fault_row (faults.World fault) = world_fault_row fault
-simulation_fault_row faults.Memory = (91, codes "Memory")
+simulation_fault_row faults.Memory = scenario_fault_row scenario.Memory
 
 -- ---- the lines that are printed
 
@@ -58,4 +58,4 @@ abbrev pub simulation_fault_text : {A : Type 0} → SimulationFault A → List �
 simulation_fault_text (faults.Program fault) = program_fault_text fault
 simulation_fault_text (faults.Scenario fault) = scenario_fault_text fault
 simulation_fault_text (faults.World fault) = world_fault_text fault
-simulation_fault_text faults.Memory = codes "out of memory"
+simulation_fault_text faults.Memory = scenario_fault_text scenario.Memory

@@ -20,6 +20,9 @@ use std::alloc::Allocator;
 /// The most bytes of such a line: its words, and the digits of an id.
 const MAX_LINE: usize = 128;
 
+/// The line of a simulation that is out of memory.
+const MEMORY_LINE: &[u8] = b"gitv2: fault 91 Memory\n";
+
 /// Ends a simulation as its work came out: prints the fault that was met, if one was. It answers the exit status.
 pub(crate) fn finish<A: Allocator + Copy, E: Sink>(
     ending: Result<(), SimulationFault<A>>,
@@ -46,7 +49,7 @@ fn print<A: Allocator + Copy, E: Sink>(fault: &SimulationFault<A>, errors: &mut 
         SimulationFault::Program(fault) => print_program(fault, errors),
         SimulationFault::Scenario(fault) => print_scenario::<A, E>(fault, errors),
         SimulationFault::World(fault) => print_world::<A, E>(fault, errors),
-        SimulationFault::Memory => print_line::<A, E>(b"gitv2: fault 91 Memory\n", errors),
+        SimulationFault::Memory => print_line::<A, E>(MEMORY_LINE, errors),
     }
 }
 
@@ -63,7 +66,7 @@ fn print_scenario<A: Allocator + Copy, E: Sink>(fault: &ScenarioFault, errors: &
 {
     match fault {
         ScenarioFault::Scenario { line } => print_wrong_line::<A, E>(*line, errors),
-        ScenarioFault::Memory => print_line::<A, E>(b"gitv2: fault 91 Memory\n", errors),
+        ScenarioFault::Memory => print_line::<A, E>(MEMORY_LINE, errors),
     }
 }
 

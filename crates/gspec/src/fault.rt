@@ -4,6 +4,7 @@
 ghost use Rattle.std.specs.Prelude.{◌≡◌, Some};
 ghost use Rattle.gspec.specs.Faults.{spec_fault_row, spec_fault_text};
 
+use gname::NameFault;
 use std::error::Error;
 use std::fmt;
 
@@ -37,7 +38,7 @@ impl SpecFault {
     {
         match self {
             SpecFault::BadSpec => (87, "BadSpec"),
-            SpecFault::Memory => (18, "Memory"),
+            SpecFault::Memory => NameFault::Memory.row(),
         }
     }
 }
@@ -48,7 +49,7 @@ impl fmt::Display for SpecFault {
     fn fmt<W: fmt::Write>(&self, f: &mut fmt::Formatter<W>) -> fmt::Result {
         match self {
             SpecFault::BadSpec => f.write_str("not a refspec"),
-            SpecFault::Memory => f.write_str("out of memory"),
+            SpecFault::Memory => fmt::Display::fmt(&NameFault::Memory, f),
         }
     }
 }
