@@ -26,7 +26,7 @@ use Rattle.glsreply.specs.LsReplies.{LsReply, max_lines, unborn_packets}
 use Rattle.glsreply.specs.RefTexts.{RefLine}
 use Rattle.glsreply.specs.WellFormed.{first_has_format_of, has_format_of, has_one_format, has_room, is_format, line_count}
 use Rattle.ganswer.specs.LsAnswers.{HasAttributes, IsPeeledIf, ShowsLines, all_refs, head_id, head_ref, is_asked, is_shown, missing_target, name_and_id}
-use Rattle.ganswer.specs.LsBuilding.{IsNextRef}
+use Rattle.ganswer.specs.steps.LsBuilding.{IsNextRef}
 use Rattle.ganswer.specs.Servers.{Server, HoldsHead, HoldsRefs, IsServer}
 use Rattle.ghistory.proofs.IdLists.{either_way}
 use Rattle.ghistory.proofs.Places.{held_id}

@@ -15,7 +15,7 @@ use Rattle.ghistory.specs.Laws.{PlacesAreNodes}
 use Rattle.ghistory.specs.Reach.{IsClosed}
 use Rattle.grefs.specs.RefLists.{RefList}
 use Rattle.ganswer.specs.Servers.{HoldsRefs, IsFirstDangling, parents_in}
-use Rattle.ganswer.specs.Steps.{MissesRef, ReportsRef}
+use Rattle.ganswer.specs.steps.Answers.{MissesRef, ReportsRef}
 use Rattle.ganswer.specs.declared.fault.BuildFault.{BuildFault}
 use Rattle.ganswer.specs.declared.fault.BuildFault.TheVariants as build
 

@@ -1,16 +1,14 @@
 pub mod Adverts
 pub mod Answers
 pub mod Changes
-pub mod FaultViews
 pub mod Faults
 pub mod FetchAnswers
 pub mod KnownPeels
 pub mod Laws
 pub mod LsAnswers
-pub mod LsBuilding
 pub mod OnePack
 pub mod Servers
-pub mod Steps
+pub mod steps
 pub use Rattle.gobject.specs.Objects
 pub use Rattle.gobject.specs.Packs
 pub use Rattle.ghistory.specs.Graphs

@@ -6,7 +6,7 @@ ghost use Rattle.gfetchreply.specs.Views.{IsReplyOf, reply_in};
 ghost use Rattle.ganswer.specs.Answers.{FetchRefuses};
 ghost use Rattle.ganswer.specs.FetchAnswers.{FetchAnswer, IsReadyFor, IsSent, commons_of};
 ghost use Rattle.ganswer.specs.OnePack.{packing_of_fault, packing_of_reply};
-ghost use Rattle.ganswer.specs.Steps.{ChecksWants, PacksFor};
+ghost use Rattle.ganswer.specs.steps.Answers.{ChecksWants, PacksFor};
 ghost use Rattle.ganswer.specs.declared.fault.ServeFault.TheVariants.{Memory};
 ghost use Rattle.ganswer.specs.declared.one_pack.Packing.TheVariants as packing;
 

@@ -9,7 +9,7 @@ ghost use Rattle.ganswer.specs.Changes.{Adds, Sets, SetsHead};
 ghost use Rattle.ganswer.specs.KnownPeels.{KnowsPeels};
 ghost use Rattle.ganswer.specs.LsAnswers.{IsPeeled};
 ghost use Rattle.ganswer.specs.Servers.{HoldsHead, HoldsRefs, IsServer, IsUnserved, Makes, PointsBelowRefs, parents_in, served};
-ghost use Rattle.ganswer.specs.Steps.{MissesRef, ReportsRef};
+ghost use Rattle.ganswer.specs.steps.Answers.{MissesRef, ReportsRef};
 ghost use Rattle.gname.specs.Names.{head_name};
 
 use crate::fault::BuildFault;

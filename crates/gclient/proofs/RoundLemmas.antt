@@ -34,7 +34,7 @@ use Rattle.gsession.specs.declared.taken.Taken.{Taken}
 use Rattle.gsession.specs.declared.taken.Taken.TheVariants.{Round, PackTaken}
 use Rattle.gsession.proofs.NextLaws.{tips_are_full}
 use Rattle.gsession.proofs.SessionLemmas.{listing_fetches, settling_fetches}
-use Rattle.gclient.specs.Steps.{TakesTurn, stage_after}
+use Rattle.gclient.specs.steps.Conversations.{TakesTurn, stage_after}
 use Rattle.gclient.specs.Turns.{ClientState, IsTurn, Takes, Turn}
 
 -- ---- distinct held ids are at most as many as there are objects

@@ -18,7 +18,7 @@ use Rattle.gsession.specs.TakingRefs.{TakesLs, stage_for}
 use Rattle.gsession.specs.declared.stage.Stage.TheVariants.{Listing, Fetching, Settling}
 use Rattle.gsession.specs.declared.taken.LsTaken.{LsTaken}
 use Rattle.gclient.specs.Conversations.{Start, RefusesAdvert, heard}
-use Rattle.gclient.specs.Steps.{HasBegun, HearsServer, start_with}
+use Rattle.gclient.specs.steps.Conversations.{HasBegun, HearsServer, start_with}
 
 -- ---- faults
 

@@ -24,8 +24,9 @@ use Rattle.gsession.specs.declared.taken.LsTaken.{LsTaken}
 use Rattle.gsession.specs.declared.taken.Taken.{Taken}
 use Rattle.gsession.specs.declared.taken.Taken.TheVariants.{Round, PackTaken}
 use Rattle.gclient.specs.Conversations.{request_bytes}
-use Rattle.gclient.specs.Steps.{AsksServer, FailsTurn, unasked, unsent, untaken, HasTurned, TakesTurn, client_of}
-use Rattle.gclient.specs.Steps.{stage_after}
+use Rattle.gclient.specs.steps.Conversations.{AsksServer, FailsTurn, unasked, unsent, untaken, HasTurned, TakesTurn}
+use Rattle.gclient.specs.steps.Conversations.{client_of}
+use Rattle.gclient.specs.steps.Conversations.{stage_after}
 use Rattle.gclient.specs.Turns.{ClientState, FitsSource, IsTurn, IsUntaken, AreTurns, Takes, Turn}
 use Rattle.gclient.specs.declared.fault.FetchFault.{FetchFault}
 use Rattle.gclient.specs.declared.fault.FetchFault.TheVariants as fetch

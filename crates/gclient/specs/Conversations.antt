@@ -202,3 +202,8 @@ module _ {A : Type 0} (indexes : Indexes A) (index_fails : IndexFails) (start : 
   abbrev pub FetchesOver : Input → Output → RepoState A → Result (Fetched A) (FetchFault A) → Type 0
   FetchesOver input output new (Ok fetched) = HasFetched input output new fetched
   FetchesOver input output new (Err fault) = Fails input output new fault
+
+-- what a call did that was to write these bytes and to pass them on
+abbrev pub HasPassed : {E : Type 0} → Output → Result (Unit {0}) E → List ℕ → Type 0
+HasPassed output (Ok done) bytes = Passes output bytes
+HasPassed output (Err failed) bytes = FailsToSend output bytes

@@ -1,8 +1,8 @@
 pub mod Turns
 pub mod Conversations
-pub mod Steps
 pub mod Laws
 pub mod Faults
+pub mod steps
 pub use Rattle.gsession.specs.Sessions
 pub use Rattle.gsession.specs.Asking
 pub use Rattle.gsession.specs.Requesting

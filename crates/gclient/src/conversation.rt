@@ -11,7 +11,7 @@ ghost use Rattle.gsession.specs.Bounds.{BeganOn};
 ghost use Rattle.gsession.specs.Sessions.{max_specs, tips_of};
 ghost use Rattle.gsession.specs.declared.stage.Stage.TheVariants.{Fetching, Settling};
 ghost use Rattle.gclient.specs.Conversations.{FetchesOver, Start, start_of};
-ghost use Rattle.gclient.specs.Steps.{Closes, HasBegun, HasTalked, Talks, TalksTo, client_of, start_with};
+ghost use Rattle.gclient.specs.steps.Conversations.{Closes, HasBegun, HasTalked, Talks, TalksTo, client_of, start_with};
 
 use crate::fault::FetchFault;
 use crate::fetched::Fetched;

@@ -7,7 +7,7 @@ ghost use Rattle.grepo.specs.Repos.{IsWhole};
 ghost use Rattle.gsession.specs.Requesting.{is_due};
 ghost use Rattle.gsession.specs.Sessions.{IsBegun, IsSession};
 ghost use Rattle.gsession.specs.declared.stage.Stage.TheVariants.{Fetching};
-ghost use Rattle.gclient.specs.Steps.{AsksServer, HearsServer, TakesTurn, client_of};
+ghost use Rattle.gclient.specs.steps.Conversations.{AsksServer, HearsServer, TakesTurn, client_of};
 
 use crate::fault::FetchFault;
 use crate::send::send_request;

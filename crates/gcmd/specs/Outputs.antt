@@ -23,9 +23,3 @@ BreaksOff output bytes = FailsAtWrite output bytes ⊎ FailsAtFlush output bytes
 abbrev pub IsSent : Output → Result (Unit {0}) Down → List ℕ → Type 0
 IsSent output (Ok done) bytes = Sends output bytes
 IsSent output (Err down) bytes = BreaksOff output bytes
-
--- what a call did that was to write these bytes, and to pass nothing on
-abbrev pub IsPut : Output → Result (Unit {0}) Down → List ℕ → Type 0
-IsPut output (Ok done) bytes =
-    Appends output.written.old output.written.new bytes × Keeps output.passed_on.old output.passed_on.new
-IsPut output (Err down) bytes = FailsAtWrite output bytes

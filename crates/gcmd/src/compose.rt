@@ -2,7 +2,7 @@
 
 ghost use Rattle.std.specs.Prelude.{◌≡◌, ◌+◌, ◌≤◌, ◌++◌, length};
 ghost use Rattle.std.specs.Fmt.{decimal};
-ghost use Rattle.gcmd.specs.Printing.{max_decimal};
+ghost use Rattle.gcmd.specs.steps.Printing.{max_decimal};
 
 use arrayvec::ArrayVec;
 use ggrammar::compose::add;

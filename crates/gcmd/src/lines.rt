@@ -4,10 +4,11 @@ ghost use Rattle.std.specs.Prelude.{◌≡◌, ◌+◌, ◌≤◌, ◌++◌, cod
 ghost use Rattle.std.specs.Fmt.{decimal};
 ghost use Rattle.hex.specs.Hex.{encode_lower};
 ghost use Rattle.gpkt.specs.Packets.{packet_of};
-ghost use Rattle.gcmd.specs.Lines.{chunk, digits_part, shown_line, ShowsEach, HasPassed, ShowsLines};
+ghost use Rattle.gcmd.specs.steps.Lines.{chunk, ShowsEach, HasPassed};
+ghost use Rattle.gcmd.specs.Lines.{digits_part, shown_line, ShowsLines};
 ghost use Rattle.gcmd.specs.Programs.{Runs};
 ghost use Rattle.gpkt.specs.Sending.{input_of, output_of};
-ghost use Rattle.gcmd.specs.Outputs.{IsPut};
+ghost use Rattle.gcmd.specs.steps.Outputs.{IsPut};
 
 use crate::compose::add_number;
 use crate::fault::ProgramFault;

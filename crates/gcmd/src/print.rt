@@ -4,7 +4,8 @@
 ghost use Rattle.std.specs.Prelude.{◌≡◌, ◌+◌, ◌≤◌, ◌++◌, length, map, None, []};
 ghost use Rattle.std.specs.Option.{option_copied};
 ghost use Rattle.gcmd.specs.Faults.{id_in_build, id_in_graph, id_in_request, frame_in_request, line_in_text, place_in_name, printed_of, printed_of_build, printed_of_client, printed_of_fetch, printed_of_name, printed_of_request, printed_of_text, ref_in_build, said_in, said_in_request};
-ghost use Rattle.gcmd.specs.Printing.{max_decimal, max_fault_line, max_fault_name, max_subject, number_part, printed_line, row_view, shown, subject_part, IsShort, IsShortText};
+ghost use Rattle.gcmd.specs.steps.Printing.{max_decimal, max_fault_line, max_fault_name, max_subject, row_view, IsShort, IsShortText};
+ghost use Rattle.gcmd.specs.Printing.{number_part, printed_line, shown, subject_part};
 ghost use Rattle.gpkt.specs.Sending.{output_of};
 ghost use Rattle.gcmd.specs.Outputs.{IsSent};
 

@@ -2,7 +2,8 @@
 
 ghost use Rattle.std.specs.Prelude.{◌≡◌};
 ghost use Rattle.gpkt.specs.Sending.{output_of};
-ghost use Rattle.gcmd.specs.Outputs.{IsPut, IsSent};
+ghost use Rattle.gcmd.specs.steps.Outputs.{IsPut};
+ghost use Rattle.gcmd.specs.Outputs.{IsSent};
 
 use gpkt::{Down, Sink, write_all};
 

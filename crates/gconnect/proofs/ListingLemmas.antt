@@ -20,7 +20,7 @@ use Rattle.gclient.specs.Conversations.{FailsToSend, IsLeft, request_bytes, rest
 use Rattle.gclient.specs.declared.fault.FetchFault.TheVariants as fetch
 use Rattle.gconnect.specs.Listings.{FailsToList, FitsNone, HasHeard, HasListed, ReadsReply, RefusesReply}
 use Rattle.gconnect.specs.Listings.{asking_bytes, cannot_ask, cannot_end, cannot_take, ending_bytes}
-use Rattle.gconnect.specs.Steps.{HasHeardServer}
+use Rattle.gconnect.specs.steps.Listings.{HasHeardServer}
 use Rattle.gconnect.specs.declared.listing.Heard.{Heard}
 
 -- ---- hearing

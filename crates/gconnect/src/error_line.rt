@@ -4,7 +4,7 @@ ghost use Rattle.std.specs.Prelude.{◌≡◌, ◌≤◌, false, length};
 ghost use Rattle.gpkt.specs.Sending.{output_of};
 ghost use Rattle.ggrammar.specs.Writing.{WritesLines};
 ghost use Rattle.gserve.specs.Refusals.{max_err_text};
-ghost use Rattle.gserve.specs.Steps.{PassesPackets};
+ghost use Rattle.gserve.specs.steps.Connections.{PassesPackets};
 ghost use Rattle.gconnect.specs.GitConnections.{error_packets};
 
 use ggrammar::laws::writes_lines;

@@ -2,7 +2,7 @@
 
 ghost use Rattle.std.specs.Prelude.{◌≡◌, false};
 ghost use Rattle.gpkt.specs.Sending.{output_of};
-ghost use Rattle.gclient.specs.Steps.{HasPassed};
+ghost use Rattle.gclient.specs.Conversations.{HasPassed};
 ghost use Rattle.gconnect.specs.Greetings.{hello_bytes};
 
 use ghello::{Hello, write_hello};

@@ -3,7 +3,7 @@
 ghost use Rattle.std.specs.Prelude.{◌≡◌, false, OnOk};
 ghost use Rattle.gpkt.specs.Sending.{input_of, output_of};
 ghost use Rattle.gconnect.specs.Listings.{Lists, ListsGit};
-ghost use Rattle.gconnect.specs.Steps.{FitsFormat, HearsServer};
+ghost use Rattle.gconnect.specs.steps.Listings.{FitsFormat, HearsServer};
 
 use crate::greeting::greet;
 use gclient::{FetchFault, send_request};

@@ -4,7 +4,7 @@ ghost use Rattle.std.specs.Prelude.{◌≡◌, ◌↔◌, IsTrue};
 ghost use Rattle.gpkt.specs.Sending.{input_of, output_of};
 ghost use Rattle.gconnect.specs.GitConnections.{Hears, ServesGit, elsewhere_packets};
 ghost use Rattle.gserve.specs.Refusals.{err_packets};
-ghost use Rattle.gserve.specs.Steps.{PassesPackets};
+ghost use Rattle.gserve.specs.steps.Connections.{PassesPackets};
 
 use crate::error_line::send_error;
 use ganswer::{ServeFault, Server};

@@ -1,5 +1,5 @@
 -- The reply to fetch without its pack, which goes to a sink piece by piece.
-use Rattle.std.specs.Prelude.{ℕ, Bool, true, false, List, [], if◌then◌else◌}
+use Rattle.std.specs.Prelude.{ℕ, Bool, true, false, List, []}
 use Rattle.gfetchreply.specs.FetchReplies.{FetchReply}
 use Rattle.gfetchreply.specs.FetchReplies as reply
 
@@ -30,13 +30,3 @@ abbrev pub is_alone : FetchReply → Bool
 is_alone (reply.Acks ids) = false
 is_alone (reply.Ready ids pack) = false
 is_alone (reply.Pack pack) = true
-
--- the head, by whether the reply is direct, whether `ready` came, and the acknowledged ids
-abbrev pub head_by : Bool → Bool → List (List ℕ) → FetchHead
-head_by direct ready ids = if direct then Pack else if ready then Ready ids else Acks ids
-
--- the reply of a head and its pack
-abbrev pub reply_with : FetchHead → List ℕ → FetchReply
-reply_with (Acks ids) pack = reply.Acks ids
-reply_with (Ready ids) pack = reply.Ready ids pack
-reply_with Pack pack = reply.Pack pack

@@ -38,13 +38,6 @@ MakesAcks format ids (Ok acks) =
     (acks_fault format ids ≡ None) × (acks ≡ record { format = format; ids = ids })
 MakesAcks format ids (Err fault) = (fault.frame ≡ 0) × (acks_fault format ids ≡ Some fault.why)
 
--- an id of the format is added at the end, where there is room for it and memory
-abbrev pub AddsId : Acks → Acks → List ℕ → Result Unit Why → Type 0
-AddsId old new id (Ok _) = (length old.ids < max_acks) × (new ≡ with_id old id)
-AddsId old new id (Err why.Limit) = (max_acks ≤ length old.ids) × (new ≡ old)
-AddsId old new id (Err why.Memory) = (length old.ids < max_acks) × (new ≡ old)
-AddsId old new id (Err _) = ⊥
-
 -- some bytes are a pack where they are not too many
 abbrev pub MakesPack : List ℕ → Result (List ℕ) MessageFault → Type 0
 MakesPack bytes (Ok pack) = (length bytes ≤ max_pack) × (pack ≡ bytes)

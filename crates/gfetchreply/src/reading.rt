@@ -10,9 +10,10 @@ ghost use Rattle.ggrammar.specs.Kinds.{ReadsOrRefuses};
 ghost use Rattle.ggrammar.specs.MessageReading.{LeavesReader};
 ghost use Rattle.gfetchreply.specs.FetchReplies.{Says, band_brings, brings, data_in, judge, judge_at, judge_band, judge_payload, payload_brings};
 ghost use Rattle.gfetchreply.specs.FetchHeads.{pack_of};
-ghost use Rattle.gfetchreply.specs.ReplyState.{TakesBoth, brings_there, data_there, first_kept, kept_in, place_in, state_in, with_band, with_packet, with_payload};
+ghost use Rattle.gfetchreply.specs.steps.ReplyState.{TakesBoth, brings_there, data_there, first_kept, kept_in, place_in, state_in, with_band, with_packet, with_payload};
 ghost use Rattle.gfetchreply.specs.ReplyReading.{ReadsReply};
-ghost use Rattle.gfetchreply.specs.Views.{IsHeadOf, IsReplyOf, head_after, head_result, reading_in, reading_with, reply_in, reply_result, sha1_reading};
+ghost use Rattle.gfetchreply.specs.Views.{IsHeadOf, IsReplyOf, head_result, reading_in, reply_in, reply_result, sha1_reading};
+ghost use Rattle.gfetchreply.specs.steps.Views.{head_after, reading_with};
 
 use crate::form::reply_form;
 use crate::limit::PackLimit;
@@ -52,7 +53,7 @@ trait Lent<T> {
 }
 
 impl<T> Lent<T> for Brand {
-    ghost use Rattle.gfetchreply.specs.Views.{no_reading};
+    ghost use Rattle.gfetchreply.specs.steps.Views.{no_reading};
 
     ghost asked = { no_reading };
 
@@ -173,7 +174,7 @@ impl<'s, T: PackSink, A: Allocator + Copy, L: Lent<T>> ReplyReader<'s, T, A, L> 
 
 impl<T: PackSink, A: Allocator + Copy, L: Lent<T>> Message for ReplyReader<'_, T, A, L> {
     ghost use Rattle.gfetchreply.specs.FetchReplies.{brings_into, judge};
-    ghost use Rattle.gfetchreply.specs.ReplyState.{Holds, Leaves, kept_in};
+    ghost use Rattle.gfetchreply.specs.steps.ReplyState.{Holds, Leaves, kept_in};
     ghost use Rattle.gfetchreply.specs.Views.{reading_in};
 
     ghost judge = { λ reader. judge (reading_in reader.reading) };

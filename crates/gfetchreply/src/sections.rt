@@ -6,9 +6,10 @@ ghost use Rattle.ggrammar.specs.Grammar.{Refused, if_room};
 ghost use Rattle.ggrammar.specs.Endings.{at_flush};
 ghost use Rattle.gfetchreply.specs.FetchReplies.{Reading, Acking, Start, BeforePack, Ack, Nak, judge_acking, judge_ack, judge_before_pack, judge_late, judge_start, judge_there, max_packets, form_brings};
 ghost use Rattle.ggrammar.specs.MessageReading.{TakesAs};
-ghost use Rattle.gfetchreply.specs.FetchHeads.{head_by};
-ghost use Rattle.gfetchreply.specs.ReplyState.{kept_in, first_kept, place_in, state_in, verdict_of, with_band, with_packet, with_text};
-ghost use Rattle.gfetchreply.specs.Views.{IsHeadOf, form_in, head_in};
+ghost use Rattle.gfetchreply.specs.steps.FetchHeads.{head_by};
+ghost use Rattle.gfetchreply.specs.steps.ReplyState.{kept_in, first_kept, place_in, state_in, verdict_of, with_band, with_packet, with_text};
+ghost use Rattle.gfetchreply.specs.Views.{IsHeadOf, head_in};
+ghost use Rattle.gfetchreply.specs.steps.Views.{form_in};
 
 use crate::form::ReplyForm;
 use crate::limit::PackLimit;

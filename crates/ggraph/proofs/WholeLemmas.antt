@@ -13,7 +13,8 @@ use Rattle.ggraph.specs.declared.text.reading.Stage.TheVariants.{First, Nodes, R
 use Rattle.ggraph.specs.declared.text.reading.Reading.{Reading}
 use Rattle.grefs.specs.RefLists.{RefList}
 use Rattle.ggraph.specs.RepositoryText.{EachFollows, IsHead, IsLoadable, MayFollow, RefMayFollow, first_line, head_line, last_line, lines_of, ref_line, repository_text}
-use Rattle.ggraph.specs.Reading.{Item, MayCome, RefMayCome, after, begins, ends, heads, line_of, node, nothing_read, ref}
+use Rattle.ggraph.specs.steps.Reading.{Item, MayCome, RefMayCome, after, begins, ends, heads, line_of, node}
+use Rattle.ggraph.specs.steps.Reading.{nothing_read, ref}
 use Rattle.ggraph.specs.Loading.{BeginsText}
 use Rattle.ggraph.proofs.Items.{HasRead, ReadsTo, items_text}
 

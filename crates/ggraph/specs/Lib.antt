@@ -1,11 +1,9 @@
 pub mod Faults
 pub mod Loading
-pub mod NoSuchPart
-pub mod Reading
 pub mod RepositoryText
 pub mod SafeRefs
 pub mod Saving
-pub mod TextLaws
+pub mod steps
 pub use Rattle.gobject.specs.Objects
 pub use Rattle.gobject.specs.Packs
 pub use Rattle.gobject.specs.PlainPackText

@@ -1,10 +1,10 @@
 -- Saving a repository's text: for what it is refused.
-use Rattle.std.specs.Prelude.{◌≡◌, ⊤, ℕ, List, [], ◌∷◌, ◌++◌, map, All}
+use Rattle.std.specs.Prelude.{◌≡◌, ℕ, List, [], ◌∷◌, ◌++◌, map, All}
 use Rattle.gname.specs.declared.formats.Format.{Format}
 use Rattle.gname.specs.Ids.{IsIdOf}
 use Rattle.grefs.specs.declared.head.Head.{Head}
-use Rattle.grefs.specs.declared.head.Head.TheVariants.{Id, Symref}
-use Rattle.grefs.specs.RefLists.{RefList, IsBelowRefs}
+use Rattle.grefs.specs.declared.head.Head.TheVariants.{Id}
+use Rattle.grefs.specs.RefLists.{RefList}
 use Rattle.ggraph.specs.declared.fault.SaveFault.{SaveFault}
 use Rattle.ggraph.specs.declared.fault.SaveFault.TheVariants.{Memory, OtherFormat}
 
@@ -20,11 +20,6 @@ ref_ids refs = map (λ ref. ref.1) refs
 -- these, and then HEAD's
 abbrev pub named_ids : {A : Type 0} → RefList → Head A → List (List ℕ)
 named_ids refs head = ref_ids refs ++ head_ids head
-
--- a ref that HEAD is on is below refs/
-abbrev pub PointsBelowRefs : {A : Type 0} → Head A → Type 0
-PointsBelowRefs (Symref target) = IsBelowRefs target
-PointsBelowRefs _ = ⊤
 
 -- the first of the ids that is not of the format
 pub record IsFirstOther (format : Format) (ids : List (List ℕ)) (id : List ℕ) : Type 0 where

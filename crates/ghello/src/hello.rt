@@ -9,7 +9,7 @@ ghost use Rattle.ggrammar.specs.Kinds.{ReadsOrRefuses};
 ghost use Rattle.ggrammar.specs.MessageReading.{LeavesReader, TakesAs};
 ghost use Rattle.ggrammar.specs.Writing.{WritesLines};
 ghost use Rattle.ghello.specs.Hello.{IsHello, MakesHello, Says, brings, canonical_hello, hello_payload, hello_of, hello_of_parts, hello_with, is_host, is_nul, is_path, judge, judge_payload, max_host, max_path};
-ghost use Rattle.ghello.specs.HelloReading.{hello_in, hello_view};
+ghost use Rattle.ghello.specs.steps.HelloReading.{hello_in, hello_view};
 
 use arrayvec::ArrayVec;
 use ggrammar::compose::add;

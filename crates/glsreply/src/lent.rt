@@ -6,7 +6,7 @@ ghost use Rattle.gname.specs.Names.{max_name};
 ghost use Rattle.glsreply.specs.LentViews.{lent_view};
 ghost use Rattle.glsreply.specs.RefTexts.{peeled_text, ref_text, symref_text};
 ghost use Rattle.glsreply.specs.TextLengths.{max_peeled_text, max_ref_text, max_symref_text};
-ghost use Rattle.glsreply.specs.WellFormed.{IsLine};
+ghost use Rattle.glsreply.specs.steps.WellFormed.{IsLine};
 
 use crate::reply::keeps_rules;
 use arrayvec::ArrayVec;

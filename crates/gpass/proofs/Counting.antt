@@ -2,7 +2,7 @@
 use Rattle.std.proofs.Common.{◌≡◌, inl, inr, ℕ, zero, suc, ◌+◌, ◌-◌, ◌<◌, ◌≤◌, Bool, true, false, not, ◌&&◌, List, length, replicate, set, refl, sym, ap, ◌∙◌, arith, add-one}
 use Rattle.std.proofs.lemmas.List.{length-set, length-replicate}
 use Rattle.std.proofs.lemmas.Bool.{cases_eq, cases_Bool, and_from, and_left, and_right, not_from_true, not_from_false, false_from_ne_true}
-use Rattle.gpass.specs.Passes.{IsCounted, is_marked, is_open, one, open_below}
+use Rattle.gpass.specs.steps.Passes.{IsCounted, is_marked, is_open, one, open_below}
 use Rattle.gpass.proofs.Places.{set_elsewhere, none_marked}
 
 module _ (wanted known wanted' known' : List Bool) where

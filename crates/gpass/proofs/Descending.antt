@@ -7,7 +7,8 @@ use Rattle.gobject.specs.declared.node.Entry.{Entry}
 use Rattle.gobject.specs.Objects.{place_of}
 use Rattle.ghistory.specs.Graphs.{HasParent}
 use Rattle.ghistory.specs.Reach.{here, SomeReaches}
-use Rattle.gpass.specs.Passes.{IsEdge, IsPlaceOf, IsReachedAt, IsNewAt, MarksAll, IsPassed, IsDone, is_marked, is_open, open_below}
+use Rattle.gpass.specs.steps.Passes.{IsEdge, IsPlaceOf, IsReachedAt, IsNewAt, MarksAll, IsPassed, IsDone, is_marked}
+use Rattle.gpass.specs.steps.Passes.{is_open, open_below}
 use Rattle.ghistory.proofs.Reaching.{place_same, place_of_node, kept_along, some_reaches}
 use Rattle.gpass.proofs.Places.{HasParentsFirst, edge_place, place_edge, edge_down, marked_inside, none_marked}
 use Rattle.gpass.proofs.Counting.{open_least, open_if}

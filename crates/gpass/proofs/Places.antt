@@ -12,7 +12,7 @@ use Rattle.gobject.specs.declared.node.Node.{Node}
 use Rattle.gobject.specs.declared.node.Entry.{Entry}
 use Rattle.gobject.specs.Objects.{node_at, place_of, IdsDiffer}
 use Rattle.ghistory.specs.Graphs.{History, Holds, HasParent, IsNode, IsGraph, IsOrdered}
-use Rattle.gpass.specs.Passes.{IsEdge, IsInOrder, IsPlaceOf, MarksAll, is_marked}
+use Rattle.gpass.specs.steps.Passes.{IsEdge, IsInOrder, IsPlaceOf, MarksAll, is_marked}
 use Rattle.ghistory.proofs.Growing.{take_one}
 use Rattle.ghistory.proofs.Holding.{own_place}
 use Rattle.ghistory.proofs.IdLists.{only_one}

@@ -11,7 +11,8 @@ use Rattle.std.proofs.lemmas.Bool.{cases_eq}
 use Rattle.gobject.specs.declared.node.Entry.{Entry}
 use Rattle.gobject.specs.Objects.{place_of}
 use Rattle.ghistory.specs.Reach.{Reaches, here, onward}
-use Rattle.gpass.specs.Passes.{IsEdge, IsInOrder, IsPlaceOf, IsReachingAt, MarksAll, HasMarked, MarksReaching, is_marked}
+use Rattle.gpass.specs.steps.Passes.{IsEdge, IsInOrder, IsPlaceOf, IsReachingAt, MarksAll, HasMarked, MarksReaching}
+use Rattle.gpass.specs.steps.Passes.{is_marked}
 use Rattle.ghistory.proofs.Holding.{own_place}
 use Rattle.ghistory.proofs.Reaching.{place_same, place_of_node}
 use Rattle.ghistory.proofs.IdLists.{only_one}

@@ -9,7 +9,7 @@ use Rattle.gobject.specs.Objects.{place_of}
 use Rattle.ghistory.specs.Peeling.{IsTagOf, Tags}
 use Rattle.ghistory.specs.Selecting.{Selects, none}
 use Rattle.ghistory.specs.Sending.{IsNew, IsTagToSend, IsToSend, IsListToSend}
-use Rattle.gpass.specs.Passes.{IsInOrder, IsDone, IsOpenTag, MarksTags, is_marked, is_open}
+use Rattle.gpass.specs.steps.Passes.{IsInOrder, IsDone, IsOpenTag, MarksTags, is_marked, is_open}
 use Rattle.ghistory.proofs.Choosing.{selects_keep, selects_skip}
 use Rattle.ghistory.proofs.Holding.{own_place}
 use Rattle.ghistory.proofs.PeelLemmas.{tags_on}

@@ -11,7 +11,8 @@ use Rattle.gobject.specs.declared.node.Node.{Node}
 use Rattle.gobject.specs.declared.node.Entry.{Entry}
 use Rattle.gobject.specs.Objects.{place_of, IsShaped}
 use Rattle.ghistory.specs.Peeling.{IsTagOf, IsCommit, Tags, PeelsTo}
-use Rattle.gpass.specs.Passes.{IsInOrder, IsPlaceOf, IsCommitAt, IsTagAt, IsLedTo, IsPeeledAt, IsOnChain, MarksChain, IsOpenTag, MarksTags, is_marked, is_open}
+use Rattle.gpass.specs.steps.Passes.{IsInOrder, IsPlaceOf, IsCommitAt, IsTagAt, IsLedTo, IsPeeledAt, IsOnChain}
+use Rattle.gpass.specs.steps.Passes.{MarksChain, IsOpenTag, MarksTags, is_marked, is_open}
 use Rattle.ghistory.proofs.Growing.{take_one}
 use Rattle.ghistory.proofs.Holding.{own_place}
 use Rattle.ghistory.proofs.PeelLemmas.{no_tag, one_next, onward, peel_ends, tags_more}

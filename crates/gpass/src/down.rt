@@ -4,7 +4,7 @@
 
 ghost use Rattle.std.specs.Prelude.{◌≡◌, ◌≤◌, ◌<◌, ◌+◌, ℕ, List, IfErr, IfOk, ◌||◌, length, slice_set, true};
 ghost use Rattle.ghistory.specs.Graphs.{IsOrdered};
-ghost use Rattle.gpass.specs.Passes.{IsCounted, IsDone, IsInOrder, IsPassed, IsPlaceOf, MarksAll, is_marked, is_open, one};
+ghost use Rattle.gpass.specs.steps.Passes.{IsCounted, IsDone, IsInOrder, IsPassed, IsPlaceOf, MarksAll, is_marked, is_open, one};
 ghost use Rattle.ghistory.specs.declared.fault.GraphFault.TheVariants.{Memory};
 
 use crate::marks::{end_of, is_marked, no_marks};

@@ -2,7 +2,7 @@
 #![tactic(auto)]
 
 ghost use Rattle.std.specs.Prelude.{◌≡◌, ◌≤◌, ◌<◌, ℕ, IfErr, IfOk, false, length, replicate, slice_set, true};
-ghost use Rattle.gpass.specs.Passes.{IsInOrder, IsPlaceOf, MarksAll, is_marked};
+ghost use Rattle.gpass.specs.steps.Passes.{IsInOrder, IsPlaceOf, MarksAll, is_marked};
 ghost use Rattle.ghistory.specs.declared.fault.GraphFault.TheVariants.{Memory};
 
 use ghistory::{Graph, GraphFault};

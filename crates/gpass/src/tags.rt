@@ -2,7 +2,7 @@
 #![tactic(auto)]
 
 ghost use Rattle.std.specs.Prelude.{◌≡◌, ◌⊎◌, ◌≤◌, ◌<◌, ℕ, IfErr, IfOk, MatchOption, length, true};
-ghost use Rattle.gpass.specs.Passes.{IsCommitAt, IsInOrder, IsOnChain, IsPeeledAt, IsPlaceOf, IsTagAt, MarksChain, MarksTags, is_open};
+ghost use Rattle.gpass.specs.steps.Passes.{IsCommitAt, IsInOrder, IsOnChain, IsPeeledAt, IsPlaceOf, IsTagAt, MarksChain, MarksTags, is_open};
 ghost use Rattle.ghistory.specs.declared.fault.GraphFault.TheVariants.{Memory};
 
 use crate::down::Pass;

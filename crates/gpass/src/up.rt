@@ -3,7 +3,7 @@
 
 ghost use Rattle.std.specs.Prelude.{◌≡◌, ◌↔◌, ◌≤◌, ◌<◌, ◌∷◌, [], ℕ, IfErr, IfOk, IsTrue, Ok, false, length, true};
 ghost use Rattle.std.specs.List.{Any};
-ghost use Rattle.gpass.specs.Passes.{HasMarked, IsInOrder, IsPlaceOf, IsReachingAt, MarksReaching, is_marked};
+ghost use Rattle.gpass.specs.steps.Passes.{HasMarked, IsInOrder, IsPlaceOf, IsReachingAt, MarksReaching, is_marked};
 ghost use Rattle.ghistory.specs.Graphs.{IsOrdered};
 ghost use Rattle.ghistory.specs.Reach.{Reaches};
 ghost use Rattle.ghistory.specs.Walks.{IsReady};

@@ -1,7 +1,6 @@
 -- What a packet reader's call gives, and what it takes from its source.
-use Rattle.std.specs.Prelude.{◌≡◌, ℕ, ◌<◌, ◌≤◌, ◌⊎◌, Bool, true, false, List, [], ◌++◌, length, take, drop}
-use Rattle.std.specs.Prelude.{Option, Some, None, option_map, Result, Ok, Err, refl}
-use Rattle.std.specs.Coded.{Coded, code_by, coded×, coded_bool}
+use Rattle.std.specs.Prelude.{◌≡◌, ℕ, ◌<◌, ◌≤◌, ◌⊎◌, Bool, true, false, List, [], ◌++◌, length, take, drop, Option}
+use Rattle.std.specs.Prelude.{Some, None, option_map, Result, Ok, Err}
 use Rattle.gpkt.specs.declared.line.Line.{Line}
 use Rattle.gpkt.specs.declared.fault.LineFault.{LineFault}
 use Rattle.gpkt.specs.declared.fault.LineFault.TheVariants.{BadDigits, Reserved, TooLong, Truncated, Io, Failed, Memory}
@@ -12,12 +11,6 @@ use Rattle.gpkt.specs.Packets.{Packet, Spells, SpellsAll, digit_count, max_packe
 pub record Reader (S : Type 0) : Type 0 where
   pub source : S
   pub failed : Bool
-
--- a reader is its two parts, which the checker of clauses asks for
-abbrev pub reader_code : {S : Type 0} → Coded S → Coded (Reader S)
-reader_code {S} code =
-    code_by (S × Bool) (coded× code coded_bool) (λ r. (r.source, r.failed))
-    (λ p. record { source = p.0; failed = p.1 }) (λ _. refl)
 
 -- the four digits at the front announce this number
 abbrev pub AnnouncesAtFront : List ℕ → ℕ → Type 0

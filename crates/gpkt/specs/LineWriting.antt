@@ -1,6 +1,5 @@
 -- What a packet writer's call writes, and what it leaves.
-use Rattle.std.specs.Prelude.{◌≡◌, ℕ, ◌<◌, Bool, true, false, List, ◌++◌, length, Option, Result, Ok, Err, refl}
-use Rattle.std.specs.Coded.{Coded, code_by, coded×, coded_bool}
+use Rattle.std.specs.Prelude.{◌≡◌, ℕ, ◌<◌, Bool, true, false, List, ◌++◌, length, Option, Result, Ok, Err}
 use Rattle.std.specs.Io.KnownBytes.{Appends, Keeps}
 use Rattle.gpkt.specs.Change.{Change, change_of}
 use Rattle.gpkt.specs.Devices.{KeepsPassed, PassesAll}
@@ -11,12 +10,6 @@ use Rattle.gpkt.specs.declared.fault.WriteFault.TheVariants.{Failed, Payload, Io
 pub record Writer (W : Type 0) : Type 0 where
   pub sink : W
   pub failed : Bool
-
--- a writer is its two parts, which the checker of clauses asks for
-abbrev pub writer_code : {W : Type 0} → Coded W → Coded (Writer W)
-writer_code {W} code =
-    code_by (W × Bool) (coded× code coded_bool) (λ w. (w.sink, w.failed))
-    (λ p. record { sink = p.0; failed = p.1 }) (λ _. refl)
 
 -- known bytes grow by a beginning of the bytes, and not by all of them
 abbrev pub AppendsFront : Change → List ℕ → Type 0

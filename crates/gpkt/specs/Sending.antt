@@ -1,9 +1,8 @@
 -- What is read from a source and written to a sink, before a call and after it.
-use Rattle.std.specs.Prelude.{◌≡◌, ℕ, Bool, true, false, List, ◌++◌, Option, Some, IsSome, Result, Ok, Err}
-use Rattle.std.specs.Io.KnownBytes.{Appends, Keeps}
+use Rattle.std.specs.Prelude.{◌≡◌, ℕ, Bool, true, false, List, ◌++◌, Option, Some, IsSome}
+use Rattle.std.specs.Io.KnownBytes.{Appends}
 use Rattle.gpkt.specs.Change.{Change, change_of}
 use Rattle.gpkt.specs.Devices.{PassesAll}
-use Rattle.gpkt.specs.declared.device.Down.{Down}
 
 -- a source before a call and after it: the bytes still to come, where they are known, and whether it is down
 pub record Input : Type 0 where
@@ -81,14 +80,3 @@ pub record SendsAndFails (output : Output) (sent due : List ℕ) : Type 0 where
   pub written : Appends output.written.old output.written.new (sent ++ front)
   pub passed_on : PassesAfter output sent
   pub down : output.is_down ≡ true
-
--- what a call did that was to write these bytes and to pass them on
-abbrev pub HasSent : {E : Type 0} → Output → Result (Unit {0}) E → List ℕ → Type 0
-HasSent output (Ok done) bytes = Sends output bytes
-HasSent output (Err fault) bytes = SendsSome output bytes
-
--- what a call did that was to write these bytes, and to pass nothing on
-abbrev pub HasPut : Output → Result (Unit {0}) Down → List ℕ → Type 0
-HasPut output (Ok done) bytes =
-    Appends output.written.old output.written.new bytes × Keeps output.passed_on.old output.passed_on.new
-HasPut output (Err fault) bytes = SendsSome output bytes

@@ -26,7 +26,8 @@ pub struct LineWriter<W> {
 }
 
 impl<W> Model for LineWriter<W> {
-    ghost use Rattle.gpkt.specs.LineWriting.{Writer, writer_code};
+    ghost use Rattle.gpkt.specs.LineWriting.{Writer};
+    ghost use Rattle.gpkt.specs.steps.LineWriting.{writer_code};
 
     ghost Value = { Writer W };
 

@@ -10,7 +10,6 @@ use Rattle.std.specs.Map.{keys_of}
 use Rattle.std.specs.Ordering.{nat_cmp}
 use Rattle.std.specs.Cmp.Lexicographic.{slice_cmp}
 use Rattle.std.specs.Option.{option_map}
-use Rattle.gname.specs.Ids.{IsId}
 use Rattle.gname.specs.Names.{IsRefName, head_name}
 
 -- each ref is a name and an id
@@ -29,10 +28,6 @@ ref_at refs name = option_map (λ ref. ref.1) (find (has_name name) refs)
 pub record IsBelowRefs (name : List ℕ) : Type 0 where
   pub well_formed : IsRefName name
   pub below : starts_with nat_eq name (codes "refs/") ≡ true
-
--- the ref stands at an object id
-abbrev pub StandsAtId : List ℕ × List ℕ → Type 0
-StandsAtId ref = IsId ref.1
 
 -- every name of the refs is below the name
 abbrev pub AreBelow : RefList → List ℕ → Type 0

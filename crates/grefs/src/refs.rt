@@ -4,7 +4,7 @@
 ghost use Rattle.std.specs.Prelude.{◌≡◌, ◌≤◌, ◌↔◌, [], length, IsTrue, IsErrOf, OnOk, OnErr, IfOk, IfErr, ◌⊎◌, ◌≢◌, None, is_ok, MatchOption, MatchResult, slice_get, ◌<◌, ◌++◌, ◌∷◌};
 ghost use Rattle.std.specs.Map.{values_of};
 ghost use Rattle.grefs.specs.RefLists.{AreBelow, CannotSet, IsBelowRefs, IsRefs, SetsRef, max_refs, ref_at};
-ghost use Rattle.grefs.specs.RefPlaces.{IsFound, IsGap};
+ghost use Rattle.grefs.specs.steps.RefPlaces.{IsFound, IsGap};
 
 use crate::fault::RefsFault;
 use gname::laws::names_are_clean;

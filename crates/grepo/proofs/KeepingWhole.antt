@@ -23,7 +23,8 @@ use Rattle.grepo.specs.declared.ask.RefUpdate.{RefUpdate}
 use Rattle.grepo.specs.Asks.{asked_ids}
 use Rattle.grepo.specs.Changes.{Marks}
 use Rattle.grepo.specs.Laws.{SettingStaysWhole, SettlingStaysWhole}
-use Rattle.grepo.specs.Repos.{ComeFrom, IsWhole, RepoState}
+use Rattle.grepo.specs.steps.Repos.{ComeFrom}
+use Rattle.grepo.specs.Repos.{IsWhole, RepoState}
 use Rattle.grepo.specs.Settling.{Settles}
 use Rattle.grepo.proofs.OneSettling.{some_mover, stands}
 use Rattle.grepo.proofs.RepoLemmas.{set_from, whole_installed}

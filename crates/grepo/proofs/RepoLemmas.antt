@@ -15,7 +15,8 @@ use Rattle.ghistory.specs.Walks.{Misses}
 use Rattle.grefs.specs.RefLists.{RefList, SetsRef}
 use Rattle.gwalk.specs.Marks.{AreFull, CoveringStays, MarksReached, MarksStayFull}
 use Rattle.grepo.specs.Laws.{WholeStays}
-use Rattle.grepo.specs.Repos.{ComeFrom, IsFirstLost, IsFirstUnsafe, IsWhole}
+use Rattle.grepo.specs.steps.Repos.{ComeFrom, IsFirstLost}
+use Rattle.grepo.specs.Repos.{IsFirstUnsafe, IsWhole}
 
 value_there : (refs : RefList) (ref : List ℕ × List ℕ) → Contains refs ref → Contains (values_of refs) ref.1
 value_there refs ref there =

@@ -21,7 +21,7 @@ use Rattle.grepo.specs.declared.fault.RepoFault.TheVariants.{Graph, Refs}
 use Rattle.grepo.specs.Changes.{SetsLocal, SettlesAsks}
 use Rattle.grepo.specs.Repos.{RepoState}
 use Rattle.grepo.specs.Settling.{CannotSettle, IsUpdate, MayMove, NamesDiffer, asked_ids, is_new}
-use Rattle.grepo.specs.SettlingSteps.{HasSettled, IsRefusal, Sets, TakesAsk}
+use Rattle.grepo.specs.steps.Settling.{HasSettled, IsRefusal, Sets, TakesAsk}
 
 -- one more pair of two lists
 pub zip_push : {X Y : Type 0} (R : X → Y → Type 0) (xs : List X) (ys : List Y) (x : X) (y : Y) → AllZip R xs ys → R x y → AllZip R (xs ++ x ∷ []) (ys ++ y ∷ [])

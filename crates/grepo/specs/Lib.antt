@@ -4,7 +4,7 @@ pub mod Faults
 pub mod Laws
 pub mod Repos
 pub mod Settling
-pub mod SettlingSteps
+pub mod steps
 pub use Rattle.ggraph.specs.SafeRefs
 pub use Rattle.ghistory.specs.Graphs
 pub use Rattle.ghistory.specs.Insert

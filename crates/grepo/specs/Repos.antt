@@ -1,6 +1,6 @@
 -- A client's repository: objects, refs, and marks of connected objects. Git's manuals leave open what a client keeps;
 -- that it keeps these marks, and that its repository is connected at all times, is our own rule.
-use Rattle.std.specs.Prelude.{◌≡◌, ◌⊎◌, List, ℕ, Bool, ◌∷◌, ◌++◌, ◌+◌, ◌<◌, All, Contains, length, take}
+use Rattle.std.specs.Prelude.{◌≡◌, List, ℕ, Bool, ◌∷◌, ◌++◌}
 use Rattle.std.specs.Map.{values_of}
 use Rattle.gobject.specs.declared.node.Entry.{Entry}
 use Rattle.ggraph.specs.SafeRefs.{IsSafe}
@@ -21,12 +21,6 @@ pub record IsWhole {A : Type 0} (repo : RepoState A) : Type 0 where
   pub full : AreFull repo.graph.entries repo.known
   pub covers : Covers repo.graph.entries (values_of repo.refs) repo.known
 
--- the ids before the position are connected, and the id at it is not
-pub record IsFirstLost {A : Type 0} (g : List (Entry A)) (ids : List (List ℕ)) (place : ℕ) : Type 0 where
-  pub inside : place < length ids
-  pub held : All (IsFull g) (take place ids)
-  pub lost : ¬ (All (IsFull g) (take (place + 1) ids))
-
 -- the name is that of the first ref that is not connected
 pub record IsFirstUnsafe {A : Type 0} (g : List (Entry A)) (refs : RefList) (name : List ℕ) : Type 0 where
   pub front : RefList
@@ -35,7 +29,3 @@ pub record IsFirstUnsafe {A : Type 0} (g : List (Entry A)) (refs : RefList) (nam
   pub parts : refs ≡ front ++ (name, id) ∷ back
   pub safe : IsSafe g front
   pub unsafe : ¬ (IsFull g id)
-
--- each ref is one of the others, or stands at one of the ids
-abbrev pub ComeFrom : RefList → List (List ℕ) → RefList → Type 0
-ComeFrom others ids refs = All (λ ref. Contains others ref ⊎ Contains ids ref.1) refs

@@ -5,7 +5,8 @@ ghost use Rattle.std.specs.Prelude.{◌≡◌, All, IfErr, IfOk};
 ghost use Rattle.std.specs.Map.{values_of};
 ghost use Rattle.ghistory.specs.declared.fault.GraphFault.TheVariants.{Memory};
 ghost use Rattle.ghistory.specs.Reach.{IsFull};
-ghost use Rattle.grepo.specs.Repos.{IsFirstLost, IsFirstUnsafe};
+ghost use Rattle.grepo.specs.steps.Repos.{IsFirstLost};
+ghost use Rattle.grepo.specs.Repos.{IsFirstUnsafe};
 
 use ggraph::{Graph, GraphFault, Refs, missing};
 use gname::{Oid, RefName};

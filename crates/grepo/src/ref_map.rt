@@ -3,7 +3,7 @@
 
 ghost use Rattle.std.specs.Prelude.{◌≡◌, ◌≢◌, ◌≤◌, ◌<◌, ◌⊎◌, false, IfOk, IsTrue, None, is_some, length};
 ghost use Rattle.grefs.specs.RefLists.{IsRefs, max_refs, ref_at};
-ghost use Rattle.grepo.specs.SettlingSteps.{SetsOne};
+ghost use Rattle.grepo.specs.steps.Settling.{SetsOne};
 
 use ggraph::{MAX_REFS, Refs, RefsFault};
 use gname::laws::names_are_clean;

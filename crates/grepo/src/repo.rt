@@ -9,7 +9,8 @@ ghost use Rattle.ghistory.specs.Reach.{Grows, IsFull, Keeps};
 ghost use Rattle.ghistory.specs.Walks.{Misses};
 ghost use Rattle.grefs.specs.RefLists.{IsRefs};
 ghost use Rattle.grepo.specs.Changes.{AddsLocal, Marks, Opens, SetsLocal, SettlesAsks};
-ghost use Rattle.grepo.specs.Repos.{ComeFrom, IsWhole};
+ghost use Rattle.grepo.specs.steps.Repos.{ComeFrom};
+ghost use Rattle.grepo.specs.Repos.{IsWhole};
 
 use crate::ask::RefUpdate;
 use crate::asks::Asks;

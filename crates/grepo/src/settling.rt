@@ -5,7 +5,7 @@ ghost use Rattle.std.specs.Prelude.{◌≡◌, ◌↔◌, Contains, IfErr, IfOk,
 ghost use Rattle.ghistory.specs.declared.fault.GraphFault.TheVariants.{Memory};
 ghost use Rattle.gname.specs.Names.{head_name};
 ghost use Rattle.grefs.specs.RefLists.{IsRefs};
-ghost use Rattle.grepo.specs.SettlingSteps.{HasSettled, IsRefusal, TakesAsk};
+ghost use Rattle.grepo.specs.steps.Settling.{HasSettled, IsRefusal, TakesAsk};
 ghost use Rattle.grepo.specs.Asks.{aimed};
 ghost use Rattle.grepo.specs.Settling.{CannotSettle, IsUpdate, is_new};
 

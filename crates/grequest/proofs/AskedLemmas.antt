@@ -9,7 +9,7 @@ use Rattle.grequest.specs.Arguments.{ls_flags, LsArgument, KnownLsFlag, RefPrefi
 use Rattle.grequest.specs.Asked.{LsRefsAsked, same_ls_flag}
 use Rattle.grequest.specs.RequestLines.{ls_refs_asked, ls_flags_among, has_ls_argument, is_ls_flag, prefixes, prefix_value}
 use Rattle.grequest.proofs.FlagLemmas.{ls_has_each, where_more, where_same_as}
-use Rattle.grequest.specs.RequestState.{with_ls_argument}
+use Rattle.grequest.specs.steps.RequestState.{with_ls_argument}
 
 pub same_ls : {a b : LsRefsAsked} → a.agent ≡ b.agent → a.flags ≡ b.flags → a.prefixes ≡ b.prefixes → a ≡ b
 same_ls agent flags prefixes = λ i. record { agent = agent i; flags = flags i; prefixes = prefixes i }

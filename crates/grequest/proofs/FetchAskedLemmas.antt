@@ -11,7 +11,7 @@ use Rattle.grequest.specs.Arguments.{fetch_flags, FetchArgument, KnownFetchFlag,
 use Rattle.grequest.specs.Asked.{FetchAsked, same_fetch_flag}
 use Rattle.grequest.specs.RequestLines.{fetch_asked, fetch_flags_among, has_fetch_argument, is_fetch_flag, want_value, have_value, wants, haves}
 use Rattle.grequest.proofs.FlagLemmas.{fetch_has_each, where_more, where_same_as}
-use Rattle.grequest.specs.RequestState.{with_fetch_argument}
+use Rattle.grequest.specs.steps.RequestState.{with_fetch_argument}
 
 pub same_fetch : {a b : FetchAsked} → a.agent ≡ b.agent → a.wants ≡ b.wants → a.haves ≡ b.haves → a.flags ≡ b.flags → a ≡ b
 same_fetch agent wants haves flags = λ i. record { agent = agent i; wants = wants i; haves = haves i; flags = flags i }

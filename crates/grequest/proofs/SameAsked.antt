@@ -1,7 +1,7 @@
 -- Requests for fetch that ask the same have the same parts, and the other way round.
 use Rattle.std.proofs.Common.{◌≡◌, ap}
 use Rattle.grequest.specs.Asked.{FetchAsked}
-use Rattle.grequest.specs.Building.{HaveSameIds}
+use Rattle.grequest.specs.steps.Building.{HaveSameIds}
 
 pub same_asked : (one other : FetchAsked) → one.agent ≡ other.agent → HaveSameIds one other → one.flags ≡ other.flags → one ≡ other
 same_asked one other agent ids flags = λ i. record { agent = agent i; wants = ids.0 i; haves = ids.1 i; flags = flags i }

@@ -8,7 +8,8 @@ use Rattle.gname.specs.declared.formats.Format.{Format}
 use Rattle.ggrammar.specs.Capabilities.{is_word_value, has_length, max_capability}
 use Rattle.std.specs.Borrow.{Bor}
 use Rattle.grequest.specs.declared.command.Command.{Command}
-use Rattle.grequest.specs.Flags.{Table, FlagsOf, flag_at, flags_at, table_in}
+use Rattle.grequest.specs.Flags.{Table, FlagsOf, flag_at, flags_at}
+use Rattle.grequest.specs.steps.Flags.{table_in}
 use Rattle.grequest.specs.RequestWriting.{command_packet, command_packets, agent_packets, format_packets, flag_packets, flags_packets, prefix_packet, id_packet, ls_argument_packets, fetch_argument_packets}
 use Rattle.grequest.specs.declared.flag.FetchFlag.TheVariants.{Done}
 use Rattle.grequest.specs.Arguments.{ls_flags, fetch_flags}

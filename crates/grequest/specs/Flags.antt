@@ -1,16 +1,10 @@
 -- Flags: the arguments of a command that have no value. A command has a table of them, with a row for each: the flag,
 -- and its text.
-use Rattle.std.specs.Prelude.{ℕ, Bool, false, List, [], ◌∷◌, map, if◌then◌else◌, Option, Some, None}
-use Rattle.std.specs.Prelude.{slice_index_or}
+use Rattle.std.specs.Prelude.{ℕ, Bool, false, List, [], ◌∷◌, if◌then◌else◌, Option, Some, None, slice_index_or}
 use Rattle.std.specs.Str.{bytes_eq}
-use Rattle.std.specs.Borrow.{Bor}
 
 abbrev pub Table : Type 0 → Type 0
 Table F = List (F × List ℕ)
-
--- a table, wherever its texts lie in memory
-abbrev pub table_in : {F : Type 0} → List (F × Bor (List ℕ)) → Table F
-table_in rows = map (λ row. (row.0, row.1.now)) rows
 
 -- the flag with a text
 abbrev pub flag_in : {F : Type 0} → Table F → List ℕ → Option F

@@ -1,7 +1,5 @@
 -- The packets that are written of a request: each argument that is set, in one order.
-use Rattle.std.specs.Prelude.{◌≡◌, ℕ, ◌≤◌, Bool, true, false, List, [], ◌∷◌, ◌++◌, length, map, codes, All}
-use Rattle.std.specs.Prelude.{Option, Some, None}
-use Rattle.std.specs.Borrow.{Bor}
+use Rattle.std.specs.Prelude.{◌≡◌, ℕ, Bool, true, false, List, [], ◌∷◌, ◌++◌, map, codes, Option, Some, None}
 use Rattle.gpkt.specs.Packets.{Packet, Flush, Delim}
 use Rattle.gname.specs.Ids.{id_text}
 use Rattle.gname.specs.Formats.{format_name}
@@ -12,7 +10,6 @@ use Rattle.grequest.specs.declared.command.Command.TheVariants.{LsRefs, Fetch}
 use Rattle.grequest.specs.declared.flag.FetchFlag.TheVariants.{Done}
 use Rattle.grequest.specs.Flags.{Table, FlagsOf}
 use Rattle.grequest.specs.Arguments.{command_name, ls_flags, fetch_flags}
-use Rattle.ggrammar.specs.Capabilities.{max_capability}
 use Rattle.ggrammar.specs.Texts.{text_packet}
 use Rattle.grequest.specs.Asked.{LsRefsAsked, FetchAsked, Asked, Empty, Ls, Fetches, fetch_has, fetch_with}
 
@@ -43,14 +40,6 @@ prefix_packet prefix = text_packet (codes "ref-prefix " ++ prefix)
 -- an id after a word
 abbrev pub id_packet : List ℕ → List ℕ → Packet
 id_packet word id = text_packet (word ++ id_text id)
-
--- the most bytes of a word before a value
-abbrev pub max_word : ℕ
-max_word = 16
-
--- each text of a table fits a packet
-abbrev pub AreShort : {F : Type 0} → List (F × Bor (List ℕ)) → Type 0
-AreShort rows = All (λ row. length row.1.now ≤ max_capability) rows
 
 abbrev pub ls_argument_packets : LsRefsAsked → List Packet
 ls_argument_packets asked =

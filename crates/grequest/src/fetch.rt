@@ -11,9 +11,10 @@ ghost use Rattle.grequest.specs.declared.flag.FetchFlag.TheVariants.{ThinPack, N
 ghost use Rattle.grequest.specs.Flags.{flags_at};
 ghost use Rattle.grequest.specs.Arguments.{Have, Want, fetch_argument, fetch_flags};
 ghost use Rattle.grequest.specs.Asked.{fetch_has, fetch_number, fetch_with, is_direct, max_wants, max_haves, max_arguments};
-ghost use Rattle.grequest.specs.Building.{HaveSameIds, KeepsAs, has_format, no_fetch};
+ghost use Rattle.grequest.specs.steps.Building.{HaveSameIds, KeepsAs};
+ghost use Rattle.grequest.specs.Building.{has_format, no_fetch};
 ghost use Rattle.grequest.specs.Requests.{judge_fetch_argument, fetch_argument_brings};
-ghost use Rattle.grequest.specs.RequestState.{with_fetch_argument};
+ghost use Rattle.grequest.specs.steps.RequestState.{with_fetch_argument};
 ghost use Rattle.grequest.specs.WellFormed.{IsFetchAsked};
 
 use crate::flag::{FETCH_FLAGS, FetchFlag, Flag, MAX_FLAGS, are_same_flags};

@@ -1,7 +1,8 @@
 //! Flags: the arguments of a command that have no value.
 
 ghost use Rattle.std.specs.Prelude.{◌≡◌, ◌<◌, ◌↔◌, ℕ, IsTrue};
-ghost use Rattle.grequest.specs.Flags.{flag_in, flags_at, table_in};
+ghost use Rattle.grequest.specs.Flags.{flag_in, flags_at};
+ghost use Rattle.grequest.specs.steps.Flags.{table_in};
 
 /// A flag of ls-refs, by Git's word for it (gitprotocol-v2(5), "ls-refs").
 #[derive(Clone, Copy, Debug, PartialEq, Eq)]

@@ -10,9 +10,10 @@ ghost use Rattle.grequest.specs.declared.flag.LsRefsFlag.TheVariants.{Peel, Symr
 ghost use Rattle.grequest.specs.Flags.{flags_at};
 ghost use Rattle.grequest.specs.Arguments.{RefPrefix, ls_argument, ls_flags};
 ghost use Rattle.grequest.specs.Asked.{ls_has, ls_number, ls_with, max_prefixes, max_arguments};
-ghost use Rattle.grequest.specs.Building.{KeepsAs, no_ls_refs};
+ghost use Rattle.grequest.specs.steps.Building.{KeepsAs};
+ghost use Rattle.grequest.specs.Building.{no_ls_refs};
 ghost use Rattle.grequest.specs.Requests.{judge_ls_argument, ls_argument_brings};
-ghost use Rattle.grequest.specs.RequestState.{with_ls_argument};
+ghost use Rattle.grequest.specs.steps.RequestState.{with_ls_argument};
 ghost use Rattle.grequest.specs.WellFormed.{IsLsRefsAsked};
 
 use crate::flag::{Flag, LS_REFS_FLAGS, LsRefsFlag, MAX_FLAGS, are_same_flags};

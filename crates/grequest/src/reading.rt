@@ -9,8 +9,8 @@ ghost use Rattle.ggrammar.specs.Grammar.{Verdict, Refused};
 ghost use Rattle.ggrammar.specs.declared.fault.Why.TheVariants as why;
 ghost use Rattle.grequest.specs.Arguments.{Agent, ObjectFormat, capability_form, command_form};
 ghost use Rattle.grequest.specs.Requests.{brings, capability_brings, judge, judge_at, judge_capability, judge_command, judge_delim, judge_flush, judge_text, state_of, text_brings, unless_unnamed};
-ghost use Rattle.grequest.specs.RequestReading.{HoldsPackets, LeavesNothing, packet_brings};
-ghost use Rattle.grequest.specs.RequestState.{with_capability, with_command, with_delim, with_packet, with_text};
+ghost use Rattle.grequest.specs.steps.RequestReading.{HoldsPackets, LeavesNothing, packet_brings};
+ghost use Rattle.grequest.specs.steps.RequestState.{with_capability, with_command, with_delim, with_packet, with_text};
 
 use crate::command::{Command, CommandForm, command_form};
 use crate::fetch::FetchRequest;
@@ -40,9 +40,9 @@ pub(crate) struct RequestReader<A: Allocator + Copy> {
 }
 
 impl<A: Allocator + Copy> Model for RequestReader<A> {
-    ghost use Rattle.grequest.specs.RequestReading.{RequestSoFar, one};
+    ghost use Rattle.grequest.specs.steps.RequestReading.{RequestSoFar, one};
     ghost use Rattle.grequest.specs.RequestValues.{asked_by_request, IsOfFormat};
-    ghost use Rattle.grequest.specs.Sections.{place_in};
+    ghost use Rattle.grequest.specs.steps.Sections.{place_in};
 
     ghost Value = { RequestSoFar };
 
@@ -86,7 +86,7 @@ impl<A: Allocator + Copy> RequestReader<A> {
         request
     }
 
-    #[tactic(auto, unfolding(crate::specs::Requests::judge_at, crate::specs::RequestState::with_packet))]
+    #[tactic(auto, unfolding(crate::specs::Requests::judge_at, crate::specs::steps::RequestState::with_packet))]
     fn take_packet(&mut self, line: Line<'_>) -> Result<Step, Why>
         ensures takes { TakesAs (judge_at self.old.format self.old.state (packet_of line.entry)) (packet_brings self.old.state.place (packet_of line.entry))
             (self.new.state ≡ with_packet self.old.format self.old.state (packet_of line.entry)) result }

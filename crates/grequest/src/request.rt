@@ -21,7 +21,7 @@ pub enum Request<A: Allocator + Copy = Global> {
 
 impl<A: Allocator + Copy> Request<A> {
     ghost use Rattle.grequest.specs.Requests.{agent_of};
-    ghost use Rattle.grequest.specs.RequestState.{with_agent};
+    ghost use Rattle.grequest.specs.steps.RequestState.{with_agent};
     ghost use Rattle.grequest.specs.Building.{FormattedFetch};
     ghost use Rattle.grequest.specs.RequestValues.{asked_by_request, ids_format};
 

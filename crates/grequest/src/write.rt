@@ -7,9 +7,11 @@ ghost use Rattle.gpkt.specs.Packets.{Delim};
 ghost use Rattle.ggrammar.specs.Capabilities.{max_capability};
 ghost use Rattle.ggrammar.specs.Texts.{text_packet};
 ghost use Rattle.ggrammar.specs.Writing.{WritesLines, WritesPart};
-ghost use Rattle.grequest.specs.Flags.{flags_at, table_in};
+ghost use Rattle.grequest.specs.Flags.{flags_at};
+ghost use Rattle.grequest.specs.steps.Flags.{table_in};
 ghost use Rattle.grequest.specs.Asked.{Ls, Fetches};
-ghost use Rattle.grequest.specs.RequestWriting.{AreShort, agent_packets, canonical_request, command_packet, flag_packets, flags_packets, format_packets, id_packet, max_word, prefix_packet};
+ghost use Rattle.grequest.specs.steps.RequestWriting.{AreShort, max_word};
+ghost use Rattle.grequest.specs.RequestWriting.{agent_packets, canonical_request, command_packet, flag_packets, flags_packets, format_packets, id_packet, prefix_packet};
 ghost use Rattle.grequest.specs.RequestValues.{IsOfFormat, asked_by_request};
 ghost use Rattle.grequest.specs.WellFormed.{IsAgent, IsAsked};
 

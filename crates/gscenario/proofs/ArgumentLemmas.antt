@@ -13,7 +13,7 @@ use Rattle.gspec.specs.declared.fault.SpecFault.{SpecFault}
 use Rattle.gspec.specs.declared.fault.SpecFault.TheVariants.{BadSpec}
 use Rattle.gscenario.specs.ScenarioText.{AreBytes, AreNumberAndCount, AreOneBytes, AreSpecs, IsCount}
 use Rattle.gscenario.specs.ScenarioText.{IsEntry, IsNumber, IsOneNumber, IsRef}
-use Rattle.gscenario.specs.Reading.{NoArguments}
+use Rattle.gscenario.specs.steps.Reading.{NoArguments}
 use Rattle.gscenario.specs.declared.event.Event.TheVariants as event
 use Rattle.gscenario.specs.declared.command.Command.TheVariants as command
 

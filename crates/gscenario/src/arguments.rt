@@ -8,7 +8,7 @@ ghost use Rattle.gspec.specs.Refspecs.{Refspec};
 ghost use Rattle.gscenario.specs.ScenarioText.{AreNumberAndCount, AreOneBytes, AreSpecs, IsEntry, IsOneNumber, IsRef};
 ghost use Rattle.gname.specs.Ids.{IsIdText};
 ghost use Rattle.std.specs.List.{AllZip};
-ghost use Rattle.gscenario.specs.Reading.{HasArguments, NoArguments, ReadsArguments, words_after};
+ghost use Rattle.gscenario.specs.steps.Reading.{HasArguments, NoArguments, ReadsArguments, words_after};
 
 use crate::command::Command;
 use crate::event::Event;

@@ -5,11 +5,11 @@ ghost use Rattle.std.specs.Prelude.{◌≡◌, ◌≢◌, ◌∷◌, ◌<◌, �
 ghost use Rattle.std.specs.Prelude.{MatchBool, MatchOption, MatchResult};
 ghost use Rattle.gname.specs.Ids.{IsIdText};
 ghost use Rattle.gname.specs.Names.{IsRefName};
-ghost use Rattle.gobject.specs.PlainPackReading.{NoId};
+ghost use Rattle.gobject.specs.steps.PlainPackReading.{NoId};
 ghost use Rattle.gobject.specs.PlainPackText.{letter};
 ghost use Rattle.gobject.specs.declared.node.Kind.{Kind};
 ghost use Rattle.gscenario.specs.ScenarioText.{AreBytes, IsCount, IsNumber, words_of};
-ghost use Rattle.gscenario.specs.Reading.{words_after};
+ghost use Rattle.gscenario.specs.steps.Reading.{words_after};
 
 use gname::laws::{id_texts_are_digits, ids_have_one_format, rules_never_report_memory};
 use gname::{Format, NameFault, Oid, RefName};

@@ -11,13 +11,6 @@ use Rattle.ganswer.specs.declared.fault.ServeFault.TheVariants as serve
 abbrev pub max_err_text : ℕ
 max_err_text = 128
 
--- the most bytes of its parts
-abbrev pub max_phrase : ℕ
-max_phrase = 22
-
-abbrev pub max_detail : ℕ
-max_detail = 65
-
 -- a want that is not held is named by its id
 abbrev pub detail_of : ServeFault → List ℕ
 detail_of (serve.NotOurs id) = codes " " ++ id_text id

@@ -6,7 +6,7 @@ ghost use Rattle.gpkt.specs.Sending.{input_of, output_of, Passes};
 ghost use Rattle.ganswer.specs.declared.one_pack.Packing.TheVariants.{Unasked};
 ghost use Rattle.gserve.specs.Conversations.{Serves, advert_packets};
 ghost use Rattle.gserve.specs.Packings.{ReportsLastPacking};
-ghost use Rattle.gserve.specs.Steps.{Advertises, RefusesFirst, end_after};
+ghost use Rattle.gserve.specs.steps.Connections.{Advertises, RefusesFirst, end_after};
 
 use crate::exchange::{ExchangeEnd, exchange};
 use crate::send::{send_advert, send_refusal};

@@ -6,7 +6,7 @@ ghost use Rattle.grequest.specs.RequestValues.{asked_by_request};
 ghost use Rattle.ganswer.specs.declared.one_pack.Packing.TheVariants.{Unasked};
 ghost use Rattle.gserve.specs.Exchanges.{Exchanges, ServesOne};
 ghost use Rattle.gserve.specs.Packings.{ReportsPacking};
-ghost use Rattle.gserve.specs.Steps.{Replies, ReportsRefusal, end_of_reply};
+ghost use Rattle.gserve.specs.steps.Connections.{Replies, ReportsRefusal, end_of_reply};
 
 use crate::send::{send_fetch_reply, send_ls_answer, send_refusal};
 use ganswer::{OnePack, ServeFault, Server};

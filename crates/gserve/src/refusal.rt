@@ -3,7 +3,8 @@
 ghost use Rattle.std.specs.Prelude.{◌≡◌, ◌≤◌, ◌+◌, ◌++◌, drop, length, take};
 ghost use Rattle.ggrammar.specs.Writing.{WritesLines};
 ghost use Rattle.ganswer.specs.Faults.{serve_fault_row};
-ghost use Rattle.gserve.specs.Refusals.{detail_of, err_packets, err_text, max_detail, max_err_text, max_phrase};
+ghost use Rattle.gserve.specs.Refusals.{detail_of, err_packets, err_text, max_err_text};
+ghost use Rattle.gserve.specs.steps.Refusals.{max_detail, max_phrase};
 
 use arrayvec::ArrayVec;
 use ganswer::ServeFault;

@@ -9,7 +9,7 @@ ghost use Rattle.gfetchreply.specs.Views.{reply_in};
 ghost use Rattle.ghello.specs.Adverts.{canonical_advert};
 ghost use Rattle.ganswer.specs.LsAnswers.{LsAnswer};
 ghost use Rattle.gserve.specs.Refusals.{err_packets};
-ghost use Rattle.gserve.specs.Steps.{PassesPackets};
+ghost use Rattle.gserve.specs.steps.Connections.{PassesPackets};
 
 use crate::refusal::write_refusal;
 use ganswer::laws::ls_requests_have_one_answer;

@@ -25,7 +25,7 @@ use Rattle.grequest.specs.RequestValues.{asked_by_request}
 use Rattle.grequest.specs.declared.request.Request.{Request}
 use Rattle.gsession.specs.Requesting.{MakesNext, Requests, batch_of, is_due}
 use Rattle.gsession.specs.Sessions.{SessionState, IsSession, after_fault, no_memory, over}
-use Rattle.gsession.specs.Steps.{FitsBatch}
+use Rattle.gsession.specs.steps.Calls.{FitsBatch}
 use Rattle.gsession.specs.declared.fault.ClientFault.{ClientFault}
 use Rattle.gsession.specs.declared.stage.Stage.{Stage}
 use Rattle.gsession.specs.declared.stage.Stage.TheVariants.{Listing, Fetching, Settling, Over}

@@ -10,7 +10,7 @@ use Rattle.gspec.specs.Refspecs.{Refspec}
 use Rattle.grepo.specs.declared.ask.Ask.{Ask}
 use Rattle.grepo.specs.Asks.{with_ask}
 use Rattle.gsession.specs.Asking.{with_asks}
-use Rattle.gsession.specs.Steps.{with_prefix}
+use Rattle.gsession.specs.steps.Calls.{with_prefix}
 
 -- ---- parts of lists
 

@@ -16,7 +16,7 @@ use Rattle.gobject.specs.declared.node.Entry.{Entry}
 use Rattle.gspec.specs.Refspecs.{Refspec}
 use Rattle.gsession.specs.Asking.{AreNamed, asks_by_all}
 use Rattle.gsession.specs.Sessions.{SessionState, LeavesReplies, after_fault}
-use Rattle.gsession.specs.Steps.{AnswersLs, AnswersRefs, FindsAsks}
+use Rattle.gsession.specs.steps.Calls.{AnswersLs, AnswersRefs, FindsAsks}
 use Rattle.gsession.specs.TakingRefs.{AwaitsRefs, IsLsFault, IsRefsFault, ReadsRefs, TakesLs}
 use Rattle.gsession.specs.declared.fault.ClientFault.{ClientFault}
 use Rattle.gsession.specs.declared.fault.ClientFault.TheVariants.{Index, Message, NoOpenRequest, Repo, StrangeAck}

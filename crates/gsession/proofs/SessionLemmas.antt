@@ -9,7 +9,7 @@ use Rattle.grepo.specs.declared.ask.Ask.{Ask}
 use Rattle.grequest.specs.Asked.{Asked, Ls, Fetches, FetchAsked, LsRefsAsked, is_direct, max_wants}
 use Rattle.gsession.specs.Requesting.{fetch_request}
 use Rattle.gsession.specs.Sessions.{SessionState, AreCommons, FitsStage, IsOpenFetch, IsSession, max_specs, over}
-use Rattle.gsession.specs.Steps.{FitsBatch}
+use Rattle.gsession.specs.steps.Calls.{FitsBatch}
 use Rattle.gsession.specs.TakingRefs.{AwaitsRefs, stage_for}
 use Rattle.gsession.specs.declared.stage.Stage.{Stage}
 use Rattle.gsession.specs.declared.stage.Stage.TheVariants.{Listing, Fetching, Settling, Over}

@@ -8,8 +8,8 @@ pub mod SettlingRefs
 pub mod Calls
 pub mod Bounds
 pub mod Laws
-pub mod Steps
 pub mod Faults
+pub mod steps
 pub use Rattle.gspec.specs.Refspecs
 pub use Rattle.grepo.specs.Changes
 pub use Rattle.grepo.specs.Repos

@@ -9,7 +9,7 @@ ghost use Rattle.ghistory.specs.Reach.{IsFull};
 ghost use Rattle.ghistory.specs.Walks.{Misses};
 ghost use Rattle.ghistory.specs.declared.fault.GraphFault.TheVariants.{Memory};
 ghost use Rattle.gsession.specs.Asking.{AreWants, asks_by, takes_head, unborn_told};
-ghost use Rattle.gsession.specs.Steps.{AddsAsks, FindsAsks};
+ghost use Rattle.gsession.specs.steps.Calls.{AddsAsks, FindsAsks};
 
 use ggraph::graph_laws::{distinct_are_once, places_are_nodes};
 use ggraph::{GraphFault, distinct_ids, missing};

@@ -3,7 +3,7 @@
 
 ghost use Rattle.std.specs.Prelude.{◌≡◌, ◌++◌, [], List, ℕ, false, MatchResult};
 ghost use Rattle.gfetchreply.specs.PackSinks.{TakesPiece};
-ghost use Rattle.gsession.specs.Steps.{MayHaveFed};
+ghost use Rattle.gsession.specs.steps.Calls.{MayHaveFed};
 
 use gfetchreply::PackSink;
 use ggraph::{Entry, IndexFault, Indexer};

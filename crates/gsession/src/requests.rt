@@ -9,7 +9,7 @@ ghost use Rattle.grequest.specs.RequestValues.{asked_by_request, ids_format};
 ghost use Rattle.ghistory.specs.Levels.{is_in};
 ghost use Rattle.gsession.specs.Requesting.{batch_size, fetch_request, ls_request};
 ghost use Rattle.gsession.specs.Sessions.{max_specs};
-ghost use Rattle.gsession.specs.Steps.{with_prefix};
+ghost use Rattle.gsession.specs.steps.Calls.{with_prefix};
 
 use ggrammar::MessageFault;
 use gname::{Format, Oid, Prefix};

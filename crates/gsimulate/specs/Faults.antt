@@ -49,11 +49,8 @@ simulation_fault_line (faults.Scenario fault) = scenario_line fault
 simulation_fault_line (faults.World fault) = world_line fault
 simulation_fault_line faults.Memory = memory_line
 
--- room for such a line
-abbrev pub max_line : ℕ
-max_line = 128
-
 -- ---- their texts
+
 abbrev pub simulation_fault_text : {A : Type 0} → SimulationFault A → List ℕ
 simulation_fault_text (faults.Program fault) = program_fault_text fault
 simulation_fault_text (faults.Scenario fault) = scenario_fault_text fault

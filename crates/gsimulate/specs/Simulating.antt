@@ -13,7 +13,7 @@ use Rattle.gscenario.specs.declared.event.Event.{Event}
 use Rattle.gworld.specs.Promises.{Promises}
 use Rattle.gworld.specs.Runs.{RunWith, RunsFront}
 use Rattle.gworld.specs.Starts.{CanStart, CannotStart}
-use Rattle.gworld.specs.Worlds.{PackTools, WorldOf, WorldState, new_world, tools_of}
+use Rattle.gworld.specs.Worlds.{PackTools, WorldState, new_world, tools_of}
 use Rattle.gworld.specs.declared.outcome.Outcome.{Outcome}
 use Rattle.gsimulate.specs.Faults.{simulation_fault_line}
 use Rattle.gsimulate.specs.Lines.{simulated_text}
@@ -63,11 +63,6 @@ CanHappen IsSo server repo events = CanStart server repo × IsSo (new_world serv
 
 abbrev pub HasWorld : {A : Type 0} → Simulation → (WorldState A → List (Event A) → Type 0) → Type 0
 HasWorld files IsSo = HasEvents files (CanHappen IsSo)
-
--- this is the world as it begins, and these are the events
-abbrev pub BeginsWith : {A K : Type 0} → Simulation → WorldOf A K → List (Event A) → Type 0
-BeginsWith {A} files begun events =
-    HasWorld {A = A} files (λ w happening. (begun.world ≡ w) × (events ≡ happening))
 
 -- why no event happens: the first file is no server's; or the second no client's; or the third has a wrong line, or
 -- it is out of memory for it; or no world can begin between server and client

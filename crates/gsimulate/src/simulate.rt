@@ -5,7 +5,8 @@ ghost use Rattle.gpkt.specs.Sending.{output_of};
 ghost use Rattle.gworld.specs.Worlds.{WorldOf};
 ghost use Rattle.gsimulate.specs.declared.simulate.Simulation as files_of;
 ghost use Rattle.gsimulate.specs.Lines.{simulated_text};
-ghost use Rattle.gsimulate.specs.Simulating.{BeginsWith, CannotBegin, Runs, Shows, Simulates};
+ghost use Rattle.gsimulate.specs.steps.Simulating.{BeginsWith};
+ghost use Rattle.gsimulate.specs.Simulating.{CannotBegin, Runs, Shows, Simulates};
 
 use crate::fault::SimulationFault;
 use crate::lines::text_of;

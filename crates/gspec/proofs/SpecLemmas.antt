@@ -17,7 +17,7 @@ use Rattle.grefs.specs.RefLists.{IsBelowRefs}
 use Rattle.gspec.specs.declared.fault.SpecFault.{SpecFault}
 use Rattle.gspec.specs.declared.fault.SpecFault.TheVariants.{BadSpec, Memory}
 use Rattle.gspec.specs.Refspecs.{Refspec, AreSides, IsRefspec, IsSpec, IsStem, OneReading, Reads, force_text, side_text, sides_text}
-use Rattle.gspec.specs.Parsing.{HasSides, HasTexts, IsRest, is_colon}
+use Rattle.gspec.specs.steps.Parsing.{HasSides, HasTexts, IsRest, is_colon}
 
 -- a text with more bytes than a name has is too long for one, and that comes first
 pub too_long_name : (text : List ℕ) → max_name < length text → name_fault text ≡ Some TooLong

@@ -3,7 +3,7 @@
 
 ghost use Rattle.std.specs.Prelude.{◌≡◌, ◌<◌, IfSome, false, length, position, true};
 ghost use Rattle.gspec.specs.Refspecs.{IsSpec, Reads};
-ghost use Rattle.gspec.specs.Parsing.{HasSides, HasTexts, IsRest, is_colon};
+ghost use Rattle.gspec.specs.steps.Parsing.{HasSides, HasTexts, IsRest, is_colon};
 
 use crate::fault::SpecFault;
 use crate::side::{is_below_refs, is_name, is_stem};

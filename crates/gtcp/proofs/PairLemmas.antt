@@ -13,7 +13,7 @@ use Rattle.gconnect.specs.GitFetches.{FetchesGit}
 use Rattle.gcmd.specs.Fetching.{plain_index_fails, plain_indexes}
 use Rattle.gcmd.specs.declared.fault.ProgramFault.{ProgramFault}
 use Rattle.gtcp.specs.Remote.{FetchesAsClient, FetchesInPair, pair_hello}
-use Rattle.gtcp.specs.Steps.{IsPairFault}
+use Rattle.gtcp.specs.steps.Remote.{IsPairFault}
 
 module _ {A : Type 0} (old : RepoState A) (specs : List Refspec) (new : RepoState A) where
   -- it held a fetch with the default limit, over the first line of a pair

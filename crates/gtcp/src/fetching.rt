@@ -8,9 +8,10 @@ ghost use Rattle.grepo.specs.Repos.{IsWhole};
 ghost use Rattle.grepo.specs.Settling.{Settles};
 ghost use Rattle.gsession.specs.Sessions.{tips_of};
 ghost use Rattle.gclient.specs.Conversations.{start_of};
-ghost use Rattle.gtcp.specs.Sockets.{FetchesBetween, FetchesFrom, FetchesOn, ListsBetween, ListsFrom};
+ghost use Rattle.gtcp.specs.steps.Sockets.{FetchesBetween, ListsBetween};
+ghost use Rattle.gtcp.specs.Sockets.{FetchesFrom, FetchesOn, ListsFrom};
 ghost use Rattle.gtcp.specs.Sockets.{ListsOn};
-ghost use Rattle.gtcp.specs.Steps.{MakesRequest};
+ghost use Rattle.gtcp.specs.steps.Remote.{MakesRequest};
 
 use crate::stream::{MESSAGE_BUFFER, send_at_once};
 use gclient::{FetchFault, Fetched, Repo, Spec};

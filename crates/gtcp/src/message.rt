@@ -30,7 +30,8 @@ pub struct MessageSink<W, A: Allocator + Copy = Global> {
 
 impl<W, A: Allocator + Copy> Model for MessageSink<W, A> {
     ghost use Rattle.std.specs.Prelude.{◌≤◌, length};
-    ghost use Rattle.gtcp.specs.Messages.{Holding, holding_code, max_message};
+    ghost use Rattle.gtcp.specs.Messages.{Holding, max_message};
+    ghost use Rattle.gtcp.specs.steps.Messages.{holding_code};
 
     ghost Value = { Holding W };
 

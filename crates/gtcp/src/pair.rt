@@ -5,7 +5,7 @@ ghost use Rattle.ghistory.specs.Reach.{Grows};
 ghost use Rattle.grepo.specs.Settling.{Settles};
 ghost use Rattle.ghello.specs.Hello.{MakesHello};
 ghost use Rattle.gtcp.specs.Remote.{FetchesAsClient, FetchesInPair, pair_hello};
-ghost use Rattle.gtcp.specs.Steps.{IsPairFault};
+ghost use Rattle.gtcp.specs.steps.Remote.{IsPairFault};
 
 use crate::message::MessageSink;
 use crate::stream::set_up;

@@ -5,8 +5,9 @@ ghost use Rattle.gpkt.specs.Change.{change_of};
 ghost use Rattle.gpkt.specs.Sending.{input_of, output_of};
 ghost use Rattle.gconnect.specs.GitConnections.{ServesGit};
 ghost use Rattle.gcmd.specs.Serving.{outcome_of_connection};
-ghost use Rattle.gtcp.specs.Sockets.{HoldsServing, IsServed, ServesBetween, ServesEach, ServesFrom, outcome_of};
-ghost use Rattle.gtcp.specs.Steps.{Tells};
+ghost use Rattle.gtcp.specs.Sockets.{HoldsServing, IsServed, ServesEach, outcome_of};
+ghost use Rattle.gtcp.specs.steps.Sockets.{ServesBetween, ServesFrom};
+ghost use Rattle.gtcp.specs.steps.Remote.{Tells};
 
 use crate::stream::{MESSAGE_BUFFER, hang_up, set_up};
 use ganswer::Server;

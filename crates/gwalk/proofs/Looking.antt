@@ -9,8 +9,8 @@ use Rattle.gobject.specs.declared.node.Entry.{Entry}
 use Rattle.gobject.specs.Objects.{node_at, place_of}
 use Rattle.ghistory.specs.Reach.{Reaches, SomeReaches}
 use Rattle.ghistory.specs.Levels.{new_ids, parents_of, parents_of_each}
-use Rattle.gwalk.specs.Common.{AreGoals, ids_at}
-use Rattle.gwalk.specs.Walks.{HasMet, places}
+use Rattle.gwalk.specs.steps.Common.{AreGoals, ids_at}
+use Rattle.gwalk.specs.steps.Walks.{HasMet, places}
 use Rattle.ghistory.proofs.IdLists.{either_way, nothing_in_nil, new_ids-from, new_ids-has, contains_head, contains_tail, contains_cases, with_new}
 use Rattle.ghistory.proofs.LevelLaws.{parent_from}
 use Rattle.ghistory.proofs.LevelReach.{in_reached}

@@ -7,7 +7,7 @@ use Rattle.std.proofs.lemmas.Option.{slice_get_cases}
 use Rattle.gobject.specs.declared.node.Entry.{Entry}
 use Rattle.gwalk.specs.Marks.{AreFull, MarksReached}
 use Rattle.ghistory.specs.Reach.{IsFull, SomeReaches}
-use Rattle.gwalk.specs.Walks.{AreMarked}
+use Rattle.gwalk.specs.steps.Walks.{AreMarked}
 use Rattle.ghistory.proofs.Reaching.{reaches_on}
 
 -- a mark more of a list

@@ -9,7 +9,7 @@ use Rattle.gobject.specs.Objects.{node_at, place_of}
 use Rattle.ghistory.specs.Levels.{is_in, new_ids, parents_of_each, level, levels_below, AreLevels}
 use Rattle.ghistory.specs.Laws.{LevelsAreDistances}
 use Rattle.ghistory.specs.Offer.{IsOffer}
-use Rattle.gwalk.specs.Walks.{HasMet, places}
+use Rattle.gwalk.specs.steps.Walks.{HasMet, places}
 use Rattle.ghistory.proofs.IdLists.{either_way, contains_from_in, in_from_contains}
 use Rattle.ghistory.proofs.Reaching.{node_at_none, held_at_place}
 use Rattle.gwalk.proofs.LevelWalk.{IsWalked}

@@ -14,7 +14,7 @@ use Rattle.ghistory.specs.Reach.{Reaches, here, onward, SomeReaches, IsFull}
 use Rattle.gwalk.specs.Marks.{AreFull, IsUnmarked, ReachesPast, there, further, stop_at}
 use Rattle.ghistory.specs.Selecting.{Selects, none, keep, skip}
 use Rattle.ghistory.specs.Walks.{CountsReached, Misses}
-use Rattle.gwalk.specs.Walks.{IsWalk, AreMarked, marked, marked_parents}
+use Rattle.gwalk.specs.steps.Walks.{IsWalk, AreMarked, marked, marked_parents}
 use Rattle.ghistory.proofs.Reaching.{held_at_place, node_at_place, node_at_none, place_inside, kept_along, some_reaches, place_of_node}
 use Rattle.ghistory.proofs.Holding.{own_place}
 use Rattle.gwalk.proofs.Counting.{count_marks}

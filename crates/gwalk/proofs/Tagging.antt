@@ -8,8 +8,8 @@ use Rattle.gobject.specs.Objects.{place_of, IdsDiffer}
 use Rattle.ghistory.specs.Peeling.{IsTagOf, IsCommit, Tags, PeelsTo}
 use Rattle.ghistory.specs.Selecting.{Selects}
 use Rattle.ghistory.specs.Sending.{IsNew, IsTagToSend, IsToSend}
-use Rattle.gwalk.specs.Tags.{AreTagged, IsTagAmong, IsTagFrom, LeadsToMarked}
-use Rattle.gwalk.specs.Walks.{AreMarked, marked}
+use Rattle.gwalk.specs.steps.Tags.{AreTagged, IsTagAmong, IsTagFrom, LeadsToMarked}
+use Rattle.gwalk.specs.steps.Walks.{AreMarked, marked}
 use Rattle.ghistory.proofs.Holding.{own_place}
 use Rattle.ghistory.proofs.PeelLemmas.{onward, rest_of, tags_more}
 use Rattle.ghistory.proofs.Reaching.{place_inside, place_same}

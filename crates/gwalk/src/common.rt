@@ -8,8 +8,8 @@ ghost use Rattle.ghistory.specs.Levels.{new_ids};
 ghost use Rattle.ghistory.specs.Reach.{Reaches};
 ghost use Rattle.ghistory.specs.Walks.{IsReady, common_of};
 ghost use Rattle.ghistory.specs.declared.fault.GraphFault.TheVariants.{Memory};
-ghost use Rattle.gwalk.specs.Common.{AreGoals, ids_at};
-ghost use Rattle.gwalk.specs.Walks.{HasMet};
+ghost use Rattle.gwalk.specs.steps.Common.{AreGoals, ids_at};
+ghost use Rattle.gwalk.specs.steps.Walks.{HasMet};
 
 use crate::walk::Walk;
 use ghistory::{Graph, GraphFault};

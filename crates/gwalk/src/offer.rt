@@ -5,7 +5,7 @@ ghost use Rattle.std.specs.Prelude.{◌≡◌, ◌<◌, [], IfOk, IfErr, List, �
 ghost use Rattle.ghistory.specs.Levels.{AreLevels, new_ids};
 ghost use Rattle.ghistory.specs.Offer.{IsOffer};
 ghost use Rattle.ghistory.specs.declared.fault.GraphFault.TheVariants.{Memory};
-ghost use Rattle.gwalk.specs.Walks.{HasMet};
+ghost use Rattle.gwalk.specs.steps.Walks.{HasMet};
 
 use crate::common::met_of;
 use crate::walk::{Walk, walk_from};

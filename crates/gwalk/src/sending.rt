@@ -8,8 +8,8 @@ ghost use Rattle.ghistory.specs.Graphs.{IsGraph};
 ghost use Rattle.ghistory.specs.Peeling.{IsTagOf, PeelsTo};
 ghost use Rattle.ghistory.specs.Sending.{IsListToSend, IsNew};
 ghost use Rattle.ghistory.specs.declared.fault.GraphFault.TheVariants.{Memory};
-ghost use Rattle.gwalk.specs.Tags.{AreTagged, IsTagFrom, LeadsToMarked};
-ghost use Rattle.gwalk.specs.Walks.{AreMarked, marked};
+ghost use Rattle.gwalk.specs.steps.Tags.{AreTagged, IsTagFrom, LeadsToMarked};
+ghost use Rattle.gwalk.specs.steps.Walks.{AreMarked, marked};
 
 use crate::marks::is_marked;
 use crate::walk::walk_from;

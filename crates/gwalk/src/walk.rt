@@ -6,7 +6,7 @@ ghost use Rattle.std.specs.Option.{option_map};
 ghost use Rattle.ghistory.specs.Graphs.{IsGraph};
 ghost use Rattle.ghistory.specs.Levels.{new_ids};
 ghost use Rattle.gwalk.specs.Marks.{stop_at};
-ghost use Rattle.gwalk.specs.Walks.{HasMet, IsWalk};
+ghost use Rattle.gwalk.specs.steps.Walks.{HasMet, IsWalk};
 
 use crate::marks::is_marked;
 use ghistory::Graph;

@@ -32,9 +32,9 @@ use Rattle.grepo.specs.Changes.{AddsLocal}
 use Rattle.grepo.specs.Faults.{repo_fault_row}
 use Rattle.grepo.specs.Laws.{RefusalsChangeNothing}
 use Rattle.grepo.specs.declared.fault.RepoFault.{RepoFault}
-use Rattle.gworld.specs.Bringing.{BringsTo, TakesIfOpen, refs_outcome}
-use Rattle.gworld.specs.Steps.{AddsAtClient, AddsAtServer, AsksNext, Delivers, Forges, ServesRequest, SettlesRefs}
-use Rattle.gworld.specs.Steps.{mark_after, settled_outcome, waiting, waits_for}
+use Rattle.gworld.specs.steps.Bringing.{BringsTo, TakesIfOpen, refs_outcome}
+use Rattle.gworld.specs.Events.{AddsAtClient, AddsAtServer, AsksNext, Delivers, Forges, ServesRequest, SettlesRefs}
+use Rattle.gworld.specs.Events.{mark_after, settled_outcome, waiting, waits_for}
 use Rattle.gworld.specs.Taking.{TakesRefs, code_of}
 use Rattle.gworld.specs.Worlds.{Kept, WorldState}
 use Rattle.gworld.specs.declared.outcome.Outcome.{Outcome}

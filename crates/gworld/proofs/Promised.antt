@@ -41,7 +41,7 @@ use Rattle.gworld.specs.Promises.{IsServedOrRefused, IsSettledOrRefused, IsTaken
 use Rattle.gworld.specs.Promises.{ServesSent, SettlesAnswered, SharesCommons}
 use Rattle.gworld.specs.Sound.{AreEndsWhole, IsUnforgedAndFaithful, IsSound, IsSoundKept}
 use Rattle.gworld.specs.Sound.{IsSoundRequest, IsSoundSession}
-use Rattle.gworld.specs.Steps.{Delivers, ServesRequest, SettlesRefs, Step, waiting, waits_for}
+use Rattle.gworld.specs.Events.{Delivers, ServesRequest, SettlesRefs, Step, waiting, waits_for}
 use Rattle.gworld.specs.Faults.{out_of_turn}
 use Rattle.gworld.specs.Taking.{TakesBytes, code_of}
 use Rattle.gworld.specs.Worlds.{Kept, PackTools, WorldState, reply_bytes}

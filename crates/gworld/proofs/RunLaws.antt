@@ -11,8 +11,8 @@ use Rattle.gscenario.specs.declared.event.Event.TheVariants as event
 use Rattle.gworld.specs.Laws.{IsNoForge}
 use Rattle.gworld.specs.Promises.{Promises}
 use Rattle.gworld.specs.Runs.{Run, RunWith}
-use Rattle.gworld.specs.Steps.{AddsAtClient, AddsAtServer, AsksNext, BeginsSession, Delivers, ServesRequest}
-use Rattle.gworld.specs.Steps.{SetsAtClient, SetsAtServer, SettlesRefs, Step, waiting}
+use Rattle.gworld.specs.Events.{AddsAtClient, AddsAtServer, AsksNext, BeginsSession, Delivers, ServesRequest}
+use Rattle.gworld.specs.Events.{SetsAtClient, SetsAtServer, SettlesRefs, Step, waiting}
 use Rattle.gworld.specs.Worlds.{Kept, PackTools, WorldState}
 use Rattle.gworld.specs.declared.outcome.Outcome.{Outcome}
 use Rattle.gworld.specs.declared.outcome.Outcome.TheVariants.{Done, Asked as Asks, Served, Settled, Fault}

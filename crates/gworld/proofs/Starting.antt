@@ -12,7 +12,7 @@ use Rattle.ghistory.specs.Laws.{AgreesWith, PlacesAreNodes}
 use Rattle.ghistory.specs.Reach.{Agree}
 use Rattle.ganswer.specs.Servers.{Server}
 use Rattle.grepo.specs.Repos.{RepoState}
-use Rattle.gworld.specs.Bringing.{AgreesAt, DisagreesAt}
+use Rattle.gworld.specs.steps.Bringing.{AgreesAt, DisagreesAt}
 use Rattle.gworld.specs.Sound.{IsSound, IsSoundKept, IsSoundRequest}
 use Rattle.gworld.specs.Starts.{CanStart, IsFirstDisagreement}
 use Rattle.grequest.specs.Asked.{Asked}

@@ -33,9 +33,9 @@ use Rattle.ghistory.specs.declared.fault.GraphFault.TheVariants as graph
 use Rattle.grepo.specs.declared.fault.RepoFault.TheVariants as repo
 use Rattle.gworld.specs.Sound.{AreEndsWhole, IsAnswered, IsSound, IsSoundKept, IsSoundRequest, IsSoundSession}
 use Rattle.gworld.specs.Sound.{IsUnforgedAndFaithful}
-use Rattle.gworld.specs.Steps.{AddsAtClient, AddsAtServer, AsksNext, BeginsSession, Delivers, Forges}
-use Rattle.gworld.specs.Steps.{Restarts, ServesRequest}
-use Rattle.gworld.specs.Steps.{SetsAtClient, SetsAtServer, SettlesRefs, Step, mark_after, waiting, waits_for}
+use Rattle.gworld.specs.Events.{AddsAtClient, AddsAtServer, AsksNext, BeginsSession, Delivers, Forges}
+use Rattle.gworld.specs.Events.{Restarts, ServesRequest}
+use Rattle.gworld.specs.Events.{SetsAtClient, SetsAtServer, SettlesRefs, Step, mark_after, waiting, waits_for}
 use Rattle.gworld.specs.Taking.{IsFullAnswer, TakesBytes}
 use Rattle.gworld.specs.Worlds.{Kept, PackTools, WorldState, reply_bytes}
 use Rattle.gscenario.specs.declared.event.Event.{Event}

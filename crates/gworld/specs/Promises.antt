@@ -23,7 +23,7 @@ use Rattle.ganswer.specs.Servers.{Server}
 use Rattle.gsession.specs.Sessions.{SessionState}
 use Rattle.gsession.specs.TakingReplies.{RefusesPack}
 use Rattle.gworld.specs.Sound.{IsUnforgedAndFaithful}
-use Rattle.gworld.specs.Steps.{Step}
+use Rattle.gworld.specs.Events.{Step}
 use Rattle.gworld.specs.Worlds.{Kept, PackTools, WorldState, reply_bytes}
 use Rattle.gscenario.specs.declared.event.Event.{Event}
 use Rattle.gscenario.specs.declared.event.Event.TheVariants as event

@@ -5,7 +5,7 @@ use Rattle.ghistory.specs.Laws.{AgreesWith}
 use Rattle.ghistory.specs.Reach.{Agree}
 use Rattle.grepo.specs.Repos.{RepoState}
 use Rattle.ganswer.specs.Servers.{Server}
-use Rattle.gworld.specs.Steps.{Disagrees}
+use Rattle.gworld.specs.Events.{Disagrees}
 use Rattle.gworld.specs.Worlds.{WorldOf, new_world}
 use Rattle.gworld.specs.declared.fault.WorldFault.{WorldFault}
 use Rattle.gworld.specs.declared.fault.WorldFault.TheVariants as world

@@ -2,7 +2,7 @@
 #![tactic(auto)]
 
 ghost use Rattle.std.specs.Prelude.{◌≡◌, MatchResult, take, Some};
-ghost use Rattle.gworld.specs.Bringing.{IsAwaited, TakesIfOpen, refs_outcome};
+ghost use Rattle.gworld.specs.steps.Bringing.{IsAwaited, TakesIfOpen, refs_outcome};
 ghost use Rattle.gworld.specs.Taking.{TakesObjects, TakesRefs};
 
 use crate::outcome::Outcome;

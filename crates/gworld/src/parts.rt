@@ -3,7 +3,7 @@
 
 ghost use Rattle.std.specs.Prelude.{◌≡◌, slice_get};
 ghost use Rattle.std.specs.Option.{option_copied};
-ghost use Rattle.gworld.specs.Steps.{mark_after};
+ghost use Rattle.gworld.specs.Events.{mark_after};
 ghost use Rattle.gworld.specs.Taking.{code_of};
 ghost use Rattle.gworld.specs.declared.outcome.Outcome.TheVariants as outcome;
 

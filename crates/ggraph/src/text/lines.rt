@@ -5,7 +5,7 @@ ghost use Rattle.std.specs.Prelude.{◌≡◌, ◌++◌, ◌∷◌, MatchOption,
 ghost use Rattle.gobject.specs.PlainPackText.{letter};
 ghost use Rattle.grefs.specs.RefLists.{IsBelowRefs};
 ghost use Rattle.ggraph.specs.RepositoryText.{IsHead, first_line, head_line};
-ghost use Rattle.ggraph.specs.NoSuchPart.{BeginsWithNoRefId, IsNoNode, IsNoHead, IsNoIdText, IsHeadAt, IsHeadOn, IsSymrefLine};
+ghost use Rattle.ggraph.specs.steps.NoSuchPart.{BeginsWithNoRefId, IsNoNode, IsNoHead, IsNoIdText, IsHeadAt, IsHeadOn, IsSymrefLine};
 ghost use Rattle.gname.specs.Ids.{IsIdOf, id_text};
 ghost use Rattle.gname.specs.declared.formats.Format.{Format};
 

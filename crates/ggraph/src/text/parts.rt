@@ -7,7 +7,7 @@ ghost use Rattle.gname.specs.Ids.{IsIdOf, id_text};
 ghost use Rattle.gobject.specs.Objects.{max_parents};
 ghost use Rattle.gobject.specs.PlainPackText.{ids_text};
 ghost use Rattle.grefs.specs.RefLists.{IsBelowRefs};
-ghost use Rattle.ggraph.specs.NoSuchPart.{BeginsWithNoId, BeginsWithNoSpacedId, IsNoParents};
+ghost use Rattle.ggraph.specs.steps.NoSuchPart.{BeginsWithNoId, BeginsWithNoSpacedId, IsNoParents};
 
 use crate::text::laws::text_laws;
 use crate::text::recent::Recent;

@@ -7,7 +7,7 @@ ghost use Rattle.gobject.specs.Objects.{IsShaped, entry_of, node_of};
 ghost use Rattle.gobject.specs.PlainPackText.{letter};
 ghost use Rattle.ghistory.specs.Graphs.{HasIdsOf};
 ghost use Rattle.ggraph.specs.RepositoryText.{MayFollow, RefMayFollow};
-ghost use Rattle.ggraph.specs.Reading.{RefusesEntry, RefusesRef, with_entry};
+ghost use Rattle.ggraph.specs.steps.Reading.{RefusesEntry, RefusesRef, with_entry};
 
 use crate::fault::LoadFault;
 use crate::text::Order;
@@ -45,8 +45,8 @@ pub(crate) struct Reading<A: Allocator + Copy> {
 }
 
 impl<A: Allocator + Copy> Reading<A> {
-    ghost use Rattle.ggraph.specs.Reading.{RefusesLine, ComesNext, RefMayCome, nothing_read};
-    ghost use Rattle.ggraph.specs.NoSuchPart.{IsNoNode, IsNoRef};
+    ghost use Rattle.ggraph.specs.steps.Reading.{RefusesLine, ComesNext, RefMayCome, nothing_read};
+    ghost use Rattle.ggraph.specs.steps.NoSuchPart.{IsNoNode, IsNoRef};
     ghost use Rattle.ggraph.specs.declared.text.Order.{Order};
 
     /// No line was read. It takes no memory.

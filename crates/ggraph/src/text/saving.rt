@@ -7,7 +7,8 @@ ghost use Rattle.gobject.specs.declared.node.Entry.{Entry};
 ghost use Rattle.gname.specs.Ids.{IsIdOf};
 ghost use Rattle.gobject.specs.PlainPackText.{line, node_text, text_of};
 ghost use Rattle.ggraph.specs.RepositoryText.{IsLoadable, head_line, first_line, ref_line, repository_text};
-ghost use Rattle.ggraph.specs.Saving.{IsFirstOther, PointsBelowRefs, SaveRefuses, head_ids, named_ids, ref_ids};
+ghost use Rattle.ggraph.specs.Saving.{IsFirstOther, SaveRefuses, head_ids, named_ids, ref_ids};
+ghost use Rattle.ggraph.specs.steps.Saving.{PointsBelowRefs};
 
 use crate::fault::SaveFault;
 use crate::text::Order;

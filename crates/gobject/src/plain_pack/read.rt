@@ -4,7 +4,8 @@
 ghost use Rattle.std.specs.Prelude.{◌≡◌, [], ℕ, ◌+◌, List, length, decimal, MatchOption, IfOk, OnErr, IsTrue, ◌↔◌};
 ghost use Rattle.gname.specs.Ids.{IsIdText};
 ghost use Rattle.gobject.specs.Objects.{entry_of, node_of};
-ghost use Rattle.gobject.specs.PlainPackReading.{IsPart, SplitsPart, format_of_digits, NoId, Leads, NeverLeads, EndsId, with_parent, IsKept, line_number, Reads, Finishes};
+ghost use Rattle.gobject.specs.PlainPackReading.{IsPart};
+ghost use Rattle.gobject.specs.steps.PlainPackReading.{SplitsPart, format_of_digits, NoId, Leads, NeverLeads, EndsId, with_parent, IsKept, line_number, Reads, Finishes};
 
 use crate::fault::IndexFault;
 use crate::node::{Entry, Kind, Node, Parents};

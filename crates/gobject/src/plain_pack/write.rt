@@ -4,7 +4,7 @@
 ghost use Rattle.std.specs.Prelude.{◌≡◌, ◌≤◌, ◌++◌, ◌∷◌, [], length, IsTrue, ◌↔◌, OnOk, MatchResult, IfOk};
 ghost use Rattle.gname.specs.Limits.{max_pack};
 ghost use Rattle.gobject.specs.PlainPackText.{line, ids_text, node_text, end_text, pack_text, PackRefuses};
-ghost use Rattle.gobject.specs.PlainPackWriting.{Leaves, nodes_text};
+ghost use Rattle.gobject.specs.steps.PlainPackWriting.{Leaves, nodes_text};
 
 use crate::fault::PackFault;
 use crate::node::Entry;

@@ -21,7 +21,7 @@ impl<A: Allocator + Copy> Session<A> {
     ghost use Rattle.grequest.specs.RequestValues.{IsOfFormat, asked_by_request};
     ghost use Rattle.gsession.specs.Requesting.{IsBatch, MakesNext, Requests, fetch_request, waiting_for};
     ghost use Rattle.gsession.specs.Sessions.{after_fault, no_memory};
-    ghost use Rattle.gsession.specs.Steps.{FitsBatch};
+    ghost use Rattle.gsession.specs.steps.Calls.{FitsBatch};
 
     /// The next request, which then waits for its reply: for refs at first, then for objects. A request for objects
     /// names as haves the common ids, and a batch of ids that it did not name before; without a batch the client is

@@ -27,7 +27,7 @@ impl<A: Allocator + Copy> Session<A> {
     ghost use Rattle.ghistory.specs.Reach.{Grows};
     ghost use Rattle.grequest.specs.Asked.{FetchAsked, is_direct};
     ghost use Rattle.gsession.specs.Sessions.{AreCommons, LeavesReplies};
-    ghost use Rattle.gsession.specs.Steps.{AnswersRead, AnswersReply, FitsHead, IsAcksFault, MayHaveFed};
+    ghost use Rattle.gsession.specs.steps.Calls.{AnswersRead, AnswersReply, FitsHead, IsAcksFault, MayHaveFed};
     ghost use Rattle.gsession.specs.TakingReplies.{Awaits, AwaitsObjects, HasPack, TakesReply};
     ghost use Rattle.gsession.specs.TakingReplies.{after_acks, reading_for};
 

@@ -24,7 +24,7 @@ impl<A: Allocator + Copy> Session<A> {
     ghost use Rattle.gname.specs.Ids.{IsIdOf};
     ghost use Rattle.grequest.specs.Asked.{max_wants};
     ghost use Rattle.gsession.specs.Sessions.{LeavesReplies};
-    ghost use Rattle.gsession.specs.Steps.{AnswersLs, AnswersRefs, FindsAsks};
+    ghost use Rattle.gsession.specs.steps.Calls.{AnswersLs, AnswersRefs, FindsAsks};
     ghost use Rattle.gsession.specs.TakingRefs.{AwaitsRefs, IsRefsFault, TakesLs};
 
     /// Takes the reply to ls-refs, and nothing after it: what is asked for, which of its objects are wanted, and the

@@ -7,7 +7,7 @@ ghost use Rattle.ghistory.specs.Laws.{AgreesWith};
 ghost use Rattle.gobject.specs.Objects.{entry_of};
 ghost use Rattle.grepo.specs.Faults.{repo_fault_row};
 ghost use Rattle.gworld.specs.declared.outcome.Outcome.TheVariants as outcome;
-ghost use Rattle.gworld.specs.Steps.{AddsAtClient, AddsAtServer, Disagrees, SetsAtClient, SetsAtServer};
+ghost use Rattle.gworld.specs.Events.{AddsAtClient, AddsAtServer, Disagrees, SetsAtClient, SetsAtServer};
 
 use super::Parts;
 use crate::fault::DISAGREE;

@@ -3,8 +3,8 @@
 
 ghost use Rattle.std.specs.Prelude.{◌≡◌, ◌↔◌, MatchResult, slice_get, IsTrue, IfOk, Some};
 ghost use Rattle.gworld.specs.Taking.{IsPackTaken};
-ghost use Rattle.gworld.specs.Bringing.{BringsTo};
-ghost use Rattle.gworld.specs.Steps.{Delivers, Forges, waiting};
+ghost use Rattle.gworld.specs.steps.Bringing.{BringsTo};
+ghost use Rattle.gworld.specs.Events.{Delivers, Forges, waiting};
 ghost use Rattle.gworld.specs.Worlds.{reply_bytes};
 
 use super::{KeptReply, Parts, kept_at};

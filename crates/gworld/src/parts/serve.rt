@@ -3,7 +3,7 @@
 
 ghost use Rattle.std.specs.Prelude.{◌≡◌, ◌≢◌, ◌∷◌, ◌++◌, [], IfOk, MatchResult, length, slice_get};
 ghost use Rattle.ganswer.specs.Faults.{serve_fault_row};
-ghost use Rattle.gworld.specs.Steps.{HearsStranger, ServesRequest, TalksTo, stranger_outcome};
+ghost use Rattle.gworld.specs.Events.{HearsStranger, ServesRequest, TalksTo, stranger_outcome};
 ghost use Rattle.gworld.specs.declared.outcome.Outcome.TheVariants as outcome;
 
 use super::{KeptReply, Parts, sent_at};

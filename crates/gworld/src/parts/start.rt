@@ -3,7 +3,7 @@
 
 ghost use Rattle.std.specs.Prelude.{◌≡◌, ◌≢◌, ◌<◌, length, MatchBool, MatchOption, MatchResult};
 ghost use Rattle.ghistory.specs.Reach.{Agree};
-ghost use Rattle.gworld.specs.Bringing.{AgreesAt, DisagreesAt};
+ghost use Rattle.gworld.specs.steps.Bringing.{AgreesAt, DisagreesAt};
 ghost use Rattle.gworld.specs.Starts.{CanStart, CannotStart, IsFirstDisagreement};
 ghost use Rattle.gworld.specs.Worlds.{new_world};
 

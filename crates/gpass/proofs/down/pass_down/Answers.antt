@@ -1,7 +1,7 @@
 use Rattle.std.proofs.Common.{◌≡◌, ◌∙◌, false, sym, arith}
 use Rattle.std.proofs.lemmas.Bool.{false≢true}
 use Rattle.std.proofs.lemmas.List.{length-replicate}
-use Rattle.gpass.specs.Passes.{open_below}
+use Rattle.gpass.specs.steps.Passes.{open_below}
 use Rattle.gpass.proofs.Places.{in_order, parents_first}
 use Rattle.gpass.proofs.Counting.{counted_none}
 use Rattle.gpass.proofs.Descending.{starts, ends}

@@ -1,5 +1,5 @@
 use Rattle.std.proofs.Common.{◌≤◌, length}
-use Rattle.gpass.specs.Passes.{IsCounted, IsPassed}
+use Rattle.gpass.specs.steps.Passes.{IsCounted, IsPassed}
 use Rattle.gpass.proofs.down.pass_down.Given as goal
 
 abbrev pub invariant-loop-pass : goal.invariant-loop-pass

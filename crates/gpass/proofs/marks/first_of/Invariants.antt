@@ -1,5 +1,5 @@
 use Rattle.std.proofs.Common.{ℕ, ◌≤◌, take}
-use Rattle.gpass.specs.Passes.{IsPlaceOf}
+use Rattle.gpass.specs.steps.Passes.{IsPlaceOf}
 use Rattle.gpass.proofs.marks.first_of.Given as goal
 
 abbrev pub invariant-loop-id : goal.invariant-loop-id

@@ -1,5 +1,5 @@
 use Rattle.std.proofs.Common.{take}
-use Rattle.gpass.specs.Passes.{MarksAll}
+use Rattle.gpass.specs.steps.Passes.{MarksAll}
 use Rattle.gpass.proofs.marks.mark_all.Given as goal
 
 abbrev pub invariant-loop-id : goal.invariant-loop-id

@@ -1,6 +1,6 @@
 use Rattle.std.proofs.Common.{◌∙◌, ◌<◌, ◌≤◌, length, sym, arith}
 use Rattle.std.proofs.lemmas.Bool.{false≢true, or_cases, or_parts}
-use Rattle.gpass.specs.Passes.{is_marked, is_open}
+use Rattle.gpass.specs.steps.Passes.{is_marked, is_open}
 use Rattle.gpass.proofs.Places.{in_order}
 use Rattle.gpass.proofs.Sending.{none_so_far, sends_place, drops_place, all_places}
 use Rattle.gpass.proofs.send.send_list.Goals as goal

@@ -1,5 +1,5 @@
 use Rattle.std.proofs.Common.{◌<◌, length}
-use Rattle.gpass.specs.Passes.{IsLedTo}
+use Rattle.gpass.specs.steps.Passes.{IsLedTo}
 use Rattle.gpass.proofs.tags.peeled.Given as goal
 
 abbrev pub invariant-loop-next : goal.invariant-loop-next

@@ -1,5 +1,5 @@
 use Rattle.std.proofs.Common.{◌≡◌, length, take}
-use Rattle.gpass.specs.Passes.{MarksTags}
+use Rattle.gpass.specs.steps.Passes.{MarksTags}
 use Rattle.gpass.proofs.tags.tags_of.Given as goal
 
 abbrev pub invariant-loop-tip : goal.invariant-loop-tip

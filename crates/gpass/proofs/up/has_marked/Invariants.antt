@@ -1,5 +1,5 @@
 use Rattle.std.proofs.Common.{ℕ, ◌≡◌, false, take}
-use Rattle.gpass.specs.Passes.{IsPlaceOf, is_marked}
+use Rattle.gpass.specs.steps.Passes.{IsPlaceOf, is_marked}
 use Rattle.gpass.proofs.up.has_marked.Given as goal
 
 abbrev pub invariant-loop-id : goal.invariant-loop-id

@@ -1,5 +1,5 @@
 use Rattle.std.proofs.Common.{◌≡◌, ℕ, List, sym, ap, ◌∙◌}
-use Rattle.grepo.specs.Repos.{IsFirstLost}
+use Rattle.grepo.specs.steps.Repos.{IsFirstLost}
 use Rattle.grepo.proofs.RepoLemmas.{unsafe_at}
 use Rattle.grepo.proofs.opening.first_unsafe.Goals as goal
 

@@ -1,5 +1,5 @@
 use Rattle.std.proofs.Common.{take}
-use Rattle.grepo.specs.SettlingSteps.{HasSettled}
+use Rattle.grepo.specs.steps.Settling.{HasSettled}
 use Rattle.grepo.proofs.settling.settled.Given as goal
 
 abbrev pub invariant-loop-place : goal.invariant-loop-place

@@ -1,6 +1,7 @@
 use Rattle.std.proofs.Common.{true, false, arith}
 use Rattle.std.proofs.lemmas.Grind.{common_steps}
-use Rattle.grequest.specs.Flags.{flag_at, table_in}
+use Rattle.grequest.specs.Flags.{flag_at}
+use Rattle.grequest.specs.steps.Flags.{table_in}
 use Rattle.grequest.proofs.FlagLemmas.{agree_same}
 use Rattle.grequest.proofs.flag.are_same_flags.Goals as goal
 

@@ -1,6 +1,7 @@
 -- The same flags are set in the rows so far.
 use Rattle.std.proofs.Common.{◌≡◌, drop}
-use Rattle.grequest.specs.Flags.{flag_at, table_in}
+use Rattle.grequest.specs.Flags.{flag_at}
+use Rattle.grequest.specs.steps.Flags.{table_in}
 use Rattle.grequest.proofs.FlagLemmas.{agree}
 use Rattle.grequest.proofs.flag.are_same_flags.Given as goal
 

@@ -1,7 +1,8 @@
 -- The packets of the rows that are left are to come.
 use Rattle.std.proofs.Common.{drop}
 use Rattle.ggrammar.specs.Writing.{IsWriting}
-use Rattle.grequest.specs.Flags.{flags_at, table_in}
+use Rattle.grequest.specs.Flags.{flags_at}
+use Rattle.grequest.specs.steps.Flags.{table_in}
 use Rattle.grequest.specs.RequestWriting.{flags_packets}
 use Rattle.grequest.proofs.write.write_flags.Given as goal
 

@@ -1,5 +1,5 @@
 use Rattle.std.proofs.Common.{◌≡◌, take}
-use Rattle.gpass.specs.Passes.{IsCounted, MarksAll}
+use Rattle.gpass.specs.steps.Passes.{IsCounted, MarksAll}
 use Rattle.gpass.proofs.down.Pass.want_all.Given as goal
 
 abbrev pub invariant-loop-id : goal.invariant-loop-id

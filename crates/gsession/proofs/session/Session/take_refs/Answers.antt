@@ -3,7 +3,7 @@ use Rattle.grepo.specs.declared.ask.Ask.{Ask}
 use Rattle.gspec.specs.Refspecs.{Refspec}
 use Rattle.gsession.specs.Asking.{AreWants, unborn_told}
 use Rattle.gsession.specs.Sessions.{SessionState}
-use Rattle.gsession.specs.Steps.{FindsAsks}
+use Rattle.gsession.specs.steps.Calls.{FindsAsks}
 use Rattle.gsession.specs.TakingRefs.{stage_for}
 use Rattle.gsession.proofs.session.Session.take_refs.Goals as goal
 
