@@ -1,8 +1,9 @@
 -- The tables of faults: the number, the name and the text of each, and the words for a client.
-use Rattle.std.specs.Prelude.{ℕ, List, Bool, true, false, codes}
+use Rattle.std.specs.Prelude.{Bool, true, false, codes}
 use Rattle.gname.specs.Faults.{FaultRow, missing_parent, out_of_memory, out_of_memory_text}
 use Rattle.gpkt.specs.Faults.{line_fault_row, line_fault_text}
 use Rattle.gpkt.specs.declared.fault.LineFault.TheVariants as line
+use Rattle.gpkt.specs.Packets.{Bytes}
 use Rattle.grefs.specs.Faults.{refs_fault_row, refs_fault_text}
 use Rattle.gobject.specs.Faults.{pack_fault_row, pack_fault_text}
 use Rattle.gobject.specs.declared.fault.PackFault.TheVariants as pack
@@ -58,7 +59,7 @@ lacks_memory (serve.Pack _) = false
 lacks_memory serve.Memory = true
 
 -- ---- their texts
-abbrev pub build_fault_text : {A : Type 0} → BuildFault A → List ℕ
+abbrev pub build_fault_text : {A : Type 0} → BuildFault A → Bytes
 build_fault_text (build.Graph fault) = graph_fault_text fault
 build_fault_text (build.Refs fault) = refs_fault_text fault
 build_fault_text (build.NotClosed id) = codes "a parent is missing"
@@ -67,7 +68,7 @@ build_fault_text build.HeadMissing = codes "HEAD stands at a missing object"
 build_fault_text (build.MissingParent id) = codes "a parent of the new object is missing"
 build_fault_text build.Memory = out_of_memory_text
 
-abbrev pub serve_fault_text : ServeFault → List ℕ
+abbrev pub serve_fault_text : ServeFault → Bytes
 serve_fault_text (serve.Reader fault) = line_fault_text fault
 serve_fault_text (serve.Request fault) = message_fault_text fault
 serve_fault_text serve.NoWants = codes "nothing is wanted"

@@ -1,7 +1,9 @@
 -- What fetch answers (gitprotocol-v2(5), "fetch"). A request with `done`, or without haves, is answered with a pack at
 -- once. Any other is answered with the common ids, and where each want reaches one of these, with a pack, too.
-use Rattle.std.specs.Prelude.{◌≡◌, ◌≢◌, ◌⊎◌, ℕ, true, false, List, [], All, if◌then◌else◌}
+use Rattle.std.specs.Prelude.{◌≡◌, ◌≢◌, ◌⊎◌, true, false, List, [], All, if◌then◌else◌}
 use Rattle.std.specs.Map.{values_of}
+use Rattle.gname.specs.Ids.{Id}
+use Rattle.gpkt.specs.Packets.{Bytes}
 use Rattle.gobject.specs.declared.node.Entry.{Entry}
 use Rattle.gobject.specs.declared.fault.PackFault.{PackFault}
 use Rattle.gobject.specs.Packs.{MayPack, PackFails, Packs}
@@ -19,7 +21,7 @@ pub record CanServe {A : Type 0} (server : Server A) (asked : FetchAsked) : Type
   pub held : All (Holds server.graph.entries) asked.wants
 
 -- the common ids
-abbrev pub commons_of : {A : Type 0} → Server A → FetchAsked → List (List ℕ)
+abbrev pub commons_of : {A : Type 0} → Server A → FetchAsked → List Id
 commons_of server asked = common_of server.graph.entries asked.haves
 
 -- each want reaches one of them
@@ -27,7 +29,7 @@ abbrev pub IsReadyFor : {A : Type 0} → Server A → FetchAsked → Type 0
 IsReadyFor server asked = IsReady server.graph.entries asked.wants (commons_of server asked)
 
 -- the ids from which tags are sent: those of the refs with `include-tag`, and else none
-abbrev pub tag_tips : {A : Type 0} → Server A → FetchAsked → List (List ℕ)
+abbrev pub tag_tips : {A : Type 0} → Server A → FetchAsked → List Id
 tag_tips server asked = if fetch_has asked IncludeTag then values_of server.refs else []
 
 -- the objects to send: what the wants reach and the common ids do not, and tags
@@ -37,7 +39,7 @@ IsSent server asked list =
 
 -- the packer may answer these bytes for them
 pub record SendsPack {A : Type 0} (server : Server A) (packs : Packs A) (asked : FetchAsked)
-    (pack : List ℕ) : Type 0 where
+    (pack : Bytes) : Type 0 where
   pub list : List (Entry A)
   pub sent : IsSent server asked list
   pub packed : MayPack packs list pack

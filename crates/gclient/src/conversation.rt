@@ -1,7 +1,8 @@
 //! A conversation, from the advertisement to the refs here that move.
 #![tactic(auto)]
 
-ghost use Rattle.std.specs.Prelude.{◌≡◌, ◌≤◌, ◌+◌, ℕ, List, Option, None, false, length, IfOk, OnErr, OnOk};
+ghost use Rattle.std.specs.Prelude.{◌≡◌, ◌≤◌, ◌+◌, ℕ, Option, None, false, length, IfOk, OnErr, OnOk};
+ghost use Rattle.gname.specs.Names.{Name};
 ghost use Rattle.gpkt.specs.Sending.{input_of, output_of};
 ghost use Rattle.ghistory.specs.Reach.{Grows};
 ghost use Rattle.ghistory.specs.Walks.{CountsReached};
@@ -194,7 +195,7 @@ fn fetch_all<S: Source, W: Sink, A: Allocator + Copy, K: Indexer<A>>(
     requires pending { session.old.pending ≡ None }
     requires format { session.old.format ≡ repo.old.graph.format }
     requires began { BeganOn repo.old.graph.entries session.old }
-    ensures talks { (start : Start A) (source : S) (sink : W) (unborn : Option (List ℕ))
+    ensures talks { (start : Start A) (source : S) (sink : W) (unborn : Option Name)
         → HasTalked (K.indexes indexer.now) (K.index_fails indexer.now) start
         (input_of S.remaining S.is_down source reader.old.source)
         (output_of W.contents W.passed_on W.is_down sink writer.old.sink) (client_of session.old repo.old unborn)

@@ -1,7 +1,8 @@
 //! The turns of a conversation.
 #![tactic(auto)]
 
-ghost use Rattle.std.specs.Prelude.{◌≡◌, ℕ, true, false, List, Option, None, OnOk};
+ghost use Rattle.std.specs.Prelude.{◌≡◌, true, false, Option, None, OnOk};
+ghost use Rattle.gname.specs.Names.{Name};
 ghost use Rattle.gpkt.specs.Sending.{input_of, output_of};
 ghost use Rattle.grepo.specs.Repos.{IsWhole};
 ghost use Rattle.gsession.specs.Requesting.{is_due};
@@ -70,7 +71,7 @@ pub(crate) fn fetch<S: Source, W: Sink, A: Allocator + Copy, K: Indexer<A>>(
     requires stage { session.old.stage ≡ Fetching }
     requires pending { session.old.pending ≡ None }
     requires format { session.old.format ≡ repo.old.graph.format }
-    ensures turns { (unborn : Option (List ℕ)) → TakesTurn (K.indexes indexer.now) (K.index_fails indexer.now)
+    ensures turns { (unborn : Option Name) → TakesTurn (K.indexes indexer.now) (K.index_fails indexer.now)
         (client_of session.old repo.old unborn)
         (input_of S.remaining S.is_down reader.old.source reader.new.source)
         (output_of W.contents W.passed_on W.is_down writer.old.sink writer.new.sink)

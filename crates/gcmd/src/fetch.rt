@@ -1,6 +1,7 @@
 //! `gitv2 fetch`, as a function over bytes and devices.
 
-ghost use Rattle.std.specs.Prelude.{◌≡◌, ℕ, List, MatchResult, length, option_map};
+ghost use Rattle.std.specs.Prelude.{◌≡◌, MatchResult, length, option_map};
+ghost use Rattle.gpkt.specs.Packets.{Bytes};
 ghost use Rattle.ggraph.specs.declared.fault.SaveFault.TheVariants.{Memory};
 ghost use Rattle.gpkt.specs.Sending.{input_of, output_of};
 ghost use Rattle.grepo.specs.Repos.{RepoState};
@@ -114,7 +115,7 @@ fn fetch_for<A: Allocator + Copy, S: Source, W: Sink, R: Sink>(
     output: &mut W,
     report: &mut R,
 ) -> (Result<(), ProgramFault<A>>, Option<Vec<u8, A>>)
-    ensures fetches { (file : List ℕ) → NamesClient file repo.old
+    ensures fetches { (file : Bytes) → NamesClient file repo.old
         → IsFetched {A = A} file fetch.now.specs.now fetch.now.limit fetch.now.ends
         (input_of S.remaining S.is_down input.old input.new)
         (output_of W.contents W.passed_on W.is_down output.old output.new)

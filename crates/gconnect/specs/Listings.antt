@@ -1,8 +1,8 @@
 -- Listing the refs of a server: what is read, and what is written for it (gitprotocol-v2(5), "ls-refs").
-use Rattle.std.specs.Prelude.{◌≡◌, ◌⊎◌, ℕ, false, List, ◌++◌, Option, Some, Result, Ok, Err}
+use Rattle.std.specs.Prelude.{◌≡◌, ◌⊎◌, false, List, ◌++◌, Option, Some, Result, Ok, Err}
 use Rattle.gname.specs.declared.formats.Format.{Format}
 use Rattle.gpkt.specs.LineReading.{ReadsLines}
-use Rattle.gpkt.specs.Packets.{Packet}
+use Rattle.gpkt.specs.Packets.{Bytes, Packet}
 use Rattle.gpkt.specs.Sending.{Input, Output, IsUnread, IsUnwritten, IsUp, Passes, SendsAndFails}
 use Rattle.ggrammar.specs.Capabilities.{Capability}
 use Rattle.ggrammar.specs.MessageReading.{IsReadFailure, ReadsRefused}
@@ -28,11 +28,11 @@ abbrev pub asked_of : List Capability → LsRefsAsked → LsRefsAsked
 asked_of capabilities asked = ls_with asked Unborn (tells_unborn capabilities)
 
 -- the request
-abbrev pub asking_bytes : Format → List Capability → LsRefsAsked → List ℕ
+abbrev pub asking_bytes : Format → List Capability → LsRefsAsked → Bytes
 asking_bytes format capabilities asked = request_bytes format (Ls (asked_of capabilities asked))
 
 -- the lone flush that ends the conversation
-abbrev pub ending_bytes : Format → List ℕ
+abbrev pub ending_bytes : Format → Bytes
 ending_bytes format = request_bytes format Empty
 
 -- ---- what is read
@@ -43,7 +43,7 @@ pub record HasHeard (input : Input) (format : Format) (capabilities : List Capab
     : Type 0 where
   pub packets : List Packet
   pub advertises : Advertises format packets capabilities
-  pub between : Option (List ℕ)
+  pub between : Option Bytes
   pub read : ReadsLines (record { old = input.read.old; new = between }) packets
   pub rest : Rest (rest_of input between)
 

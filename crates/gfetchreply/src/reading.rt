@@ -1,7 +1,7 @@
 //! Reading a reply to fetch.
 
 ghost use Rattle.std.specs.Prelude.{◌≡◌, ◌≤◌, ◌&&◌, ℕ, List, length, nat_lt, IfOk, OnOk, Ok};
-ghost use Rattle.gpkt.specs.Packets.{Data, packet_of};
+ghost use Rattle.gpkt.specs.Packets.{Bytes, Data, packet_of};
 ghost use Rattle.gpkt.specs.Bands.{Data as BandData, band_form};
 ghost use Rattle.ggrammar.specs.PeerErrors.{peer_error, unless_error};
 ghost use Rattle.gpkt.specs.Change.{change_of};
@@ -315,7 +315,7 @@ fn read_to_end<S: Source, T: PackSink, A: Allocator + Copy, B: Allocator + Copy,
     requires kept { kept_in reply.old.sections ≡ first_kept reply.old.reading.format reply.old.reading.direct }
     requires asked { reading_in reply.old.reading ≡ L.asked }
     requires seat { reply.old.sink.ghost_name ≡ L.seat }
-    requires had { (before : List ℕ) → L.had before → T.taken reply.old.sink.now before }
+    requires had { (before : Bytes) → L.had before → T.taken reply.old.sink.now before }
     requires starts { (start : T) → L.starts start → T.same start reply.old.sink.now }
     ensures in_place { reply.new.sink.ghost_name ≡ reply.old.sink.ghost_name }
     ensures read { ReadsReply T.taken T.refuses (reading_in reply.old.reading) (change_of S.remaining reader.old.source reader.new.source)

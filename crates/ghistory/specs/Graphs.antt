@@ -2,7 +2,7 @@
 use Rattle.std.specs.Prelude.{◌≡◌, ℕ, ◌≤◌, List, ◌∷◌, ◌++◌, length, map, take, slice_get, Contains, All}
 use Rattle.std.specs.Prelude.{None, Some, IsSome}
 use Rattle.gname.specs.declared.formats.Format.{Format}
-use Rattle.gname.specs.Ids.{IsIdOf}
+use Rattle.gname.specs.Ids.{Id, IsIdOf}
 use Rattle.gobject.specs.declared.node.Node.{Node}
 use Rattle.gobject.specs.declared.node.Entry.{Entry}
 use Rattle.gobject.specs.Objects.{node_at, entry_of, IdsDiffer, IsShaped}
@@ -13,23 +13,23 @@ pub record History (A : Type 0) : Type 0 where
   pub entries : List (Entry A)
 
 -- an id is one of the graph's, and this is its node
-abbrev pub IsNode : {A : Type 0} → List (Entry A) → List ℕ → Node A → Type 0
+abbrev pub IsNode : {A : Type 0} → List (Entry A) → Id → Node A → Type 0
 IsNode g a node = node_at g a ≡ Some node
 
 -- an id is one of the graph's
-abbrev pub Holds : {A : Type 0} → List (Entry A) → List ℕ → Type 0
+abbrev pub Holds : {A : Type 0} → List (Entry A) → Id → Type 0
 Holds g a = IsSome (node_at g a)
 
 -- of the ids, `a` is the first that is not held
-pub record IsFirstAbsent {A : Type 0} (g : List (Entry A)) (ids : List (List ℕ)) (a : List ℕ) : Type 0 where
-  pub front : List (List ℕ)
-  pub rest : List (List ℕ)
+pub record IsFirstAbsent {A : Type 0} (g : List (Entry A)) (ids : List Id) (a : Id) : Type 0 where
+  pub front : List Id
+  pub rest : List Id
   pub parts : ids ≡ front ++ a ∷ rest
   pub held : All (Holds g) front
   pub absent : node_at g a ≡ None
 
 -- `a` is held, and `b` is one of its parents
-abbrev pub HasParent : {A : Type 0} → List (Entry A) → List ℕ → List ℕ → Type 0
+abbrev pub HasParent : {A : Type 0} → List (Entry A) → Id → Id → Type 0
 HasParent {A} g a b = (node : Node A) × IsNode g a node × Contains node.parents b
 
 -- the id of an entry and those of its parents are of the format
@@ -58,8 +58,8 @@ IsOrdered {A} g =
     (place : ℕ) (entry : Entry A) → slice_get g place ≡ Some entry → HoldsParents (take place g) entry
 
 -- the entries of a map's pairs, and the pairs of entries
-abbrev pub entries_of : {A : Type 0} → List (List ℕ × Node A) → List (Entry A)
+abbrev pub entries_of : {A : Type 0} → List (Id × Node A) → List (Entry A)
 entries_of pairs = map (λ pair. entry_of pair.0 pair.1) pairs
 
-abbrev pub pairs_of : {A : Type 0} → List (Entry A) → List (List ℕ × Node A)
+abbrev pub pairs_of : {A : Type 0} → List (Entry A) → List (Id × Node A)
 pairs_of entries = map (λ entry. (entry.id, entry.node)) entries

@@ -2,6 +2,7 @@
 use Rattle.std.specs.Prelude.{◌≡◌, ◌≢◌, ◌⊎◌, ◌↔◌, ℕ, ◌+◌, ◌<◌, ◌≤◌, Bool, true, false, List, [], ◌∷◌, ◌++◌, length}
 use Rattle.std.specs.Prelude.{Contains, IsTrue, None, Result, Ok, Err}
 use Rattle.gname.specs.declared.formats.Format.{Format}
+use Rattle.gname.specs.Ids.{Id}
 use Rattle.ghistory.specs.declared.fault.GraphFault.{GraphFault}
 use Rattle.ghistory.specs.declared.fault.GraphFault.TheVariants.{OtherFormat, Conflict, TooMany}
 use Rattle.ghistory.specs.declared.fault.GraphFault.TheVariants.{TooManyParents, TagShape, Memory}
@@ -83,16 +84,16 @@ Adds old entries new (Ok added) =
 Adds old entries new (Err fault) = (new ≡ old) × IsRefused old.format old.entries entries fault
 
 -- the id is that of an entry of the list, with the node
-abbrev pub Lists : {A : Type 0} → List (Entry A) → List ℕ → Node A → Type 0
+abbrev pub Lists : {A : Type 0} → List (Entry A) → Id → Node A → Type 0
 Lists entries a node = Contains entries (entry_of a node)
 
 -- nothing else came in: each node of the new graph is one of the old graph's or stands in the list
 abbrev pub AddsOnly : {A : Type 0} → List (Entry A) → List (Entry A) → List (Entry A) → Type 0
 AddsOnly {A} old entries new =
-    (a : List ℕ) (node : Node A) → IsNode new a node → IsNode old a node ⊎ Lists entries a node
+    (a : Id) (node : Node A) → IsNode new a node → IsNode old a node ⊎ Lists entries a node
 
 -- and so is each parent of an id
 abbrev pub AddsOnlyParents : {A : Type 0} → List (Entry A) → List (Entry A) → List (Entry A) → Type 0
 AddsOnlyParents {A} old entries new =
-    (a b : List ℕ) → HasParent new a b →
+    (a b : Id) → HasParent new a b →
     HasParent old a b ⊎ ((node : Node A) × Lists entries a node × Contains node.parents b)

@@ -1,9 +1,9 @@
 //! Adding entries to a graph, all or none.
 #![tactic(auto)]
 
-ghost use Rattle.std.specs.Prelude.{◌≡◌, ◌<◌, ◌++◌, ◌∷◌, ◌↔◌, ℕ, List, [], length, None, MatchResult, OnOk, IsTrue, All};
+ghost use Rattle.std.specs.Prelude.{◌≡◌, ◌<◌, ◌++◌, ◌∷◌, ◌↔◌, [], length, None, MatchResult, OnOk, IsTrue, All};
 ghost use Rattle.gobject.specs.Objects.{IsShaped, node_at};
-ghost use Rattle.gname.specs.Ids.{IsIdOf};
+ghost use Rattle.gname.specs.Ids.{Id, IsIdOf};
 ghost use Rattle.ghistory.specs.Graphs.{HasIdsOf, IsGraph, IsNode};
 ghost use Rattle.ghistory.specs.Reach.{Reaches, IsFull, Grows, Keeps};
 ghost use Rattle.ghistory.specs.Insert.{IsMisshapen, IsCause, Admits, Adds, AddsCopy, AddsOne, AddsOnly, AddsOnlyParents};
@@ -27,8 +27,8 @@ impl<A: Allocator + Copy> Graph<A> {
         ensures held { OnOk result (IsNode self.new.entries entry.id entry.node) }
         ensures grows { Grows self.old.entries self.new.entries }
         ensures keeps { Keeps self.old.entries self.new.entries }
-        ensures reaches { (a b : List ℕ) → Reaches self.old.entries a b → Reaches self.new.entries a b }
-        ensures full { (a : List ℕ) → IsFull self.old.entries a → IsFull self.new.entries a }
+        ensures reaches { (a b : Id) → Reaches self.old.entries a b → Reaches self.new.entries a b }
+        ensures full { (a : Id) → IsFull self.old.entries a → IsFull self.new.entries a }
         ensures graph { IsGraph self.new }
     {
         let is_new = self.admits(&entry)?;
@@ -54,8 +54,8 @@ impl<A: Allocator + Copy> Graph<A> {
         ensures held { OnOk result (All (λ entry. IsNode self.new.entries entry.id entry.node) entries.now) }
         ensures grows { Grows self.old.entries self.new.entries }
         ensures keeps { Keeps self.old.entries self.new.entries }
-        ensures reaches { (a b : List ℕ) → Reaches self.old.entries a b → Reaches self.new.entries a b }
-        ensures full { (a : List ℕ) → IsFull self.old.entries a → IsFull self.new.entries a }
+        ensures reaches { (a b : Id) → Reaches self.old.entries a b → Reaches self.new.entries a b }
+        ensures full { (a : Id) → IsFull self.old.entries a → IsFull self.new.entries a }
         ensures graph { IsGraph self.new }
     {
         let before = self.len();

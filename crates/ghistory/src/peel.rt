@@ -1,7 +1,8 @@
 //! From a tag to the commit at the end of its chain.
 #![tactic(auto)]
 
-ghost use Rattle.std.specs.Prelude.{◌≡◌, IfSome, Some, List, ℕ};
+ghost use Rattle.std.specs.Prelude.{◌≡◌, IfSome, Some};
+ghost use Rattle.gname.specs.Ids.{Id};
 ghost use Rattle.ghistory.specs.Peeling.{PeelsTo};
 
 use crate::graph::Graph;
@@ -15,7 +16,7 @@ impl<A: Allocator + Copy> Graph<A> {
     /// ends. It takes no memory.
     pub fn peel(&self, id: &Oid) -> Option<Oid>
         ensures found { IfSome result (PeelsTo self.now.entries id.now) }
-        ensures only { (c : List ℕ) → PeelsTo self.now.entries id.now c → result ≡ Some c }
+        ensures only { (c : Id) → PeelsTo self.now.entries id.now c → result ≡ Some c }
     {
         // An id of the chain is kept, a later one at each power of two. A chain that comes back to it never ends.
         let mut at = *id;

@@ -2,8 +2,8 @@
 use Rattle.std.specs.Prelude.{ℕ, ◌+◌, ◌≤◌, Bool, true, false, ◌&&◌, ◌||◌, nat_lt, List, [], ◌∷◌, ◌++◌, length, All}
 use Rattle.std.specs.Prelude.{IfSome, is_some, Some, Result}
 use Rattle.std.specs.Option.{option_map_or}
-use Rattle.gname.specs.Ids.{IsIdOf, format_of}
-use Rattle.gname.specs.Names.{IsRefName}
+use Rattle.gname.specs.Ids.{Id, IsIdOf, format_of}
+use Rattle.gname.specs.Names.{Name, IsRefName}
 use Rattle.gname.specs.declared.formats.Format.{Format}
 use Rattle.gname.specs.declared.formats.Format.TheVariants.{Sha1, Sha256}
 use Rattle.ggrammar.specs.Building.{Builds}
@@ -54,7 +54,7 @@ is_format Sha256 Sha256 = true
 is_format _ _ = false
 
 -- the ids of a line are of one format with each other and with those of the lines before it
-abbrev pub has_format_of : RefLine → List ℕ → Bool
+abbrev pub has_format_of : RefLine → Id → Bool
 has_format_of line id = is_format (format_of id) (format_of line.id)
 
 abbrev pub first_has_format_of : RefLine → List RefLine → Bool
@@ -79,6 +79,6 @@ Pushes old line new result =
     Builds (has_one_format old.lines line) (has_room old) old new (record old { lines = old.lines ++ line ∷ [] }) result
 
 -- the reply has an unborn HEAD, or is refused and stays as it was
-abbrev pub SetsUnborn : LsReply → List ℕ → LsReply → Result Unit MessageFault → Type 0
+abbrev pub SetsUnborn : LsReply → Name → LsReply → Result Unit MessageFault → Type 0
 SetsUnborn old target new result =
     Builds true (has_room_for_unborn old) old new (record old { unborn = Some target }) result

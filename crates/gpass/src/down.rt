@@ -3,6 +3,7 @@
 #![tactic(auto)]
 
 ghost use Rattle.std.specs.Prelude.{◌≡◌, ◌≤◌, ◌<◌, ◌+◌, ℕ, List, IfErr, IfOk, ◌||◌, length, slice_set, true};
+ghost use Rattle.gname.specs.Ids.{Id};
 ghost use Rattle.ghistory.specs.Graphs.{IsOrdered};
 ghost use Rattle.gpass.specs.steps.Passes.{IsCounted, IsDone, IsInOrder, IsPassed, IsPlaceOf, MarksAll, is_marked, is_open, one};
 ghost use Rattle.ghistory.specs.declared.fault.GraphFault.TheVariants.{Memory};
@@ -92,7 +93,7 @@ impl<A: Allocator + Copy> Pass<A> {
         ensures counted { IsCounted self.new.wanted.items self.new.known.items self.new.next self.new.pending }
         ensures next { self.new.next + 1 ≡ self.old.next }
         ensures long { length self.new.wanted.items ≡ length self.old.wanted.items }
-        ensures passed { (wants commons : List (List ℕ)) →
+        ensures passed { (wants commons : List Id) →
             IsPassed graph.now.entries wants commons self.old.wanted.items self.old.known.items self.old.next →
             IsPassed graph.now.entries wants commons self.new.wanted.items self.new.known.items self.new.next }
     {

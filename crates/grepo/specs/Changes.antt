@@ -1,6 +1,8 @@
 -- What the calls on a client's repository answer, and what they change.
-use Rattle.std.specs.Prelude.{◌≡◌, ⊤, Bool, List, [], ◌∷◌, ℕ, All, Some, Result, Ok, Err}
+use Rattle.std.specs.Prelude.{◌≡◌, ⊤, Bool, List, [], ◌∷◌, All, Some, Result, Ok, Err}
 use Rattle.std.specs.Map.{values_of}
+use Rattle.gname.specs.Ids.{Id}
+use Rattle.gname.specs.Names.{Name}
 use Rattle.gobject.specs.declared.node.Entry.{Entry}
 use Rattle.ghistory.specs.declared.fault.GraphFault.TheVariants as graph
 use Rattle.ghistory.specs.Graphs.{History, Holds, IsFirstAbsent}
@@ -40,15 +42,14 @@ AddsLocal old entry new (Err (Graph fault)) =
 AddsLocal old entry new (Err _) = ⊥
 
 -- what some refs do to a repository whose graph stays: the ids are connected, and all that they reach is marked
-pub record Marks {A : Type 0} (old : RepoState A) (ids : List (List ℕ)) (new : RepoState A) : Type 0 where
+pub record Marks {A : Type 0} (old : RepoState A) (ids : List Id) (new : RepoState A) : Type 0 where
   pub graph : new.graph ≡ old.graph
   pub full : All (IsFull old.graph.entries) ids
   pub known : MarksReached old.graph.entries ids old.known new.known
 
 -- what setting a ref answers: it stands at the id, which is connected; or what of its ancestry is missing; or that
 -- such a ref can't be set; or out of memory
-abbrev pub SetsLocal : {A : Type 0} → RepoState A → List ℕ → List ℕ → RepoState A
-    → Result (Unit {0}) (RepoFault A) → Type 0
+abbrev pub SetsLocal : {A : Type 0} → RepoState A → Name → Id → RepoState A → Result (Unit {0}) (RepoFault A) → Type 0
 SetsLocal old name id new (Ok _) = Marks old (id ∷ []) new × SetsRef old.refs new.refs name id
 SetsLocal old name id new (Err (NotHeld missing)) = (new ≡ old) × Misses old.graph.entries (id ∷ []) (Some missing)
 SetsLocal old name id new (Err (Refs refs.Refs)) =

@@ -1,5 +1,7 @@
 -- What follows from the definitions of a repository and of settling.
-use Rattle.std.specs.Prelude.{◌≡◌, ℕ, Bool, List, All, Some, Ok, Err}
+use Rattle.std.specs.Prelude.{◌≡◌, Bool, List, All, Some, Ok, Err}
+use Rattle.gname.specs.Ids.{Id}
+use Rattle.gname.specs.Names.{Name}
 use Rattle.gobject.specs.declared.node.Entry.{Entry}
 use Rattle.gobject.specs.Objects.{IdsDiffer}
 use Rattle.ghistory.specs.Graphs.{History}
@@ -29,13 +31,13 @@ SettlingStaysWhole A =
 -- and where a ref is set
 abbrev pub SettingStaysWhole : Type 0 → Type 0
 SettingStaysWhole A =
-    (old new : RepoState A) (name id : List ℕ) → IsWhole old → SetsLocal old name id new (Ok tt) → IsWhole new
+    (old new : RepoState A) (name : Name) (id : Id) → IsWhole old → SetsLocal old name id new (Ok tt) → IsWhole new
 
 -- a refusal changes nothing
 pub record RefusalsChangeNothing (A : Type 0) : Type 0 where
   pub adding : (old new : RepoState A) (entry : Entry A) (fault : RepoFault A) →
       AddsLocal old entry new (Err fault) → new ≡ old
-  pub setting : (old new : RepoState A) (name id : List ℕ) (fault : RepoFault A) →
+  pub setting : (old new : RepoState A) (name : Name) (id : Id) (fault : RepoFault A) →
       SetsLocal old name id new (Err fault) → new ≡ old
   pub settling : (old new : RepoState A) (asks : List (Ask A)) (fault : RepoFault A) →
       SettlesAsks old asks new (Err fault) → new ≡ old
@@ -43,7 +45,7 @@ pub record RefusalsChangeNothing (A : Type 0) : Type 0 where
 -- nothing is missing of connected ids
 abbrev pub HeldIsNotMissing : Type 0 → Type 0
 HeldIsNotMissing A =
-    (g : List (Entry A)) (ids : List (List ℕ)) (missing : List ℕ)
+    (g : List (Entry A)) (ids : List Id) (missing : Id)
     → All (IsFull g) ids → ¬ (Misses g ids (Some missing))
 
 -- there is one settling of some asks

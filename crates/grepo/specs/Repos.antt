@@ -1,7 +1,9 @@
 -- A client's repository: objects, refs, and marks of connected objects. Git's manuals leave open what a client keeps;
 -- that it keeps these marks, and that its repository is connected at all times, is our own rule.
-use Rattle.std.specs.Prelude.{◌≡◌, List, ℕ, Bool, ◌∷◌, ◌++◌}
+use Rattle.std.specs.Prelude.{◌≡◌, List, Bool, ◌∷◌, ◌++◌}
 use Rattle.std.specs.Map.{values_of}
+use Rattle.gname.specs.Ids.{Id}
+use Rattle.gname.specs.Names.{Name}
 use Rattle.gobject.specs.declared.node.Entry.{Entry}
 use Rattle.ggraph.specs.SafeRefs.{IsSafe}
 use Rattle.ghistory.specs.Graphs.{History}
@@ -22,9 +24,9 @@ pub record IsWhole {A : Type 0} (repo : RepoState A) : Type 0 where
   pub covers : Covers repo.graph.entries (values_of repo.refs) repo.known
 
 -- the name is that of the first ref that is not connected
-pub record IsFirstUnsafe {A : Type 0} (g : List (Entry A)) (refs : RefList) (name : List ℕ) : Type 0 where
+pub record IsFirstUnsafe {A : Type 0} (g : List (Entry A)) (refs : RefList) (name : Name) : Type 0 where
   pub front : RefList
-  pub id : List ℕ
+  pub id : Id
   pub back : RefList
   pub parts : refs ≡ front ++ (name, id) ∷ back
   pub safe : IsSafe g front

@@ -1,10 +1,11 @@
 -- Settling: the refs that are asked for move, all at once. Without force a ref only fast-forwards (gitglossary(7),
 -- "fast-forward"), whatever its name: our own rule, where git-fetch(1), "<refspec>", has one for tags alone.
 pub use Rattle.grepo.specs.Asks.{NamesDiffer, asked_ids}
-use Rattle.std.specs.Prelude.{◌≡◌, ◌≢◌, ◌⊎◌, ℕ, ◌+◌, ◌<◌, Bool, List, length, map, count_by, All, Contains}
+use Rattle.std.specs.Prelude.{◌≡◌, ◌≢◌, ◌⊎◌, ◌+◌, ◌<◌, Bool, List, length, map, count_by, All, Contains}
 use Rattle.std.specs.Prelude.{IsTrue, None, Some, is_none}
 use Rattle.std.specs.List.{AllZip}
-use Rattle.gname.specs.Names.{head_name}
+use Rattle.gname.specs.Names.{Name, head_name}
+use Rattle.gname.specs.Ids.{Id}
 use Rattle.gobject.specs.declared.node.Entry.{Entry}
 use Rattle.ghistory.specs.Reach.{Reaches}
 use Rattle.grefs.specs.RefLists.{RefList, max_refs, ref_at}
@@ -16,7 +17,7 @@ use Rattle.grepo.specs.declared.ask.RefUpdate.TheVariants.{Moved, Same, NotForwa
 abbrev pub MayMove : {A : Type 0} → List (Entry A) → RefList → Ask A → Type 0
 MayMove g refs ask =
     (ref_at refs ask.name ≡ None) ⊎ IsTrue ask.forced
-    ⊎ ((old : List ℕ) × (ref_at refs ask.name ≡ Some old) × Reaches g ask.id old)
+    ⊎ ((old : Id) × (ref_at refs ask.name ≡ Some old) × Reaches g ask.id old)
 
 -- what becomes of an ask: its ref stands at the id already; else it moves, or it may not
 abbrev pub IsUpdate : {A : Type 0} → List (Entry A) → RefList → Ask A → RefUpdate → Type 0
@@ -31,7 +32,7 @@ pub record Settles {A : Type 0} (g : List (Entry A)) (old : RefList) (asks : Lis
   pub each : AllZip (IsUpdate g old) asks updates
   pub asked : All (λ ask. MayMove g old ask → ref_at new ask.name ≡ Some ask.id) asks
   pub others :
-      (name : List ℕ) → All (λ ask. MayMove g old ask → ask.name ≢ name) asks → ref_at new name ≡ ref_at old name
+      (name : Name) → All (λ ask. MayMove g old ask → ask.name ≢ name) asks → ref_at new name ≡ ref_at old name
 
 -- whether there is no ref with the name
 abbrev pub is_new : {A : Type 0} → RefList → Ask A → Bool

@@ -1,7 +1,8 @@
 //! A client's repository.
 #![tactic(auto)]
 
-ghost use Rattle.std.specs.Prelude.{◌≡◌, ◌⊎◌, [], ◌∷◌, All, Contains, IfErr, IfOk, MatchResult, ℕ, List, OnOk};
+ghost use Rattle.std.specs.Prelude.{◌≡◌, ◌⊎◌, [], ◌∷◌, All, Contains, IfErr, IfOk, MatchResult, OnOk};
+ghost use Rattle.gname.specs.Ids.{Id};
 ghost use Rattle.ghistory.specs.declared.fault.GraphFault.TheVariants.{Memory};
 ghost use Rattle.ghistory.specs.Graphs.{IsGraph, IsNode};
 ghost use Rattle.ghistory.specs.Insert.{Adds, AddsOnly, AddsOnlyParents};
@@ -137,7 +138,7 @@ impl<A: Allocator + Copy> Repo<A> {
         ensures held { OnOk result (All (λ entry. IsNode self.new.graph.entries entry.id entry.node) entries.now) }
         ensures grows { Grows self.old.graph.entries self.new.graph.entries }
         ensures keeps { Keeps self.old.graph.entries self.new.graph.entries }
-        ensures full { (a : List ℕ) → IsFull self.old.graph.entries a → IsFull self.new.graph.entries a }
+        ensures full { (a : Id) → IsFull self.old.graph.entries a → IsFull self.new.graph.entries a }
         ensures refs { self.new.refs ≡ self.old.refs }
         ensures known { self.new.known ≡ self.old.known }
         ensures whole { IsWhole self.new }

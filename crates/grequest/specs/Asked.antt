@@ -2,6 +2,8 @@
 use Rattle.std.specs.Prelude.{ℕ, Bool, ◌==◌, ◌||◌, List, length, Option}
 use denote.Enum.Bare.{sameb}
 use denote.Enum.Declared.{tag_of}
+use Rattle.gname.specs.Ids.{Id}
+use Rattle.gpkt.specs.Packets.{Bytes}
 use Rattle.grequest.specs.declared.flag.LsRefsFlag.{LsRefsFlag}
 use Rattle.grequest.specs.declared.flag.FetchFlag.{FetchFlag}
 use Rattle.grequest.specs.declared.flag.FetchFlag.TheVariants.{Done}
@@ -30,15 +32,15 @@ fetch_number = tag_of the_fetch_flags
 
 -- a request for ls-refs
 pub record LsRefsAsked : Type 0 where
-  pub agent : Option (List ℕ)
+  pub agent : Option Bytes
   pub flags : FlagsOf ls_flags
-  pub prefixes : List (List ℕ)
+  pub prefixes : List Bytes
 
 -- a request for fetch
 pub record FetchAsked : Type 0 where
-  pub agent : Option (List ℕ)
-  pub wants : List (List ℕ)
-  pub haves : List (List ℕ)
+  pub agent : Option Bytes
+  pub wants : List Id
+  pub haves : List Id
   pub flags : FlagsOf fetch_flags
 
 pub data Asked : Type 0 where

@@ -2,12 +2,13 @@
 -- and its text.
 use Rattle.std.specs.Prelude.{ℕ, Bool, false, List, [], ◌∷◌, if◌then◌else◌, Option, Some, None, slice_index_or}
 use Rattle.std.specs.Str.{bytes_eq}
+use Rattle.gpkt.specs.Packets.{Bytes}
 
 abbrev pub Table : Type 0 → Type 0
 Table F = List (F × List ℕ)
 
 -- the flag with a text
-abbrev pub flag_in : {F : Type 0} → Table F → List ℕ → Option F
+abbrev pub flag_in : {F : Type 0} → Table F → Bytes → Option F
 flag_in [] text = None
 flag_in (row ∷ rows) text = if bytes_eq text row.1 then Some row.0 else flag_in rows text
 

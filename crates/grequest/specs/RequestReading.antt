@@ -1,6 +1,7 @@
 -- When a request is missing.
-use Rattle.std.specs.Prelude.{◌≡◌, ◌↔◌, ℕ, ◌<◌, List, [], Option, None, Result, Ok, IfErr}
+use Rattle.std.specs.Prelude.{◌≡◌, ◌↔◌, ◌<◌, [], Option, None, Result, Ok, IfErr}
 use Rattle.gname.specs.declared.formats.Format.{Format}
+use Rattle.gpkt.specs.Packets.{Bytes}
 use Rattle.ggrammar.specs.Kinds.{ReadsIfAny}
 use Rattle.ggrammar.specs.MessageBytes.{known, IsOfBytes}
 use Rattle.ggrammar.specs.declared.fault.Why.TheVariants.{Ended}
@@ -15,6 +16,6 @@ IsNotMissing fault = IsOfBytes fault.why × (fault.why ≡ Ended → 0 < fault.f
 -- a request is missing exactly where the input is empty
 abbrev pub IsMissingWhereEmpty : Format → Type 0
 IsMissingWhereEmpty format =
-    (bytes new : List ℕ) (result : Result (Option Asked) MessageFault)
+    (bytes new : Bytes) (result : Result (Option Asked) MessageFault)
     → ReadsIfAny (judge format) brings (Says format) (known bytes new) result → IfErr result IsNotMissing
     → (result ≡ Ok None) ↔ (bytes ≡ [])

@@ -1,7 +1,7 @@
 -- The packets that are written of a request: each argument that is set, in one order.
-use Rattle.std.specs.Prelude.{◌≡◌, ℕ, Bool, true, false, List, [], ◌∷◌, ◌++◌, map, codes, Option, Some, None}
-use Rattle.gpkt.specs.Packets.{Packet, Flush, Delim}
-use Rattle.gname.specs.Ids.{id_text}
+use Rattle.std.specs.Prelude.{◌≡◌, Bool, true, false, List, [], ◌∷◌, ◌++◌, map, codes, Option, Some, None}
+use Rattle.gpkt.specs.Packets.{Bytes, Packet, Flush, Delim}
+use Rattle.gname.specs.Ids.{Id, id_text}
 use Rattle.gname.specs.Formats.{format_name}
 use Rattle.gname.specs.declared.formats.Format.{Format}
 use Rattle.gname.specs.declared.formats.Format.TheVariants.{Sha1, Sha256}
@@ -16,7 +16,7 @@ use Rattle.grequest.specs.Asked.{LsRefsAsked, FetchAsked, Asked, Empty, Ls, Fetc
 abbrev pub command_packet : Command → Packet
 command_packet command = text_packet (codes "command=" ++ command_name command)
 
-abbrev pub agent_packets : Option (List ℕ) → List Packet
+abbrev pub agent_packets : Option Bytes → List Packet
 agent_packets None = []
 agent_packets (Some value) = text_packet (codes "agent=" ++ value) ∷ []
 
@@ -25,7 +25,7 @@ abbrev pub format_packets : Format → List Packet
 format_packets Sha1 = []
 format_packets Sha256 = text_packet (codes "object-format=" ++ format_name Sha256) ∷ []
 
-abbrev pub flag_packets : List ℕ → Bool → List Packet
+abbrev pub flag_packets : Bytes → Bool → List Packet
 flag_packets word false = []
 flag_packets word true = text_packet word ∷ []
 
@@ -34,11 +34,11 @@ abbrev pub flags_packets : {F : Type 0} (table : Table F) → FlagsOf table → 
 flags_packets [] flags = []
 flags_packets (row ∷ rows) flags = flag_packets row.1 flags.0 ++ flags_packets rows flags.1
 
-abbrev pub prefix_packet : List ℕ → Packet
+abbrev pub prefix_packet : Bytes → Packet
 prefix_packet prefix = text_packet (codes "ref-prefix " ++ prefix)
 
 -- an id after a word
-abbrev pub id_packet : List ℕ → List ℕ → Packet
+abbrev pub id_packet : Bytes → Id → Packet
 id_packet word id = text_packet (word ++ id_text id)
 
 abbrev pub ls_argument_packets : LsRefsAsked → List Packet
@@ -54,7 +54,7 @@ fetch_argument_packets asked =
     ++ flag_packets (codes "done") (fetch_has asked Done)
 
 -- a command, its capabilities, a delimiter, its arguments and a flush
-abbrev pub command_packets : Format → Command → Option (List ℕ) → List Packet → List Packet
+abbrev pub command_packets : Format → Command → Option Bytes → List Packet → List Packet
 command_packets format command agent arguments =
     command_packet command ∷ (agent_packets agent ++ format_packets format ++ Delim ∷ (arguments ++ Flush ∷ []))
 

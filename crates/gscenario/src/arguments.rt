@@ -2,11 +2,12 @@
 #![tactic(auto)]
 
 ghost use Rattle.std.specs.Prelude.{◌≡◌, ◌≢◌, ◌∷◌, [], ℕ, List, MatchOption, MatchResult, ⊤};
+ghost use Rattle.gname.specs.Names.{Name};
 ghost use Rattle.gobject.specs.PlainPackText.{ids_of};
 ghost use Rattle.gobject.specs.declared.node.Entry.{Entry};
 ghost use Rattle.gspec.specs.Refspecs.{Refspec};
 ghost use Rattle.gscenario.specs.ScenarioText.{AreNumberAndCount, AreOneBytes, AreSpecs, IsEntry, IsOneNumber, IsRef};
-ghost use Rattle.gname.specs.Ids.{IsIdText};
+ghost use Rattle.gname.specs.Ids.{Id, IsIdText};
 ghost use Rattle.std.specs.List.{AllZip};
 ghost use Rattle.gscenario.specs.steps.Reading.{HasArguments, NoArguments, ReadsArguments, words_after};
 
@@ -234,7 +235,7 @@ fn entry_of_kind<A: Allocator + Copy>(
 ) -> Result<Option<Entry<A>>, AllocError>
     ensures { MatchResult result
         (λ found. MatchOption found
-        (((id : List ℕ) (ids : List (List ℕ)) → AllZip IsIdText (words_after tail.now) (id ∷ ids) → ⊥))
+        (((id : Id) (ids : List Id) → AllZip IsIdText (words_after tail.now) (id ∷ ids) → ⊥))
         (λ entry. (entry.node.kind ≡ kind) × AllZip IsIdText (words_after tail.now) (ids_of entry)))
         (λ _. ⊤) }
 {
@@ -256,7 +257,7 @@ fn entry_of_kind<A: Allocator + Copy>(
 // The ids that come.
 fn parents_of<A: Allocator + Copy>(alloc: A, tail: &[u8]) -> Result<Option<Parents<A>>, AllocError>
     ensures { MatchResult result
-        (λ found. MatchOption found (((ids : List (List ℕ)) → AllZip IsIdText (words_after tail.now) ids → ⊥))
+        (λ found. MatchOption found (((ids : List Id) → AllZip IsIdText (words_after tail.now) ids → ⊥))
         (AllZip IsIdText (words_after tail.now)))
         (λ _. ⊤) }
 {
@@ -278,7 +279,7 @@ fn ref_of<A: Allocator + Copy>(
     tail: &[u8],
 ) -> Result<Option<(RefName<A>, Oid)>, AllocError>
     ensures { MatchResult result
-        (λ found. MatchOption found (((name id : List ℕ) → IsRef (words_after tail.now) name id → ⊥))
+        (λ found. MatchOption found (((name : Name) (id : Id) → IsRef (words_after tail.now) name id → ⊥))
         (λ pair. IsRef (words_after tail.now) pair.0 pair.1))
         (λ _. ⊤) }
 {

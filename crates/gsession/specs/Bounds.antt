@@ -3,6 +3,7 @@
 use Rattle.std.specs.Prelude.{◌≡◌, ◌⊎◌, ℕ, ◌+◌, ◌≤◌, true, false, List, length, All, Contains, None, Result, Ok}
 use Rattle.std.specs.List.{IsDistinct}
 use Rattle.std.specs.Str.{bytes_eq}
+use Rattle.gname.specs.Ids.{Id}
 use Rattle.ggrammar.specs.declared.ends.Ends.{Ends}
 use Rattle.gobject.specs.declared.node.Entry.{Entry}
 use Rattle.gobject.specs.Packs.{Indexes, IndexFails}
@@ -69,7 +70,7 @@ abbrev pub OffersAreNew : Type 0 → Type 0
 OffersAreNew A =
     (g : List (Entry A)) (old new : SessionState A) (asked : FetchAsked)
     → MakesNext old g new (Fetches asked) → fetch_has asked Done ≡ false
-    → ((a : List ℕ) × Contains asked.haves a × ¬ (Contains old.sent a))
+    → ((a : Id) × Contains asked.haves a × ¬ (Contains old.sent a))
 
 -- ---- the last request
 

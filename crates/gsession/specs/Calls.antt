@@ -1,5 +1,6 @@
 -- What the calls of a session have in common.
-use Rattle.std.specs.Prelude.{◌≡◌, ℕ, Bool, true, List, [], ◌++◌, All, Contains, None, Some, Result, Err}
+use Rattle.std.specs.Prelude.{◌≡◌, Bool, true, List, [], ◌++◌, All, Contains, None, Some, Result, Err}
+use Rattle.gname.specs.Ids.{Id}
 use Rattle.ggrammar.specs.Capabilities.{Capability}
 use Rattle.gpkt.specs.Change.{Change}
 use Rattle.gobject.specs.Packs.{Indexes, IndexFails}
@@ -44,9 +45,9 @@ pub data Does {A : Type 0} (g : List (Entry A)) (old new : SessionState A) : Typ
   does_end : new ≡ over old → Does g old new
   does_hear : (offers : Bool) → IsBegun old → new ≡ record old { offers_unborn = offers } → Does g old new
   does_ask : (asked : Asked) → old.pending ≡ None → MakesNext old g new asked → Does g old new
-  does_list : (asked : LsRefsAsked) (reply : LsReply) (wants : List (List ℕ)) → old.pending ≡ Some (Ls asked)
+  does_list : (asked : LsRefsAsked) (reply : LsReply) (wants : List Id) → old.pending ≡ Some (Ls asked)
       → new ≡ with_refs old reply wants → Does g old new
-  does_take : (asked : FetchAsked) (stage : Stage) (acks : List (List ℕ)) → Awaits old asked
+  does_take : (asked : FetchAsked) (stage : Stage) (acks : List Id) → Awaits old asked
       → All (Contains asked.haves) acks
       → (fetch_has asked Done ≡ true → stage ≡ Settling) → new ≡ after_acks old stage acks → Does g old new
   does_settle : old.stage ≡ Settling → new ≡ record (over old) { asks = [] } → Does g old new
@@ -58,10 +59,10 @@ pub record GoesOn {A : Type 0} (old new : SessionState A) : Type 0 where
   pub limit : new.limit ≡ old.limit
   pub ends : new.ends ≡ old.ends
   pub tips : new.tips ≡ old.tips
-  pub sent : (more : List (List ℕ)) × (new.sent ≡ old.sent ++ more)
+  pub sent : (more : List Id) × (new.sent ≡ old.sent ++ more)
 
 -- the id is a have of the request that waits
-abbrev pub IsOpenHave : {A : Type 0} → SessionState A → List ℕ → Type 0
+abbrev pub IsOpenHave : {A : Type 0} → SessionState A → Id → Type 0
 IsOpenHave s a = (asked : FetchAsked) × Awaits s asked × Contains asked.haves a
 
 -- the session is over

@@ -2,6 +2,7 @@
 -- offered as haves, and when the client is done, is our own rule: batches of 16, 32, 64, 128 and then 256 ids.
 use Rattle.std.specs.Prelude.{◌≡◌, ℕ, ◌+◌, Bool, true, false, List, [], ◌++◌, length, map, nat_le, ◌==◌}
 use Rattle.std.specs.Prelude.{if◌then◌else◌, Option, Some, None, Result, Ok, Err}
+use Rattle.gname.specs.Ids.{Id}
 use Rattle.gobject.specs.declared.node.Entry.{Entry}
 use Rattle.ghistory.specs.Levels.{distinct_of}
 use Rattle.ghistory.specs.Offer.{IsOffer}
@@ -34,39 +35,39 @@ batch_size rounds =
     else 256
 
 -- the batch: what is to be offered, unless a request has no room for it beside the common ids
-abbrev pub batch_of : List (List ℕ) → List (List ℕ) → List (List ℕ)
+abbrev pub batch_of : List Id → List Id → List Id
 batch_of commons offer = if nat_le (length commons + length offer) max_haves then offer else []
 
 -- the ids that are offered next, level by level from the tips
-pub record IsBatch {A : Type 0} (s : SessionState A) (g : List (Entry A)) (batch : List (List ℕ)) : Type 0 where
-  pub offer : List (List ℕ)
+pub record IsBatch {A : Type 0} (s : SessionState A) (g : List (Entry A)) (batch : List Id) : Type 0 where
+  pub offer : List Id
   pub offered : IsOffer g s.tips s.commons s.sent (batch_size s.rounds) offer
   pub is : batch ≡ batch_of s.commons offer
 
 -- the request for the wanted objects: the client has the common ids and those of the batch, and is done without a
 -- batch
-abbrev pub fetch_request : List (List ℕ) → List (List ℕ) → List (List ℕ) → FetchAsked
+abbrev pub fetch_request : List Id → List Id → List Id → FetchAsked
 fetch_request wants commons batch =
     let quiet = fetch_with no_fetch NoProgress true in
     let tagged = fetch_with quiet IncludeTag true in
     record (fetch_with tagged Done (length batch == 0)) { wants = wants; haves = commons ++ batch }
 
 -- the next request, with its batch: for refs first, then for objects, as often as the server only acknowledged
-abbrev pub IsNext : {A : Type 0} → SessionState A → List (Entry A) → Asked → List (List ℕ) → Type 0
+abbrev pub IsNext : {A : Type 0} → SessionState A → List (Entry A) → Asked → List Id → Type 0
 IsNext s g Empty batch = ⊥
 IsNext s g (Ls asked) batch = (s.stage ≡ Listing) × (asked ≡ ls_request s.refspecs s.offers_unborn) × (batch ≡ [])
 IsNext s g (Fetches asked) batch =
     (s.stage ≡ Fetching) × (asked ≡ fetch_request s.wants s.commons batch) × IsBatch s g batch
 
 -- the request waits for its reply; one for objects is a round
-abbrev pub waiting_for : {A : Type 0} → SessionState A → Asked → List (List ℕ) → SessionState A
+abbrev pub waiting_for : {A : Type 0} → SessionState A → Asked → List Id → SessionState A
 waiting_for s (Fetches asked) batch =
     record s { pending = Some (Fetches asked); sent = s.sent ++ batch; rounds = s.rounds + 1 }
 waiting_for s asked batch = record s { pending = Some asked }
 
 -- the next request is made, and waits for its reply
 abbrev pub MakesNext : {A : Type 0} → SessionState A → List (Entry A) → SessionState A → Asked → Type 0
-MakesNext old g new asked = (batch : List (List ℕ)) × IsNext old g asked batch × (new ≡ waiting_for old asked batch)
+MakesNext old g new asked = (batch : List Id) × IsNext old g asked batch × (new ≡ waiting_for old asked batch)
 
 -- a request is due: none waits for its reply, and refs or objects are to be asked for
 abbrev pub is_due : Stage → Option Asked → Bool

@@ -1,5 +1,6 @@
 -- What a simulation does: the files are taken in their order, the events happen, and it is shown what came of them.
 use Rattle.std.specs.Prelude.{◌≡◌, ◌⊎◌, ℕ, List, Result, Ok, Err}
+use Rattle.gpkt.specs.Packets.{Bytes}
 use Rattle.ganswer.specs.Servers.{Server}
 use Rattle.gcmd.specs.Fetching.{NamesClient, RefusesClient, plain_index_fails, plain_indexes}
 use Rattle.gcmd.specs.Outputs.{BreaksOff}
@@ -79,7 +80,7 @@ CannotBegin files faults.Memory = ⊥
 -- ---- what is shown
 
 -- the text is written and passed on; or the output failed at it; or out of memory for it
-abbrev pub Shows : {A : Type 0} → List ℕ → Output → Ending A → Type 0
+abbrev pub Shows : {A : Type 0} → Bytes → Output → Ending A → Type 0
 Shows text output (Ok done) = Sends output text
 Shows text output (Err (faults.Program program.WriteFailed)) = BreaksOff output text
 Shows text output (Err (faults.Program program.Memory)) = IsUnwritten output

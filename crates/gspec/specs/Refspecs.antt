@@ -4,7 +4,7 @@ use Rattle.std.specs.Prelude.{◌≡◌, ℕ, Bool, true, false, ◌&&◌, List,
 use Rattle.std.specs.Prelude.{if◌then◌else◌, Option, None, Some, Result, Ok, Err}
 use Rattle.std.specs.List.{ends_with, starts_with}
 use Rattle.std.specs.Str.{bytes_eq}
-use Rattle.gname.specs.Names.{IsRefName, Owns, name_fault}
+use Rattle.gname.specs.Names.{Name, IsRefName, Owns, name_fault}
 use Rattle.gname.specs.declared.faults.NameFault.{NameFault}
 use Rattle.grefs.specs.RefLists.{IsBelowRefs}
 use Rattle.gspec.specs.declared.fault.SpecFault.{SpecFault}
@@ -72,18 +72,18 @@ OneReading = (text : List ℕ) (a b : Refspec) → IsSpec text a → IsSpec text
 -- ---- what a refspec does with the names of refs
 
 -- whether the source matches a name: it is that name; that of a pattern begins the name, which goes on
-abbrev pub matches : Refspec → List ℕ → Bool
+abbrev pub matches : Refspec → Name → Bool
 matches spec name =
     if spec.pattern then starts_with nat_eq name spec.source && nat_lt (length spec.source) (length name)
     else bytes_eq name spec.source
 
 -- where a name that matches goes: to the destination; that of a pattern is followed by the rest of the name
-abbrev pub destination_of : Refspec → List ℕ → List ℕ
+abbrev pub destination_of : Refspec → Name → List ℕ
 destination_of spec name = spec.destination ++ drop (length spec.source) name
 
 -- what asking for the destination of a name answers: none, where it doesn't match; else the destination, or why it is
 -- not made a ref name
-abbrev pub FindsDestination : Refspec → List ℕ → Result (Option (List ℕ)) NameFault → Type 0
+abbrev pub FindsDestination : Refspec → Name → Result (Option Name) NameFault → Type 0
 FindsDestination spec name (Ok None) = matches spec name ≡ false
 FindsDestination spec name (Ok (Some destination)) =
     (matches spec name ≡ true) × Owns name_fault (destination_of spec name) (Ok destination)

@@ -2,6 +2,7 @@
 -- does as over other devices, of some input and output.
 use Rattle.std.specs.Prelude.{◌≡◌, ◌⊎◌, ◌<◌, ◌≤◌, ℕ, Bool, true, false, List, length, All, Result, Ok, Err}
 use Rattle.gpkt.specs.Sending.{Input, Output}
+use Rattle.gpkt.specs.Packets.{Bytes}
 use Rattle.ggrammar.specs.Building.{IsBuildReason}
 use Rattle.ggrammar.specs.declared.ends.Ends.{Ends}
 use Rattle.ggrammar.specs.declared.fault.MessageFault.{MessageFault}
@@ -51,19 +52,19 @@ module _ {A : Type 0} (indexes : Indexes A) (index_fails : IndexFails) (start : 
 -- ---- listing
 
 -- what is asked: the refs with these prefixes, what symbolic refs point at, and what tags lead to
-abbrev pub asked_for : List (List ℕ) → LsRefsAsked
+abbrev pub asked_for : List Bytes → LsRefsAsked
 asked_for prefixes =
     let named = ls_with no_ls_refs Symrefs true in
     record (ls_with named Peel true) { prefixes = prefixes }
 
 -- why it is not asked: there are too many prefixes, or there is no memory for them
-abbrev pub RefusesPrefixes : List (List ℕ) → MessageFault → Type 0
+abbrev pub RefusesPrefixes : List Bytes → MessageFault → Type 0
 RefusesPrefixes prefixes cause =
     (cause.frame ≡ 0) × ((has_room : Bool) × IsBuildReason true has_room cause.why
     × (has_room ≡ false → max_prefixes < length prefixes))
 
 -- there are not too many prefixes
-abbrev pub FitPrefixes : List (List ℕ) → Type 0
+abbrev pub FitPrefixes : List Bytes → Type 0
 FitPrefixes prefixes = length prefixes ≤ max_prefixes
 
 module _ {A : Type 0} (asked : LsRefsAsked) (hello : Hello) where
@@ -78,7 +79,7 @@ module _ {A : Type 0} (asked : LsRefsAsked) (hello : Hello) where
   ListsFrom result = HoldsListing result ⊎ (result ≡ Err fetch.NoBuffer)
 
 -- that, of these prefixes; or there is no such request, or no such first line
-abbrev pub ListsOn : {A : Type 0} → List (List ℕ) → Hello → Result LsReply (FetchFault A) → Type 0
+abbrev pub ListsOn : {A : Type 0} → List Bytes → Hello → Result LsReply (FetchFault A) → Type 0
 ListsOn prefixes hello result =
     (IsHello hello × FitPrefixes prefixes × ListsFrom (asked_for prefixes) hello result)
     ⊎ ((cause : MessageFault) × (RefusesPrefixes prefixes cause ⊎ MakesHello hello (Err cause))
@@ -98,7 +99,7 @@ abbrev pub IsCount : {A : Type 0} → List (Outcome A) → ℕ → Outcome A →
 IsCount outcomes connections (Ok done) = length outcomes ≡ connections
 IsCount outcomes connections (Err fault) = (fault ≡ program.Socket) × (length outcomes < connections)
 
-module _ {A : Type 0} (server : Server A) (packs : Packs A) (fails : PackFails A) (path : List ℕ) (ends : Ends) where
+module _ {A : Type 0} (server : Server A) (packs : Packs A) (fails : PackFails A) (path : Bytes) (ends : Ends) where
   -- a connection is served over a socket, and how it ended
   pub record HoldsServing (ended : GitEnd) : Type 0 where
     pub input : Input

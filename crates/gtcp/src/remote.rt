@@ -1,6 +1,7 @@
 //! The programs that open sockets, as functions over the network, bytes and sinks.
 
-ghost use Rattle.std.specs.Prelude.{◌≡◌, ℕ, List, IfErr, IfOk, option_map};
+ghost use Rattle.std.specs.Prelude.{◌≡◌, IfErr, IfOk, option_map};
+ghost use Rattle.gpkt.specs.Packets.{Bytes};
 ghost use Rattle.ghistory.specs.Reach.{Grows};
 ghost use Rattle.gpkt.specs.Sending.{output_of};
 ghost use Rattle.grepo.specs.Settling.{Settles};
@@ -299,7 +300,7 @@ fn fetch_for<A: Allocator + Copy, N, R: Sink>(
 ) -> (Result<(), ProgramFault<A>>, Option<Vec<u8, A>>)
 where
     N: Net<Stream = TcpStream, Listener = TcpListener>,
-    ensures fetches { (file : List ℕ) → NamesClient file repo.old
+    ensures fetches { (file : Bytes) → NamesClient file repo.old
         → FetchesRemote {A = A} file fetch.now.specs.now fetch.now.limit fetch.now.ends fetch.now.place.now.hello
         (output_of R.contents R.passed_on R.is_down report.old report.new)
         (option_map (λ text. text.items) result.1) result.0 }
@@ -401,7 +402,7 @@ fn meet_client<A: Allocator + Copy, N, W: Sink>(
 ) -> Result<(), ProgramFault<A>>
 where
     N: Net<Stream = TcpStream, Listener = TcpListener>,
-    ensures meets { (file : List ℕ) → NamesClient file repo.old
+    ensures meets { (file : Bytes) → NamesClient file repo.old
         → Meets {A = A} file specs.now (output_of W.contents W.passed_on W.is_down output.old output.new) result }
     ensures loans { W.loans output.new ≡ W.loans output.old }
 {

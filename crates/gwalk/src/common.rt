@@ -1,8 +1,9 @@
 //! What both ends have, and what reaches it.
 #![tactic(auto)]
 
-ghost use Rattle.std.specs.Prelude.{◌≡◌, ◌↔◌, ◌<◌, [], ℕ, List, Ok, Some, length, not, is_some, filter, IfOk, IfErr, IsTrue, false, All, Contains};
+ghost use Rattle.std.specs.Prelude.{◌≡◌, ◌↔◌, ◌<◌, [], List, Ok, Some, length, not, is_some, filter, IfOk, IfErr, IsTrue, false, All, Contains};
 ghost use Rattle.std.specs.List.{Any};
+ghost use Rattle.gname.specs.Ids.{Id};
 ghost use Rattle.gobject.specs.Objects.{node_at};
 ghost use Rattle.ghistory.specs.Levels.{new_ids};
 ghost use Rattle.ghistory.specs.Reach.{Reaches};
@@ -165,8 +166,8 @@ impl<A: Allocator + Copy> Goals<A> {
 
     // Whether the id reaches one of the goals.
     fn reached_by(&self, graph: &Graph<A>, start: &Oid) -> Result<bool, AllocError>
-        requires { (ids : List (List ℕ)) × AreGoals graph.now.entries ids self.now.marks.items self.now.absent.items }
-        ensures { IfOk result (λ answer. (ids : List (List ℕ)) →
+        requires { (ids : List Id) × AreGoals graph.now.entries ids self.now.marks.items self.now.absent.items }
+        ensures { IfOk result (λ answer. (ids : List Id) →
             AreGoals graph.now.entries ids self.now.marks.items self.now.absent.items →
             IsTrue answer ↔ Any (Reaches graph.now.entries start.now) ids) }
     {

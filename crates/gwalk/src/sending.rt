@@ -1,8 +1,9 @@
 //! The objects to send.
 #![tactic(auto)]
 
-ghost use Rattle.std.specs.Prelude.{◌≡◌, ◌↔◌, ◌⊎◌, [], IfOk, IfErr, IfSome, IsSome, IsTrue, List, ℕ, Some, length, slice_index_or, true, false};
+ghost use Rattle.std.specs.Prelude.{◌≡◌, ◌↔◌, ◌⊎◌, [], IfOk, IfErr, IfSome, IsSome, IsTrue, ℕ, Some, length, slice_index_or, true, false};
 ghost use Rattle.std.specs.Map.{values_of};
+ghost use Rattle.gname.specs.Ids.{Id};
 ghost use Rattle.gobject.specs.Objects.{place_of};
 ghost use Rattle.ghistory.specs.Graphs.{IsGraph};
 ghost use Rattle.ghistory.specs.Peeling.{IsTagOf, PeelsTo};
@@ -137,7 +138,7 @@ struct Tag {
 fn tag_at<A: Allocator + Copy>(graph: &Graph<A>, id: &Oid) -> Option<Tag>
     ensures found { IfSome result (λ tag.
         (place_of graph.now.entries id.now ≡ Some tag.number) × IsTagOf graph.now.entries id.now tag.named) }
-    ensures only { (b : List ℕ) → IsTagOf graph.now.entries id.now b → IsSome result }
+    ensures only { (b : Id) → IsTagOf graph.now.entries id.now b → IsSome result }
 {
     let node = graph.node(id)?;
     if node.kind == Kind::Commit {
@@ -151,9 +152,9 @@ fn tag_at<A: Allocator + Copy>(graph: &Graph<A>, id: &Oid) -> Option<Tag>
 // Marks the tags of the chain that begins at the id and leads to a commit.
 fn mark_chain<A: Allocator + Copy>(graph: &Graph<A>, marks: &mut Vec<bool, A>, id: &Oid)
     requires long { length marks.old.items ≡ length graph.now.entries }
-    requires ends { (c : List ℕ) × PeelsTo graph.now.entries id.now c }
+    requires ends { (c : Id) × PeelsTo graph.now.entries id.now c }
     ensures long { length marks.new.items ≡ length graph.now.entries }
-    ensures each { (place : ℕ) (a : List ℕ) → place_of graph.now.entries a ≡ Some place →
+    ensures each { (place : ℕ) (a : Id) → place_of graph.now.entries a ≡ Some place →
         (slice_index_or marks.new.items place false ≡ true) ↔
         ((slice_index_or marks.old.items place false ≡ true) ⊎ IsTagFrom graph.now.entries id.now a) }
 {

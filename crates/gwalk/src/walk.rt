@@ -1,8 +1,9 @@
 //! The walk from some objects to their parents, and on to theirs.
 #![tactic(auto)]
 
-ghost use Rattle.std.specs.Prelude.{◌≡◌, ◌<◌, ◌∷◌, ◌++◌, [], ℕ, Bool, List, slice_get, length, IfOk, OnOk, Some};
+ghost use Rattle.std.specs.Prelude.{◌≡◌, ◌<◌, ◌∷◌, ◌++◌, [], Bool, List, slice_get, length, IfOk, OnOk, Some};
 ghost use Rattle.std.specs.Option.{option_map};
+ghost use Rattle.gname.specs.Ids.{Id};
 ghost use Rattle.ghistory.specs.Graphs.{IsGraph};
 ghost use Rattle.ghistory.specs.Levels.{new_ids};
 ghost use Rattle.gwalk.specs.Marks.{stop_at};
@@ -62,9 +63,9 @@ impl<A: Allocator + Copy> Walk<A> {
     /// Meets an id. It fails where there is no memory; the walk is then of no use.
     pub fn meet(&mut self, graph: &Graph<A>, known: &[bool], id: &Oid) -> Result<(), AllocError>
         requires graph { IsGraph graph.now }
-        requires has { (ids : List (List ℕ)) × HasMet (stop_at known.now graph.now.entries) ids
+        requires has { (ids : List Id) × HasMet (stop_at known.now graph.now.entries) ids
             self.old.marks.items self.old.met.items self.old.lost self.old.parents }
-        ensures { OnOk result ((ids : List (List ℕ)) →
+        ensures { OnOk result ((ids : List Id) →
             HasMet (stop_at known.now graph.now.entries) ids
             self.old.marks.items self.old.met.items self.old.lost self.old.parents →
             HasMet (stop_at known.now graph.now.entries) (ids ++ new_ids ids (id.now ∷ []))
@@ -90,9 +91,9 @@ impl<A: Allocator + Copy> Walk<A> {
         ids: &[Oid],
     ) -> Result<(), AllocError>
         requires graph { IsGraph graph.now }
-        requires has { (before : List (List ℕ)) × HasMet (stop_at known.now graph.now.entries) before
+        requires has { (before : List Id) × HasMet (stop_at known.now graph.now.entries) before
             self.old.marks.items self.old.met.items self.old.lost self.old.parents }
-        ensures { OnOk result ((before : List (List ℕ)) →
+        ensures { OnOk result ((before : List Id) →
             HasMet (stop_at known.now graph.now.entries) before
             self.old.marks.items self.old.met.items self.old.lost self.old.parents →
             HasMet (stop_at known.now graph.now.entries) (before ++ new_ids before ids.now)

@@ -1,6 +1,9 @@
 -- What an event does to a world, and its outcome. What a step does not name stays as it was.
 use Rattle.std.specs.Prelude.{◌≡◌, ◌≢◌, ◌⊎◌, ◌↔◌, ℕ, Bool, true, false, List, [], ◌∷◌, ◌++◌, length, take, count_by}
 use Rattle.std.specs.Prelude.{slice_get, if◌then◌else◌, IsTrue, Option, None, Some, Ok, Err}
+use Rattle.gname.specs.Ids.{Id}
+use Rattle.gname.specs.Names.{Name}
+use Rattle.gpkt.specs.Packets.{Bytes}
 use Rattle.gfetchreply.specs.Values.{default_limit}
 use Rattle.ggrammar.specs.declared.ends.Ends.TheVariants.{Plain}
 use Rattle.gobject.specs.declared.node.Entry.{Entry}
@@ -130,7 +133,7 @@ module _ {A : Type 0} where
   AddsAtServer w entry _ new = ⊥
 
   -- `ServerRef`: a ref of the server is set; or the server refuses it
-  abbrev pub SetsAtServer : WorldState A → List ℕ → List ℕ → Outcome → WorldState A → Type 0
+  abbrev pub SetsAtServer : WorldState A → Name → Id → Outcome → WorldState A → Type 0
   SetsAtServer w name id outcomes.Done new =
       (server : Server A) × Sets w.server name id server (Ok tt) × (new ≡ record w { server = server })
   SetsAtServer w name id (outcomes.Fault number) new =
@@ -152,7 +155,7 @@ module _ {A : Type 0} where
   AddsAtClient w entry _ new = ⊥
 
   -- `ClientRef`: a ref of the client is set; or the client refuses it
-  abbrev pub SetsAtClient : WorldState A → List ℕ → List ℕ → Outcome → WorldState A → Type 0
+  abbrev pub SetsAtClient : WorldState A → Name → Id → Outcome → WorldState A → Type 0
   SetsAtClient w name id outcomes.Done new =
       (repo : RepoState A) × SetsLocal w.repo name id repo (Ok tt) × (new ≡ record w { repo = repo })
   SetsAtClient w name id (outcomes.Fault number) new =
@@ -169,9 +172,9 @@ stranger_outcome written (end.Refused fault) =
 stranger_outcome written _ = outcomes.StrangerServed written
 
 -- the outcome of a conversation with a stranger that sends these bytes
-abbrev pub TalksTo : {A : Type 0} → Server A → Packs A → PackFails A → List ℕ → Outcome → Type 0
+abbrev pub TalksTo : {A : Type 0} → Server A → Packs A → PackFails A → Bytes → Outcome → Type 0
 TalksTo server packs pack_fails bytes outcome =
-    (written : List ℕ) × (ended : End) × Talks server packs pack_fails Plain bytes written ended
+    (written : Bytes) × (ended : End) × Talks server packs pack_fails Plain bytes written ended
     × (outcome ≡ stranger_outcome (length written) ended)
 
 module _ {A : Type 0} (packs : Packs A) (pack_fails : PackFails A) where
@@ -188,7 +191,7 @@ module _ {A : Type 0} (packs : Packs A) (pack_fails : PackFails A) where
   ServesRequest w (Some asked) _ new = ⊥
 
   -- `StrangeRequest`: the server talks to a stranger, and nothing changes
-  abbrev pub HearsStranger : WorldState A → List ℕ → Outcome → WorldState A → Type 0
+  abbrev pub HearsStranger : WorldState A → Bytes → Outcome → WorldState A → Type 0
   HearsStranger w bytes outcome new = (new ≡ w) × TalksTo w.server packs pack_fails bytes outcome
 
 -- ---- bytes that come to the client
@@ -205,7 +208,7 @@ waiting (Some s) = waits_for s s.pending
 module _ {A : Type 0} (indexes : Indexes A) (index_fails : IndexFails) where
   -- The bytes come as the reply to the request that waits, which changes the session and the repository. `forged` and
   -- `answered` are then these. A session that waits is not answered, so that is never lost here.
-  pub record BytesCome (w : WorldState A) (s : SessionState A) (asked : Asked) (bytes : List ℕ) (forged answered : Bool)
+  pub record BytesCome (w : WorldState A) (s : SessionState A) (asked : Asked) (bytes : Bytes) (forged answered : Bool)
       (outcome : Outcome) (new : WorldState A) : Type 0 where
     pub after : SessionState A
     pub repo : RepoState A
@@ -223,7 +226,7 @@ module _ {A : Type 0} (indexes : Indexes A) (index_fails : IndexFails) where
       × BytesCome w s asked (take count (reply_bytes kept.reply)) w.forged answered outcome new
 
   -- `Forge`: any bytes come; or no request waits. From then on the world counts as forged.
-  abbrev pub Forges : WorldState A → List ℕ → Option (SessionState A × Asked) → Outcome → WorldState A → Type 0
+  abbrev pub Forges : WorldState A → Bytes → Option (SessionState A × Asked) → Outcome → WorldState A → Type 0
   Forges w bytes None outcome new = (outcome ≡ outcomes.Fault out_of_turn) × (new ≡ record w { forged = true })
   Forges w bytes (Some (s, asked)) outcome new = BytesCome w s asked bytes true false outcome new
 

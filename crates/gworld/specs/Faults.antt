@@ -1,6 +1,7 @@
 -- The tables of a world's own faults: the number, the name and the text of each.
-use Rattle.std.specs.Prelude.{ℕ, List, codes}
+use Rattle.std.specs.Prelude.{ℕ, codes}
 use Rattle.gname.specs.Faults.{FaultRow}
+use Rattle.gpkt.specs.Packets.{Bytes}
 use Rattle.gscenario.specs.Faults.{scenario_fault_row, scenario_fault_text}
 use Rattle.gscenario.specs.declared.fault.ScenarioFault.TheVariants as scenario
 use Rattle.gworld.specs.declared.fault.RunFault.{RunFault}
@@ -34,9 +35,9 @@ abbrev pub run_fault_row : {A : Type 0} → RunFault A → FaultRow
 run_fault_row (run.Memory outcomes) = scenario_fault_row scenario.Memory
 
 -- their texts
-abbrev pub world_fault_text : WorldFault → List ℕ
+abbrev pub world_fault_text : WorldFault → Bytes
 world_fault_text world.TwoFormats = codes "server and client have two object formats"
 world_fault_text (world.Disagree id) = codes "server and client hold an id with two objects"
 
-abbrev pub run_fault_text : {A : Type 0} → RunFault A → List ℕ
+abbrev pub run_fault_text : {A : Type 0} → RunFault A → Bytes
 run_fault_text (run.Memory outcomes) = scenario_fault_text scenario.Memory

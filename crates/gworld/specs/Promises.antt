@@ -1,6 +1,7 @@
 -- What each step of a world promises, part by part.
 use Rattle.std.specs.Prelude.{◌≡◌, ◌⊎◌, ⊤, ℕ, ◌+◌, ◌<◌, ◌≤◌, true, false, List, length, All, IfSome, Option, None, Some}
 use Rattle.std.specs.Prelude.{slice_get}
+use Rattle.gname.specs.Ids.{Id}
 use Rattle.gobject.specs.declared.fault.IndexFault.TheVariants as index
 use Rattle.gobject.specs.declared.fault.PackFault.TheVariants as pack
 use Rattle.gfetchreply.specs.FetchReplies.{FetchReply, Acks, Ready, Pack}
@@ -40,7 +41,7 @@ module _ {A : Type 0} where
   -- ---- common ids are held by both
 
   -- the server and the client hold the id
-  pub record IsHeldByBoth (w : WorldState A) (a : List ℕ) : Type 0 where
+  pub record IsHeldByBoth (w : WorldState A) (a : Id) : Type 0 where
     pub server : Holds w.server.graph.entries a
     pub client : Holds w.repo.graph.entries a
 

@@ -1,6 +1,8 @@
 -- What stays true of a world, whatever events come.
-use Rattle.std.specs.Prelude.{◌≡◌, ◌≢◌, ◌⊎◌, ⊤, ℕ, ◌≤◌, true, false, List, [], length, All, Contains}
+use Rattle.std.specs.Prelude.{◌≡◌, ◌≢◌, ◌⊎◌, ⊤, ◌≤◌, true, false, List, [], length, All, Contains}
 use Rattle.std.specs.Prelude.{IfSome, MatchOption}
+use Rattle.gname.specs.Ids.{Id}
+use Rattle.gpkt.specs.Packets.{Bytes}
 use Rattle.gobject.specs.Packs.{LosesNothing, Packs}
 use Rattle.gobject.specs.declared.node.Entry.{Entry}
 use Rattle.ggrammar.specs.declared.ends.Ends.TheVariants.{Plain}
@@ -56,7 +58,7 @@ module _ {A : Type 0} where
   -- ---- the session
 
   -- an asked id is wanted, or connected at the client
-  abbrev pub IsWantedOrFull : List (Entry A) → SessionState A → List ℕ → Type 0
+  abbrev pub IsWantedOrFull : List (Entry A) → SessionState A → Id → Type 0
   IsWantedOrFull g s a = Contains s.wants a ⊎ IsFull g a
 
   -- A session began on what its repository holds, and offered nothing else. Each common id is connected at the client.
@@ -75,7 +77,7 @@ module _ {A : Type 0} where
 module _ {A : Type 0} (tools : PackTools A) where
   -- no bytes were forged, and packer and indexer are faithful
   pub record IsUnforgedAndFaithful (w : WorldState A) : Type 0 where
-    pub image : List (Entry A) → List ℕ
+    pub image : List (Entry A) → Bytes
     pub faithful : LosesNothing tools.packs tools.pack_fails tools.indexes tools.index_fails image
     pub unforged : w.forged ≡ false
 

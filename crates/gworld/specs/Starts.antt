@@ -1,5 +1,6 @@
 -- How a world begins.
-use Rattle.std.specs.Prelude.{◌≡◌, ◌≢◌, ℕ, List, ◌∷◌, ◌++◌, All, Result, Ok, Err}
+use Rattle.std.specs.Prelude.{◌≡◌, ◌≢◌, List, ◌∷◌, ◌++◌, All, Result, Ok, Err}
+use Rattle.gname.specs.Ids.{Id}
 use Rattle.gobject.specs.declared.node.Entry.{Entry}
 use Rattle.ghistory.specs.Laws.{AgreesWith}
 use Rattle.ghistory.specs.Reach.{Agree}
@@ -11,7 +12,7 @@ use Rattle.gworld.specs.declared.fault.WorldFault.{WorldFault}
 use Rattle.gworld.specs.declared.fault.WorldFault.TheVariants as world
 
 -- of the server's ids, in store order, this is the first that the client holds with another object
-pub record IsFirstDisagreement {A : Type 0} (server client : List (Entry A)) (id : List ℕ) : Type 0 where
+pub record IsFirstDisagreement {A : Type 0} (server client : List (Entry A)) (id : Id) : Type 0 where
   pub front : List (Entry A)
   pub entry : Entry A
   pub back : List (Entry A)

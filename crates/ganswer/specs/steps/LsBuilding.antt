@@ -1,5 +1,7 @@
 -- The steps of answering ls-refs: a reply that is being built.
-use Rattle.std.specs.Prelude.{◌≡◌, ℕ, List, [], ◌∷◌, ◌++◌, Option, Some, None}
+use Rattle.std.specs.Prelude.{◌≡◌, List, [], ◌∷◌, ◌++◌, Option, Some, None}
+use Rattle.gname.specs.Ids.{Id}
+use Rattle.gname.specs.Names.{Name}
 use Rattle.grefs.specs.RefLists.{RefList}
 use Rattle.grequest.specs.Asked.{LsRefsAsked}
 use Rattle.glsreply.specs.LentViews.{lent_view}
@@ -20,7 +22,7 @@ pub record IsAnswering {A : Type 0} (server : Server A) (asked : LsRefsAsked) (f
   pub unborn : reply.unborn ≡ unborn_of server asked
 
 -- and the next ref is this one
-pub record IsNextRef {A : Type 0} (server : Server A) (asked : LsRefsAsked) (ref : List ℕ × List ℕ)
+pub record IsNextRef {A : Type 0} (server : Server A) (asked : LsRefsAsked) (ref : Name × Id)
     (reply : LsReply) : Type 0 where
   pub front : RefList
   pub back : RefList

@@ -1,6 +1,7 @@
 -- The steps of a conversation.
-use Rattle.std.specs.Prelude.{◌≡◌, ℕ, List, Option, None, Result, Ok, Err}
+use Rattle.std.specs.Prelude.{◌≡◌, List, Option, None, Result, Ok, Err}
 use Rattle.gname.specs.declared.formats.Format.{Format}
+use Rattle.gname.specs.Names.{Name}
 use Rattle.gpkt.specs.LineReading.{ReadsLines}
 use Rattle.gpkt.specs.Packets.{Packet}
 use Rattle.gpkt.specs.Sending.{Input, Output, IsUnread, IsUnwritten, IsUp, Passes}
@@ -61,7 +62,7 @@ Closes session old output new (Err fetch.WriteFailed) =
 Closes session old output new (Err _) = ⊥
 
 -- a client by its parts
-abbrev pub client_of : {A : Type 0} → SessionState A → RepoState A → Option (List ℕ) → ClientState A
+abbrev pub client_of : {A : Type 0} → SessionState A → RepoState A → Option Name → ClientState A
 client_of session repo unborn = record { session = session; repo = repo; unborn = unborn }
 
 -- how far a session is after a reply to fetch
@@ -103,7 +104,7 @@ module _ {A : Type 0} (indexes : Indexes A) (index_fails : IndexFails) (start : 
     pub asked : HasAsked start.repo.graph.format output talk
 
   -- what asking until the last reply is taken answers: what is known of an unborn HEAD; or why it failed
-  abbrev pub Talks : Input → Output → SessionState A → RepoState A → Result (Option (List ℕ)) (FetchFault A) → Type 0
+  abbrev pub Talks : Input → Output → SessionState A → RepoState A → Result (Option Name) (FetchFault A) → Type 0
   Talks input output session repo (Ok unborn) = HasTalked input output (client_of session repo unborn)
   Talks input output session repo (Err failed) = Fails indexes index_fails start input output repo failed
 

@@ -1,7 +1,8 @@
 -- The steps of printing a fault: its row, and how long the parts of its line are at most.
-use Rattle.std.specs.Prelude.{ℕ, ◌+◌, ◌*◌, ◌≤◌, List, length, Option, None, Some, ⊤}
+use Rattle.std.specs.Prelude.{ℕ, ◌+◌, ◌*◌, ◌≤◌, length, Option, None, Some, ⊤}
 use Rattle.std.specs.Option.{option_copied}
 use Rattle.gname.specs.Names.{max_name}
+use Rattle.gpkt.specs.Packets.{Bytes}
 use Rattle.gcmd.specs.Faults.{Printed}
 use Rattle.gcmd.specs.declared.print.FaultLine.{FaultLine}
 
@@ -33,7 +34,7 @@ max_subject = 1 + max_name
 abbrev pub max_fault_line : ℕ
 max_fault_line = 32 + max_fault_name + 4 * max_decimal + max_subject
 
-abbrev pub IsShortText : Option (List ℕ) → Type 0
+abbrev pub IsShortText : Option Bytes → Type 0
 IsShortText None = ⊤
 IsShortText (Some text) = length text ≤ max_name
 

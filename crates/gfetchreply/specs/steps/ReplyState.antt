@@ -1,7 +1,8 @@
 -- The steps of reading a reply: what is kept of the packets so far, and what a packet adds to it.
 use Rattle.std.specs.Prelude.{◌≡◌, ℕ, ◌+◌, Bool, true, false, List, [], ◌∷◌, ◌++◌, length}
 use Rattle.std.specs.Prelude.{Option, Some, None, Result, Ok, Err}
-use Rattle.gpkt.specs.Packets.{Packet, Data, Flush, Delim, ResponseEnd, text}
+use Rattle.gname.specs.Ids.{Id}
+use Rattle.gpkt.specs.Packets.{Bytes, Packet, Data, Flush, Delim, ResponseEnd, text}
 use Rattle.gpkt.specs.Bands.{band_form}
 use Rattle.gname.specs.declared.formats.Format.{Format}
 use Rattle.ggrammar.specs.Grammar.{Verdict, Open, Whole}
@@ -59,7 +60,7 @@ state_kept kept = record {
 
 -- ---- what a packet adds
 
-abbrev pub id_list : Option (List ℕ) → List (List ℕ)
+abbrev pub id_list : Option Id → List Id
 id_list None = []
 id_list (Some id) = id ∷ []
 
@@ -77,7 +78,7 @@ with_text place kept form = kept
 abbrev pub with_band : Kept → ℕ → Kept
 with_band kept more = record kept { band_count = kept.band_count + 1; byte_count = kept.byte_count + more }
 
-abbrev pub with_payload : Place → Kept → List ℕ → Kept
+abbrev pub with_payload : Place → Kept → Bytes → Kept
 with_payload InPack kept payload = with_band kept (length (data_in (band_form payload)))
 with_payload Over kept payload = kept
 with_payload place kept payload = with_text place kept (reply_form (text payload))
@@ -89,11 +90,11 @@ with_packet kept Delim = record kept { place = next_place kept.place Delim }
 with_packet kept ResponseEnd = record kept { place = next_place kept.place ResponseEnd }
 
 -- what the next packet brings of the pack
-abbrev pub data_at : Place → List ℕ → List ℕ
+abbrev pub data_at : Place → Bytes → Bytes
 data_at InPack payload = data_in (band_form payload)
 data_at place payload = []
 
-abbrev pub data_there : Place → Packet → List ℕ
+abbrev pub data_there : Place → Packet → Bytes
 data_there place (Data payload) = data_at place payload
 data_there place Flush = []
 data_there place Delim = []
@@ -142,35 +143,35 @@ verdict_of step.Whole = Whole
 
 -- ---- the sink
 
-module _ {S : Type 0} (taken : S → List ℕ → Type 0) where
+module _ {S : Type 0} (taken : S → Bytes → Type 0) where
   -- the sink takes these bytes more
-  abbrev pub TakesMore : S → S → List ℕ → Type 0
-  TakesMore old new more = (before : List ℕ) → taken old before → taken new (before ++ more)
+  abbrev pub TakesMore : S → S → Bytes → Type 0
+  TakesMore old new more = (before : Bytes) → taken old before → taken new (before ++ more)
 
   -- it takes none
   abbrev pub TakesNone : S → S → Type 0
-  TakesNone old new = (before : List ℕ) → taken old before → taken new before
+  TakesNone old new = (before : Bytes) → taken old before → taken new before
 
   -- a packet is taken as the verdict says: then this is kept, and the sink takes these bytes more
-  abbrev pub TakesBoth : Verdict → Bool → Kept → Kept → List ℕ → S → S → Result Step Why → Type 0
+  abbrev pub TakesBoth : Verdict → Bool → Kept → Kept → Bytes → S → S → Result Step Why → Type 0
   TakesBoth verdict brings wanted kept more old new result =
       TakesOr verdict brings ((kept ≡ wanted) × TakesMore old new more) (TakesNone old new) result
 
-module _ {S : Type 0} (taken : S → List ℕ → Type 0) (same : S → S → Type 0) where
+module _ {S : Type 0} (taken : S → Bytes → Type 0) (same : S → S → Type 0) where
   -- this is what is held of the packets so far, which are read as was asked: what is kept; the pack's data in the
   -- sink, after all that it had before; and the sink is in its place, and still what it was
-  pub record Holds (had : List ℕ → Type 0) (starts : S → Type 0) (seat : ℕ) (asked reading : Reading) (kept : Kept)
+  pub record Holds (had : Bytes → Type 0) (starts : S → Type 0) (seat : ℕ) (asked reading : Reading) (kept : Kept)
       (sink : S) (name : ℕ) (packets : List Packet) : Type 0 where
     pub kind : reading ≡ asked
     pub counts : kept ≡ kept_of reading.format reading.direct packets
-    pub pack : (before : List ℕ) → had before → taken sink (before ++ data_of (band_payloads reading.direct packets))
+    pub pack : (before : Bytes) → had before → taken sink (before ++ data_of (band_payloads reading.direct packets))
     pub is_same : (start : S) → starts start → same start sink
     pub in_place : name ≡ seat
 
   -- and this is left of them
-  pub record Leaves (had : List ℕ → Type 0) (starts : S → Type 0) (seat : ℕ) (asked reading : Reading) (sink : S)
+  pub record Leaves (had : Bytes → Type 0) (starts : S → Type 0) (seat : ℕ) (asked reading : Reading) (sink : S)
       (name : ℕ) (packets : List Packet) : Type 0 where
     pub kind : reading ≡ asked
-    pub pack : (before : List ℕ) → had before → taken sink (before ++ data_of (band_payloads reading.direct packets))
+    pub pack : (before : Bytes) → had before → taken sink (before ++ data_of (band_payloads reading.direct packets))
     pub is_same : (start : S) → starts start → same start sink
     pub in_place : name ≡ seat

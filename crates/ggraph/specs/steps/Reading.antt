@@ -2,6 +2,8 @@
 use Rattle.std.specs.Prelude.{◌≡◌, ◌⊎◌, ⊤, ℕ, List, [], ◌∷◌, ◌++◌}
 use Rattle.gname.specs.declared.formats.Format.{Format}
 use Rattle.gname.specs.declared.formats.Format.TheVariants.{Sha1}
+use Rattle.gname.specs.Ids.{Id}
+use Rattle.gname.specs.Names.{Name}
 use Rattle.gobject.specs.declared.node.Entry.{Entry}
 use Rattle.gobject.specs.PlainPackText.{node_text}
 use Rattle.ghistory.specs.Graphs.{History}
@@ -21,7 +23,7 @@ use Rattle.ggraph.specs.RepositoryText.{IsHead, MayFollow, RefMayFollow, first_l
 pub data Item (A : Type 0) : Type 0 where
   begins : Format → Item A
   node : Entry A → Item A
-  ref : List ℕ × List ℕ → Item A
+  ref : Name × Id → Item A
   heads : Head A → Item A
   ends : Item A
 
@@ -97,7 +99,7 @@ RefusesEntry order g entry number (ParentLater at) =
     × (MayFollow ParentsFirst g.format g.entries entry → ⊥)
 
 -- why a ref is refused
-abbrev pub RefusesRef : Format → RefList → List ℕ × List ℕ → ℕ → LoadFault → Type 0
+abbrev pub RefusesRef : Format → RefList → Name × Id → ℕ → LoadFault → Type 0
 RefusesRef format refs it number Memory = RefMayFollow format refs it
 RefusesRef format refs it number (Text at) = (at ≡ number) × (RefMayFollow format refs it → ⊥)
 RefusesRef format refs it number _ = ⊥

@@ -1,7 +1,10 @@
 -- The steps of reading a line: what was read of a text, without where it lies in memory.
-use Rattle.std.specs.Prelude.{ℕ, List, [], Option, Some, None, Result, Ok, Err}
+use Rattle.std.specs.Prelude.{List, [], Option, Some, None, Result, Ok, Err}
 use Rattle.std.specs.Borrow.{Bor}
 use Rattle.std.specs.Option.{option_copied}
+use Rattle.gname.specs.Ids.{Id}
+use Rattle.gname.specs.Names.{Name}
+use Rattle.gpkt.specs.Packets.{Bytes}
 use Rattle.ggrammar.specs.declared.fault.Why.{Why}
 use Rattle.glsreply.specs.RefTexts.{RefLine, Attribute, Symref, Peeled, UnknownAttribute, parts_of}
 use Rattle.glsreply.specs.RefTexts.{FirstForm, UnbornForm, RefForm}
@@ -11,7 +14,7 @@ use Rattle.glsreply.specs.declared.line.Attribute.TheVariants as attribute
 use Rattle.glsreply.specs.declared.line.FirstText.{FirstText}
 use Rattle.glsreply.specs.declared.line.FirstText.TheVariants as first
 
-abbrev pub line_parts : List ℕ → List ℕ → Option (Bor (List ℕ)) → Option (List ℕ) → RefLine
+abbrev pub line_parts : Id → Name → Option (Bor Name) → Option Id → RefLine
 line_parts id name symref peeled =
     record { id = id; name = name; symref = option_copied symref; peeled = peeled }
 
@@ -27,7 +30,7 @@ attribute_view (attribute.Symref target) = Symref target.now
 attribute_view (attribute.Peeled id) = Peeled id.now
 attribute_view attribute.Unknown = UnknownAttribute
 
-abbrev pub target_read : Result (Bor (List ℕ)) Why → Result (List ℕ) Why
+abbrev pub target_read : Result (Bor Name) Why → Result Name Why
 target_read (Ok target) = Ok target.now
 target_read (Err why) = Err why
 
@@ -36,6 +39,6 @@ form_view (first.Unborn target) = UnbornForm (target_read target)
 form_view first.Ref = RefForm
 
 -- the parts of what is left of a text
-abbrev pub parts_left : Option (Bor (List ℕ)) → List (List ℕ)
+abbrev pub parts_left : Option (Bor Bytes) → List Bytes
 parts_left None = []
 parts_left (Some rest) = parts_of rest.now

@@ -1,7 +1,8 @@
 -- The steps of reading a reply: what is kept of the packets so far, and what a packet adds to it.
 use Rattle.std.specs.Prelude.{◌≡◌, ℕ, ◌+◌, Bool, true, List, [], ◌∷◌, ◌++◌, length, if◌then◌else◌, ◌==◌}
 use Rattle.std.specs.Prelude.{◌⊎◌, All, Some, Result, Ok, Err}
-use Rattle.gpkt.specs.Packets.{Packet, Data, Flush, Delim, ResponseEnd, text}
+use Rattle.gname.specs.Names.{Name}
+use Rattle.gpkt.specs.Packets.{Bytes, Packet, Data, Flush, Delim, ResponseEnd, text}
 use Rattle.gname.specs.declared.formats.Format.{Format}
 use Rattle.ggrammar.specs.Texts.{texts_of}
 use Rattle.ggrammar.specs.declared.fault.Why.{Why}
@@ -42,7 +43,7 @@ with_line state (Ok line) = record {
 }
 with_line state (Err why) = state
 
-abbrev pub with_unborn : State → Result (List ℕ) Why → State
+abbrev pub with_unborn : State → Result Name Why → State
 with_unborn state (Ok target) = record {
   over = state.over;
   count = state.count + 1;
@@ -50,11 +51,11 @@ with_unborn state (Ok target) = record {
 }
 with_unborn state (Err why) = state
 
-abbrev pub with_first : Format → State → List ℕ → FirstForm → State
+abbrev pub with_first : Format → State → Bytes → FirstForm → State
 with_first format state line (UnbornForm target) = with_unborn state target
 with_first format state line RefForm = with_line state (line_of format line)
 
-abbrev pub with_text : Format → State → List ℕ → State
+abbrev pub with_text : Format → State → Bytes → State
 with_text format state line =
     if state.count == 0 then with_first format state line (first_form line) else with_line state (line_of format line)
 
@@ -70,8 +71,8 @@ with_packet format state ResponseEnd = state
 -- ---- what the reader holds
 
 -- a text is the line of a ref, or says that HEAD is unborn
-abbrev pub IsLineText : Format → List ℕ → Type 0
-IsLineText format line = ((target : Result (List ℕ) Why) × (first_form line ≡ UnbornForm target))
+abbrev pub IsLineText : Format → Bytes → Type 0
+IsLineText format line = ((target : Result Name Why) × (first_form line ≡ UnbornForm target))
     ⊎ ((ref : RefLine) × (line_of format line ≡ Ok ref))
 
 abbrev pub AreLineTexts : Format → List Packet → Type 0

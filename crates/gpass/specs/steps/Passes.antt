@@ -3,6 +3,7 @@
 use Rattle.std.specs.Prelude.{◌≡◌, ◌⊎◌, ℕ, zero, suc, ◌+◌, ◌<◌, ◌≤◌, Bool, true, false, not, ◌&&◌, Some}
 use Rattle.std.specs.Prelude.{List, length, slice_index_or, All, Contains}
 use Rattle.std.specs.List.{Any}
+use Rattle.gname.specs.Ids.{Id}
 use Rattle.gobject.specs.declared.node.Entry.{Entry}
 use Rattle.gobject.specs.Objects.{place_of, IdsDiffer, IsShaped}
 use Rattle.ghistory.specs.Graphs.{HasParent, IsOrdered, max_nodes}
@@ -12,12 +13,12 @@ use Rattle.ghistory.specs.Sending.{IsNew}
 
 -- ids, one after the other
 abbrev pub IdList : Type 0
-IdList = List (List ℕ)
+IdList = List Id
 
 -- `b` is a parent of `a`, and they stand at these positions
 pub record IsEdge {A : Type 0} (g : List (Entry A)) (p q : ℕ) : Type 0 where
-  pub child : List ℕ
-  pub parent : List ℕ
+  pub child : Id
+  pub parent : Id
   pub edge : HasParent g child parent
   pub child_at : place_of g child ≡ Some p
   pub parent_at : place_of g parent ≡ Some q
@@ -31,25 +32,25 @@ pub record IsInOrder {A : Type 0} (g : List (Entry A)) : Type 0 where
 
 -- one of the ids stands at this position
 pub record IsPlaceOf {A : Type 0} (g : List (Entry A)) (ids : IdList) (p : ℕ) : Type 0 where
-  pub id : List ℕ
+  pub id : Id
   pub among : Contains ids id
   pub at : place_of g id ≡ Some p
 
 -- one of the ids reaches the object at this position
 pub record IsReachedAt {A : Type 0} (g : List (Entry A)) (ids : IdList) (p : ℕ) : Type 0 where
-  pub id : List ℕ
+  pub id : Id
   pub at : place_of g id ≡ Some p
   pub reached : SomeReaches g ids id
 
 -- the object at this position reaches one of the ids
 pub record IsReachingAt {A : Type 0} (g : List (Entry A)) (ids : IdList) (p : ℕ) : Type 0 where
-  pub id : List ℕ
+  pub id : Id
   pub at : place_of g id ≡ Some p
   pub reaching : Any (Reaches g id) ids
 
 -- the object at this position is new
 pub record IsNewAt {A : Type 0} (g : List (Entry A)) (wants commons : IdList) (p : ℕ) : Type 0 where
-  pub id : List ℕ
+  pub id : Id
   pub at : place_of g id ≡ Some p
   pub new : IsNew g wants commons id
 
@@ -126,24 +127,24 @@ pub record MarksReaching {A : Type 0} (g : List (Entry A)) (goals : IdList) (n :
 
 -- the object at this position is a commit
 pub record IsCommitAt {A : Type 0} (g : List (Entry A)) (p : ℕ) : Type 0 where
-  pub id : List ℕ
+  pub id : Id
   pub at : place_of g id ≡ Some p
   pub commit : IsCommit g id
 
 -- the object at the first position is a tag, and names the one at the second, an earlier one
 pub record IsTagAt {A : Type 0} (g : List (Entry A)) (p q : ℕ) : Type 0 where
-  pub id : List ℕ
+  pub id : Id
   pub at : place_of g id ≡ Some p
-  pub named : List ℕ
+  pub named : Id
   pub named_at : place_of g named ≡ Some q
   pub tag : IsTagOf g id named
   pub below : q < p
 
 -- tags lead from the object at the first position to the one at the second
 pub record IsLedTo {A : Type 0} (g : List (Entry A)) (p q : ℕ) : Type 0 where
-  pub id : List ℕ
+  pub id : Id
   pub at : place_of g id ≡ Some p
-  pub end : List ℕ
+  pub end : Id
   pub end_at : place_of g end ≡ Some q
   pub steps : ℕ
   pub leads : Tags g steps id end
@@ -156,7 +157,7 @@ pub record IsPeeledAt {A : Type 0} (g : List (Entry A)) (p q : ℕ) : Type 0 whe
 -- a tag on the chain from the first position stands at the second
 pub record IsOnChain {A : Type 0} (g : List (Entry A)) (p q : ℕ) : Type 0 where
   pub led : IsLedTo g p q
-  pub next : List ℕ
+  pub next : Id
   pub tag : IsTagOf g led.end next
 
 -- the tags on the chain from the position are marked too

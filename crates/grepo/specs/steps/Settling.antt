@@ -1,5 +1,7 @@
 -- The steps of settling, ask by ask.
-use Rattle.std.specs.Prelude.{◌≡◌, ⊤, ℕ, ◌+◌, List, length, count_by, Result, Ok, Err}
+use Rattle.std.specs.Prelude.{◌≡◌, ⊤, ◌+◌, List, length, count_by, Result, Ok, Err}
+use Rattle.gname.specs.Ids.{Id}
+use Rattle.gname.specs.Names.{Name}
 use Rattle.gobject.specs.declared.node.Entry.{Entry}
 use Rattle.ghistory.specs.declared.fault.GraphFault.TheVariants as graph
 use Rattle.grefs.specs.declared.fault.RefsFault.{RefsFault}
@@ -13,7 +15,7 @@ use Rattle.grepo.specs.declared.fault.RepoFault.TheVariants.{Graph, Refs}
 use Rattle.grepo.specs.Settling.{CannotSettle, IsUpdate, Settles, is_new}
 
 -- what setting a ref answers: the name stands at the id; or it can't be set; or out of memory
-abbrev pub SetsOne : RefList → List ℕ → List ℕ → RefList → Result (Unit {0}) RefsFault → Type 0
+abbrev pub SetsOne : RefList → Name → Id → RefList → Result (Unit {0}) RefsFault → Type 0
 SetsOne old name id new (Ok _) = SetsRef old new name id
 SetsOne old name id new (Err refs.Refs) = CannotSet old name
 SetsOne old name id new (Err refs.Memory) = ¬ (CannotSet old name)

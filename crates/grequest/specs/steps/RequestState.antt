@@ -1,7 +1,7 @@
 -- The steps of reading a request: what a packet that is taken adds to what the packets before it come to.
-use Rattle.std.specs.Prelude.{ℕ, ◌+◌, true, List, [], ◌∷◌, ◌++◌, Some}
+use Rattle.std.specs.Prelude.{◌+◌, true, [], ◌∷◌, ◌++◌, Some}
 use Rattle.std.specs.Option.{option_to_list}
-use Rattle.gpkt.specs.Packets.{Packet, Data, Flush, Delim, ResponseEnd, text}
+use Rattle.gpkt.specs.Packets.{Bytes, Packet, Data, Flush, Delim, ResponseEnd, text}
 use Rattle.gname.specs.declared.formats.Format.{Format}
 use Rattle.ggrammar.specs.Ids.{id_of_text}
 use Rattle.grequest.specs.declared.command.CommandForm.{CommandForm}
@@ -23,7 +23,7 @@ with_command format state BadCommand = state
 
 -- ---- capabilities
 
-abbrev pub with_agent : List ℕ → Asked → Asked
+abbrev pub with_agent : Bytes → Asked → Asked
 with_agent value Empty = Empty
 with_agent value (Ls asked) = Ls (record asked { agent = Some value })
 with_agent value (Fetches asked) = Fetches (record asked { agent = Some value })
@@ -49,18 +49,18 @@ with_fetch_argument format asked (Have id) =
     record asked { haves = asked.haves ++ option_to_list (id_of_text format id) }
 with_fetch_argument format asked UnknownFetchArgument = asked
 
-abbrev pub with_argument_text : Format → List ℕ → Asked → Asked
+abbrev pub with_argument_text : Format → Bytes → Asked → Asked
 with_argument_text format line Empty = Empty
 with_argument_text format line (Ls asked) = Ls (with_ls_argument asked (ls_argument line))
 with_argument_text format line (Fetches asked) = Fetches (with_fetch_argument format asked (fetch_argument line))
 
-abbrev pub with_argument : Format → State → List ℕ → State
+abbrev pub with_argument : Format → State → Bytes → State
 with_argument format state line =
     record state { argument_lines = state.argument_lines + 1; asked = with_argument_text format line state.asked }
 
 -- ---- a packet
 
-abbrev pub with_text : Format → Place → State → List ℕ → State
+abbrev pub with_text : Format → Place → State → Bytes → State
 with_text format First state line = with_command format state (command_form line)
 with_text format (InCapabilities command) state line = with_capability state (capability_form line)
 with_text format (InArguments command) state line = with_argument format state line

@@ -1,11 +1,12 @@
 -- The steps of a session's calls.
-use Rattle.std.specs.Prelude.{◌≡◌, ℕ, ◌+◌, ◌≤◌, false, cond, List, [], ◌∷◌, ◌++◌, length, All, Contains, Result, Ok, Err}
+use Rattle.std.specs.Prelude.{◌≡◌, ◌+◌, ◌≤◌, false, cond, List, [], ◌∷◌, ◌++◌, length, All, Contains, Result, Ok, Err}
 use Rattle.std.specs.List.{IsDistinct}
 use Rattle.std.specs.Str.{bytes_eq}
-use Rattle.gname.specs.Ids.{IsIdOf}
+use Rattle.gname.specs.Ids.{Id, IsIdOf}
 use Rattle.gname.specs.declared.faults.NameFault.{NameFault}
 use Rattle.gname.specs.declared.faults.NameFault.TheVariants as name
 use Rattle.gpkt.specs.Change.{Change}
+use Rattle.gpkt.specs.Packets.{Bytes}
 use Rattle.glsreply.specs.LsReplies.{LsReply}
 use Rattle.glsreply.specs.RefTexts.{RefLine}
 use Rattle.gfetchreply.specs.FetchReplies.{FetchReply}
@@ -49,11 +50,11 @@ FindsAsks {A} specs lines (Err _) = ¬ (AreNamed {A = A} (asks_by_all specs line
 -- ---- the next request
 
 -- a prefix more, unless it is there
-abbrev pub with_prefix : List (List ℕ) → List ℕ → List (List ℕ)
+abbrev pub with_prefix : List Bytes → Bytes → List Bytes
 with_prefix prefixes prefix = cond (is_in prefixes prefix) prefixes (prefixes ++ prefix ∷ [])
 
 -- a batch that was not offered before, and for which a request has room beside the common ids
-pub record FitsBatch {A : Type 0} (s : SessionState A) (batch : List (List ℕ)) : Type 0 where
+pub record FitsBatch {A : Type 0} (s : SessionState A) (batch : List Id) : Type 0 where
   pub ids : All (IsIdOf s.format) batch
   pub room : length s.commons + length batch ≤ max_haves
   pub fresh : IsDistinct bytes_eq (s.sent ++ batch)
@@ -75,13 +76,13 @@ AnswersLs old g change new (Err fault) = IsLsFault old g change fault × (new �
 -- ---- the reply to fetch
 
 -- the bytes of a pack were fed to the indexer; or it has refused, as it may each pack that begins with them
-abbrev pub MayHaveFed : {F : Type 0} → (F → List ℕ → Type 0) → IndexFails → Result F IndexFault → List ℕ → Type 0
+abbrev pub MayHaveFed : {F : Type 0} → (F → Bytes → Type 0) → IndexFails → Result F IndexFault → Bytes → Type 0
 MayHaveFed fed index_fails (Ok feed) bytes = fed feed bytes
-MayHaveFed fed index_fails (Err fault) bytes = (more : List ℕ) → index_fails (bytes ++ more) fault
+MayHaveFed fed index_fails (Err fault) bytes = (more : Bytes) → index_fails (bytes ++ more) fault
 
 -- why acknowledgments are not taken: one is of an id that the request did not name; or each is of a have, and it is
 -- out of memory
-abbrev pub IsAcksFault : {A : Type 0} → List (List ℕ) → List (List ℕ) → ClientFault A → Type 0
+abbrev pub IsAcksFault : {A : Type 0} → List Id → List Id → ClientFault A → Type 0
 IsAcksFault haves acks (StrangeAck id) = IsFirstStrange haves acks id
 IsAcksFault haves acks (Repo (repo.Graph graph.Memory)) = All (Contains haves) acks
 IsAcksFault haves acks _ = ⊥
@@ -93,7 +94,7 @@ FitsHead asked _ = Unit {0}
 
 module _ {A : Type 0} (indexes : Indexes A) (index_fails : IndexFails) where
   -- what taking a reply answers that was read, before a fault ends the session
-  abbrev pub AnswersRead : List (List ℕ) → SessionState A → RepoState A → FetchReply → SessionState A → RepoState A
+  abbrev pub AnswersRead : List Id → SessionState A → RepoState A → FetchReply → SessionState A → RepoState A
       → Result Taken (ClientFault A) → Type 0
   AnswersRead haves old repo_old reply new repo_new (Ok taken) =
       TakesRead indexes index_fails haves old repo_old reply new repo_new taken

@@ -1,6 +1,7 @@
 -- The steps of the programs that open sockets: a listing, serving, and both ends.
 use Rattle.std.specs.Prelude.{◌≡◌, ◌⊎◌, ℕ, Bool, true, false, List, length, All, Result, Ok, Err}
 use Rattle.gpkt.specs.Sending.{Output, IsUnwritten, Passes, Sends, SendsSome}
+use Rattle.gpkt.specs.Packets.{Bytes}
 use Rattle.ggrammar.specs.declared.ends.Ends.{Ends}
 use Rattle.ggrammar.specs.declared.fault.MessageFault.{MessageFault}
 use Rattle.gobject.specs.Packs.{PackFails, Packs}
@@ -17,7 +18,7 @@ use Rattle.gtcp.specs.Telling.{PrintsNone, fault_lines, faults_of}
 -- ---- listing
 
 -- the request for these prefixes, or why there is none
-abbrev pub MakesRequest : List (List ℕ) → Result LsRefsAsked MessageFault → Type 0
+abbrev pub MakesRequest : List Bytes → Result LsRefsAsked MessageFault → Type 0
 MakesRequest prefixes (Ok asked) = (asked ≡ asked_for prefixes) × FitPrefixes prefixes
 MakesRequest prefixes (Err cause) = RefusesPrefixes prefixes cause
 
@@ -35,7 +36,7 @@ Tells (Err fault) false can errors = IsUnwritten errors × (can ≡ false)
 Tells (Err fault) true true errors = Sends errors (fault_line fault)
 Tells (Err fault) true false errors = SendsSome errors (fault_line fault)
 
-module _ {A : Type 0} (server : Server A) (packs : Packs A) (fails : PackFails A) (path : List ℕ) (ends : Ends) where
+module _ {A : Type 0} (server : Server A) (packs : Packs A) (fails : PackFails A) (path : Bytes) (ends : Ends) where
   -- so many connections are served so far, and their faults are printed, where it is known
   -- whether the sink of the faults is well still
   pub record ServesSoFar (errors : Output) (is_up : Bool) (connections : ℕ) : Type 0 where

@@ -1,7 +1,8 @@
 -- The steps of conversations over a socket: between the devices of its two ends.
-use Rattle.std.specs.Prelude.{ℕ, Bool, false, List, None, Result}
+use Rattle.std.specs.Prelude.{Bool, false, None, Result}
 use Rattle.gpkt.specs.Change.{Change}
 use Rattle.gpkt.specs.Sending.{Input, Output}
+use Rattle.gpkt.specs.Packets.{Bytes}
 use Rattle.ggrammar.specs.declared.ends.Ends.{Ends}
 use Rattle.ghello.specs.Hello.{Hello}
 use Rattle.glsreply.specs.LsReplies.{LsReply}
@@ -52,7 +53,7 @@ module _ {A : Type 0} (asked : LsRefsAsked) (hello : Hello) where
 
 -- ---- serving
 
-module _ {A : Type 0} (server : Server A) (packs : Packs A) (fails : PackFails A) (path : List ℕ) (ends : Ends) where
+module _ {A : Type 0} (server : Server A) (packs : Packs A) (fails : PackFails A) (path : Bytes) (ends : Ends) where
   -- a connection is served between a reader and a writer, with this change of what each has, and how it ended
   abbrev pub ServesBetween : Change → Change → GitEnd → Type 0
   ServesBetween read written ended =

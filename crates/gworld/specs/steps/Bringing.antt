@@ -1,5 +1,7 @@
 -- The steps of a world: how it is made, how bytes come to the client, and how a run goes on.
 use Rattle.std.specs.Prelude.{◌≡◌, ◌↔◌, ⊤, ℕ, Bool, IsTrue, List, slice_get, take, Option, None, Some, Result, Ok, Err}
+use Rattle.gname.specs.Ids.{Id}
+use Rattle.gpkt.specs.Packets.{Bytes}
 use Rattle.gobject.specs.Packs.{Indexes, IndexFails}
 use Rattle.gobject.specs.declared.node.Entry.{Entry}
 use Rattle.ghistory.specs.Laws.{AgreesWith}
@@ -35,7 +37,7 @@ refs_outcome (Err fault) = outcomes.Fault (code_of fault)
 
 module _ {A : Type 0} (indexes : Indexes A) (index_fails : IndexFails) where
   -- the bytes come to the request that waits, if one does
-  abbrev pub TakesIfOpen : Option Asked → SessionState A → RepoState A → List ℕ → Option Outcome → SessionState A
+  abbrev pub TakesIfOpen : Option Asked → SessionState A → RepoState A → Bytes → Option Outcome → SessionState A
       → RepoState A → Type 0
   TakesIfOpen None s repo bytes None after new = (after ≡ s) × (new ≡ repo)
   TakesIfOpen (Some asked) s repo bytes (Some outcome) after new =
@@ -65,6 +67,6 @@ AgreesAt {A} server client place =
     (entry : Entry A) → slice_get server place ≡ Some entry → AgreesWith client entry
 
 -- the client disagrees with what the server has at a position, under this id
-abbrev pub DisagreesAt : {A : Type 0} → List (Entry A) → List (Entry A) → ℕ → List ℕ → Type 0
+abbrev pub DisagreesAt : {A : Type 0} → List (Entry A) → List (Entry A) → ℕ → Id → Type 0
 DisagreesAt {A} server client place id =
     (entry : Entry A) × (slice_get server place ≡ Some entry) × Disagrees client entry × (id ≡ entry.id)
