@@ -1,9 +1,9 @@
 -- Each request for refs has one answer.
 use Rattle.std.proofs.Common.{◌≡◌, inl, inr, ℕ, Bool, true, false, List, [], ◌∷◌, ◌++◌, Option, Some, None, refl, sym, ap, ◌∙◌}
 use Rattle.gobject.specs.declared.node.Entry.{Entry}
-use Rattle.ghistory.proofs.IdLists.{either_way}
-use Rattle.ghistory.specs.Laws.{PeelsToOne}
-use Rattle.ghistory.specs.Peeling.{IsTagOf}
+use Rattle.gdag.proofs.IdLists.{either_way}
+use Rattle.gdag.specs.Laws.{PeelsToOne}
+use Rattle.gdag.specs.Peeling.{IsTagOf}
 use Rattle.grefs.specs.RefLists.{RefList}
 use Rattle.grequest.specs.declared.flag.LsRefsFlag.TheVariants.{Peel}
 use Rattle.grequest.specs.Asked.{LsRefsAsked, ls_has}

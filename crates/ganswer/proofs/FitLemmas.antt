@@ -10,9 +10,9 @@ use Rattle.gname.specs.Names.{IsRefName, head_name}
 use Rattle.gname.specs.declared.formats.Format.{Format}
 use Rattle.gobject.specs.Objects.{node_at}
 use Rattle.gobject.specs.Packs.{Packs}
-use Rattle.ghistory.specs.Graphs.{Holds}
-use Rattle.ghistory.specs.Laws.{PlacesAreNodes}
-use Rattle.ghistory.specs.Levels.{new_ids}
+use Rattle.gdag.specs.Graphs.{Holds}
+use Rattle.gdag.specs.Laws.{PlacesAreNodes}
+use Rattle.gdag.specs.Levels.{new_ids}
 use Rattle.grefs.specs.RefLists.{RefList, IsBelowRefs, ref_at}
 use Rattle.grefs.specs.declared.head.Head.{Head}
 use Rattle.grefs.specs.declared.head.Head.TheVariants as heads
@@ -27,7 +27,7 @@ use Rattle.ganswer.specs.FetchAnswers.{commons_of}
 use Rattle.ganswer.specs.Laws.{FetchAnswersFit, LsAnswersFit}
 use Rattle.ganswer.specs.LsAnswers.{HasAttributes, ShowsLines, all_refs, head_id, head_ref, is_asked, is_shown, missing_target, name_and_id, target_of}
 use Rattle.ganswer.specs.Servers.{Server, IsServer, PointsBelowRefs}
-use Rattle.ghistory.proofs.Places.{held_id}
+use Rattle.gdag.proofs.Places.{held_id}
 use Rattle.ganswer.proofs.FetchLemmas.{commons_short}
 use Rattle.ganswer.proofs.FormatLemmas.{all_held, filter_short, lines_held, peeled_format, unborn_or_shown, unmap}
 

@@ -14,9 +14,9 @@ use Rattle.gname.specs.declared.formats.Format.{Format}
 use Rattle.gobject.specs.declared.node.Node.{Node}
 use Rattle.gobject.specs.declared.node.Entry.{Entry}
 use Rattle.gobject.specs.Objects.{node_at}
-use Rattle.ghistory.specs.Graphs.{Holds, IsGraph, History}
-use Rattle.ghistory.specs.Laws.{PlacesAreNodes}
-use Rattle.ghistory.specs.Peeling.{PeelsTo}
+use Rattle.gdag.specs.Graphs.{Holds, IsGraph, History}
+use Rattle.gdag.specs.Laws.{PlacesAreNodes}
+use Rattle.gdag.specs.Peeling.{PeelsTo}
 use Rattle.grefs.specs.RefLists.{RefList, has_name, ref_at}
 use Rattle.grefs.specs.declared.head.Head.{Head}
 use Rattle.grefs.specs.declared.head.Head.TheVariants as heads
@@ -28,8 +28,8 @@ use Rattle.glsreply.specs.WellFormed.{first_has_format_of, has_format_of, has_on
 use Rattle.ganswer.specs.LsAnswers.{HasAttributes, IsPeeledIf, ShowsLines, all_refs, head_id, head_ref, is_asked, is_shown, missing_target, name_and_id}
 use Rattle.ganswer.specs.steps.LsBuilding.{IsNextRef}
 use Rattle.ganswer.specs.Servers.{Server, HoldsHead, HoldsRefs, IsServer}
-use Rattle.ghistory.proofs.IdLists.{either_way}
-use Rattle.ghistory.proofs.Places.{held_id}
+use Rattle.gdag.proofs.IdLists.{either_way}
+use Rattle.gdag.proofs.Places.{held_id}
 use Rattle.glsreply.proofs.ValueLemmas.{is_format-same}
 
 pub unmap : {X Y : Type 0} (P : Y → Type 0) (f : X → Y) (xs : List X) → All P (map f xs) → All (λ x. P (f x)) xs

@@ -16,7 +16,7 @@ use Rattle.ganswer.specs.steps.LsBuilding.{IsAnswering, IsNextRef}
 use Rattle.ganswer.specs.Servers.{Server}
 use Rattle.ganswer.specs.declared.fault.ServeFault.{ServeFault}
 use Rattle.ganswer.proofs.LsLemmas.{shows_join, shows_none}
-use Rattle.ghistory.proofs.Growing.{at_front}
+use Rattle.gdag.proofs.Growing.{at_front}
 
 module _ {A : Type 0} (server : Server A) (asked : LsRefsAsked) where
   -- one line more, or none where the ref is hidden

@@ -3,8 +3,8 @@ use Rattle.std.proofs.Common.{◌≡◌, ℕ, Bool, true, false, cond, List, [],
 use Rattle.std.specs.Prelude.{filter}
 use Rattle.std.proofs.lemmas.List.{map-append}
 use Rattle.std.proofs.lemmas.List.Elements.{All-append, All-cons, All-head, All-nil, All-tail, filter-append}
-use Rattle.ghistory.proofs.IdLists.{either_way}
-use Rattle.ghistory.specs.Laws.{PeelsToOne}
+use Rattle.gdag.proofs.IdLists.{either_way}
+use Rattle.gdag.specs.Laws.{PeelsToOne}
 use Rattle.grefs.specs.RefLists.{RefList}
 use Rattle.grequest.specs.declared.flag.LsRefsFlag.TheVariants.{Peel}
 use Rattle.grequest.specs.Asked.{LsRefsAsked, ls_has}

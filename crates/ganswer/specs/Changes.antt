@@ -5,8 +5,8 @@ use Rattle.gname.specs.Ids.{Id}
 use Rattle.gname.specs.Names.{Name}
 use Rattle.gobject.specs.declared.node.Entry.{Entry}
 use Rattle.gobject.specs.Objects.{node_at}
-use Rattle.ghistory.specs.Graphs.{Holds, HoldsParents, IsFirstAbsent}
-use Rattle.ghistory.specs.Insert.{ComesIn, IsCause}
+use Rattle.gdag.specs.Graphs.{Holds, HoldsParents, IsFirstAbsent}
+use Rattle.gdag.specs.Insert.{ComesIn, IsCause}
 use Rattle.grefs.specs.RefLists.{CannotSet, RefList, SetsRef, ref_at}
 use Rattle.grefs.specs.declared.fault.RefsFault.{RefsFault}
 use Rattle.grefs.specs.declared.fault.RefsFault.TheVariants as refs

@@ -7,7 +7,7 @@ use Rattle.gpkt.specs.Packets.{Bytes}
 use Rattle.grefs.specs.Faults.{refs_fault_row, refs_fault_text}
 use Rattle.gobject.specs.Faults.{pack_fault_row, pack_fault_text}
 use Rattle.gobject.specs.declared.fault.PackFault.TheVariants as pack
-use Rattle.ghistory.specs.Faults.{graph_fault_row, graph_fault_text}
+use Rattle.gdag.specs.Faults.{graph_fault_row, graph_fault_text}
 use Rattle.ggrammar.specs.Faults.{WhyRow, line_phrase, message_fault_text, row_of, why_row}
 use Rattle.ggrammar.specs.declared.fault.Why.{Why}
 use Rattle.ggrammar.specs.declared.fault.Why.TheVariants as why

@@ -7,9 +7,9 @@ use Rattle.gpkt.specs.Packets.{Bytes}
 use Rattle.gobject.specs.declared.node.Entry.{Entry}
 use Rattle.gobject.specs.declared.fault.PackFault.{PackFault}
 use Rattle.gobject.specs.Packs.{MayPack, PackFails, Packs}
-use Rattle.ghistory.specs.Graphs.{Holds}
-use Rattle.ghistory.specs.Sending.{IsListToSend}
-use Rattle.ghistory.specs.Walks.{IsReady, common_of}
+use Rattle.gdag.specs.Graphs.{Holds}
+use Rattle.gdag.specs.Sending.{IsListToSend}
+use Rattle.gdag.specs.Walks.{IsReady, common_of}
 use Rattle.grequest.specs.declared.flag.FetchFlag.TheVariants.{IncludeTag}
 use Rattle.grequest.specs.Asked.{FetchAsked, is_direct, fetch_has}
 use Rattle.gfetchreply.specs.FetchReplies.{FetchReply, Acks, Ready, Pack}

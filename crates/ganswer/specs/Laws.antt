@@ -9,10 +9,10 @@ use Rattle.gpkt.specs.Packets.{Bytes}
 use Rattle.gobject.specs.declared.node.Entry.{Entry}
 use Rattle.gobject.specs.declared.fault.PackFault.{PackFault}
 use Rattle.gobject.specs.Packs.{AreEntries, MayPack, PackFails, Packs}
-use Rattle.ghistory.specs.Graphs.{Holds, IsGraph, IsNode}
-use Rattle.ghistory.specs.Insert.{Inserts}
-use Rattle.ghistory.specs.Laws.{HasAll}
-use Rattle.ghistory.specs.Reach.{Agree, Grows, IsFull}
+use Rattle.gdag.specs.Graphs.{Holds, IsGraph, IsNode}
+use Rattle.gdag.specs.Insert.{Inserts}
+use Rattle.gdag.specs.Laws.{HasAll}
+use Rattle.gdag.specs.Reach.{Agree, Grows, IsFull}
 use Rattle.grefs.specs.declared.head.Head.{Head}
 use Rattle.grequest.specs.Asked.{Asked, FetchAsked, LsRefsAsked, is_direct, max_haves}
 use Rattle.glsreply.specs.LsReplies.{LsReply}

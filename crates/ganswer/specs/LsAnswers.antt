@@ -8,7 +8,7 @@ use Rattle.gname.specs.Names.{Name, head_name}
 use Rattle.gname.specs.Ids.{Id}
 use Rattle.gpkt.specs.Packets.{Bytes}
 use Rattle.gobject.specs.declared.node.Entry.{Entry}
-use Rattle.ghistory.specs.Peeling.{IsTagOf, PeelsTo}
+use Rattle.gdag.specs.Peeling.{IsTagOf, PeelsTo}
 use Rattle.grefs.specs.RefLists.{RefList, ref_at}
 use Rattle.grefs.specs.declared.head.Head.{Head}
 use Rattle.grefs.specs.declared.head.Head.TheVariants as heads

@@ -7,8 +7,8 @@ use Rattle.gname.specs.Ids.{Id}
 use Rattle.gname.specs.Names.{Name}
 use Rattle.gobject.specs.declared.node.Entry.{Entry}
 use Rattle.gobject.specs.Objects.{node_at}
-use Rattle.ghistory.specs.Graphs.{History, Holds, IsFirstAbsent, IsGraph}
-use Rattle.ghistory.specs.Reach.{IsClosed}
+use Rattle.gdag.specs.Graphs.{History, Holds, IsFirstAbsent, IsGraph}
+use Rattle.gdag.specs.Reach.{IsClosed}
 use Rattle.grefs.specs.RefLists.{RefList, IsBelowRefs, IsRefs}
 use Rattle.grefs.specs.declared.head.Head.{Head}
 use Rattle.grefs.specs.declared.head.Head.TheVariants as heads

@@ -1,7 +1,7 @@
 //! What fetch answers (gitprotocol-v2(5), "fetch").
 
 ghost use Rattle.std.specs.Prelude.{◌≡◌, ◌↔◌, IfOk, IfErr, IsTrue, MatchResult};
-ghost use Rattle.ghistory.specs.declared.fault.GraphFault.TheVariants.{Memory as OutOfMemory};
+ghost use Rattle.gdag.specs.declared.fault.GraphFault.TheVariants.{Memory as OutOfMemory};
 ghost use Rattle.gfetchreply.specs.Views.{IsReplyOf, reply_in};
 ghost use Rattle.ganswer.specs.Answers.{FetchRefuses};
 ghost use Rattle.ganswer.specs.FetchAnswers.{FetchAnswer, IsReadyFor, IsSent, commons_of};

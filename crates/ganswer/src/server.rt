@@ -3,8 +3,8 @@
 ghost use Rattle.std.specs.Prelude.{◌≡◌, ◌↔◌, slice_get, IfOk, IfSome, IsTrue, MatchOption, MatchResult, All, None, Some};
 ghost use Rattle.gname.specs.Ids.{Id};
 ghost use Rattle.gobject.specs.Objects.{node_at};
-ghost use Rattle.ghistory.specs.Graphs.{Holds, IsFirstAbsent};
-ghost use Rattle.ghistory.specs.Reach.{Grows, IsClosed};
+ghost use Rattle.gdag.specs.Graphs.{Holds, IsFirstAbsent};
+ghost use Rattle.gdag.specs.Reach.{Grows, IsClosed};
 ghost use Rattle.grefs.specs.RefLists.{IsRefs};
 ghost use Rattle.ganswer.specs.Changes.{Adds, Sets, SetsHead};
 ghost use Rattle.ganswer.specs.KnownPeels.{KnowsPeels};

@@ -11,7 +11,7 @@ use Rattle.ggrammar.specs.declared.fault.MessageFault.{MessageFault}
 use Rattle.ghello.specs.Adverts.{Says, judge}
 use Rattle.ghello.specs.Offers.{check_fault}
 use Rattle.gobject.specs.declared.node.Entry.{Entry}
-use Rattle.grepo.specs.Repos.{RepoState}
+use Rattle.gclientrepo.specs.Repos.{RepoState}
 use Rattle.gsession.specs.Requesting.{is_due}
 use Rattle.gsession.specs.Sessions.{SessionState, IsBegun, tells_unborn, tips_of}
 use Rattle.gsession.specs.TakingRefs.{TakesLs, stage_for}

@@ -9,8 +9,8 @@ use Rattle.gpkt.specs.LineReading.{ReadsLines}
 use Rattle.gpkt.specs.Packets.{Packet}
 use Rattle.gpkt.specs.Sending.{Input, input_of, output_of, IsUnread, Passes, SendsSome}
 use Rattle.gobject.specs.Packs.{Indexes, IndexFails}
-use Rattle.grepo.specs.Changes.{SettlesAsks}
-use Rattle.grepo.specs.Repos.{RepoState}
+use Rattle.gclientrepo.specs.Changes.{SettlesAsks}
+use Rattle.gclientrepo.specs.Repos.{RepoState}
 use Rattle.grequest.specs.Asked.{Empty}
 use Rattle.gsession.specs.Sessions.{SessionState, max_specs, tells_unborn, tips_of}
 use Rattle.gsession.specs.declared.fault.ClientFault.TheVariants as client

@@ -8,9 +8,9 @@ use Rattle.ggrammar.specs.MessageReading.{IsReadFailure}
 use Rattle.gfetchreply.specs.FetchReplies.{FetchReply}
 use Rattle.gobject.specs.Packs.{Indexes, IndexFails}
 use Rattle.gobject.specs.declared.node.Entry.{Entry}
-use Rattle.ghistory.specs.Reach.{Grows}
-use Rattle.ghistory.proofs.Growing.{grows_none, grows_on, inserts_grows}
-use Rattle.grepo.specs.Repos.{RepoState}
+use Rattle.gdag.specs.Reach.{Grows}
+use Rattle.gdag.proofs.Growing.{grows_none, grows_on, inserts_grows}
+use Rattle.gclientrepo.specs.Repos.{RepoState}
 use Rattle.grequest.specs.Asked.{Asked, Empty, Ls, Fetches, LsRefsAsked, FetchAsked}
 use Rattle.gsession.specs.Bounds.{BeganOn, BeganStays}
 use Rattle.gsession.specs.Requesting.{Requests, waiting_for}

@@ -14,10 +14,10 @@ use Rattle.ggrammar.specs.declared.fault.MessageFault.{MessageFault}
 use Rattle.ghello.specs.Adverts as advert
 use Rattle.ghello.specs.Offers.{check_fault}
 use Rattle.gobject.specs.Packs.{Indexes, IndexFails}
-use Rattle.gspec.specs.Refspecs.{Refspec}
-use Rattle.grepo.specs.Changes.{SettlesAsks}
-use Rattle.grepo.specs.Repos.{RepoState}
-use Rattle.grepo.specs.declared.fault.RepoFault.{RepoFault}
+use Rattle.grefspec.specs.Refspecs.{Refspec}
+use Rattle.gclientrepo.specs.Changes.{SettlesAsks}
+use Rattle.gclientrepo.specs.Repos.{RepoState}
+use Rattle.gclientrepo.specs.declared.fault.RepoFault.{RepoFault}
 use Rattle.grequest.specs.Asked.{Asked, Empty}
 use Rattle.grequest.specs.RequestWriting.{canonical_request}
 use Rattle.gsession.specs.Requesting.{Requests}

@@ -6,10 +6,10 @@ use Rattle.gname.specs.declared.formats.Format.{Format}
 use Rattle.gpkt.specs.Sending.{Input, Output}
 use Rattle.gpkt.specs.Packets.{Bytes}
 use Rattle.ggrammar.specs.Capabilities.{Capability}
-use Rattle.ghistory.specs.Reach.{Grows}
-use Rattle.ghistory.specs.Walks.{CountsReached}
+use Rattle.gdag.specs.Reach.{Grows}
+use Rattle.gdag.specs.Walks.{CountsReached}
 use Rattle.gobject.specs.Packs.{Indexes, IndexFails}
-use Rattle.grepo.specs.Repos.{IsWhole, RepoState}
+use Rattle.gclientrepo.specs.Repos.{IsWhole, RepoState}
 use Rattle.grequest.specs.Asked.{Asked, Fetches}
 use Rattle.gsession.specs.Sessions.{SessionState, max_specs, tips_of}
 use Rattle.gclient.specs.Conversations.{FetchesOver, Start, heard, request_bytes}

@@ -11,7 +11,7 @@ use Rattle.glsreply.specs.LsReplies as ls
 use Rattle.gfetchreply.specs.FetchReplies.{FetchReply}
 use Rattle.gfetchreply.specs.FetchReplies as fetch
 use Rattle.gobject.specs.Packs.{Indexes, IndexFails}
-use Rattle.grepo.specs.Repos.{RepoState}
+use Rattle.gclientrepo.specs.Repos.{RepoState}
 use Rattle.grequest.specs.Asked.{Asked, Empty, Ls, Fetches, FetchAsked}
 use Rattle.gsession.specs.Requesting.{Requests}
 use Rattle.gsession.specs.Sessions.{SessionState}

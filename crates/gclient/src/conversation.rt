@@ -4,10 +4,10 @@
 ghost use Rattle.std.specs.Prelude.{◌≡◌, ◌≤◌, ◌+◌, ℕ, Option, None, false, length, IfOk, OnErr, OnOk};
 ghost use Rattle.gname.specs.Names.{Name};
 ghost use Rattle.gpkt.specs.Sending.{input_of, output_of};
-ghost use Rattle.ghistory.specs.Reach.{Grows};
-ghost use Rattle.ghistory.specs.Walks.{CountsReached};
-ghost use Rattle.grepo.specs.Repos.{IsWhole};
-ghost use Rattle.grepo.specs.Settling.{Settles};
+ghost use Rattle.gdag.specs.Reach.{Grows};
+ghost use Rattle.gdag.specs.Walks.{CountsReached};
+ghost use Rattle.gclientrepo.specs.Repos.{IsWhole};
+ghost use Rattle.gclientrepo.specs.Settling.{Settles};
 ghost use Rattle.gsession.specs.Bounds.{BeganOn};
 ghost use Rattle.gsession.specs.Sessions.{max_specs, tips_of};
 ghost use Rattle.gsession.specs.declared.stage.Stage.TheVariants.{Fetching, Settling};
@@ -25,11 +25,11 @@ use ggraph::graph_laws::distinct_are_once;
 use gname::RefName;
 use gpkt::laws::reads_join;
 use gpkt::{LineBuffer, LineReader, LineWriter, Sink, Source};
-use grepo::Repo;
+use gclientrepo::Repo;
 use grequest::Request;
 use gsession::laws::{began_stays, rounds_are_few};
 use gsession::{Session, Settled, Taken};
-use gspec::Spec;
+use grefspec::Spec;
 use std::alloc::Allocator;
 
 /// Fetches by refspecs from a server (gitprotocol-v2(5)): reads its advertisement, asks for its refs, asks for the

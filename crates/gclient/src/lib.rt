@@ -36,7 +36,7 @@
 //!
 //! # Stands on
 //!
-//! `gsession` for the session, `gspec` and `grepo` for refspecs and the repository, which it offers again; `ghello`
+//! `gsession` for the session, `grefspec` and `gclientrepo` for refspecs and the repository, which it offers again; `ghello`
 //! for the advertisement, `grequest` for requests, `ggrammar` and `gpkt` for what messages share, `gfetchreply` for
 //! the limit of a pack, `ggraph` for indexers.
 #![tactic(auto)]
@@ -52,6 +52,6 @@ pub use crate::conversation::fetch_over;
 pub use crate::fault::FetchFault;
 pub use crate::fetched::Fetched;
 pub use crate::send::send_request;
-pub use grepo::{Ask, Asks, RefUpdate, Repo, RepoFault};
+pub use gclientrepo::{Ask, Asks, RefUpdate, Repo, RepoFault};
 pub use gsession::{ClientFault, LsTaken, MAX_SPECS, Session, Settled, Taken};
-pub use gspec::{Spec, SpecFault};
+pub use grefspec::{Spec, SpecFault};

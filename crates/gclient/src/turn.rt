@@ -4,7 +4,7 @@
 ghost use Rattle.std.specs.Prelude.{◌≡◌, true, false, Option, None, OnOk};
 ghost use Rattle.gname.specs.Names.{Name};
 ghost use Rattle.gpkt.specs.Sending.{input_of, output_of};
-ghost use Rattle.grepo.specs.Repos.{IsWhole};
+ghost use Rattle.gclientrepo.specs.Repos.{IsWhole};
 ghost use Rattle.gsession.specs.Requesting.{is_due};
 ghost use Rattle.gsession.specs.Sessions.{IsBegun, IsSession};
 ghost use Rattle.gsession.specs.declared.stage.Stage.TheVariants.{Fetching};
@@ -15,7 +15,7 @@ use crate::send::send_request;
 use ggraph::Indexer;
 use ghello::read_advert;
 use gpkt::{LineReader, LineWriter, Sink, Source};
-use grepo::Repo;
+use gclientrepo::Repo;
 use gsession::{Session, Taken};
 use std::alloc::Allocator;
 

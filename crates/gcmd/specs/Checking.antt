@@ -2,7 +2,7 @@
 use Rattle.std.specs.Prelude.{◌≡◌, ◌↔◌, ◌++◌, Bool, IsTrue, if◌then◌else◌, length, codes, Ok, Err}
 use Rattle.std.specs.Fmt.{decimal}
 use Rattle.gpkt.specs.Packets.{Bytes}
-use Rattle.ghistory.specs.Reach.{IsClosed}
+use Rattle.gdag.specs.Reach.{IsClosed}
 use Rattle.ggraph.specs.SafeRefs.{IsSafe}
 use Rattle.ggraph.specs.Loading.{StopsAt}
 use Rattle.ggraph.specs.RepositoryText.{repository_text, IsLoadable}

@@ -11,8 +11,8 @@ use Rattle.gpkt.specs.Packets.{Bytes}
 use Rattle.ggrammar.specs.Faults.{WhyRow}
 use Rattle.ggrammar.specs.declared.fault.Why.{Why}
 use Rattle.ggrammar.specs.declared.fault.Why.TheVariants as why
-use Rattle.ghistory.specs.declared.fault.GraphFault.{GraphFault}
-use Rattle.ghistory.specs.declared.fault.GraphFault.TheVariants as graph
+use Rattle.gdag.specs.declared.fault.GraphFault.{GraphFault}
+use Rattle.gdag.specs.declared.fault.GraphFault.TheVariants as graph
 use Rattle.ggraph.specs.Faults.{load_fault_row, load_fault_text}
 use Rattle.ggraph.specs.declared.fault.LoadFault.{LoadFault}
 use Rattle.ggraph.specs.declared.fault.LoadFault.TheVariants as load
@@ -22,9 +22,9 @@ use Rattle.ganswer.specs.declared.fault.BuildFault.TheVariants as build
 use Rattle.ganswer.specs.declared.fault.ServeFault.{ServeFault}
 use Rattle.ganswer.specs.declared.fault.ServeFault.TheVariants as serve
 use Rattle.gobject.specs.declared.fault.IndexFault.TheVariants as index
-use Rattle.gspec.specs.Faults.{spec_fault_row, spec_fault_text}
-use Rattle.grepo.specs.declared.fault.RepoFault.{RepoFault}
-use Rattle.grepo.specs.declared.fault.RepoFault.TheVariants as repo
+use Rattle.grefspec.specs.Faults.{spec_fault_row, spec_fault_text}
+use Rattle.gclientrepo.specs.declared.fault.RepoFault.{RepoFault}
+use Rattle.gclientrepo.specs.declared.fault.RepoFault.TheVariants as repo
 use Rattle.gsession.specs.Faults.{client_fault_row}
 use Rattle.gsession.specs.declared.fault.ClientFault.{ClientFault}
 use Rattle.gsession.specs.declared.fault.ClientFault.TheVariants as client

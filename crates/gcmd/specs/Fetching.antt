@@ -9,19 +9,19 @@ use Rattle.ggraph.specs.declared.fault.LoadFault.TheVariants as load
 use Rattle.ggraph.specs.declared.text.Order.TheVariants.{Any}
 use Rattle.ggraph.specs.declared.text.Repository.{Repository}
 use Rattle.ggrammar.specs.declared.ends.Ends.{Ends}
-use Rattle.ghistory.specs.Graphs.{History}
-use Rattle.ghistory.specs.Reach.{Grows}
+use Rattle.gdag.specs.Graphs.{History}
+use Rattle.gdag.specs.Reach.{Grows}
 use Rattle.gobject.specs.Packs.{Indexes, IndexFails}
 use Rattle.gobject.specs.PlainPackText.{IndexRefuses, IsPack}
 use Rattle.gpkt.specs.Sending.{Input, Output, IsUnread, IsUnwritten, Sends}
 use Rattle.grefs.specs.RefLists.{RefList}
 use Rattle.grefs.specs.declared.head.Head.{Head}
 use Rattle.grefs.specs.declared.head.Head.TheVariants as head
-use Rattle.gspec.specs.Refspecs.{IsSpec, Reads, Refspec}
-use Rattle.gspec.specs.declared.fault.SpecFault.{SpecFault}
-use Rattle.grepo.specs.Changes.{Opens}
-use Rattle.grepo.specs.Repos.{IsWhole, RepoState}
-use Rattle.grepo.specs.Settling.{Settles}
+use Rattle.grefspec.specs.Refspecs.{IsSpec, Reads, Refspec}
+use Rattle.grefspec.specs.declared.fault.SpecFault.{SpecFault}
+use Rattle.gclientrepo.specs.Changes.{Opens}
+use Rattle.gclientrepo.specs.Repos.{IsWhole, RepoState}
+use Rattle.gclientrepo.specs.Settling.{Settles}
 use Rattle.gsession.specs.declared.fault.ClientFault.TheVariants as client
 use Rattle.gclient.specs.Conversations.{FetchesOver, start_of}
 use Rattle.gclient.specs.declared.fault.FetchFault.{FetchFault}

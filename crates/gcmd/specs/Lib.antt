@@ -13,8 +13,8 @@ pub use Rattle.gpkt.specs.Packets
 pub use Rattle.gpkt.specs.LineReading
 pub use Rattle.gpkt.specs.Sending
 pub use Rattle.gobject.specs.PlainPackText
-pub use Rattle.ghistory.specs.Graphs
-pub use Rattle.ghistory.specs.Reach
+pub use Rattle.gdag.specs.Graphs
+pub use Rattle.gdag.specs.Reach
 pub use Rattle.grefs.specs.RefLists
 pub use Rattle.ggraph.specs.Loading
 pub use Rattle.ggraph.specs.RepositoryText
@@ -23,8 +23,8 @@ pub use Rattle.ganswer.specs.Answers
 pub use Rattle.ganswer.specs.Servers
 pub use Rattle.gserve.specs.Conversations
 pub use Rattle.gserve.specs.Exchanges
-pub use Rattle.gspec.specs.Refspecs
-pub use Rattle.grepo.specs.Repos
-pub use Rattle.grepo.specs.Changes
-pub use Rattle.grepo.specs.Settling
+pub use Rattle.grefspec.specs.Refspecs
+pub use Rattle.gclientrepo.specs.Repos
+pub use Rattle.gclientrepo.specs.Changes
+pub use Rattle.gclientrepo.specs.Settling
 pub use Rattle.gclient.specs.Turns

@@ -3,9 +3,9 @@ use Rattle.std.specs.Prelude.{List, [], ◌∷◌, ◌++◌, codes, Option, None
 use Rattle.gname.specs.Ids.{Id, id_text}
 use Rattle.gname.specs.Names.{Name}
 use Rattle.gpkt.specs.Packets.{Bytes}
-use Rattle.grepo.specs.declared.ask.Ask.{Ask}
-use Rattle.grepo.specs.declared.ask.RefUpdate.{RefUpdate}
-use Rattle.grepo.specs.declared.ask.RefUpdate.TheVariants.{Moved, NotForward, Same}
+use Rattle.gclientrepo.specs.declared.ask.Ask.{Ask}
+use Rattle.gclientrepo.specs.declared.ask.RefUpdate.{RefUpdate}
+use Rattle.gclientrepo.specs.declared.ask.RefUpdate.TheVariants.{Moved, NotForward, Same}
 use Rattle.gclient.specs.declared.fetched.Fetched.{Fetched}
 
 -- what became of a ref that was to stand at an id

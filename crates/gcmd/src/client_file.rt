@@ -1,7 +1,7 @@
 //! The repository that is fetched into, from its file, and what is fetched, from words.
 
 ghost use Rattle.std.specs.Prelude.{◌≡◌, ◌↔◌, ◌+◌, ◌++◌, ◌∷◌, [], IfErr, IsTrue, MatchResult, OnOk, Ok, Err, length, map, string_bytes};
-ghost use Rattle.gspec.specs.declared.fault.SpecFault.TheVariants.{Memory};
+ghost use Rattle.grefspec.specs.declared.fault.SpecFault.TheVariants.{Memory};
 ghost use Rattle.gcmd.specs.Fetching.{OpensClient, ReadsSpecs, no_head};
 
 use crate::fault::ProgramFault;

@@ -4,7 +4,7 @@ ghost use Rattle.std.specs.Prelude.{◌≡◌, MatchResult, length, option_map};
 ghost use Rattle.gpkt.specs.Packets.{Bytes};
 ghost use Rattle.ggraph.specs.declared.fault.SaveFault.TheVariants.{Memory};
 ghost use Rattle.gpkt.specs.Sending.{input_of, output_of};
-ghost use Rattle.grepo.specs.Repos.{RepoState};
+ghost use Rattle.gclientrepo.specs.Repos.{RepoState};
 ghost use Rattle.gcmd.specs.Fetching.{Concludes, FetchesFile, IsFetched, IsFetchedInto, NamesClient, Reports, SendsReport};
 ghost use Rattle.gcmd.specs.Programs.{Runs};
 

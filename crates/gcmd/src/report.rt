@@ -2,8 +2,8 @@
 
 ghost use Rattle.std.specs.Prelude.{◌≡◌, ◌<◌, ◌++◌, IfOk, OnOk, Some, codes, length, slice_get};
 ghost use Rattle.gname.specs.Ids.{id_text};
-ghost use Rattle.grepo.specs.declared.ask.Ask.{Ask};
-ghost use Rattle.grepo.specs.declared.ask.RefUpdate.TheVariants.{Moved};
+ghost use Rattle.gclientrepo.specs.declared.ask.Ask.{Ask};
+ghost use Rattle.gclientrepo.specs.declared.ask.RefUpdate.TheVariants.{Moved};
 ghost use Rattle.gcmd.specs.Reporting.{fetch_report, unborn_line, update_line, update_lines, update_text};
 
 use gclient::{Asks, Fetched, RefUpdate};

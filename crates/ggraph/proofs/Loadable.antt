@@ -4,8 +4,8 @@ use Rattle.std.proofs.lemmas.List.Elements.{All-cons, All-head, All-nil, All-tai
 use Rattle.gname.specs.declared.formats.Format.{Format}
 use Rattle.gname.specs.Ids.{IsIdOf}
 use Rattle.gobject.specs.declared.node.Entry.{Entry}
-use Rattle.ghistory.specs.Graphs.{History, IsGraph}
-use Rattle.ghistory.specs.Laws.{EntriesComeInOrder}
+use Rattle.gdag.specs.Graphs.{History, IsGraph}
+use Rattle.gdag.specs.Laws.{EntriesComeInOrder}
 use Rattle.grefs.specs.declared.head.Head.{Head}
 use Rattle.grefs.specs.declared.head.Head.TheVariants.{Id, Symref, None}
 use Rattle.grefs.specs.RefLists.{IsRefs, RefList}

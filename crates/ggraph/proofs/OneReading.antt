@@ -16,7 +16,7 @@ use Rattle.ggraph.specs.declared.text.reading.Stage.{Stage}
 use Rattle.ggraph.specs.declared.text.reading.Stage.TheVariants.{Nodes, Refs, Done}
 use Rattle.ggraph.specs.declared.text.reading.Reading.{Reading}
 use Rattle.gobject.specs.PlainPackText.{ids_of, ids_text, letter, node_text}
-use Rattle.ghistory.specs.Graphs.{History, HasIdsOf}
+use Rattle.gdag.specs.Graphs.{History, HasIdsOf}
 use Rattle.grefs.specs.RefLists.{IsBelowRefs, RefList}
 use Rattle.ggraph.specs.RepositoryText.{EachFollows, IsHead, IsLoadable, MayFollow, RefMayFollow, first_line, head_line, last_line, lines_of, ref_line, repository_text}
 use Rattle.ggraph.specs.steps.Reading.{Item, MayCome, RefMayCome, after, begins, ends, heads, line_of, node}

@@ -10,7 +10,7 @@ use Rattle.gobject.specs.declared.node.Kind.TheVariants.{Commit, Tag}
 use Rattle.gobject.specs.declared.node.Entry.{Entry}
 use Rattle.gobject.specs.Objects.{entry_of, node_of}
 use Rattle.gobject.specs.PlainPackText.{ids_of, ids_text, letter, node_text}
-use Rattle.ghistory.specs.Graphs.{History, HasIdsOf}
+use Rattle.gdag.specs.Graphs.{History, HasIdsOf}
 use Rattle.grefs.specs.declared.head.Head.{Head}
 use Rattle.grefs.specs.declared.head.Head.TheVariants as heads_of
 use Rattle.grefs.specs.RefLists.{IsBelowRefs}

@@ -15,7 +15,7 @@ use Rattle.ggraph.specs.RepositoryText.{IsLoadable, lines_of, repository_text}
 use Rattle.ggraph.specs.steps.Reading.{Item, IsKept, MayCome, RefusesLine, NeverComes, after, begins, ends, heads}
 use Rattle.ggraph.specs.steps.Reading.{line_of, node, nothing_read, ref}
 use Rattle.gobject.specs.PlainPackText.{GoesOn, IsInLine, line}
-use Rattle.ghistory.specs.Graphs.{History}
+use Rattle.gdag.specs.Graphs.{History}
 use Rattle.ggraph.specs.Loading.{AcceptsText, BeginsText, EndsEarly, IsKeptLine, IsWholeText, IsWrongLine, StopsAt}
 use Rattle.ggraph.proofs.Items.{HasRead, ReadsTo, items_text}
 use Rattle.ggraph.proofs.Lines.{AreLines, front_lines, line_from, lines-append, more_lines, no_line_left}

@@ -4,7 +4,7 @@ use Rattle.std.proofs.lemmas.List.{append_assoc, append-nil}
 use Rattle.gname.specs.declared.formats.Format.{Format}
 use Rattle.gname.specs.declared.formats.Format.TheVariants.{Sha1}
 use Rattle.gobject.specs.PlainPackText.{node_text, text_of}
-use Rattle.ghistory.specs.Graphs.{History}
+use Rattle.gdag.specs.Graphs.{History}
 use Rattle.grefs.specs.declared.head.Head.{Head}
 use Rattle.grefs.specs.declared.head.Head.TheVariants.{None}
 use Rattle.ggraph.specs.declared.text.Order.{Order}

@@ -2,8 +2,8 @@
 use Rattle.std.specs.Prelude.{ℕ, List, ◌++◌, codes}
 use Rattle.std.specs.Fmt.{decimal}
 use Rattle.gname.specs.Faults.{FaultRow, out_of_memory, out_of_memory_text}
-use Rattle.ghistory.specs.Faults.{graph_fault_row, graph_fault_text}
-use Rattle.ghistory.specs.declared.fault.GraphFault.TheVariants as graph
+use Rattle.gdag.specs.Faults.{graph_fault_row, graph_fault_text}
+use Rattle.gdag.specs.declared.fault.GraphFault.TheVariants as graph
 use Rattle.ggraph.specs.declared.fault.LoadFault.{LoadFault}
 use Rattle.ggraph.specs.declared.fault.LoadFault.TheVariants as load
 use Rattle.ggraph.specs.declared.fault.SaveFault.{SaveFault}

@@ -5,7 +5,7 @@ use Rattle.gname.specs.Ids.{Id}
 use Rattle.gname.specs.Names.{Name}
 use Rattle.gobject.specs.declared.node.Entry.{Entry}
 use Rattle.gobject.specs.PlainPackText.{GoesOn, IsInLine, node_text, text_of}
-use Rattle.ghistory.specs.Graphs.{History, IsOrdered}
+use Rattle.gdag.specs.Graphs.{History, IsOrdered}
 use Rattle.grefs.specs.declared.head.Head.{Head}
 use Rattle.grefs.specs.declared.head.Head.TheVariants.{Symref}
 use Rattle.grefs.specs.RefLists.{RefList}

@@ -11,8 +11,8 @@ use Rattle.grefs.specs.declared.head.Head.TheVariants as head_is
 use Rattle.ggraph.specs.declared.text.Order.{Order}
 use Rattle.ggraph.specs.declared.text.Order.TheVariants.{Any, ParentsFirst}
 use Rattle.gobject.specs.PlainPackText.{node_text, text_of}
-use Rattle.ghistory.specs.Graphs.{History, HoldsParents}
-use Rattle.ghistory.specs.Laws.{MayComeNext}
+use Rattle.gdag.specs.Graphs.{History, HoldsParents}
+use Rattle.gdag.specs.Laws.{MayComeNext}
 use Rattle.grefs.specs.Laws.{MayComeNext as NameMayComeNext}
 use Rattle.grefs.specs.RefLists.{RefList, IsBelowRefs}
 

@@ -4,7 +4,7 @@ use Rattle.std.specs.Map.{values_of}
 use Rattle.gname.specs.Ids.{Id}
 use Rattle.gname.specs.Names.{Name}
 use Rattle.gobject.specs.declared.node.Entry.{Entry}
-use Rattle.ghistory.specs.Reach.{IsFull, Keeps}
+use Rattle.gdag.specs.Reach.{IsFull, Keeps}
 use Rattle.grefs.specs.RefLists.{RefList, SetsRef}
 
 -- each ref is connected

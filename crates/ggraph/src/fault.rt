@@ -6,7 +6,7 @@ ghost use Rattle.ggraph.specs.Faults.{load_fault_row, load_fault_text, save_faul
 ghost use Rattle.ggraph.specs.declared.fault.LoadFault.TheVariants as load;
 ghost use Rattle.ggraph.specs.declared.fault.SaveFault.TheVariants as save;
 
-use ghistory::GraphFault;
+use gdag::GraphFault;
 use gname::{OUT_OF_MEMORY, OUT_OF_MEMORY_TEXT, Oid};
 use std::alloc::AllocError;
 use std::error::Error;

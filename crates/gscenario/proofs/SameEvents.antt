@@ -14,7 +14,7 @@ use Rattle.gobject.specs.declared.node.Kind.{Kind}
 use Rattle.gobject.specs.declared.node.Kind.TheVariants.{Commit, Tag}
 use Rattle.gobject.specs.Objects.{entry_of, node_of}
 use Rattle.gobject.specs.PlainPackText.{ids_of, letter}
-use Rattle.gspec.specs.Refspecs.{IsSpec, OneReading, Refspec}
+use Rattle.grefspec.specs.Refspecs.{IsSpec, OneReading, Refspec}
 use Rattle.gscenario.specs.ScenarioText.{AreArguments, AreBytes, AreNumberAndCount, AreOneBytes, AreSpecs, IsCount}
 use Rattle.gscenario.specs.ScenarioText.{IsEntry, IsNumber, IsOneNumber, IsRef}
 use Rattle.gscenario.specs.ScenarioText.{IsLineOf, IsScenario, command_of, command_text}

@@ -8,7 +8,7 @@ use Rattle.gname.specs.Ids.{Id, IsIdText}
 use Rattle.gname.specs.Names.{Name, IsRefName}
 use Rattle.gobject.specs.declared.node.Entry.{Entry}
 use Rattle.gobject.specs.PlainPackText.{IsInLine, ids_of, letter}
-use Rattle.gspec.specs.Refspecs.{IsSpec, Refspec}
+use Rattle.grefspec.specs.Refspecs.{IsSpec, Refspec}
 use Rattle.gscenario.specs.declared.fault.ScenarioFault.{ScenarioFault}
 use Rattle.gscenario.specs.declared.fault.ScenarioFault.TheVariants as fault
 use Rattle.gscenario.specs.declared.event.Event.{Event}

@@ -5,7 +5,7 @@ ghost use Rattle.std.specs.Prelude.{◌≡◌, ◌≢◌, ◌∷◌, [], ℕ, Li
 ghost use Rattle.gname.specs.Names.{Name};
 ghost use Rattle.gobject.specs.PlainPackText.{ids_of};
 ghost use Rattle.gobject.specs.declared.node.Entry.{Entry};
-ghost use Rattle.gspec.specs.Refspecs.{Refspec};
+ghost use Rattle.grefspec.specs.Refspecs.{Refspec};
 ghost use Rattle.gscenario.specs.ScenarioText.{AreNumberAndCount, AreOneBytes, AreSpecs, IsEntry, IsOneNumber, IsRef};
 ghost use Rattle.gname.specs.Ids.{Id, IsIdText};
 ghost use Rattle.std.specs.List.{AllZip};
@@ -18,7 +18,7 @@ use crate::words::{
 };
 use gname::{Oid, RefName};
 use gobject::{Entry, Kind, Node, Parents};
-use gspec::{Spec, SpecFault};
+use grefspec::{Spec, SpecFault};
 use std::alloc::{AllocError, Allocator};
 
 /// The event of a line with this command and these words after it.

@@ -10,11 +10,11 @@ use Rattle.ggrammar.specs.Capabilities.{Capability}
 use Rattle.gfetchreply.specs.FetchReplies.{FetchReply, Pack, Reading, reply_of}
 use Rattle.gobject.specs.declared.node.Entry.{Entry}
 use Rattle.gobject.specs.Packs.{Indexes, IndexFails}
-use Rattle.ghistory.specs.declared.fault.GraphFault.TheVariants as graph
-use Rattle.grepo.specs.declared.ask.Ask.{Ask}
-use Rattle.grepo.specs.declared.ask.RefUpdate.{RefUpdate}
-use Rattle.grepo.specs.declared.fault.RepoFault.TheVariants as repo
-use Rattle.grepo.specs.Repos.{RepoState}
+use Rattle.gdag.specs.declared.fault.GraphFault.TheVariants as graph
+use Rattle.gclientrepo.specs.declared.ask.Ask.{Ask}
+use Rattle.gclientrepo.specs.declared.ask.RefUpdate.{RefUpdate}
+use Rattle.gclientrepo.specs.declared.fault.RepoFault.TheVariants as repo
+use Rattle.gclientrepo.specs.Repos.{RepoState}
 use Rattle.grequest.specs.declared.flag.FetchFlag.TheVariants.{Done}
 use Rattle.grequest.specs.Asked.{Asked, Empty, Ls, Fetches, FetchAsked, is_direct, fetch_has}
 use Rattle.gsession.specs.Calls.{HasCalled, heard, requested, took_refs, took_reply, settled, GoesOn}

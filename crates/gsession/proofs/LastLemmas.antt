@@ -7,9 +7,9 @@ use Rattle.std.proofs.lemmas.List.Elements.{All-contains, All-contains_itself, A
 use Rattle.std.proofs.lemmas.Option.{none-some}
 use Rattle.gobject.specs.declared.node.Entry.{Entry}
 use Rattle.gobject.specs.Packs.{Indexes, IndexFails}
-use Rattle.ghistory.specs.declared.fault.GraphFault.TheVariants as graph
-use Rattle.ghistory.specs.Laws.{OffersAreExact, ReachedAreCounted}
-use Rattle.grepo.specs.declared.fault.RepoFault.TheVariants as repo
+use Rattle.gdag.specs.declared.fault.GraphFault.TheVariants as graph
+use Rattle.gdag.specs.Laws.{OffersAreExact, ReachedAreCounted}
+use Rattle.gclientrepo.specs.declared.fault.RepoFault.TheVariants as repo
 use Rattle.grequest.specs.declared.flag.FetchFlag.TheVariants.{Done}
 use Rattle.grequest.specs.Asked.{Asked, Empty, Ls, Fetches, FetchAsked, LsRefsAsked, max_haves, fetch_has}
 use Rattle.gsession.specs.Bounds.{BeginsCounted, CountedAreFew, CountedStays, DoneAsksLast, HasAskedLast, IsCounted}

@@ -13,7 +13,7 @@ use Rattle.glsreply.specs.RefTexts.{RefLine}
 use Rattle.gname.specs.declared.faults.NameFault.{NameFault}
 use Rattle.gname.specs.declared.faults.NameFault.TheVariants.{Memory}
 use Rattle.gobject.specs.declared.node.Entry.{Entry}
-use Rattle.gspec.specs.Refspecs.{Refspec}
+use Rattle.grefspec.specs.Refspecs.{Refspec}
 use Rattle.gsession.specs.Asking.{AreNamed, asks_by_all}
 use Rattle.gsession.specs.Sessions.{SessionState, LeavesReplies, after_fault}
 use Rattle.gsession.specs.steps.Calls.{AnswersLs, AnswersRefs, FindsAsks}

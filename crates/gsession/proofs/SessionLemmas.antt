@@ -5,7 +5,7 @@ use Rattle.std.specs.List.{IsDistinct}
 use Rattle.std.proofs.lemmas.List.Elements.{All-append, All-contains_itself, All-nil, All-weaker, Contains-append_left}
 use Rattle.std.proofs.lemmas.Bool.{ne_eqb}
 use Rattle.gname.specs.Ids.{IsIdOf}
-use Rattle.grepo.specs.declared.ask.Ask.{Ask}
+use Rattle.gclientrepo.specs.declared.ask.Ask.{Ask}
 use Rattle.grequest.specs.Asked.{Asked, Ls, Fetches, FetchAsked, LsRefsAsked, is_direct, max_wants}
 use Rattle.gsession.specs.Requesting.{fetch_request}
 use Rattle.gsession.specs.Sessions.{SessionState, AreCommons, FitsStage, IsOpenFetch, IsSession, max_specs, over}

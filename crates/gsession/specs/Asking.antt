@@ -8,12 +8,12 @@ use Rattle.gname.specs.Names.{Name, IsRefName, head_name}
 use Rattle.gname.specs.Ids.{Id}
 use Rattle.glsreply.specs.RefTexts.{RefLine}
 use Rattle.gobject.specs.declared.node.Entry.{Entry}
-use Rattle.ghistory.specs.Levels.{distinct_of}
-use Rattle.ghistory.specs.Reach.{IsFull}
-use Rattle.ghistory.specs.Selecting.{Selects}
-use Rattle.gspec.specs.Refspecs.{Refspec, destination_of, matches}
-use Rattle.grepo.specs.declared.ask.Ask.{Ask}
-use Rattle.grepo.specs.Asks.{asked_ids, with_ask}
+use Rattle.gdag.specs.Levels.{distinct_of}
+use Rattle.gdag.specs.Reach.{IsFull}
+use Rattle.gdag.specs.Selecting.{Selects}
+use Rattle.grefspec.specs.Refspecs.{Refspec, destination_of, matches}
+use Rattle.gclientrepo.specs.declared.ask.Ask.{Ask}
+use Rattle.gclientrepo.specs.Asks.{asked_ids, with_ask}
 
 -- the ref to which a refspec takes the name is to stand at the line's id
 abbrev pub ask_of : {A : Type 0} → Refspec → RefLine → Ask A

@@ -7,11 +7,11 @@ use Rattle.gname.specs.Ids.{Id}
 use Rattle.ggrammar.specs.declared.ends.Ends.{Ends}
 use Rattle.gobject.specs.declared.node.Entry.{Entry}
 use Rattle.gobject.specs.Packs.{Indexes, IndexFails}
-use Rattle.ghistory.specs.Graphs.{Holds}
-use Rattle.ghistory.specs.Reach.{Grows, IsFull, SomeReaches}
-use Rattle.ghistory.specs.Walks.{CountsReached}
-use Rattle.gspec.specs.Refspecs.{Refspec}
-use Rattle.grepo.specs.Repos.{IsWhole, RepoState}
+use Rattle.gdag.specs.Graphs.{Holds}
+use Rattle.gdag.specs.Reach.{Grows, IsFull, SomeReaches}
+use Rattle.gdag.specs.Walks.{CountsReached}
+use Rattle.grefspec.specs.Refspecs.{Refspec}
+use Rattle.gclientrepo.specs.Repos.{IsWhole, RepoState}
 use Rattle.grequest.specs.declared.flag.FetchFlag.TheVariants.{Done}
 use Rattle.grequest.specs.Asked.{Asked, Fetches, FetchAsked, fetch_has}
 use Rattle.gsession.specs.Calls.{HasCalled, IsOutOfTurn}

@@ -4,9 +4,9 @@ use Rattle.gname.specs.Ids.{Id}
 use Rattle.ggrammar.specs.Capabilities.{Capability}
 use Rattle.gpkt.specs.Change.{Change}
 use Rattle.gobject.specs.Packs.{Indexes, IndexFails}
-use Rattle.grepo.specs.declared.ask.Ask.{Ask}
-use Rattle.grepo.specs.declared.ask.RefUpdate.{RefUpdate}
-use Rattle.grepo.specs.Repos.{RepoState}
+use Rattle.gclientrepo.specs.declared.ask.Ask.{Ask}
+use Rattle.gclientrepo.specs.declared.ask.RefUpdate.{RefUpdate}
+use Rattle.gclientrepo.specs.Repos.{RepoState}
 use Rattle.glsreply.specs.LsReplies.{LsReply}
 use Rattle.gobject.specs.declared.node.Entry.{Entry}
 use Rattle.grequest.specs.declared.flag.FetchFlag.TheVariants.{Done}

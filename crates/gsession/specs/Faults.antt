@@ -4,7 +4,7 @@ use Rattle.gname.specs.Faults.{FaultRow}
 use Rattle.gpkt.specs.Packets.{Bytes}
 use Rattle.ggrammar.specs.Faults.{message_fault_text, why_row}
 use Rattle.gobject.specs.Faults.{index_fault_row, index_fault_text}
-use Rattle.grepo.specs.Faults.{repo_fault_row, repo_fault_text}
+use Rattle.gclientrepo.specs.Faults.{repo_fault_row, repo_fault_text}
 use Rattle.gsession.specs.declared.fault.ClientFault.{ClientFault}
 use Rattle.gsession.specs.declared.fault.ClientFault.TheVariants.{Index, Message, NoOpenRequest, Repo, StrangeAck}
 use Rattle.gsession.specs.declared.fault.ClientFault.TheVariants.{TooManySpecs, TooManyWants}

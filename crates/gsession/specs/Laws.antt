@@ -10,12 +10,12 @@ use Rattle.glsreply.specs.RefTexts.{RefLine}
 use Rattle.gfetchreply.specs.FetchReplies.{FetchReply}
 use Rattle.gobject.specs.declared.node.Entry.{Entry}
 use Rattle.gobject.specs.Packs.{Indexes, IndexFails}
-use Rattle.ghistory.specs.Reach.{Grows, IsFull}
-use Rattle.gspec.specs.Refspecs.{Refspec, destination_of, matches}
-use Rattle.grepo.specs.declared.ask.Ask.{Ask}
-use Rattle.grepo.specs.declared.ask.RefUpdate.{RefUpdate}
-use Rattle.grepo.specs.Asks.{NamesDiffer, asked_ids}
-use Rattle.grepo.specs.Repos.{RepoState}
+use Rattle.gdag.specs.Reach.{Grows, IsFull}
+use Rattle.grefspec.specs.Refspecs.{Refspec, destination_of, matches}
+use Rattle.gclientrepo.specs.declared.ask.Ask.{Ask}
+use Rattle.gclientrepo.specs.declared.ask.RefUpdate.{RefUpdate}
+use Rattle.gclientrepo.specs.Asks.{NamesDiffer, asked_ids}
+use Rattle.gclientrepo.specs.Repos.{RepoState}
 use Rattle.grequest.specs.Asked.{Asked, Fetches, FetchAsked}
 use Rattle.gsession.specs.Asking.{AreWants, ask_of, asked_of}
 use Rattle.gsession.specs.Calls.{Does, GoesOn, HasCalled, IsOpenHave, IsOutOfTurn, IsOver}

@@ -12,12 +12,12 @@ use Rattle.gpkt.specs.LineReading.{Reader}
 use Rattle.ggrammar.specs.Capabilities.{Capability}
 use Rattle.ggrammar.specs.MessageReading.{LeavesReader}
 use Rattle.ghello.specs.Offers.{has_feature}
-use Rattle.ghistory.specs.Levels.{distinct_of}
-use Rattle.ghistory.specs.declared.fault.GraphFault.TheVariants as graph
-use Rattle.gspec.specs.Refspecs.{Refspec}
-use Rattle.grepo.specs.declared.ask.Ask.{Ask}
-use Rattle.grepo.specs.declared.fault.RepoFault.TheVariants as repo
-use Rattle.grepo.specs.Repos.{RepoState}
+use Rattle.gdag.specs.Levels.{distinct_of}
+use Rattle.gdag.specs.declared.fault.GraphFault.TheVariants as graph
+use Rattle.grefspec.specs.Refspecs.{Refspec}
+use Rattle.gclientrepo.specs.declared.ask.Ask.{Ask}
+use Rattle.gclientrepo.specs.declared.fault.RepoFault.TheVariants as repo
+use Rattle.gclientrepo.specs.Repos.{RepoState}
 use Rattle.grequest.specs.Asked.{Asked, Ls, Fetches, FetchAsked, is_direct, max_haves, max_wants}
 use Rattle.gsession.specs.declared.stage.Stage.{Stage}
 use Rattle.gsession.specs.declared.stage.Stage.TheVariants.{Listing, Fetching, Settling, Over}

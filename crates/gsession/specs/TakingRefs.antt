@@ -10,8 +10,8 @@ use Rattle.ggrammar.specs.declared.fault.Why.TheVariants.{BadName}
 use Rattle.glsreply.specs.LsReplies.{LsReply, Says, brings, judge}
 use Rattle.glsreply.specs.WellFormed.{last_frame}
 use Rattle.gobject.specs.declared.node.Entry.{Entry}
-use Rattle.ghistory.specs.declared.fault.GraphFault.TheVariants as graph
-use Rattle.grepo.specs.declared.fault.RepoFault.TheVariants as repo
+use Rattle.gdag.specs.declared.fault.GraphFault.TheVariants as graph
+use Rattle.gclientrepo.specs.declared.fault.RepoFault.TheVariants as repo
 use Rattle.grequest.specs.Asked.{Ls, LsRefsAsked, max_wants}
 use Rattle.gsession.specs.Asking.{AreNamed, AreNamedTo, AreWants, asked_of, asks_by_all, unborn_told}
 use Rattle.gsession.specs.Sessions.{SessionState, after_fault}

@@ -12,12 +12,12 @@ use Rattle.gfetchreply.specs.FetchReplies.{Reading, FetchReply, Acks, Ready, Pac
 use Rattle.gfetchreply.specs.FetchHeads.{acknowledged_by, pack_of}
 use Rattle.gobject.specs.declared.node.Entry.{Entry}
 use Rattle.gobject.specs.Packs.{Indexes, IndexFails}
-use Rattle.ghistory.specs.Levels.{distinct_of}
-use Rattle.ghistory.specs.Insert.{Adds, IsRefused}
-use Rattle.ghistory.specs.declared.fault.GraphFault.{GraphFault}
-use Rattle.ghistory.specs.declared.fault.GraphFault.TheVariants.{Memory}
-use Rattle.grepo.specs.declared.fault.RepoFault.TheVariants.{Graph}
-use Rattle.grepo.specs.Repos.{RepoState}
+use Rattle.gdag.specs.Levels.{distinct_of}
+use Rattle.gdag.specs.Insert.{Adds, IsRefused}
+use Rattle.gdag.specs.declared.fault.GraphFault.{GraphFault}
+use Rattle.gdag.specs.declared.fault.GraphFault.TheVariants.{Memory}
+use Rattle.gclientrepo.specs.declared.fault.RepoFault.TheVariants.{Graph}
+use Rattle.gclientrepo.specs.Repos.{RepoState}
 use Rattle.grequest.specs.declared.flag.FetchFlag.TheVariants.{Done}
 use Rattle.grequest.specs.Asked.{Fetches, FetchAsked, is_direct, fetch_has}
 use Rattle.gsession.specs.Sessions.{SessionState, after_fault}

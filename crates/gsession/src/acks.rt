@@ -4,7 +4,7 @@
 ghost use Rattle.std.specs.Prelude.{◌≡◌, ◌↔◌, ◌++◌, true, All, Contains, IfOk, IfSome, MatchOption};
 ghost use Rattle.std.specs.Str.{bytes_eq};
 ghost use Rattle.gname.specs.Ids.{Id};
-ghost use Rattle.ghistory.specs.Levels.{distinct_of};
+ghost use Rattle.gdag.specs.Levels.{distinct_of};
 ghost use Rattle.indexmap.specs.IndexSet.{contains};
 ghost use Rattle.gsession.specs.TakingReplies.{IsFirstStrange};
 

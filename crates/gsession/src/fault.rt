@@ -2,8 +2,8 @@
 #![tactic(auto)]
 
 ghost use Rattle.std.specs.Prelude.{◌≡◌, Some};
-ghost use Rattle.ghistory.specs.declared.fault.GraphFault.TheVariants.{Memory};
-ghost use Rattle.grepo.specs.declared.fault.RepoFault.TheVariants.{Graph};
+ghost use Rattle.gdag.specs.declared.fault.GraphFault.TheVariants.{Memory};
+ghost use Rattle.gclientrepo.specs.declared.fault.RepoFault.TheVariants.{Graph};
 ghost use Rattle.gsession.specs.Faults.{client_fault_row, client_fault_text};
 ghost use Rattle.gsession.specs.Sessions.{ends_session};
 ghost use Rattle.gsession.specs.declared.fault.ClientFault.TheVariants as client;
@@ -11,7 +11,7 @@ ghost use Rattle.gsession.specs.declared.fault.ClientFault.TheVariants as client
 use ggrammar::MessageFault;
 use ggraph::{GraphFault, IndexFault};
 use gname::Oid;
-use grepo::RepoFault;
+use gclientrepo::RepoFault;
 use std::alloc::{AllocError, AllocFailed, Allocator, Global};
 use std::error::Error;
 use std::fmt;

@@ -6,7 +6,7 @@ ghost use Rattle.gname.specs.Ids.{IsIdOf};
 ghost use Rattle.ggrammar.specs.declared.fault.Why.TheVariants.{Memory};
 ghost use Rattle.grequest.specs.Asked.{Ls, Fetches, max_haves, max_prefixes, max_wants};
 ghost use Rattle.grequest.specs.RequestValues.{asked_by_request, ids_format};
-ghost use Rattle.ghistory.specs.Levels.{is_in};
+ghost use Rattle.gdag.specs.Levels.{is_in};
 ghost use Rattle.gsession.specs.Requesting.{batch_size, fetch_request, ls_request};
 ghost use Rattle.gsession.specs.Sessions.{max_specs};
 ghost use Rattle.gsession.specs.steps.Calls.{with_prefix};
@@ -14,7 +14,7 @@ ghost use Rattle.gsession.specs.steps.Calls.{with_prefix};
 use ggrammar::MessageFault;
 use gname::{Format, Oid, Prefix};
 use grequest::{FetchRequest, LsRefsRequest, Request};
-use gspec::Spec;
+use grefspec::Spec;
 use std::alloc::{AllocError, Allocator};
 
 /// How many ids are offered after so many rounds.

@@ -4,7 +4,7 @@
 ghost use Rattle.std.specs.Prelude.{◌≡◌, ◌↔◌, [], IsTrue, All, MatchBool, MatchResult, Ok, Err, IfOk, IfSome, option_map};
 ghost use Rattle.std.specs.Map.{values_of};
 ghost use Rattle.std.specs.Option.{option_copied};
-ghost use Rattle.ghistory.specs.Levels.{distinct_of};
+ghost use Rattle.gdag.specs.Levels.{distinct_of};
 ghost use Rattle.gname.specs.Ids.{IsIdOf};
 
 mod next;
@@ -20,9 +20,9 @@ use ggraph::distinct_ids;
 use ggraph::graph_laws::{distinct_are_once, places_are_nodes};
 use ghello::Advert;
 use gname::{Format, Oid};
-use grepo::{Asks, Repo};
+use gclientrepo::{Asks, Repo};
 use grequest::Request;
-use gspec::Spec;
+use grefspec::Spec;
 use std::alloc::{AllocError, Allocator, Global};
 use std::marker::Model;
 use std::mem;

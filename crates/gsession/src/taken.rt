@@ -2,7 +2,7 @@
 #![tactic(auto)]
 
 use gname::RefName;
-use grepo::{Asks, RefUpdate};
+use gclientrepo::{Asks, RefUpdate};
 use std::alloc::{Allocator, Global};
 
 /// What came of a reply to ls-refs.

@@ -8,7 +8,7 @@ use Rattle.gcmd.specs.Programs.{Prints}
 use Rattle.gcmd.specs.Serving.{NamesServer, RefusesFile, plain_pack_fails, plain_packs}
 use Rattle.gcmd.specs.declared.fault.ProgramFault.TheVariants as program
 use Rattle.gpkt.specs.Sending.{Output, IsUnwritten, Sends}
-use Rattle.grepo.specs.Repos.{RepoState}
+use Rattle.gclientrepo.specs.Repos.{RepoState}
 use Rattle.gscenario.specs.ScenarioText.{IsScenario, Refuses}
 use Rattle.gscenario.specs.declared.event.Event.{Event}
 use Rattle.gworld.specs.Promises.{Promises}

@@ -4,8 +4,8 @@ use Rattle.ggrammar.specs.declared.ends.Ends.TheVariants.{Plain}
 use Rattle.ghello.specs.Hello.{Hello, IsHello}
 use Rattle.gfetchreply.specs.Values.{default_limit}
 use Rattle.gpkt.specs.Sending.{Input, Output}
-use Rattle.gspec.specs.Refspecs.{Refspec}
-use Rattle.grepo.specs.Repos.{RepoState}
+use Rattle.grefspec.specs.Refspecs.{Refspec}
+use Rattle.gclientrepo.specs.Repos.{RepoState}
 use Rattle.gclient.specs.Conversations.{start_of}
 use Rattle.gclient.specs.declared.fault.FetchFault.{FetchFault}
 use Rattle.gclient.specs.declared.fetched.Fetched.{Fetched}

@@ -9,8 +9,8 @@ use Rattle.ggrammar.specs.declared.fault.MessageFault.{MessageFault}
 use Rattle.ghello.specs.Hello.{Hello}
 use Rattle.gfetchreply.specs.Values.{default_limit}
 use Rattle.glsreply.specs.LsReplies.{LsReply}
-use Rattle.gspec.specs.Refspecs.{Refspec}
-use Rattle.grepo.specs.Repos.{RepoState}
+use Rattle.grefspec.specs.Refspecs.{Refspec}
+use Rattle.gclientrepo.specs.Repos.{RepoState}
 use Rattle.ganswer.specs.Servers.{Server}
 use Rattle.gsession.specs.declared.fault.ClientFault.TheVariants as client
 use Rattle.gclient.specs.Conversations.{start_of}

@@ -9,7 +9,7 @@ use Rattle.ggrammar.specs.declared.fault.MessageFault.{MessageFault}
 use Rattle.ghello.specs.Hello.{Hello, IsHello, MakesHello}
 use Rattle.glsreply.specs.LsReplies.{LsReply}
 use Rattle.gobject.specs.Packs.{Indexes, IndexFails, PackFails, Packs}
-use Rattle.grepo.specs.Repos.{RepoState}
+use Rattle.gclientrepo.specs.Repos.{RepoState}
 use Rattle.grequest.specs.declared.flag.LsRefsFlag.TheVariants.{Symrefs, Peel}
 use Rattle.grequest.specs.Asked.{LsRefsAsked, ls_with, max_prefixes}
 use Rattle.grequest.specs.Building.{no_ls_refs}

@@ -1,11 +1,11 @@
 //! A server at the other end of a stream, as its client.
 
 ghost use Rattle.std.specs.Prelude.{◌≡◌, ◌≤◌, ◌+◌, ℕ, IfOk, OnErr};
-ghost use Rattle.ghistory.specs.Reach.{Grows};
-ghost use Rattle.ghistory.specs.Walks.{CountsReached};
+ghost use Rattle.gdag.specs.Reach.{Grows};
+ghost use Rattle.gdag.specs.Walks.{CountsReached};
 ghost use Rattle.gpkt.specs.Change.{change_of};
-ghost use Rattle.grepo.specs.Repos.{IsWhole};
-ghost use Rattle.grepo.specs.Settling.{Settles};
+ghost use Rattle.gclientrepo.specs.Repos.{IsWhole};
+ghost use Rattle.gclientrepo.specs.Settling.{Settles};
 ghost use Rattle.gsession.specs.Sessions.{tips_of};
 ghost use Rattle.gclient.specs.Conversations.{start_of};
 ghost use Rattle.gtcp.specs.steps.Sockets.{FetchesBetween, ListsBetween};

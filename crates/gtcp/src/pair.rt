@@ -1,8 +1,8 @@
 //! Both ends of a connection in one process, turn by turn.
 
 ghost use Rattle.std.specs.Prelude.{◌≡◌, ◌||◌, [], None, true, IfOk, IsErr};
-ghost use Rattle.ghistory.specs.Reach.{Grows};
-ghost use Rattle.grepo.specs.Settling.{Settles};
+ghost use Rattle.gdag.specs.Reach.{Grows};
+ghost use Rattle.gclientrepo.specs.Settling.{Settles};
 ghost use Rattle.ghello.specs.Hello.{MakesHello};
 ghost use Rattle.gtcp.specs.Remote.{FetchesAsClient, FetchesInPair, pair_hello};
 ghost use Rattle.gtcp.specs.steps.Remote.{IsPairFault};

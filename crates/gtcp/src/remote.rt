@@ -2,9 +2,9 @@
 
 ghost use Rattle.std.specs.Prelude.{◌≡◌, IfErr, IfOk, option_map};
 ghost use Rattle.gpkt.specs.Packets.{Bytes};
-ghost use Rattle.ghistory.specs.Reach.{Grows};
+ghost use Rattle.gdag.specs.Reach.{Grows};
 ghost use Rattle.gpkt.specs.Sending.{output_of};
-ghost use Rattle.grepo.specs.Settling.{Settles};
+ghost use Rattle.gclientrepo.specs.Settling.{Settles};
 ghost use Rattle.gcmd.specs.Fetching.{NamesClient};
 ghost use Rattle.gcmd.specs.Programs.{Runs};
 ghost use Rattle.gcmd.specs.declared.fault.ProgramFault.TheVariants.{Socket};

@@ -4,10 +4,10 @@ use Rattle.std.specs.Prelude.{slice_index_or, sum_by, Contains, Some}
 use Rattle.gname.specs.Ids.{Id}
 use Rattle.gobject.specs.declared.node.Entry.{Entry}
 use Rattle.gobject.specs.Objects.{entry_of, node_of, place_of, IdsDiffer}
-use Rattle.ghistory.specs.Graphs.{HasParent}
-use Rattle.ghistory.specs.Reach.{Reaches, IsFull, SomeReaches, Grows}
-use Rattle.ghistory.specs.Selecting.{Selects}
-use Rattle.ghistory.specs.Walks.{CountsReached}
+use Rattle.gdag.specs.Graphs.{HasParent}
+use Rattle.gdag.specs.Reach.{Reaches, IsFull, SomeReaches, Grows}
+use Rattle.gdag.specs.Selecting.{Selects}
+use Rattle.gdag.specs.Walks.{CountsReached}
 
 -- each marked id is connected
 abbrev pub AreFull : {A : Type 0} → List (Entry A) → List Bool → Type 0

@@ -5,15 +5,15 @@ ghost use Rattle.std.specs.Prelude.{◌≡◌, ◌↔◌, ◌<◌, [], List, Ok,
 ghost use Rattle.std.specs.List.{Any};
 ghost use Rattle.gname.specs.Ids.{Id};
 ghost use Rattle.gobject.specs.Objects.{node_at};
-ghost use Rattle.ghistory.specs.Levels.{new_ids};
-ghost use Rattle.ghistory.specs.Reach.{Reaches};
-ghost use Rattle.ghistory.specs.Walks.{IsReady, common_of};
-ghost use Rattle.ghistory.specs.declared.fault.GraphFault.TheVariants.{Memory};
+ghost use Rattle.gdag.specs.Levels.{new_ids};
+ghost use Rattle.gdag.specs.Reach.{Reaches};
+ghost use Rattle.gdag.specs.Walks.{IsReady, common_of};
+ghost use Rattle.gdag.specs.declared.fault.GraphFault.TheVariants.{Memory};
 ghost use Rattle.gwalk.specs.steps.Common.{AreGoals, ids_at};
 ghost use Rattle.gwalk.specs.steps.Walks.{HasMet};
 
 use crate::walk::Walk;
-use ghistory::{Graph, GraphFault};
+use gdag::{Graph, GraphFault};
 use gname::Oid;
 use std::alloc::{AllocError, Allocator};
 
@@ -42,7 +42,7 @@ pub fn reaches<A: Allocator + Copy>(graph: &Graph<A>, a: &Oid, b: &Oid) -> Resul
     ensures fault { IfErr result (λ fault. fault ≡ Memory) }
 {
     if graph.is_ordered() {
-        return gpass::reaches(graph, a, b);
+        return gtopowalk::reaches(graph, a, b);
     }
     let goals = Goals::new(graph, &[*b])?;
     Ok(goals.reached_by(graph, a)?)
@@ -64,7 +64,7 @@ pub fn ready<A: Allocator + Copy>(
     ensures fault { IfErr result (λ fault. fault ≡ Memory) }
 {
     if graph.is_ordered() {
-        return gpass::ready(graph, wants, commons);
+        return gtopowalk::ready(graph, wants, commons);
     }
     if commons.is_empty() {
         return Ok(false);

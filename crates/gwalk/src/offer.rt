@@ -3,15 +3,15 @@
 
 ghost use Rattle.std.specs.Prelude.{◌≡◌, ◌<◌, [], IfOk, IfErr, List, length, not, ◌&&◌, slice_index_or, false};
 ghost use Rattle.gname.specs.Ids.{Id};
-ghost use Rattle.ghistory.specs.Levels.{AreLevels, new_ids};
-ghost use Rattle.ghistory.specs.Offer.{IsOffer};
-ghost use Rattle.ghistory.specs.declared.fault.GraphFault.TheVariants.{Memory};
+ghost use Rattle.gdag.specs.Levels.{AreLevels, new_ids};
+ghost use Rattle.gdag.specs.Offer.{IsOffer};
+ghost use Rattle.gdag.specs.declared.fault.GraphFault.TheVariants.{Memory};
 ghost use Rattle.gwalk.specs.steps.Walks.{HasMet};
 
 use crate::common::met_of;
 use crate::walk::{Walk, walk_from};
-use ghistory::laws::levels_are_distances;
-use ghistory::{Graph, GraphFault};
+use gdag::laws::levels_are_distances;
+use gdag::{Graph, GraphFault};
 use gname::Oid;
 use std::alloc::{AllocError, Allocator};
 

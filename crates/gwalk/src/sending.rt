@@ -5,17 +5,17 @@ ghost use Rattle.std.specs.Prelude.{◌≡◌, ◌↔◌, ◌⊎◌, [], IfOk, I
 ghost use Rattle.std.specs.Map.{values_of};
 ghost use Rattle.gname.specs.Ids.{Id};
 ghost use Rattle.gobject.specs.Objects.{place_of};
-ghost use Rattle.ghistory.specs.Graphs.{IsGraph};
-ghost use Rattle.ghistory.specs.Peeling.{IsTagOf, PeelsTo};
-ghost use Rattle.ghistory.specs.Sending.{IsListToSend, IsNew};
-ghost use Rattle.ghistory.specs.declared.fault.GraphFault.TheVariants.{Memory};
+ghost use Rattle.gdag.specs.Graphs.{IsGraph};
+ghost use Rattle.gdag.specs.Peeling.{IsTagOf, PeelsTo};
+ghost use Rattle.gdag.specs.Sending.{IsListToSend, IsNew};
+ghost use Rattle.gdag.specs.declared.fault.GraphFault.TheVariants.{Memory};
 ghost use Rattle.gwalk.specs.steps.Tags.{AreTagged, IsTagFrom, LeadsToMarked};
 ghost use Rattle.gwalk.specs.steps.Walks.{AreMarked, marked};
 
 use crate::marks::is_marked;
 use crate::walk::walk_from;
-use ghistory::laws::sent_are_entries;
-use ghistory::{Graph, GraphFault};
+use gdag::laws::sent_are_entries;
+use gdag::{Graph, GraphFault};
 use gname::Oid;
 use gobject::{Entry, Kind};
 use grefs::Refs;
@@ -75,7 +75,7 @@ fn list_to_send<A: Allocator + Copy>(
     ensures fault { IfErr result (λ fault. fault ≡ Memory) }
 {
     if graph.is_ordered() {
-        return gpass::send_list(graph, wants, commons, tips);
+        return gtopowalk::send_list(graph, wants, commons, tips);
     }
     Ok(walked_list(graph, wants, commons, tips)?)
 }

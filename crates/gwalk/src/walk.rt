@@ -4,13 +4,13 @@
 ghost use Rattle.std.specs.Prelude.{◌≡◌, ◌<◌, ◌∷◌, ◌++◌, [], Bool, List, slice_get, length, IfOk, OnOk, Some};
 ghost use Rattle.std.specs.Option.{option_map};
 ghost use Rattle.gname.specs.Ids.{Id};
-ghost use Rattle.ghistory.specs.Graphs.{IsGraph};
-ghost use Rattle.ghistory.specs.Levels.{new_ids};
+ghost use Rattle.gdag.specs.Graphs.{IsGraph};
+ghost use Rattle.gdag.specs.Levels.{new_ids};
 ghost use Rattle.gwalk.specs.Marks.{stop_at};
 ghost use Rattle.gwalk.specs.steps.Walks.{HasMet, IsWalk};
 
 use crate::marks::is_marked;
-use ghistory::Graph;
+use gdag::Graph;
 use gname::Oid;
 use std::alloc::{AllocError, Allocator};
 

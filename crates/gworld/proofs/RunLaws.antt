@@ -3,7 +3,7 @@ use Rattle.std.proofs.Common.{◌≡◌, ℕ, Bool, List, [], ◌∷◌, All, Op
 use Rattle.std.specs.Prelude.{slice_get}
 use Rattle.std.proofs.lemmas.List.Elements.{All-head, All-tail}
 use Rattle.gobject.specs.declared.node.Entry.{Entry}
-use Rattle.gspec.specs.Refspecs.{Refspec}
+use Rattle.grefspec.specs.Refspecs.{Refspec}
 use Rattle.grequest.specs.Asked.{Asked}
 use Rattle.gsession.specs.Sessions.{SessionState}
 use Rattle.gscenario.specs.declared.event.Event.{Event}

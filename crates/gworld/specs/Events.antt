@@ -9,16 +9,16 @@ use Rattle.ggrammar.specs.declared.ends.Ends.TheVariants.{Plain}
 use Rattle.gobject.specs.declared.node.Entry.{Entry}
 use Rattle.gobject.specs.declared.node.Node.{Node}
 use Rattle.gobject.specs.Packs.{Indexes, IndexFails, Packs, PackFails}
-use Rattle.ghistory.specs.Graphs.{IsNode}
-use Rattle.ghistory.specs.Laws.{AgreesWith}
-use Rattle.gspec.specs.Refspecs.{Refspec}
-use Rattle.grepo.specs.Changes.{AddsLocal, SetsLocal}
-use Rattle.grepo.specs.Faults.{repo_fault_row}
-use Rattle.grepo.specs.Repos.{RepoState}
-use Rattle.grepo.specs.declared.ask.Ask.{Ask}
-use Rattle.grepo.specs.declared.ask.RefUpdate.{RefUpdate}
-use Rattle.grepo.specs.declared.ask.RefUpdate.TheVariants as update
-use Rattle.grepo.specs.declared.fault.RepoFault.{RepoFault}
+use Rattle.gdag.specs.Graphs.{IsNode}
+use Rattle.gdag.specs.Laws.{AgreesWith}
+use Rattle.grefspec.specs.Refspecs.{Refspec}
+use Rattle.gclientrepo.specs.Changes.{AddsLocal, SetsLocal}
+use Rattle.gclientrepo.specs.Faults.{repo_fault_row}
+use Rattle.gclientrepo.specs.Repos.{RepoState}
+use Rattle.gclientrepo.specs.declared.ask.Ask.{Ask}
+use Rattle.gclientrepo.specs.declared.ask.RefUpdate.{RefUpdate}
+use Rattle.gclientrepo.specs.declared.ask.RefUpdate.TheVariants as update
+use Rattle.gclientrepo.specs.declared.fault.RepoFault.{RepoFault}
 use Rattle.grequest.specs.Asked.{Asked}
 use Rattle.ganswer.specs.Adverts.{advertised}
 use Rattle.ganswer.specs.Answers.{Answers, Refuses, Reply}

@@ -10,4 +10,4 @@ pub mod Events
 pub mod steps
 -- what a server and a client's repository are, of which a world is made
 pub use Rattle.ganswer.specs.Servers
-pub use Rattle.grepo.specs.Repos
+pub use Rattle.gclientrepo.specs.Repos

@@ -8,16 +8,16 @@ use Rattle.gfetchreply.specs.FetchReplies.{FetchReply, Acks, Ready, Pack}
 use Rattle.gfetchreply.specs.FetchHeads.{pack_of}
 use Rattle.gfetchreply.specs.Values.{default_limit}
 use Rattle.ggraph.specs.SafeRefs.{IsSafe}
-use Rattle.ghistory.specs.Graphs.{Holds}
-use Rattle.ghistory.specs.Laws.{HasAll}
-use Rattle.ghistory.specs.Reach.{IsFull}
-use Rattle.ghistory.specs.Walks.{CountsReached}
-use Rattle.ghistory.specs.declared.fault.GraphFault.TheVariants as graph
+use Rattle.gdag.specs.Graphs.{Holds}
+use Rattle.gdag.specs.Laws.{HasAll}
+use Rattle.gdag.specs.Reach.{IsFull}
+use Rattle.gdag.specs.Walks.{CountsReached}
+use Rattle.gdag.specs.declared.fault.GraphFault.TheVariants as graph
 use Rattle.grefs.specs.RefLists.{ref_at}
 use Rattle.grequest.specs.Asked.{Asked, Fetches}
-use Rattle.grepo.specs.Repos.{RepoState}
-use Rattle.grepo.specs.Settling.{CannotSettle, MayMove, asked_ids}
-use Rattle.grepo.specs.declared.ask.Ask.{Ask}
+use Rattle.gclientrepo.specs.Repos.{RepoState}
+use Rattle.gclientrepo.specs.Settling.{CannotSettle, MayMove, asked_ids}
+use Rattle.gclientrepo.specs.declared.ask.Ask.{Ask}
 use Rattle.ganswer.specs.Answers.{Fetch}
 use Rattle.ganswer.specs.FetchAnswers.{FailsToPack}
 use Rattle.ganswer.specs.Servers.{Server}

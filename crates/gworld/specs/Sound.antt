@@ -7,12 +7,12 @@ use Rattle.gobject.specs.Packs.{LosesNothing, Packs}
 use Rattle.gobject.specs.declared.node.Entry.{Entry}
 use Rattle.ggrammar.specs.declared.ends.Ends.TheVariants.{Plain}
 use Rattle.gfetchreply.specs.Values.{default_limit}
-use Rattle.ghistory.specs.Graphs.{Holds, IsGraph}
-use Rattle.ghistory.specs.Reach.{Agree, Grows, IsFull}
+use Rattle.gdag.specs.Graphs.{Holds, IsGraph}
+use Rattle.gdag.specs.Reach.{Agree, Grows, IsFull}
 use Rattle.grefs.specs.RefLists.{IsRefs}
 use Rattle.grequest.specs.Asked.{Asked, Empty, Ls, Fetches, FetchAsked, max_haves}
-use Rattle.grepo.specs.Repos.{IsWhole}
-use Rattle.grepo.specs.Asks.{asked_ids}
+use Rattle.gclientrepo.specs.Repos.{IsWhole}
+use Rattle.gclientrepo.specs.Asks.{asked_ids}
 use Rattle.ganswer.specs.Answers.{Answers}
 use Rattle.ganswer.specs.Servers.{IsServer, Server}
 use Rattle.gsession.specs.Bounds.{BeganOn}

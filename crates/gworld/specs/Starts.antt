@@ -2,9 +2,9 @@
 use Rattle.std.specs.Prelude.{◌≡◌, ◌≢◌, List, ◌∷◌, ◌++◌, All, Result, Ok, Err}
 use Rattle.gname.specs.Ids.{Id}
 use Rattle.gobject.specs.declared.node.Entry.{Entry}
-use Rattle.ghistory.specs.Laws.{AgreesWith}
-use Rattle.ghistory.specs.Reach.{Agree}
-use Rattle.grepo.specs.Repos.{RepoState}
+use Rattle.gdag.specs.Laws.{AgreesWith}
+use Rattle.gdag.specs.Reach.{Agree}
+use Rattle.gclientrepo.specs.Repos.{RepoState}
 use Rattle.ganswer.specs.Servers.{Server}
 use Rattle.gworld.specs.Events.{Disagrees}
 use Rattle.gworld.specs.Worlds.{WorldOf, new_world}

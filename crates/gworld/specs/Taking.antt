@@ -4,7 +4,7 @@ use Rattle.gpkt.specs.Packets.{Bytes}
 use Rattle.ggrammar.specs.MessageBytes.{known}
 use Rattle.ggrammar.specs.MessageReading.{IsReadFailure}
 use Rattle.gobject.specs.Packs.{Indexes, IndexFails}
-use Rattle.grepo.specs.Repos.{RepoState}
+use Rattle.gclientrepo.specs.Repos.{RepoState}
 use Rattle.grequest.specs.Asked.{Asked, Empty, Ls, Fetches}
 use Rattle.gsession.specs.Faults.{client_fault_row}
 use Rattle.gsession.specs.Sessions.{SessionState}

@@ -7,7 +7,7 @@ use Rattle.grequest.specs.Asked.{Asked}
 use Rattle.ganswer.specs.Answers.{Reply}
 use Rattle.ganswer.specs.Servers.{Server}
 use Rattle.gserve.specs.Exchanges.{reply_packets}
-use Rattle.grepo.specs.Repos.{RepoState}
+use Rattle.gclientrepo.specs.Repos.{RepoState}
 use Rattle.gsession.specs.Sessions.{SessionState}
 
 -- a reply that the server made, and the request that it answers

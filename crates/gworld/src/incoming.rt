@@ -9,7 +9,7 @@ use crate::outcome::Outcome;
 use ggraph::Indexer;
 use gpkt::memory::SliceSource;
 use gpkt::{LineBuffer, LineReader};
-use grepo::Repo;
+use gclientrepo::Repo;
 use grequest::Request;
 use gsession::{ClientFault, LsTaken, Session, Taken};
 use std::alloc::{AllocError, Allocator};

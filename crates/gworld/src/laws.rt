@@ -17,7 +17,7 @@ use ggraph::graph_laws::{
 use ggraph::{Faithful, Indexer, Packer};
 use gmsg::laws::replies_differ;
 use gpkt::laws::{canonical_spells, one_begins};
-use grepo::laws::{held_is_not_missing, refusals_change_nothing};
+use gclientrepo::laws::{held_is_not_missing, refusals_change_nothing};
 use gsession::laws::{
     asks_are_of_lines, began_begins, began_stays, commons_are_haves, haves_are_held,
     open_is_the_sessions, rounds_are_few, taking_only_grows, wants_are_exact,

@@ -40,9 +40,9 @@
 //!
 //! # Stands on
 //!
-//! `gscenario` for events, `gsession` and `grepo` for the client, `gserve` and `ganswer` for the server, `gmsg` and
+//! `gscenario` for events, `gsession` and `gclientrepo` for the client, `gserve` and `ganswer` for the server, `gmsg` and
 //! the crates of single messages for the laws of their bytes, `gpkt` for packets in memory, `ggraph` and
-//! `ghistory` for graphs, `gobject` for objects, packers and indexers, `gspec` for refspecs, `grefs` and `gname` for
+//! `gdag` for graphs, `gobject` for objects, packers and indexers, `grefspec` for refspecs, `grefs` and `gname` for
 //! refs and ids.
 #![tactic(auto)]
 

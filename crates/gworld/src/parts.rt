@@ -16,7 +16,7 @@ mod start;
 
 use crate::outcome::Outcome;
 use ganswer::{Reply, Server};
-use grepo::Repo;
+use gclientrepo::Repo;
 use grequest::Request;
 use gsession::{ClientFault, Session};
 use std::alloc::Allocator;

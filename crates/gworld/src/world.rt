@@ -12,7 +12,7 @@ use crate::outcome::Outcome;
 use crate::parts::Parts;
 use ganswer::Server;
 use ggraph::{Indexer, Packer};
-use grepo::Repo;
+use gclientrepo::Repo;
 use gscenario::Event;
 use std::alloc::{Allocator, Global};
 use std::marker::Model;

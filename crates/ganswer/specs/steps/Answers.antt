@@ -5,7 +5,7 @@ use Rattle.gname.specs.Names.{Name}
 use Rattle.gpkt.specs.Packets.{Bytes}
 use Rattle.gobject.specs.declared.node.Entry.{Entry}
 use Rattle.gobject.specs.Packs.{PackFails, Packs}
-use Rattle.ghistory.specs.Graphs.{Holds, IsFirstAbsent}
+use Rattle.gdag.specs.Graphs.{Holds, IsFirstAbsent}
 use Rattle.grefs.specs.RefLists.{RefList}
 use Rattle.grequest.specs.Asked.{FetchAsked}
 use Rattle.ganswer.specs.FetchAnswers.{FailsToPack, SendsPack}

@@ -5,7 +5,7 @@ ghost use Rattle.std.specs.Prelude.{◌≡◌, ◌++◌, ◌∷◌, [], IfErr, O
 ghost use Rattle.gname.specs.Ids.{IsIdOf};
 ghost use Rattle.gobject.specs.Objects.{IsShaped, entry_of, node_of};
 ghost use Rattle.gobject.specs.PlainPackText.{letter};
-ghost use Rattle.ghistory.specs.Graphs.{HasIdsOf};
+ghost use Rattle.gdag.specs.Graphs.{HasIdsOf};
 ghost use Rattle.ggraph.specs.RepositoryText.{MayFollow, RefMayFollow};
 ghost use Rattle.ggraph.specs.steps.Reading.{RefusesEntry, RefusesRef, with_entry};
 
@@ -14,7 +14,7 @@ use crate::text::Order;
 use crate::text::laws::text_laws;
 use crate::text::lines::{NodeLine, RefLine, format_of, head_of, node_parts, ref_parts};
 use crate::text::parts::{Room, name_of, take_spaced};
-use ghistory::{Graph, MAX_NODES};
+use gdag::{Graph, MAX_NODES};
 use gname::{Format, Oid};
 use gobject::{Entry, Kind, MAX_PARENTS, Node, Parents};
 use grefs::{Head, MAX_REFS, Refs};

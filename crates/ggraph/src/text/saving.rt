@@ -2,7 +2,7 @@
 #![tactic(auto)]
 
 ghost use Rattle.std.specs.Prelude.{◌≡◌, ◌++◌, All, IfOk, IsTrue, ◌↔◌, ◌∷◌, ◌<◌, [], MatchOption, MatchResult, OnOk, Some, length, map, slice_get};
-ghost use Rattle.ghistory.specs.Graphs.{IsGraph};
+ghost use Rattle.gdag.specs.Graphs.{IsGraph};
 ghost use Rattle.gobject.specs.declared.node.Entry.{Entry};
 ghost use Rattle.gname.specs.Ids.{IsIdOf};
 ghost use Rattle.gobject.specs.PlainPackText.{line, node_text, text_of};
@@ -12,7 +12,7 @@ ghost use Rattle.ggraph.specs.steps.Saving.{PointsBelowRefs};
 
 use crate::fault::SaveFault;
 use crate::text::Order;
-use ghistory::Graph;
+use gdag::Graph;
 use gname::{Format, Oid, RefName};
 use gobject::Entry;
 use grefs::{Head, Refs};
@@ -32,7 +32,7 @@ pub fn save<A: Allocator + Copy>(
         (SaveRefuses graph.now.format refs.now head.now) }
     ensures loadable { IfOk result (λ text. IsLoadable Order.Any graph.now refs.now head.now) }
 {
-    ghistory::laws::entries_come_in_order::<A>();
+    gdag::laws::entries_come_in_order::<A>();
     grefs::laws::refs_come_in_order();
     if let Some(id) = other_id(graph.format(), refs.as_slice(), head) {
         return Err(SaveFault::OtherFormat { id });

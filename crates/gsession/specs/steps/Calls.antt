@@ -15,12 +15,12 @@ use Rattle.gfetchreply.specs.FetchHeads as head
 use Rattle.gobject.specs.declared.fault.IndexFault.{IndexFault}
 use Rattle.gobject.specs.declared.node.Entry.{Entry}
 use Rattle.gobject.specs.Packs.{Indexes, IndexFails}
-use Rattle.ghistory.specs.Levels.{is_in}
-use Rattle.ghistory.specs.declared.fault.GraphFault.TheVariants as graph
-use Rattle.gspec.specs.Refspecs.{Refspec}
-use Rattle.grepo.specs.declared.ask.Ask.{Ask}
-use Rattle.grepo.specs.declared.fault.RepoFault.TheVariants as repo
-use Rattle.grepo.specs.Repos.{RepoState}
+use Rattle.gdag.specs.Levels.{is_in}
+use Rattle.gdag.specs.declared.fault.GraphFault.TheVariants as graph
+use Rattle.grefspec.specs.Refspecs.{Refspec}
+use Rattle.gclientrepo.specs.declared.ask.Ask.{Ask}
+use Rattle.gclientrepo.specs.declared.fault.RepoFault.TheVariants as repo
+use Rattle.gclientrepo.specs.Repos.{RepoState}
 use Rattle.grequest.specs.Asked.{FetchAsked, is_direct, max_haves}
 use Rattle.gsession.specs.Asking.{AreNamed, AreNamedTo, asked_of, asks_by_all, with_asks}
 use Rattle.gsession.specs.Sessions.{SessionState}

@@ -13,7 +13,7 @@ use ggraph::graph_laws::{offers_are_exact, places_are_nodes};
 use ggraph::haves;
 use gname::Oid;
 use gname::laws::ids_have_one_format;
-use grepo::Repo;
+use gclientrepo::Repo;
 use grequest::{MAX_HAVES, Request};
 use std::alloc::{AllocError, Allocator};
 

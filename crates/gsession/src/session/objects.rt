@@ -15,7 +15,7 @@ use ggraph::Indexer;
 use ggraph::graph_laws::distinct_are_once;
 use gname::Oid;
 use gpkt::{LineReader, Source};
-use grepo::Repo;
+use gclientrepo::Repo;
 use grequest::Request;
 use std::alloc::Allocator;
 
@@ -23,8 +23,8 @@ impl<A: Allocator + Copy> Session<A> {
     ghost use Rattle.gfetchreply.specs.FetchReplies.{FetchReply};
     ghost use Rattle.gfetchreply.specs.FetchHeads.{acknowledged_by, head_of, pack_of};
     ghost use Rattle.gfetchreply.specs.Views.{head_in, reading_in};
-    ghost use Rattle.ghistory.specs.Levels.{distinct_of};
-    ghost use Rattle.ghistory.specs.Reach.{Grows};
+    ghost use Rattle.gdag.specs.Levels.{distinct_of};
+    ghost use Rattle.gdag.specs.Reach.{Grows};
     ghost use Rattle.grequest.specs.Asked.{FetchAsked, is_direct};
     ghost use Rattle.gsession.specs.Sessions.{AreCommons, LeavesReplies};
     ghost use Rattle.gsession.specs.steps.Calls.{AnswersRead, AnswersReply, FitsHead, IsAcksFault, MayHaveFed};

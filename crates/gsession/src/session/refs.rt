@@ -15,7 +15,7 @@ use ggrammar::{MessageFault, Why};
 use glsreply::{LsReply, read_ls_reply_in};
 use gname::{NameFault, Oid};
 use gpkt::{LineReader, Source};
-use grepo::{Asks, Repo};
+use gclientrepo::{Asks, Repo};
 use grequest::{MAX_WANTS, Request};
 use std::alloc::{AllocError, Allocator};
 

@@ -7,7 +7,7 @@ use Rattle.ggrammar.specs.declared.ends.Ends.{Ends}
 use Rattle.ghello.specs.Hello.{Hello}
 use Rattle.glsreply.specs.LsReplies.{LsReply}
 use Rattle.gobject.specs.Packs.{Indexes, IndexFails, PackFails, Packs}
-use Rattle.grepo.specs.Repos.{RepoState}
+use Rattle.gclientrepo.specs.Repos.{RepoState}
 use Rattle.grequest.specs.Asked.{LsRefsAsked}
 use Rattle.ganswer.specs.Servers.{Server}
 use Rattle.gclient.specs.Conversations.{Start}

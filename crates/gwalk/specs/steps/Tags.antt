@@ -3,7 +3,7 @@ use Rattle.std.specs.Prelude.{◌≡◌, ◌⊎◌, ◌↔◌, ℕ, Bool, true, 
 use Rattle.gname.specs.Ids.{Id}
 use Rattle.gobject.specs.declared.node.Entry.{Entry}
 use Rattle.gobject.specs.Objects.{place_of}
-use Rattle.ghistory.specs.Peeling.{IsTagOf, Tags, PeelsTo}
+use Rattle.gdag.specs.Peeling.{IsTagOf, Tags, PeelsTo}
 
 -- the id is a tag on the chain that begins at the tip
 pub record IsTagFrom {A : Type 0} (g : List (Entry A)) (tip a : Id) : Type 0 where

@@ -5,8 +5,8 @@ use Rattle.std.specs.List.{filter_map}
 use Rattle.gname.specs.Ids.{Id}
 use Rattle.gobject.specs.declared.node.Entry.{Entry}
 use Rattle.gobject.specs.Objects.{node_at, place_of}
-use Rattle.ghistory.specs.Graphs.{Holds}
-use Rattle.ghistory.specs.Levels.{AreLevels}
+use Rattle.gdag.specs.Graphs.{Holds}
+use Rattle.gdag.specs.Levels.{AreLevels}
 
 -- the positions of those of some ids that are held, in order
 abbrev pub places : {A : Type 0} → List (Entry A) → List Id → List ℕ

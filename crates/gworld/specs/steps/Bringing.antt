@@ -4,8 +4,8 @@ use Rattle.gname.specs.Ids.{Id}
 use Rattle.gpkt.specs.Packets.{Bytes}
 use Rattle.gobject.specs.Packs.{Indexes, IndexFails}
 use Rattle.gobject.specs.declared.node.Entry.{Entry}
-use Rattle.ghistory.specs.Laws.{AgreesWith}
-use Rattle.grepo.specs.Repos.{RepoState}
+use Rattle.gdag.specs.Laws.{AgreesWith}
+use Rattle.gclientrepo.specs.Repos.{RepoState}
 use Rattle.grequest.specs.Asked.{Asked, Ls, Fetches}
 use Rattle.gsession.specs.Sessions.{SessionState}
 use Rattle.gsession.specs.declared.fault.ClientFault.{ClientFault}

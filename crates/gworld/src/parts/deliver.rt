@@ -15,7 +15,7 @@ use ggrammar::Ends;
 use ggraph::Indexer;
 use gpkt::LineWriter;
 use gpkt::memory::VecSink;
-use grepo::Repo;
+use gclientrepo::Repo;
 use gserve::write_reply;
 use gsession::Session;
 use std::alloc::{AllocError, Allocator};

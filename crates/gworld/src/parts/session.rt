@@ -14,9 +14,9 @@ use crate::fault::NO_OPEN_REQUEST;
 use crate::outcome::Outcome;
 use gfetchreply::PackLimit;
 use ggrammar::Ends;
-use grepo::RefUpdate;
+use gclientrepo::RefUpdate;
 use gsession::{ClientFault, Session, Settled};
-use gspec::Spec;
+use grefspec::Spec;
 use std::alloc::{AllocError, Allocator};
 
 impl<A: Allocator + Copy> Parts<A> {

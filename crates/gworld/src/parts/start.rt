@@ -2,7 +2,7 @@
 #![tactic(auto)]
 
 ghost use Rattle.std.specs.Prelude.{◌≡◌, ◌≢◌, ◌<◌, length, MatchBool, MatchOption, MatchResult};
-ghost use Rattle.ghistory.specs.Reach.{Agree};
+ghost use Rattle.gdag.specs.Reach.{Agree};
 ghost use Rattle.gworld.specs.steps.Bringing.{AgreesAt, DisagreesAt};
 ghost use Rattle.gworld.specs.Starts.{CanStart, CannotStart, IsFirstDisagreement};
 ghost use Rattle.gworld.specs.Worlds.{new_world};
@@ -14,7 +14,7 @@ use ganswer::Server;
 use ggraph::Graph;
 use ggraph::graph_laws::places_are_nodes;
 use gname::Oid;
-use grepo::Repo;
+use gclientrepo::Repo;
 use std::alloc::Allocator;
 
 impl<A: Allocator + Copy> Parts<A> {

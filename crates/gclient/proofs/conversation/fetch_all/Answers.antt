@@ -1,7 +1,7 @@
 use Rattle.std.proofs.Common.{◌≡◌, length, None, Result, refl, sym, ap, subst, ◌∙◌, arith}
 use Rattle.gpkt.specs.Sending.{input_of, output_of}
-use Rattle.ghistory.specs.Reach.{Grows}
-use Rattle.grepo.specs.Repos.{RepoState}
+use Rattle.gdag.specs.Reach.{Grows}
+use Rattle.gclientrepo.specs.Repos.{RepoState}
 use Rattle.gclient.specs.steps.Conversations.{TalksTo, client_of, stage_after}
 use Rattle.gclient.specs.declared.fault.FetchFault.{FetchFault}
 use Rattle.gclient.proofs.RoundLemmas.{round_taken, rounds_within}

@@ -1,5 +1,5 @@
 use Rattle.std.proofs.Common.{◌∙◌, ap}
-use Rattle.ghistory.specs.Graphs.{History}
+use Rattle.gdag.specs.Graphs.{History}
 use Rattle.ggraph.specs.declared.text.reading.Stage.TheVariants.{Nodes}
 use Rattle.ggraph.specs.declared.text.reading.Reading.{Reading}
 use Rattle.ggraph.specs.steps.Reading.{begins}
