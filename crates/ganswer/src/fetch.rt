@@ -32,7 +32,8 @@ impl<A: Allocator + Copy> Server<A> {
     ) -> Result<FetchReply<A>, ServeFault>
         requires { packer.old.answered ≡ packing.Unasked }
         ensures answer { MatchResult result
-            (λ reply. FetchAnswer self.now (K.packs packer.old.packer) asked.now.asked (reply_in reply))
+            (λ reply. FetchAnswer self.now (K.packs packer.old.packer) asked.now.asked
+            (reply_in reply))
             (FetchRefuses self.now (K.pack_fails packer.old.packer) asked.now.asked) }
         ensures format { IfOk result (IsReplyOf self.now.graph.format) }
         ensures packing { MatchResult result
@@ -107,7 +108,8 @@ impl<A: Allocator + Copy> Server<A> {
     ) -> Result<PackBytes<A>, ServeFault>
         requires commons { commons.now ≡ commons_of self.now asked.now.asked }
         requires unasked { packer.old.answered ≡ packing.Unasked }
-        ensures pack { PacksFor self.now (K.packs packer.old.packer) (K.pack_fails packer.old.packer) asked.now.asked result }
+        ensures pack { PacksFor self.now (K.packs packer.old.packer)
+            (K.pack_fails packer.old.packer) asked.now.asked result }
         ensures packing { MatchResult result
             (λ _. packer.new.answered ≡ packing.Packed)
             (λ fault. packer.new.answered ≡ packing_of_fault fault) }

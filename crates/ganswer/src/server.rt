@@ -172,7 +172,8 @@ fn check_parts<A: Allocator + Copy>(
     refs: &Refs<A>,
     head: &Head<A>,
 ) -> Result<Vec<Option<Oid>, A>, BuildFault<A>>
-    ensures parts { let parts = served graph.now refs.now head.now in MatchResult result (λ _. IsServer parts) (IsUnserved parts) }
+    ensures parts { let parts = served graph.now refs.now head.now
+        in MatchResult result (λ _. IsServer parts) (IsUnserved parts) }
     ensures peels { IfOk result (λ peels. KnowsPeels graph.now.entries refs.now peels.items) }
 {
     // Laws.
@@ -222,7 +223,8 @@ fn check_refs<A: Allocator + Copy>(
     graph: &Graph<A>,
     refs: &[(RefName<A>, Oid)],
 ) -> Result<Vec<Option<Oid>, A>, BuildFault<A>>
-    ensures held { MatchResult result (λ _. HoldsRefs graph.now.entries refs.now) (MissesRef graph.now.entries refs.now) }
+    ensures held { MatchResult result (λ _. HoldsRefs graph.now.entries refs.now)
+        (MissesRef graph.now.entries refs.now) }
     ensures peels { IfOk result (λ peels. KnowsPeels graph.now.entries refs.now peels.items) }
 {
     let mut peels = no_peels(graph.allocator(), refs.len());

@@ -53,5 +53,5 @@ pub use crate::fault::FetchFault;
 pub use crate::fetched::Fetched;
 pub use crate::send::send_request;
 pub use gclientrepo::{Ask, Asks, RefUpdate, Repo, RepoFault};
-pub use gsession::{ClientFault, LsTaken, MAX_SPECS, Session, Settled, Taken};
 pub use grefspec::{Spec, SpecFault};
+pub use gsession::{ClientFault, LsTaken, MAX_SPECS, Session, Settled, Taken};

@@ -24,8 +24,8 @@ pub fn send_request<W: Sink, A: Allocator + Copy>(
 ) -> Result<(), WriteFault>
     requires well { writer.old.failed ≡ false }
     requires ids { IsOfFormat format request.now }
-    ensures sent { HasPassed (output_of W.contents W.passed_on W.is_down writer.old.sink writer.new.sink) result
-        (request_bytes format (asked_by_request request.now)) }
+    ensures sent { HasPassed (output_of W.contents W.passed_on W.is_down writer.old.sink
+        writer.new.sink) result (request_bytes format (asked_by_request request.now)) }
     ensures goes_on { OnOk result (writer.new.failed ≡ false) }
     ensures loans { W.loans writer.new.sink ≡ W.loans writer.old.sink }
 {

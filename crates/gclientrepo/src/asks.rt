@@ -93,7 +93,8 @@ impl<A: Allocator + Copy> Asks<A> {
 
     /// The name and the id of the ask at a position, counted from 0; `None` past the end.
     pub fn at(&self, place: usize) -> Option<(&RefName<A>, Oid)>
-        ensures { MatchOption result (length self.now ≤ place) (λ pair. IsAskAt self.now place pair.0.now pair.1) }
+        ensures { MatchOption result (length self.now ≤ place)
+            (λ pair. IsAskAt self.now place pair.0.now pair.1) }
     {
         if place >= self.len() {
             return None;

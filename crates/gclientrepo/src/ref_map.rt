@@ -57,8 +57,10 @@ impl<A: Allocator + Copy> RefMap<A> {
 
     // Whether the name is there, or there is room for one more.
     fn has_room(&self, name: &RefName<A>) -> bool
-        ensures room { IsTrue result → (length self.now < max_refs) ⊎ (ref_at self.now name.now ≢ None) }
-        ensures full { result ≡ false → (ref_at self.now name.now ≡ None) × (length self.now ≡ max_refs) }
+        ensures room { IsTrue result
+            → (length self.now < max_refs) ⊎ (ref_at self.now name.now ≢ None) }
+        ensures full { result ≡ false
+            → (ref_at self.now name.now ≡ None) × (length self.now ≡ max_refs) }
     {
         self.refs.len() < MAX_REFS || self.is_there(name)
     }

@@ -134,11 +134,14 @@ impl<A: Allocator + Copy> Repo<A> {
     pub fn insert_all(&mut self, entries: &[Entry<A>]) -> Result<usize, GraphFault>
         ensures adds { Adds self.old.graph entries.now self.new.graph result }
         ensures only { AddsOnly self.old.graph.entries entries.now self.new.graph.entries }
-        ensures only_parents { AddsOnlyParents self.old.graph.entries entries.now self.new.graph.entries }
-        ensures held { OnOk result (All (λ entry. IsNode self.new.graph.entries entry.id entry.node) entries.now) }
+        ensures only_parents { AddsOnlyParents self.old.graph.entries entries.now
+            self.new.graph.entries }
+        ensures held { OnOk result (All (λ entry. IsNode self.new.graph.entries entry.id
+            entry.node) entries.now) }
         ensures grows { Grows self.old.graph.entries self.new.graph.entries }
         ensures keeps { Keeps self.old.graph.entries self.new.graph.entries }
-        ensures full { (a : Id) → IsFull self.old.graph.entries a → IsFull self.new.graph.entries a }
+        ensures full { (a : Id) → IsFull self.old.graph.entries a
+            → IsFull self.new.graph.entries a }
         ensures refs { self.new.refs ≡ self.old.refs }
         ensures known { self.new.known ≡ self.old.known }
         ensures whole { IsWhole self.new }

@@ -89,7 +89,8 @@ fn take_ask<A: Allocator + Copy>(
     aim: &Aim,
     refs: &mut RefMap<A>,
 ) -> Result<RefUpdate, RepoFault<A>>
-    ensures { TakesAsk graph.now.entries old.now (aimed (name.now, aim.now)) refs.old refs.new result }
+    ensures { TakesAsk graph.now.entries old.now (aimed (name.now, aim.now)) refs.old refs.new
+        result }
 {
     let update = update_of(graph, old, name, aim)?;
     if update == RefUpdate::Moved {
@@ -106,7 +107,8 @@ fn update_of<A: Allocator + Copy>(
     name: &RefName<A>,
     aim: &Aim,
 ) -> Result<RefUpdate, GraphFault>
-    ensures update { IfOk result (IsUpdate graph.now.entries refs.now (aimed (name.now, aim.now))) }
+    ensures update { IfOk result (IsUpdate graph.now.entries refs.now
+        (aimed (name.now, aim.now))) }
     ensures fault { IfErr result (λ fault. fault ≡ Memory) }
 {
     let Some(old) = refs.get(name) else {

@@ -16,8 +16,8 @@ pub fn read_specs<A: Allocator + Copy>(
     alloc: A,
     words: &[String<A>],
 ) -> Result<Vec<Spec<A>, A>, ProgramFault<A>>
-    ensures { MatchResult result (λ specs. ReadsSpecs {A = A} (map string_bytes words.now) (Ok specs.items))
-        (λ fault. ReadsSpecs (map string_bytes words.now) (Err fault)) }
+    ensures { MatchResult result (λ specs. ReadsSpecs {A = A} (map string_bytes words.now)
+        (Ok specs.items)) (λ fault. ReadsSpecs (map string_bytes words.now) (Err fault)) }
 {
     let mut specs = Vec::new(alloc);
     for word in words {

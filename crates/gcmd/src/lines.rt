@@ -127,7 +127,8 @@ fn show_line<W: Sink>(line: Line<'_>, output: &mut W) -> Result<(), Down>
 
 fn show_data<W: Sink>(payload: &[u8], output: &mut W) -> Result<(), Down>
     ensures shown { IsPut (output_of W.contents W.passed_on W.is_down output.old output.new) result
-        ((codes "data " ++ decimal (length payload.now)) ++ (digits_part payload.now ++ codes "\n")) }
+        ((codes "data " ++ decimal (length payload.now))
+        ++ (digits_part payload.now ++ codes "\n")) }
     ensures loans { W.loans output.new ≡ W.loans output.old }
 {
     let mut head = ArrayVec::new();

@@ -174,7 +174,8 @@ impl<'a> FaultLine<'a> {
     /// sink is down.
     pub(crate) fn print<E: Sink>(&self, errors: &mut E) -> Result<(), Down>
         requires { IsShort self.now }
-        ensures sent { IsSent (output_of E.contents E.passed_on E.is_down errors.old errors.new) result (printed_line (row_view self.now)) }
+        ensures sent { IsSent (output_of E.contents E.passed_on E.is_down errors.old errors.new)
+            result (printed_line (row_view self.now)) }
         ensures loans { E.loans errors.new ≡ E.loans errors.old }
     {
         let mut text = ArrayVec::new();

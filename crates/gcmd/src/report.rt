@@ -116,7 +116,8 @@ fn put_line<A: Allocator + Copy>(
     word: &[u8],
     name: &RefName<A>,
 ) -> Result<(), AllocError>
-    ensures { OnOk result (text.new.items ≡ text.old.items ++ (word.now ++ (name.now ++ codes "\n"))) }
+    ensures { OnOk result (text.new.items
+        ≡ text.old.items ++ (word.now ++ (name.now ++ codes "\n"))) }
 {
     put_named(text, word, name)?;
     text.extend_from_slice(b"\n")

@@ -107,7 +107,8 @@ fn hear_server<S: Source, A: Allocator + Copy>(
     alloc: A,
 ) -> Result<Heard, MessageFault>
     requires { reader.old.failed ≡ false }
-    ensures hears { HearsServer (input_of S.remaining S.is_down reader.old.source reader.new.source) result }
+    ensures hears { HearsServer (input_of S.remaining S.is_down reader.old.source
+        reader.new.source) result }
     ensures goes_on { OnOk result (reader.new.failed ≡ false) }
     ensures loans { S.loans reader.new.source ≡ S.loans reader.old.source }
 {

@@ -121,7 +121,8 @@ impl<A: Allocator + Copy> Graph<A> {
 
     /// The first of the ids that the graph does not hold. It takes no memory.
     pub fn first_absent(&self, ids: &[Oid]) -> Option<Oid>
-        ensures { MatchOption result (All (Holds self.now.entries) ids.now) (IsFirstAbsent self.now.entries ids.now) }
+        ensures { MatchOption result (All (Holds self.now.entries) ids.now)
+            (IsFirstAbsent self.now.entries ids.now) }
     {
         for id in ids {
             if !self.contains(id) {
@@ -169,7 +170,8 @@ impl<A: Allocator + Copy> Graph<A> {
     /// The parents of the node at a position in store order, in the order of the object.
     pub fn parents(&self, place: usize) -> &[Oid]
         requires { place < length self.now.entries }
-        ensures { option_map (λ entry. entry.node.parents) (slice_get self.now.entries place) ≡ Some result.now }
+        ensures { option_map (λ entry. entry.node.parents) (slice_get self.now.entries place)
+            ≡ Some result.now }
     {
         self.nodes[place].parents.as_slice()
     }
@@ -177,7 +179,8 @@ impl<A: Allocator + Copy> Graph<A> {
     /// The id at a position in store order.
     pub fn id_at(&self, place: usize) -> &Oid
         requires { place < length self.now.entries }
-        ensures { option_map (λ entry. entry.id) (slice_get self.now.entries place) ≡ Some result.now }
+        ensures { option_map (λ entry. entry.id) (slice_get self.now.entries place)
+            ≡ Some result.now }
     {
         self.at(place).unwrap().0
     }
@@ -207,7 +210,8 @@ impl<A: Allocator + Copy> Graph<A> {
         requires ids { HasIdsOf self.old.format entry }
         requires shaped { IsShaped entry.node }
         requires room { length self.old.entries < max_nodes }
-        ensures ok { OnOk result (self.new ≡ record { format = self.old.format; entries = self.old.entries ++ entry ∷ [] }) }
+        ensures ok { OnOk result (self.new
+            ≡ record { format = self.old.format; entries = self.old.entries ++ entry ∷ [] }) }
         ensures err { OnErr result (self.new ≡ self.old) }
         ensures graph { IsGraph self.new }
         ensures fault { IfErr result (λ fault. fault ≡ Memory) }
@@ -226,7 +230,8 @@ impl<A: Allocator + Copy> Graph<A> {
         requires shaped { IsShaped entry.node }
         requires room { length self.old.entries < max_nodes }
         requires parents { IsTrue parents_held ↔ All (Holds self.old.entries) entry.node.parents }
-        ensures ok { OnOk result (self.new ≡ record { format = self.old.format; entries = self.old.entries ++ entry ∷ [] }) }
+        ensures ok { OnOk result (self.new
+            ≡ record { format = self.old.format; entries = self.old.entries ++ entry ∷ [] }) }
         ensures err { OnErr result (self.new ≡ self.old) }
         ensures graph { IsGraph self.new }
         ensures fault { IfErr result (λ fault. fault ≡ Memory) }
@@ -240,7 +245,11 @@ impl<A: Allocator + Copy> Graph<A> {
     /// Keeps the first entries, as many as `count`, which came with their parents first as `ordered` says.
     pub(crate) fn cut_back(&mut self, count: usize, ordered: bool)
         requires { IsTrue ordered ↔ IsOrdered (take count self.old.entries) }
-        ensures { self.new ≡ record { format = self.old.format; entries = take count self.old.entries } }
+        ensures { self.new ≡ record {
+          format = self.old.format;
+          entries = take count
+              self.old.entries;
+        } }
     {
         self.nodes.truncate(count);
         self.ordered = ordered;

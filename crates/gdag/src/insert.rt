@@ -27,7 +27,8 @@ impl<A: Allocator + Copy> Graph<A> {
         ensures held { OnOk result (IsNode self.new.entries entry.id entry.node) }
         ensures grows { Grows self.old.entries self.new.entries }
         ensures keeps { Keeps self.old.entries self.new.entries }
-        ensures reaches { (a b : Id) → Reaches self.old.entries a b → Reaches self.new.entries a b }
+        ensures reaches { (a b : Id) → Reaches self.old.entries a b
+            → Reaches self.new.entries a b }
         ensures full { (a : Id) → IsFull self.old.entries a → IsFull self.new.entries a }
         ensures graph { IsGraph self.new }
     {
@@ -51,10 +52,12 @@ impl<A: Allocator + Copy> Graph<A> {
         ensures adds { Adds self.old entries.now self.new result }
         ensures only { AddsOnly self.old.entries entries.now self.new.entries }
         ensures only_parents { AddsOnlyParents self.old.entries entries.now self.new.entries }
-        ensures held { OnOk result (All (λ entry. IsNode self.new.entries entry.id entry.node) entries.now) }
+        ensures held { OnOk result (All (λ entry. IsNode self.new.entries entry.id entry.node)
+            entries.now) }
         ensures grows { Grows self.old.entries self.new.entries }
         ensures keeps { Keeps self.old.entries self.new.entries }
-        ensures reaches { (a b : Id) → Reaches self.old.entries a b → Reaches self.new.entries a b }
+        ensures reaches { (a b : Id) → Reaches self.old.entries a b
+            → Reaches self.new.entries a b }
         ensures full { (a : Id) → IsFull self.old.entries a → IsFull self.new.entries a }
         ensures graph { IsGraph self.new }
     {

@@ -39,7 +39,14 @@ impl<'a, A: Allocator + Copy> LentLine<'a, A> {
         symref: Option<&'a RefName<A>>,
         peeled: Option<Oid>,
     ) -> LentLine<'a, A>
-        ensures { lent_view result ≡ record { id = id; name = name.now; symref = option_copied symref.entry; peeled = peeled } }
+        ensures { lent_view result
+            ≡ record {
+              id = id;
+              name = name.now;
+              symref = option_copied symref.entry;
+              peeled =
+                  peeled;
+            } }
     {
         LentLine {
             id,

@@ -91,7 +91,9 @@ fn with_attributes<'a>(
     name: &'a [u8],
     attributes: Option<&'a [u8]>,
 ) -> Result<LineParts<'a>, Why>
-    ensures { line_read result ≡ with_attributes format (Ok (line_parts id name.now None None)) (parts_left attributes.entry) }
+    ensures { line_read result
+        ≡ with_attributes format (Ok (line_parts id name.now None None))
+        (parts_left attributes.entry) }
 {
     let mut symref = None;
     let mut peeled = None;

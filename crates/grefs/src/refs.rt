@@ -133,7 +133,8 @@ impl<A: Allocator + Copy> Refs<A> {
         ensures ok { OnOk result (SetsRef self.old self.new name id) }
         ensures held { ref_at self.old name ≢ None → IsTrue (is_ok result) }
         ensures refused { IsErrOf result RefsFault.Refs ↔ CannotSet self.old name }
-        ensures faults { IfErr result (λ fault. (fault ≡ RefsFault.Refs) ⊎ (fault ≡ RefsFault.Memory)) }
+        ensures faults { IfErr result (λ fault. (fault ≡ RefsFault.Refs)
+            ⊎ (fault ≡ RefsFault.Memory)) }
         ensures err { OnErr result (self.new ≡ self.old) }
         ensures refs { IsRefs self.new }
     {

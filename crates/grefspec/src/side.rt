@@ -38,7 +38,8 @@ pub(crate) fn is_stem(text: &[u8]) -> bool
 
 /// The bytes of both, one after the other. `None` where they are more than `MAX_NAME`.
 pub(crate) fn join(front: &[u8], back: &[u8]) -> Option<ArrayVec<u8, MAX_NAME>>
-    ensures { MatchOption result (max_name < length (front.now ++ back.now)) (λ text. text.items ≡ front.now ++ back.now) }
+    ensures { MatchOption result (max_name < length (front.now ++ back.now))
+        (λ text. text.items ≡ front.now ++ back.now) }
 {
     let mut text = ArrayVec::new();
     if text.try_extend_from_slice(front).is_err() {

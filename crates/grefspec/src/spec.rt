@@ -58,8 +58,12 @@ impl<A: Allocator + Copy> Spec<A> {
     ) -> Result<Spec<A>, SpecFault>
         requires { AreSides pattern source.now destination.now }
         ensures { MatchResult result
-            (λ spec. spec ≡ record { forced = forced; pattern = pattern; source = source.now; destination = destination.now })
-            (λ fault. fault ≡ Memory) }
+            (λ spec. spec ≡ record {
+              forced = forced;
+              pattern = pattern;
+              source = source.now;
+              destination = destination.now;
+            }) (λ fault. fault ≡ Memory) }
     {
         let Ok(source) = Prefix::new(alloc, source) else {
             return Err(SpecFault::Memory);

@@ -126,7 +126,8 @@ impl<A: Allocator + Copy> FetchRequest<A> {
 
     /// The flags that are written before the ids, each at its number.
     pub(crate) fn early_flags(&self) -> [bool; MAX_FLAGS]
-        ensures { flags_at fetch_number fetch_flags result ≡ (fetch_with self.now.asked Done false).flags }
+        ensures { flags_at fetch_number fetch_flags result
+            ≡ (fetch_with self.now.asked Done false).flags }
     {
         let mut flags = self.flags;
         flags[FetchFlag::Done.number()] = false;
@@ -233,28 +234,40 @@ impl<A: Allocator + Copy> FetchRequest<A> {
 
     /// Allows the pack to leave out objects on which others are based, or not.
     pub fn set_thin_pack(&mut self, thin_pack: bool)
-        ensures { self.new ≡ record self.old { asked = fetch_with self.old.asked ThinPack thin_pack } }
+        ensures { self.new ≡ record self.old {
+          asked = fetch_with self.old.asked ThinPack
+              thin_pack;
+        } }
     {
         self.set(FetchFlag::ThinPack, thin_pack);
     }
 
     /// Asks for no progress, or not.
     pub fn set_no_progress(&mut self, no_progress: bool)
-        ensures { self.new ≡ record self.old { asked = fetch_with self.old.asked NoProgress no_progress } }
+        ensures { self.new ≡ record self.old {
+          asked = fetch_with self.old.asked NoProgress
+              no_progress;
+        } }
     {
         self.set(FetchFlag::NoProgress, no_progress);
     }
 
     /// Asks for the tags that lead to objects which are sent, or not.
     pub fn set_include_tag(&mut self, include_tag: bool)
-        ensures { self.new ≡ record self.old { asked = fetch_with self.old.asked IncludeTag include_tag } }
+        ensures { self.new ≡ record self.old {
+          asked = fetch_with self.old.asked IncludeTag
+              include_tag;
+        } }
     {
         self.set(FetchFlag::IncludeTag, include_tag);
     }
 
     /// Allows bases that are given by their offset in the pack, or not.
     pub fn set_ofs_delta(&mut self, ofs_delta: bool)
-        ensures { self.new ≡ record self.old { asked = fetch_with self.old.asked OfsDelta ofs_delta } }
+        ensures { self.new ≡ record self.old {
+          asked = fetch_with self.old.asked OfsDelta
+              ofs_delta;
+        } }
     {
         self.set(FetchFlag::OfsDelta, ofs_delta);
     }
@@ -281,8 +294,12 @@ impl<A: Allocator + Copy> FetchRequest<A> {
     /// It fails with `BadText` where the id has another format than the request, with `Limit` where there
     /// are 1,024 wants, and with `Memory`, all at packet 0. Nothing changes then.
     pub fn push_want(&mut self, id: Oid) -> Result<(), MessageFault>
-        ensures { Builds (has_format self.old.format id) (nat_lt (length self.old.asked.wants) max_wants)
-            self.old self.new (record self.old { asked = record self.old.asked { wants = self.old.asked.wants ++ id ∷ [] } }) result }
+        ensures { Builds (has_format self.old.format id)
+            (nat_lt (length self.old.asked.wants) max_wants)
+            self.old self.new (record self.old {
+              asked = record self.old.asked
+                  { wants = self.old.asked.wants ++ id ∷ [] };
+            }) result }
     {
         let has_room = self.wants.len() < MAX_WANTS;
         match keep_id(self.format, &mut self.wants, has_room, id) {
@@ -298,8 +315,12 @@ impl<A: Allocator + Copy> FetchRequest<A> {
     /// It fails with `BadText` where the id has another format than the request, with `Limit` where there
     /// are 4,096 haves, and with `Memory`, all at packet 0. Nothing changes then.
     pub fn push_have(&mut self, id: Oid) -> Result<(), MessageFault>
-        ensures { Builds (has_format self.old.format id) (nat_lt (length self.old.asked.haves) max_haves)
-            self.old self.new (record self.old { asked = record self.old.asked { haves = self.old.asked.haves ++ id ∷ [] } }) result }
+        ensures { Builds (has_format self.old.format id)
+            (nat_lt (length self.old.asked.haves) max_haves)
+            self.old self.new (record self.old {
+              asked = record self.old.asked
+                  { haves = self.old.asked.haves ++ id ∷ [] };
+            }) result }
     {
         let has_room = self.haves.len() < MAX_HAVES;
         match keep_id(self.format, &mut self.haves, has_room, id) {
@@ -313,7 +334,8 @@ impl<A: Allocator + Copy> FetchRequest<A> {
     // Keeps the client's name for itself.
     pub(crate) fn keep_agent(&mut self, agent: &[u8]) -> Result<(), AllocError>
         requires { is_word_value agent.now ≡ true }
-        ensures ok { OnOk result (self.new ≡ record self.old { asked = record self.old.asked { agent = Some agent.now } }) }
+        ensures ok { OnOk result (self.new
+            ≡ record self.old { asked = record self.old.asked { agent = Some agent.now } }) }
         ensures err { OnErr result (self.new ≡ self.old) }
     {
         let agent = Vec::from_slice(*self.wants.allocator(), agent)?;
@@ -323,9 +345,13 @@ impl<A: Allocator + Copy> FetchRequest<A> {
 
     // Takes an argument after so many others.
     pub(crate) fn take_argument(&mut self, arguments: u32, text: &[u8]) -> Result<(), Why>
-        ensures adds { AddsAs (judge_fetch_argument self.old.format arguments self.old.asked.wants self.old.asked.haves (fetch_argument text.now))
+        ensures adds { AddsAs (judge_fetch_argument self.old.format arguments self.old.asked.wants
+            self.old.asked.haves (fetch_argument text.now))
             (fetch_argument_brings (fetch_argument text.now))
-            (self.new ≡ record self.old { asked = with_fetch_argument self.old.format self.old.asked (fetch_argument text.now) }) result }
+            (self.new ≡ record self.old {
+              asked = with_fetch_argument self.old.format
+                  self.old.asked (fetch_argument text.now);
+            }) result }
         ensures room { OnOk result (arguments < max_arguments) }
         ensures format { self.new.format ≡ self.old.format }
     {
@@ -342,8 +368,12 @@ impl<A: Allocator + Copy> FetchRequest<A> {
     }
 
     fn take_want(&mut self, arguments: u32, text: &[u8]) -> Result<(), Why>
-        ensures adds { AddsAs (judge_fetch_argument self.old.format arguments self.old.asked.wants self.old.asked.haves (Want text.now)) true
-            (self.new ≡ record self.old { asked = with_fetch_argument self.old.format self.old.asked (Want text.now) }) result }
+        ensures adds { AddsAs (judge_fetch_argument self.old.format arguments self.old.asked.wants
+            self.old.asked.haves (Want text.now)) true
+            (self.new ≡ record self.old {
+              asked = with_fetch_argument self.old.format
+                  self.old.asked (Want text.now);
+            }) result }
         ensures room { OnOk result (arguments < max_arguments) }
         ensures format { self.new.format ≡ self.old.format }
     {
@@ -360,8 +390,12 @@ impl<A: Allocator + Copy> FetchRequest<A> {
     }
 
     fn take_have(&mut self, arguments: u32, text: &[u8]) -> Result<(), Why>
-        ensures adds { AddsAs (judge_fetch_argument self.old.format arguments self.old.asked.wants self.old.asked.haves (Have text.now)) true
-            (self.new ≡ record self.old { asked = with_fetch_argument self.old.format self.old.asked (Have text.now) }) result }
+        ensures adds { AddsAs (judge_fetch_argument self.old.format arguments self.old.asked.wants
+            self.old.asked.haves (Have text.now)) true
+            (self.new ≡ record self.old {
+              asked = with_fetch_argument self.old.format
+                  self.old.asked (Have text.now);
+            }) result }
         ensures room { OnOk result (arguments < max_arguments) }
         ensures format { self.new.format ≡ self.old.format }
     {

@@ -95,7 +95,8 @@ pub(crate) fn ls_argument(text: &[u8]) -> LsArgument<'_>
 }
 
 fn ref_prefix(text: &[u8]) -> LsArgument<'_>
-    ensures { ls_argument_in result ≡ ref_prefix_or_unknown (after_word (codes "ref-prefix ") text.now) }
+    ensures { ls_argument_in result
+        ≡ ref_prefix_or_unknown (after_word (codes "ref-prefix ") text.now) }
 {
     match after_word(b"ref-prefix ", text) {
         Some(prefix) => LsArgument::RefPrefix(prefix),
@@ -115,7 +116,9 @@ pub(crate) fn fetch_argument(text: &[u8]) -> FetchArgument<'_>
 }
 
 fn want_or_have(text: &[u8]) -> FetchArgument<'_>
-    ensures { fetch_argument_in result ≡ want_or_else (after_word (codes "want ") text.now) (have_or_unknown (after_word (codes "have ") text.now)) }
+    ensures { fetch_argument_in result
+        ≡ want_or_else (after_word (codes "want ") text.now)
+        (have_or_unknown (after_word (codes "have ") text.now)) }
 {
     if let Some(id) = after_word(b"want ", text) {
         return FetchArgument::Want(id);

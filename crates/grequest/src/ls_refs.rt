@@ -187,7 +187,8 @@ impl<A: Allocator + Copy> LsRefsRequest<A> {
     /// It fails with `BadText` where the name does not have 1 to 1,000 bytes from `!` to `~`, and with
     /// `Memory`, both at packet 0. Nothing changes then.
     pub fn set_agent(&mut self, agent: &[u8]) -> Result<(), MessageFault>
-        ensures { Builds (is_word_value agent.now) true self.old self.new (record self.old { agent = Some agent.now }) result }
+        ensures { Builds (is_word_value agent.now) true self.old self.new
+            (record self.old { agent = Some agent.now }) result }
     {
         if !is_word_value(agent) {
             return Err(MessageFault::of_value(Why::BadText));
@@ -203,8 +204,10 @@ impl<A: Allocator + Copy> LsRefsRequest<A> {
     /// It fails with `BadText` where the text is no prefix of names, with `Limit` where there are 64
     /// prefixes, and with `Memory`, all at packet 0. Nothing changes then.
     pub fn push_prefix(&mut self, prefix: &[u8]) -> Result<(), MessageFault>
-        ensures { Builds (is_none (prefix_fault prefix.now)) (nat_lt (length self.old.prefixes) max_prefixes)
-            self.old self.new (record self.old { prefixes = self.old.prefixes ++ prefix.now ∷ [] }) result }
+        ensures { Builds (is_none (prefix_fault prefix.now))
+            (nat_lt (length self.old.prefixes) max_prefixes)
+            self.old self.new (record self.old { prefixes = self.old.prefixes ++ prefix.now ∷ [] })
+            result }
     {
         let has_room = self.prefixes.len() < MAX_PREFIXES;
         match self.keep_prefix(has_room, prefix) {
@@ -230,7 +233,8 @@ impl<A: Allocator + Copy> LsRefsRequest<A> {
     fn keep_prefix(&mut self, has_room: bool, prefix: &[u8]) -> Result<(), NotKept>
         requires { has_room ≡ true → length self.old.prefixes < max_prefixes }
         ensures { KeepsAs (is_none (prefix_fault prefix.now)) has_room
-            self.old self.new (record self.old { prefixes = self.old.prefixes ++ prefix.now ∷ [] }) result }
+            self.old self.new (record self.old { prefixes = self.old.prefixes ++ prefix.now ∷ [] })
+            result }
     {
         rules_never_report_memory();
         match Prefix::new(*self.prefixes.allocator(), prefix) {
@@ -246,8 +250,8 @@ impl<A: Allocator + Copy> LsRefsRequest<A> {
 
     // Takes an argument after so many others.
     pub(crate) fn take_argument(&mut self, arguments: u32, text: &[u8]) -> Result<(), Why>
-        ensures adds { AddsAs (judge_ls_argument arguments self.old.prefixes (ls_argument text.now))
-            (ls_argument_brings (ls_argument text.now))
+        ensures adds { AddsAs (judge_ls_argument arguments self.old.prefixes
+            (ls_argument text.now)) (ls_argument_brings (ls_argument text.now))
             (self.new ≡ with_ls_argument self.old (ls_argument text.now)) result }
         ensures room { OnOk result (arguments < max_arguments) }
     {
@@ -263,7 +267,8 @@ impl<A: Allocator + Copy> LsRefsRequest<A> {
     }
 
     fn take_prefix(&mut self, arguments: u32, prefix: &[u8]) -> Result<(), Why>
-        ensures adds { AddsAs (judge_ls_argument arguments self.old.prefixes (RefPrefix prefix.now)) true
+        ensures adds { AddsAs (judge_ls_argument arguments self.old.prefixes
+            (RefPrefix prefix.now)) true
             (self.new ≡ with_ls_argument self.old (RefPrefix prefix.now)) result }
         ensures room { OnOk result (arguments < max_arguments) }
     {

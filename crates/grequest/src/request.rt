@@ -70,7 +70,8 @@ impl<A: Allocator + Copy> Request<A> {
     // Keeps the client's name for itself.
     pub(crate) fn keep_agent(&mut self, agent: &[u8]) -> Result<(), AllocError>
         requires { is_word_value agent.now ≡ true }
-        ensures ok { OnOk result (asked_by_request self.new ≡ with_agent agent.now (asked_by_request self.old)) }
+        ensures ok { OnOk result (asked_by_request self.new
+            ≡ with_agent agent.now (asked_by_request self.old)) }
         ensures format { ids_format self.new ≡ ids_format self.old }
     {
         match self {

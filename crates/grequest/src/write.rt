@@ -38,8 +38,8 @@ pub fn write_request<A: Allocator + Copy, W: Sink>(
     writer: &mut LineWriter<W>,
 ) -> Result<(), WriteFault>
     requires { IsOfFormat format request.now }
-    ensures lines { WritesLines W.contents W.passed_on W.is_down W.loans writer.old writer.new result
-        (canonical_request format (asked_by_request request.now)) }
+    ensures lines { WritesLines W.contents W.passed_on W.is_down W.loans writer.old writer.new
+        result (canonical_request format (asked_by_request request.now)) }
     ensures form { IsAsked format (asked_by_request request.now) }
 {
     writes_lines::<W>();
@@ -53,7 +53,8 @@ pub fn write_request<A: Allocator + Copy, W: Sink>(
 
 // What the type of a request says of it; the call has no effect.
 fn keeps_forms<A: Allocator + Copy>(request: &Request<A>)
-    ensures { (format : Format) → IsOfFormat format request.now → IsAsked format (asked_by_request request.now) }
+    ensures { (format : Format) → IsOfFormat format request.now
+        → IsAsked format (asked_by_request request.now) }
 {
     match request {
         Request::Empty => {}
@@ -107,7 +108,8 @@ fn write_head<W: Sink>(
 ) -> Result<(), WriteFault>
     requires { IsAgent (option_copied agent) }
     ensures { WritesLines W.contents W.passed_on W.is_down W.loans writer.old writer.new result
-        (command_packet command ∷ (agent_packets (option_copied agent.entry) ++ format_packets format ++ Delim ∷ [])) }
+        (command_packet command
+        ∷ (agent_packets (option_copied agent.entry) ++ format_packets format ++ Delim ∷ [])) }
 {
     writes_lines::<W>();
     write_text(b"command=", command.name().as_bytes(), writer)?;
@@ -118,7 +120,8 @@ fn write_head<W: Sink>(
 
 fn write_agent<W: Sink>(agent: Option<&[u8]>, writer: &mut LineWriter<W>) -> Result<(), WriteFault>
     requires { IsAgent (option_copied agent) }
-    ensures { WritesPart W.contents W.passed_on W.is_down W.loans writer.old writer.new result (agent_packets (option_copied agent.entry)) }
+    ensures { WritesPart W.contents W.passed_on W.is_down W.loans writer.old writer.new result
+        (agent_packets (option_copied agent.entry)) }
 {
     writes_lines::<W>();
     match agent {
@@ -128,7 +131,8 @@ fn write_agent<W: Sink>(agent: Option<&[u8]>, writer: &mut LineWriter<W>) -> Res
 }
 
 fn write_format<W: Sink>(format: Format, writer: &mut LineWriter<W>) -> Result<(), WriteFault>
-    ensures { WritesPart W.contents W.passed_on W.is_down W.loans writer.old writer.new result (format_packets format) }
+    ensures { WritesPart W.contents W.passed_on W.is_down W.loans writer.old writer.new result
+        (format_packets format) }
 {
     writes_lines::<W>();
     match format {
@@ -160,7 +164,8 @@ fn write_flag<W: Sink>(
     writer: &mut LineWriter<W>,
 ) -> Result<(), WriteFault>
     requires { length word.now ≤ max_capability }
-    ensures { WritesPart W.contents W.passed_on W.is_down W.loans writer.old writer.new result (flag_packets word.now is_set) }
+    ensures { WritesPart W.contents W.passed_on W.is_down W.loans writer.old writer.new result
+        (flag_packets word.now is_set) }
 {
     writes_lines::<W>();
     if is_set {
@@ -174,7 +179,8 @@ fn write_prefixes<A: Allocator + Copy, W: Sink>(
     prefixes: &[Prefix<A>],
     writer: &mut LineWriter<W>,
 ) -> Result<(), WriteFault>
-    ensures { WritesPart W.contents W.passed_on W.is_down W.loans writer.old writer.new result (map prefix_packet prefixes.now) }
+    ensures { WritesPart W.contents W.passed_on W.is_down W.loans writer.old writer.new result
+        (map prefix_packet prefixes.now) }
 {
     writes_lines::<W>();
     for prefix in prefixes {
@@ -190,7 +196,8 @@ fn write_ids<W: Sink>(
     writer: &mut LineWriter<W>,
 ) -> Result<(), WriteFault>
     requires { length word.now ≤ max_word }
-    ensures { WritesPart W.contents W.passed_on W.is_down W.loans writer.old writer.new result (map (id_packet word.now) ids.now) }
+    ensures { WritesPart W.contents W.passed_on W.is_down W.loans writer.old writer.new result
+        (map (id_packet word.now) ids.now) }
 {
     writes_lines::<W>();
     for id in ids {
@@ -201,7 +208,8 @@ fn write_ids<W: Sink>(
 
 fn write_id<W: Sink>(word: &[u8], id: &Oid, writer: &mut LineWriter<W>) -> Result<(), WriteFault>
     requires { length word.now ≤ max_word }
-    ensures { WritesLines W.contents W.passed_on W.is_down W.loans writer.old writer.new result (id_packet word.now id.now ∷ []) }
+    ensures { WritesLines W.contents W.passed_on W.is_down W.loans writer.old writer.new result
+        (id_packet word.now id.now ∷ []) }
 {
     let mut text = [0u8; MAX_ID_TEXT];
     let len = id.to_hex(&mut text);
@@ -216,7 +224,8 @@ fn write_text<W: Sink>(
 ) -> Result<(), WriteFault>
     requires word { length word.now ≤ max_word }
     requires rest { length rest.now ≤ max_capability }
-    ensures { WritesLines W.contents W.passed_on W.is_down W.loans writer.old writer.new result (text_packet (word.now ++ rest.now) ∷ []) }
+    ensures { WritesLines W.contents W.passed_on W.is_down W.loans writer.old writer.new result
+        (text_packet (word.now ++ rest.now) ∷ []) }
 {
     writes_lines::<W>();
     writer.text2(word, rest)

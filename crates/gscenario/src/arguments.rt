@@ -48,7 +48,8 @@ pub(crate) fn event_of<A: Allocator + Copy>(
 
 // The event whose command has no words after it.
 fn alone<A: Allocator + Copy>(tail: &[u8], event: Event<A>) -> Option<Event<A>>
-    ensures { MatchOption result (words_after tail.now ≢ []) (λ found. (found ≡ event) × (words_after tail.now ≡ [])) }
+    ensures { MatchOption result (words_after tail.now ≢ [])
+        (λ found. (found ≡ event) × (words_after tail.now ≡ [])) }
 {
     if no_word(tail) { Some(event) } else { None }
 }
@@ -175,7 +176,8 @@ fn number_and_count(tail: &[u8]) -> Option<(usize, usize)>
 // The bytes that come, alone.
 fn bytes_alone<A: Allocator + Copy>(alloc: A, tail: &[u8]) -> Result<Option<Vec<u8, A>>, AllocError>
     ensures { MatchResult result
-        (λ found. MatchOption found (((bytes : List ℕ) → AreOneBytes (words_after tail.now) bytes → ⊥))
+        (λ found. MatchOption found (((bytes : List ℕ) → AreOneBytes (words_after tail.now) bytes
+        → ⊥))
         (λ bytes. AreOneBytes (words_after tail.now) bytes.items))
         (λ _. ⊤) }
 {
@@ -191,7 +193,8 @@ fn specs_of<A: Allocator + Copy>(
     tail: &[u8],
 ) -> Result<Option<Vec<Spec<A>, A>>, AllocError>
     ensures { MatchResult result
-        (λ found. MatchOption found (((specs : List Refspec) → AreSpecs (words_after tail.now) specs → ⊥))
+        (λ found. MatchOption found (((specs : List Refspec)
+        → AreSpecs (words_after tail.now) specs → ⊥))
         (λ specs. AreSpecs (words_after tail.now) specs.items))
         (λ _. ⊤) }
 {
@@ -214,7 +217,8 @@ fn specs_of<A: Allocator + Copy>(
 // The object that comes.
 fn entry_of<A: Allocator + Copy>(alloc: A, tail: &[u8]) -> Result<Option<Entry<A>>, AllocError>
     ensures { MatchResult result
-        (λ found. MatchOption found (((entry : Entry A) → IsEntry (words_after tail.now) entry → ⊥))
+        (λ found. MatchOption found (((entry : Entry A) → IsEntry (words_after tail.now) entry
+        → ⊥))
         (IsEntry (words_after tail.now)))
         (λ _. ⊤) }
 {
@@ -236,7 +240,8 @@ fn entry_of_kind<A: Allocator + Copy>(
     ensures { MatchResult result
         (λ found. MatchOption found
         (((id : Id) (ids : List Id) → AllZip IsIdText (words_after tail.now) (id ∷ ids) → ⊥))
-        (λ entry. (entry.node.kind ≡ kind) × AllZip IsIdText (words_after tail.now) (ids_of entry)))
+        (λ entry. (entry.node.kind ≡ kind)
+        × AllZip IsIdText (words_after tail.now) (ids_of entry)))
         (λ _. ⊤) }
 {
     match next_word(tail) {
@@ -257,7 +262,8 @@ fn entry_of_kind<A: Allocator + Copy>(
 // The ids that come.
 fn parents_of<A: Allocator + Copy>(alloc: A, tail: &[u8]) -> Result<Option<Parents<A>>, AllocError>
     ensures { MatchResult result
-        (λ found. MatchOption found (((ids : List Id) → AllZip IsIdText (words_after tail.now) ids → ⊥))
+        (λ found. MatchOption found (((ids : List Id) → AllZip IsIdText (words_after tail.now) ids
+        → ⊥))
         (AllZip IsIdText (words_after tail.now)))
         (λ _. ⊤) }
 {
@@ -279,7 +285,8 @@ fn ref_of<A: Allocator + Copy>(
     tail: &[u8],
 ) -> Result<Option<(RefName<A>, Oid)>, AllocError>
     ensures { MatchResult result
-        (λ found. MatchOption found (((name : Name) (id : Id) → IsRef (words_after tail.now) name id → ⊥))
+        (λ found. MatchOption found (((name : Name) (id : Id)
+        → IsRef (words_after tail.now) name id → ⊥))
         (λ pair. IsRef (words_after tail.now) pair.0 pair.1))
         (λ _. ⊤) }
 {

@@ -68,7 +68,8 @@ pub(crate) fn write_refusal<W: Sink>(
     fault: &ServeFault,
     writer: &mut LineWriter<W>,
 ) -> Result<(), WriteFault>
-    ensures { WritesLines W.contents W.passed_on W.is_down W.loans writer.old writer.new result (err_packets fault.now) }
+    ensures { WritesLines W.contents W.passed_on W.is_down W.loans writer.old writer.new result
+        (err_packets fault.now) }
 {
     writes_lines::<W>();
     let text = text_of(fault);

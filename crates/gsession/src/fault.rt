@@ -8,10 +8,10 @@ ghost use Rattle.gsession.specs.Faults.{client_fault_row, client_fault_text};
 ghost use Rattle.gsession.specs.Sessions.{ends_session};
 ghost use Rattle.gsession.specs.declared.fault.ClientFault.TheVariants as client;
 
+use gclientrepo::RepoFault;
 use ggrammar::MessageFault;
 use ggraph::{GraphFault, IndexFault};
 use gname::Oid;
-use gclientrepo::RepoFault;
 use std::alloc::{AllocError, AllocFailed, Allocator, Global};
 use std::error::Error;
 use std::fmt;

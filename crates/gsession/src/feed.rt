@@ -59,7 +59,8 @@ impl<'k, K: Indexer<A>, A: Allocator + Copy> PackFeed<'k, K, A> {
     fn add(&mut self, bytes: &[u8]) -> Result<(), IndexFault>
         ensures indexer { self.new.indexer.now ≡ self.old.indexer.now }
         ensures fed { MatchResult result
-            (λ _. ((before : Bytes) → MayHaveFed (K.fed self.old.indexer.now) (K.index_fails self.old.indexer.now)
+            (λ _. ((before : Bytes)
+            → MayHaveFed (K.fed self.old.indexer.now) (K.index_fails self.old.indexer.now)
             self.old.feed before
             → MayHaveFed (K.fed self.old.indexer.now) (K.index_fails self.old.indexer.now)
             self.new.feed (before ++ bytes.now)))
@@ -86,8 +87,8 @@ impl<K: Indexer<A>, A: Allocator + Copy> PackSink for PackFeed<'_, K, A> {
 
     fn piece(&mut self, bytes: &[u8]) -> bool
         ensures takes { TakesPiece
-            (λ feed taken. MayHaveFed (K.fed feed.indexer.now) (K.index_fails feed.indexer.now) feed.feed taken)
-            false self.old self.new bytes.now result }
+            (λ feed taken. MayHaveFed (K.fed feed.indexer.now) (K.index_fails feed.indexer.now)
+            feed.feed taken) false self.old self.new bytes.now result }
         ensures same { self.old.indexer.now ≡ self.new.indexer.now }
     {
         if let Err(fault) = self.add(bytes) {

@@ -13,8 +13,8 @@ ghost use Rattle.gsession.specs.steps.Calls.{with_prefix};
 
 use ggrammar::MessageFault;
 use gname::{Format, Oid, Prefix};
-use grequest::{FetchRequest, LsRefsRequest, Request};
 use grefspec::Spec;
+use grequest::{FetchRequest, LsRefsRequest, Request};
 use std::alloc::{AllocError, Allocator};
 
 /// How many ids are offered after so many rounds.
@@ -41,7 +41,8 @@ pub(crate) fn refs_request<A: Allocator + Copy>(
     unborn: bool,
 ) -> Result<Request<A>, AllocError>
     requires { length specs.now ≤ max_specs }
-    ensures asked { IfOk result (λ request. asked_by_request request ≡ Ls (ls_request specs.now unborn)) }
+    ensures asked { IfOk result (λ request. asked_by_request request
+        ≡ Ls (ls_request specs.now unborn)) }
     ensures format { IfOk result (λ request. ids_format request ≡ None) }
 {
     let mut request = LsRefsRequest::new(alloc);

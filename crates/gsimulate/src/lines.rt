@@ -82,7 +82,8 @@ fn put_taken<A: Allocator + Copy>(
     asks: usize,
     wants: usize,
 ) -> Result<(), AllocError>
-    ensures { OnOk result (text.new.items ≡ text.old.items ++ outcome_text (outcome.LsTaken asks wants)) }
+    ensures { OnOk result (text.new.items
+        ≡ text.old.items ++ outcome_text (outcome.LsTaken asks wants)) }
 {
     put_count(text, b"ls asks=", asks)?;
     put_count(text, b" wants=", wants)
@@ -95,7 +96,8 @@ fn put_settled<A: Allocator + Copy>(
     same: usize,
     not_forward: usize,
 ) -> Result<(), AllocError>
-    ensures { OnOk result (text.new.items ≡ text.old.items ++ outcome_text (outcome.Settled moved same not_forward)) }
+    ensures { OnOk result (text.new.items
+        ≡ text.old.items ++ outcome_text (outcome.Settled moved same not_forward)) }
 {
     put_count(text, b"settled moved=", moved)?;
     put_count(text, b" same=", same)?;

@@ -28,7 +28,8 @@ pub(crate) fn finish<A: Allocator + Copy, E: Sink>(
     ending: Result<(), SimulationFault<A>>,
     errors: &mut E,
 ) -> u8
-    ensures exits { ExitsWith ending (output_of E.contents E.passed_on E.is_down errors.old errors.new) result }
+    ensures exits { ExitsWith ending (output_of E.contents E.passed_on E.is_down errors.old
+        errors.new) result }
     ensures loans { E.loans errors.new ≡ E.loans errors.old }
 {
     match ending {
@@ -42,7 +43,8 @@ pub(crate) fn finish<A: Allocator + Copy, E: Sink>(
 
 // Prints the fault as one line, and passes it on. Where the line can't be printed, there is nowhere to report it.
 fn print<A: Allocator + Copy, E: Sink>(fault: &SimulationFault<A>, errors: &mut E)
-    ensures printed { Prints (output_of E.contents E.passed_on E.is_down errors.old errors.new) (simulation_fault_line fault.now) }
+    ensures printed { Prints (output_of E.contents E.passed_on E.is_down errors.old errors.new)
+        (simulation_fault_line fault.now) }
     ensures loans { E.loans errors.new ≡ E.loans errors.old }
 {
     match fault {
@@ -54,14 +56,16 @@ fn print<A: Allocator + Copy, E: Sink>(fault: &SimulationFault<A>, errors: &mut 
 }
 
 fn print_program<A: Allocator + Copy, E: Sink>(fault: &ProgramFault<A>, errors: &mut E)
-    ensures printed { Prints (output_of E.contents E.passed_on E.is_down errors.old errors.new) (fault_line fault.now) }
+    ensures printed { Prints (output_of E.contents E.passed_on E.is_down errors.old errors.new)
+        (fault_line fault.now) }
     ensures loans { E.loans errors.new ≡ E.loans errors.old }
 {
     let _ = print_fault(fault, errors);
 }
 
 fn print_scenario<A: Allocator + Copy, E: Sink>(fault: &ScenarioFault, errors: &mut E)
-    ensures printed { Prints (output_of E.contents E.passed_on E.is_down errors.old errors.new) (scenario_line fault.now) }
+    ensures printed { Prints (output_of E.contents E.passed_on E.is_down errors.old errors.new)
+        (scenario_line fault.now) }
     ensures loans { E.loans errors.new ≡ E.loans errors.old }
 {
     match fault {
@@ -71,7 +75,8 @@ fn print_scenario<A: Allocator + Copy, E: Sink>(fault: &ScenarioFault, errors: &
 }
 
 fn print_world<A: Allocator + Copy, E: Sink>(fault: &WorldFault, errors: &mut E)
-    ensures printed { Prints (output_of E.contents E.passed_on E.is_down errors.old errors.new) (world_line fault.now) }
+    ensures printed { Prints (output_of E.contents E.passed_on E.is_down errors.old errors.new)
+        (world_line fault.now) }
     ensures loans { E.loans errors.new ≡ E.loans errors.old }
 {
     match fault {
@@ -82,7 +87,8 @@ fn print_world<A: Allocator + Copy, E: Sink>(fault: &WorldFault, errors: &mut E)
 
 // Prints which line of a scenario is wrong.
 fn print_wrong_line<A: Allocator + Copy, E: Sink>(line: usize, errors: &mut E)
-    ensures printed { Prints (output_of E.contents E.passed_on E.is_down errors.old errors.new) (wrong_line line) }
+    ensures printed { Prints (output_of E.contents E.passed_on E.is_down errors.old errors.new)
+        (wrong_line line) }
     ensures loans { E.loans errors.new ≡ E.loans errors.old }
 {
     let text = wrong_line(line);
@@ -102,7 +108,8 @@ fn wrong_line(line: usize) -> ArrayVec<u8, MAX_LINE>
 
 // Prints the id that server and client hold with two objects.
 fn print_disagreement<A: Allocator + Copy, E: Sink>(id: &Oid, errors: &mut E)
-    ensures printed { Prints (output_of E.contents E.passed_on E.is_down errors.old errors.new) (disagreement id.now) }
+    ensures printed { Prints (output_of E.contents E.passed_on E.is_down errors.old errors.new)
+        (disagreement id.now) }
     ensures loans { E.loans errors.new ≡ E.loans errors.old }
 {
     let text = disagreement(id);
@@ -120,7 +127,8 @@ fn disagreement(id: &Oid) -> ArrayVec<u8, MAX_LINE>
 }
 
 fn print_line<A: Allocator + Copy, E: Sink>(line: &[u8], errors: &mut E)
-    ensures printed { Prints (output_of E.contents E.passed_on E.is_down errors.old errors.new) line.now }
+    ensures printed { Prints (output_of E.contents E.passed_on E.is_down errors.old errors.new)
+        line.now }
     ensures loans { E.loans errors.new ≡ E.loans errors.old }
 {
     let _ = send_text::<A, E>(line, errors);

@@ -54,14 +54,16 @@ pub fn fetch_on<A: Allocator + Copy, K: Indexer<A>>(
     ends: Ends,
 ) -> Result<Fetched<A>, FetchFault<A>>
     ensures fetches { FetchesOn (K.indexes indexer.now) (K.index_fails indexer.now)
-        (start_of repo.old specs.now limit ends) (record { path = path.now; host = host.now }) repo.new result }
-    ensures settled { IfOk result (λ fetched. Settles repo.new.graph.entries repo.old.refs fetched.settled.asks
-        fetched.settled.updates.items repo.new.refs) }
+        (start_of repo.old specs.now limit ends) (record { path = path.now; host = host.now })
+        repo.new result }
+    ensures settled { IfOk result (λ fetched. Settles repo.new.graph.entries repo.old.refs
+        fetched.settled.asks fetched.settled.updates.items repo.new.refs) }
     ensures refs { OnErr result (repo.new.refs ≡ repo.old.refs) }
     ensures grows { Grows repo.old.graph.entries repo.new.graph.entries }
     ensures safe { IsWhole repo.new }
     ensures bound { IfOk result (λ fetched. (held parents : ℕ)
-        → CountsReached repo.old.graph.entries (tips_of repo.old) held parents → fetched.requests ≤ held + 1) }
+        → CountsReached repo.old.graph.entries (tips_of repo.old) held parents
+        → fetched.requests ≤ held + 1) }
 {
     // A look-up says that the repository is whole.
     let _format = repo.format();
@@ -86,14 +88,16 @@ pub(crate) fn fetch_from<A: Allocator + Copy, K: Indexer<A>>(
     wanted: &Wanted<'_, A>,
 ) -> Result<Fetched<A>, FetchFault<A>>
     ensures fetches { FetchesFrom (K.indexes indexer.now) (K.index_fails indexer.now)
-        (start_of repo.old wanted.now.specs.now wanted.now.limit wanted.now.ends) wanted.now.hello.now repo.new result }
-    ensures settled { IfOk result (λ fetched. Settles repo.new.graph.entries repo.old.refs fetched.settled.asks
-        fetched.settled.updates.items repo.new.refs) }
+        (start_of repo.old wanted.now.specs.now wanted.now.limit wanted.now.ends)
+        wanted.now.hello.now repo.new result }
+    ensures settled { IfOk result (λ fetched. Settles repo.new.graph.entries repo.old.refs
+        fetched.settled.asks fetched.settled.updates.items repo.new.refs) }
     ensures refs { OnErr result (repo.new.refs ≡ repo.old.refs) }
     ensures grows { Grows repo.old.graph.entries repo.new.graph.entries }
     ensures safe { IsWhole repo.new }
     ensures bound { IfOk result (λ fetched. (held parents : ℕ)
-        → CountsReached repo.old.graph.entries (tips_of repo.old) held parents → fetched.requests ≤ held + 1) }
+        → CountsReached repo.old.graph.entries (tips_of repo.old) held parents
+        → fetched.requests ≤ held + 1) }
 {
     // A look-up says that the repository is whole.
     let _format = repo.format();
@@ -120,15 +124,18 @@ fn fetch_between<A: Allocator + Copy, K: Indexer<A>, R: Read, W: Write>(
     wanted: &Wanted<'_, A>,
 ) -> Result<Fetched<A>, FetchFault<A>>
     ensures fetches { FetchesBetween (K.indexes indexer.now) (K.index_fails indexer.now)
-        (start_of repo.old wanted.now.specs.now wanted.now.limit wanted.now.ends) wanted.now.hello.now
-        (change_of R.remaining reader.old reader.new) (change_of W.contents writer.old writer.new) repo.new result }
-    ensures settled { IfOk result (λ fetched. Settles repo.new.graph.entries repo.old.refs fetched.settled.asks
-        fetched.settled.updates.items repo.new.refs) }
+        (start_of repo.old wanted.now.specs.now wanted.now.limit wanted.now.ends)
+        wanted.now.hello.now
+        (change_of R.remaining reader.old reader.new) (change_of W.contents writer.old writer.new)
+        repo.new result }
+    ensures settled { IfOk result (λ fetched. Settles repo.new.graph.entries repo.old.refs
+        fetched.settled.asks fetched.settled.updates.items repo.new.refs) }
     ensures refs { OnErr result (repo.new.refs ≡ repo.old.refs) }
     ensures grows { Grows repo.old.graph.entries repo.new.graph.entries }
     ensures safe { IsWhole repo.new }
     ensures bound { IfOk result (λ fetched. (held parents : ℕ)
-        → CountsReached repo.old.graph.entries (tips_of repo.old) held parents → fetched.requests ≤ held + 1) }
+        → CountsReached repo.old.graph.entries (tips_of repo.old) held parents
+        → fetched.requests ≤ held + 1) }
 {
     let mut source = FromRead::new(reader);
     let mut sink = ToWrite::new(writer);

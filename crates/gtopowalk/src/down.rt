@@ -21,9 +21,11 @@ pub(crate) fn pass_down<A: Allocator + Copy>(
 ) -> Result<Pass<A>, GraphFault>
     requires { IsOrdered graph.now.entries }
     ensures done { IfOk result (λ pass.
-        IsDone graph.now.entries wants.now commons.now pass.wanted.items pass.known.items pass.next) }
+        IsDone graph.now.entries wants.now commons.now pass.wanted.items pass.known.items
+        pass.next) }
     ensures inside { IfOk result (λ pass.
-        (pass.next ≤ length pass.wanted.items) × (length pass.wanted.items ≤ length graph.now.entries)) }
+        (pass.next ≤ length pass.wanted.items)
+        × (length pass.wanted.items ≤ length graph.now.entries)) }
     ensures fault { IfErr result (λ fault. fault ≡ Memory) }
 {
     prove!(graph.is_ordered());
@@ -72,7 +74,8 @@ impl<A: Allocator + Copy> Pass<A> {
 
     // Whether the position is open or tagged.
     pub(crate) fn is_sent(&self, tagged: &[bool], place: usize) -> bool
-        ensures { result ≡ (is_open self.now.wanted.items self.now.known.items place || is_marked tagged.now place) }
+        ensures { result ≡ (is_open self.now.wanted.items self.now.known.items place || is_marked
+            tagged.now place) }
     {
         self.is_open(place) || is_marked(tagged, place)
     }
@@ -87,15 +90,19 @@ impl<A: Allocator + Copy> Pass<A> {
     // Goes on to the next position down. What is left below must be open somewhere.
     fn step(&mut self, graph: &Graph<A>)
         requires order { IsInOrder graph.now.entries }
-        requires counted { IsCounted self.old.wanted.items self.old.known.items self.old.next self.old.pending }
+        requires counted { IsCounted self.old.wanted.items self.old.known.items self.old.next
+            self.old.pending }
         requires inside { self.old.next ≤ length graph.now.entries }
         requires pending { 0 < self.old.pending }
-        ensures counted { IsCounted self.new.wanted.items self.new.known.items self.new.next self.new.pending }
+        ensures counted { IsCounted self.new.wanted.items self.new.known.items self.new.next
+            self.new.pending }
         ensures next { self.new.next + 1 ≡ self.old.next }
         ensures long { length self.new.wanted.items ≡ length self.old.wanted.items }
         ensures passed { (wants commons : List Id) →
-            IsPassed graph.now.entries wants commons self.old.wanted.items self.old.known.items self.old.next →
-            IsPassed graph.now.entries wants commons self.new.wanted.items self.new.known.items self.new.next }
+            IsPassed graph.now.entries wants commons self.old.wanted.items self.old.known.items
+            self.old.next →
+            IsPassed graph.now.entries wants commons self.new.wanted.items self.new.known.items
+            self.new.next }
     {
         let place = self.next - 1;
         self.next = place;
@@ -109,10 +116,13 @@ impl<A: Allocator + Copy> Pass<A> {
 
     // Marks the positions of the ids as wanted.
     fn want_all(&mut self, graph: &Graph<A>, ids: &[Oid])
-        requires counted { IsCounted self.old.wanted.items self.old.known.items self.old.next self.old.pending }
+        requires counted { IsCounted self.old.wanted.items self.old.known.items self.old.next
+            self.old.pending }
         requires below { (p : ℕ) → IsPlaceOf graph.now.entries ids.now p → p < self.old.next }
-        ensures counted { IsCounted self.new.wanted.items self.new.known.items self.new.next self.new.pending }
-        ensures wanted { MarksAll graph.now.entries ids.now self.old.wanted.items self.new.wanted.items }
+        ensures counted { IsCounted self.new.wanted.items self.new.known.items self.new.next
+            self.new.pending }
+        ensures wanted { MarksAll graph.now.entries ids.now self.old.wanted.items
+            self.new.wanted.items }
         ensures known { self.new.known.items ≡ self.old.known.items }
         ensures next { self.new.next ≡ self.old.next }
     {
@@ -125,10 +135,13 @@ impl<A: Allocator + Copy> Pass<A> {
 
     // Marks the positions of the ids as known.
     fn know_all(&mut self, graph: &Graph<A>, ids: &[Oid])
-        requires counted { IsCounted self.old.wanted.items self.old.known.items self.old.next self.old.pending }
+        requires counted { IsCounted self.old.wanted.items self.old.known.items self.old.next
+            self.old.pending }
         requires below { (p : ℕ) → IsPlaceOf graph.now.entries ids.now p → p < self.old.next }
-        ensures counted { IsCounted self.new.wanted.items self.new.known.items self.new.next self.new.pending }
-        ensures known { MarksAll graph.now.entries ids.now self.old.known.items self.new.known.items }
+        ensures counted { IsCounted self.new.wanted.items self.new.known.items self.new.next
+            self.new.pending }
+        ensures known { MarksAll graph.now.entries ids.now self.old.known.items
+            self.new.known.items }
         ensures wanted { self.new.wanted.items ≡ self.old.wanted.items }
         ensures next { self.new.next ≡ self.old.next }
     {
@@ -141,9 +154,11 @@ impl<A: Allocator + Copy> Pass<A> {
 
     // Marks a position that is still to come as wanted.
     fn want(&mut self, place: usize)
-        requires counted { IsCounted self.old.wanted.items self.old.known.items self.old.next self.old.pending }
+        requires counted { IsCounted self.old.wanted.items self.old.known.items self.old.next
+            self.old.pending }
         requires below { place < self.old.next }
-        ensures counted { IsCounted self.new.wanted.items self.new.known.items self.new.next self.new.pending }
+        ensures counted { IsCounted self.new.wanted.items self.new.known.items self.new.next
+            self.new.pending }
         ensures wanted { self.new.wanted.items ≡ slice_set self.old.wanted.items place true }
         ensures known { self.new.known.items ≡ self.old.known.items }
         ensures next { self.new.next ≡ self.old.next }
@@ -155,9 +170,11 @@ impl<A: Allocator + Copy> Pass<A> {
 
     // Marks a position that is still to come as known.
     fn know(&mut self, place: usize)
-        requires counted { IsCounted self.old.wanted.items self.old.known.items self.old.next self.old.pending }
+        requires counted { IsCounted self.old.wanted.items self.old.known.items self.old.next
+            self.old.pending }
         requires below { place < self.old.next }
-        ensures counted { IsCounted self.new.wanted.items self.new.known.items self.new.next self.new.pending }
+        ensures counted { IsCounted self.new.wanted.items self.new.known.items self.new.next
+            self.new.pending }
         ensures known { self.new.known.items ≡ slice_set self.old.known.items place true }
         ensures wanted { self.new.wanted.items ≡ self.old.wanted.items }
         ensures next { self.new.next ≡ self.old.next }

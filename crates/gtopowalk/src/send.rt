@@ -31,7 +31,8 @@ pub fn send_list<A: Allocator + Copy>(
     tips: &[Oid],
 ) -> Result<Vec<Entry<A>, A>, GraphFault>
     requires { IsOrdered graph.now.entries }
-    ensures answer { IfOk result (λ list. IsListToSend graph.now.entries wants.now commons.now tips.now list.items) }
+    ensures answer { IfOk result (λ list. IsListToSend graph.now.entries wants.now commons.now
+        tips.now list.items) }
     ensures fault { IfErr result (λ fault. fault ≡ Memory) }
 {
     prove!(graph.is_ordered());

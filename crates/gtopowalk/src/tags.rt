@@ -20,7 +20,8 @@ pub(crate) fn tags_of<A: Allocator + Copy>(
 ) -> Result<Vec<bool, A>, GraphFault>
     requires { IsInOrder graph.now.entries }
     ensures marks { IfOk result (λ tagged.
-        MarksTags graph.now.entries tips.now pass.now.wanted.items pass.now.known.items tagged.items) }
+        MarksTags graph.now.entries tips.now pass.now.wanted.items pass.now.known.items
+        tagged.items) }
     ensures inside { IfOk result (λ tagged. length tagged.items ≤ length graph.now.entries) }
     ensures fault { IfErr result (λ fault. fault ≡ Memory) }
 {
@@ -68,7 +69,8 @@ fn peeled<A: Allocator + Copy>(graph: &Graph<A>, start: usize) -> usize
 fn named<A: Allocator + Copy>(graph: &Graph<A>, place: usize) -> Option<usize>
     requires order { IsInOrder graph.now.entries }
     requires held { place < length graph.now.entries }
-    ensures { MatchOption result (IsCommitAt graph.now.entries place) (λ next. IsTagAt graph.now.entries place next) }
+    ensures { MatchOption result (IsCommitAt graph.now.entries place)
+        (λ next. IsTagAt graph.now.entries place next) }
 {
     let (_, node) = graph.at(place)?;
     match node.kind {

@@ -28,7 +28,8 @@ pub fn ready<A: Allocator + Copy>(
     commons: &[Oid],
 ) -> Result<bool, GraphFault>
     requires { IsOrdered graph.now.entries }
-    ensures answer { IfOk result (λ answer. IsTrue answer ↔ IsReady graph.now.entries wants.now commons.now) }
+    ensures answer { IfOk result (λ answer. IsTrue answer
+        ↔ IsReady graph.now.entries wants.now commons.now) }
     ensures nothing { commons.now ≡ [] → result ≡ Ok false }
     ensures fault { IfErr result (λ fault. fault ≡ Memory) }
 {
@@ -54,7 +55,8 @@ pub fn ready<A: Allocator + Copy>(
 /// It fails with `Memory` alone. It takes memory for a byte an object, as far as the first id.
 pub fn reaches<A: Allocator + Copy>(graph: &Graph<A>, a: &Oid, b: &Oid) -> Result<bool, GraphFault>
     requires { IsOrdered graph.now.entries }
-    ensures answer { IfOk result (λ answer. IsTrue answer ↔ Reaches graph.now.entries a.now b.now) }
+    ensures answer { IfOk result (λ answer. IsTrue answer
+        ↔ Reaches graph.now.entries a.now b.now) }
     ensures fault { IfErr result (λ fault. fault ≡ Memory) }
 {
     prove!(graph.is_ordered());
@@ -83,7 +85,8 @@ fn reaching<A: Allocator + Copy>(
 ) -> Result<Vec<bool, A>, GraphFault>
     requires order { IsInOrder graph.now.entries }
     requires inside { end ≤ length graph.now.entries }
-    ensures marks { IfOk result (λ good. MarksReaching graph.now.entries goals.now end good.items) }
+    ensures marks { IfOk result (λ good. MarksReaching graph.now.entries goals.now end
+        good.items) }
     ensures long { IfOk result (λ good. length good.items ≡ end) }
     ensures fault { IfErr result (λ fault. fault ≡ Memory) }
 {

@@ -51,7 +51,8 @@ pub fn missing_counted<A: Allocator + Copy>(
     ids: &[Oid],
 ) -> Result<(Option<Oid>, Count), GraphFault>
     ensures answer { IfOk result (λ pair. Misses graph.now.entries ids.now pair.0) }
-    ensures count { IfOk result (λ pair. CountsReached graph.now.entries ids.now pair.1.ids pair.1.parents) }
+    ensures count { IfOk result (λ pair. CountsReached graph.now.entries ids.now pair.1.ids
+        pair.1.parents) }
     ensures fault { IfErr result (λ fault. fault ≡ Memory) }
 {
     missing_known(graph, ids, &FullMarks::new(graph.allocator()))

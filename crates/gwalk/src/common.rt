@@ -38,7 +38,8 @@ pub fn common_ids<A: Allocator + Copy>(
 /// In an ordered graph it passes once over the objects from the second id to the first. In any other it walks
 /// from the first id no further than to the second. It fails with `Memory` alone.
 pub fn reaches<A: Allocator + Copy>(graph: &Graph<A>, a: &Oid, b: &Oid) -> Result<bool, GraphFault>
-    ensures answer { IfOk result (λ answer. IsTrue answer ↔ Reaches graph.now.entries a.now b.now) }
+    ensures answer { IfOk result (λ answer. IsTrue answer
+        ↔ Reaches graph.now.entries a.now b.now) }
     ensures fault { IfErr result (λ fault. fault ≡ Memory) }
 {
     if graph.is_ordered() {
@@ -59,7 +60,8 @@ pub fn ready<A: Allocator + Copy>(
     wants: &[Oid],
     commons: &[Oid],
 ) -> Result<bool, GraphFault>
-    ensures answer { IfOk result (λ answer. IsTrue answer ↔ IsReady graph.now.entries wants.now commons.now) }
+    ensures answer { IfOk result (λ answer. IsTrue answer
+        ↔ IsReady graph.now.entries wants.now commons.now) }
     ensures nothing { commons.now ≡ [] → result ≡ Ok false }
     ensures fault { IfErr result (λ fault. fault ≡ Memory) }
 {
@@ -154,7 +156,8 @@ struct Goals<A: Allocator + Copy> {
 
 impl<A: Allocator + Copy> Goals<A> {
     fn new(graph: &Graph<A>, ids: &[Oid]) -> Result<Goals<A>, AllocError>
-        ensures { IfOk result (λ goals. AreGoals graph.now.entries ids.now goals.marks.items goals.absent.items) }
+        ensures { IfOk result (λ goals. AreGoals graph.now.entries ids.now goals.marks.items
+            goals.absent.items) }
     {
         let walk = met_of(graph, ids)?;
         let absent = absent_of(graph, ids)?;
@@ -166,7 +169,8 @@ impl<A: Allocator + Copy> Goals<A> {
 
     // Whether the id reaches one of the goals.
     fn reached_by(&self, graph: &Graph<A>, start: &Oid) -> Result<bool, AllocError>
-        requires { (ids : List Id) × AreGoals graph.now.entries ids self.now.marks.items self.now.absent.items }
+        requires { (ids : List Id)
+            × AreGoals graph.now.entries ids self.now.marks.items self.now.absent.items }
         ensures { IfOk result (λ answer. (ids : List Id) →
             AreGoals graph.now.entries ids self.now.marks.items self.now.absent.items →
             IsTrue answer ↔ Any (Reaches graph.now.entries start.now) ids) }

@@ -31,7 +31,8 @@ pub fn send_list<A: Allocator + Copy>(
     wants: &[Oid],
     commons: &[Oid],
 ) -> Result<Vec<Entry<A>, A>, GraphFault>
-    ensures answer { IfOk result (λ list. IsListToSend graph.now.entries wants.now commons.now [] list.items) }
+    ensures answer { IfOk result (λ list. IsListToSend graph.now.entries wants.now commons.now []
+        list.items) }
     ensures entries { IfOk result (λ list.
         IsGraph (record { format = graph.now.format; entries = list.items })) }
     ensures fault { IfErr result (λ fault. fault ≡ Memory) }
@@ -137,7 +138,8 @@ struct Tag {
 // The tag under the id.
 fn tag_at<A: Allocator + Copy>(graph: &Graph<A>, id: &Oid) -> Option<Tag>
     ensures found { IfSome result (λ tag.
-        (place_of graph.now.entries id.now ≡ Some tag.number) × IsTagOf graph.now.entries id.now tag.named) }
+        (place_of graph.now.entries id.now ≡ Some tag.number)
+        × IsTagOf graph.now.entries id.now tag.named) }
     ensures only { (b : Id) → IsTagOf graph.now.entries id.now b → IsSome result }
 {
     let node = graph.node(id)?;
@@ -156,7 +158,8 @@ fn mark_chain<A: Allocator + Copy>(graph: &Graph<A>, marks: &mut Vec<bool, A>, i
     ensures long { length marks.new.items ≡ length graph.now.entries }
     ensures each { (place : ℕ) (a : Id) → place_of graph.now.entries a ≡ Some place →
         (slice_index_or marks.new.items place false ≡ true) ↔
-        ((slice_index_or marks.old.items place false ≡ true) ⊎ IsTagFrom graph.now.entries id.now a) }
+        ((slice_index_or marks.old.items place false ≡ true)
+        ⊎ IsTagFrom graph.now.entries id.now a) }
 {
     let mut at = *id;
     for _step in 0..graph.len() {

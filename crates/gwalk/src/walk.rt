@@ -34,7 +34,8 @@ pub fn parents_past<'a, A: Allocator + Copy>(
     place: usize,
 ) -> &'a [Oid]
     requires { place < length graph.now.entries }
-    ensures { option_map (λ entry. entry.node.parents) (slice_get (stop_at known.now graph.now.entries) place)
+    ensures { option_map (λ entry. entry.node.parents)
+        (slice_get (stop_at known.now graph.now.entries) place)
         ≡ Some result.now }
 {
     if is_marked(known, place) {
@@ -48,7 +49,8 @@ impl<A: Allocator + Copy> Walk<A> {
     pub fn new(graph: &Graph<A>) -> Result<Walk<A>, AllocError>
         ensures graph { IsGraph graph.now }
         ensures met { IfOk result (λ walk. (known : List Bool) →
-            HasMet (stop_at known graph.now.entries) [] walk.marks.items walk.met.items walk.lost walk.parents) }
+            HasMet (stop_at known graph.now.entries) [] walk.marks.items walk.met.items walk.lost
+            walk.parents) }
     {
         let alloc = graph.allocator();
         let marks = vec![in alloc; false; graph.len()]?;

@@ -47,7 +47,8 @@ pub(crate) struct RefLine<'a> {
 
 /// The parts of a node's line.
 pub(crate) fn node_parts(line: &[u8]) -> Option<NodeLine<'_>>
-    ensures { MatchOption result (IsNoNode line.now) (λ node. line.now ≡ letter node.kind ∷ node.ids.now) }
+    ensures { MatchOption result (IsNoNode line.now)
+        (λ node. line.now ≡ letter node.kind ∷ node.ids.now) }
 {
     if let Some(ids) = line.strip_prefix(b"c") {
         let kind = Kind::Commit;
@@ -102,7 +103,8 @@ pub(crate) fn head_of<A: Allocator + Copy>(
 
 // HEAD at the id whose digits these are.
 fn head_at<A: Allocator + Copy>(format: Format, digits: &[u8]) -> Option<Head<A>>
-    ensures { MatchOption result (IsNoIdText format digits.now) (λ head. IsHeadAt format digits.now head) }
+    ensures { MatchOption result (IsNoIdText format digits.now)
+        (λ head. IsHeadAt format digits.now head) }
 {
     text_laws();
     match take_id(format, digits) {

@@ -36,7 +36,8 @@ pub fn load<A: Allocator + Copy>(
     order: Order,
 ) -> Result<Repository<A>, LoadFault>
     ensures ok { IfOk result (λ it.
-        (text.now ≡ repository_text it.graph it.refs it.head) × IsLoadable order it.graph it.refs it.head) }
+        (text.now ≡ repository_text it.graph it.refs it.head)
+        × IsLoadable order it.graph it.refs it.head) }
     ensures refused { IfErr result (StopsAt A order text.now) }
     ensures accepts { AcceptsText A order text.now result }
 {

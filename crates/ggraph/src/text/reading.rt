@@ -88,7 +88,8 @@ impl<A: Allocator + Copy> Reading<A> {
     fn take_first(&mut self, nodes: usize, line: &[u8], number: usize) -> Result<(), LoadFault>
         requires { self.old.stage ≡ Stage.First }
         ensures ok { ((order : Order) → OnOk result (ComesNext order self.old line.now self.new)) }
-        ensures refused { ((order : Order) → IfErr result (RefusesLine order self.old line.now number)) }
+        ensures refused { ((order : Order)
+            → IfErr result (RefusesLine order self.old line.now number)) }
     {
         match format_of(line) {
             Some(format) => {
@@ -104,7 +105,8 @@ impl<A: Allocator + Copy> Reading<A> {
     fn take_last(&mut self, line: &[u8], number: usize) -> Result<(), LoadFault>
         requires { self.old.stage ≡ Stage.Last }
         ensures ok { ((order : Order) → OnOk result (ComesNext order self.old line.now self.new)) }
-        ensures refused { ((order : Order) → IfErr result (RefusesLine order self.old line.now number)) }
+        ensures refused { ((order : Order)
+            → IfErr result (RefusesLine order self.old line.now number)) }
     {
         if line != b"end".as_slice() {
             return Err(LoadFault::Text { line: number });
@@ -150,7 +152,8 @@ impl<A: Allocator + Copy> Reading<A> {
         requires due { RefMayCome self.old.stage }
         requires no_node { self.old.stage ≡ Stage.Nodes → IsNoNode line.now }
         ensures ok { ((order : Order) → OnOk result (ComesNext order self.old line.now self.new)) }
-        ensures refused { ((order : Order) → IfErr result (RefusesLine order self.old line.now number)) }
+        ensures refused { ((order : Order)
+            → IfErr result (RefusesLine order self.old line.now number)) }
     {
         text_laws();
         let Some(text) = line.strip_prefix(b"r ") else {
@@ -170,7 +173,8 @@ impl<A: Allocator + Copy> Reading<A> {
         requires no_node { self.old.stage ≡ Stage.Nodes → IsNoNode line.now }
         requires no_ref { IsNoRef line.now }
         ensures ok { ((order : Order) → OnOk result (ComesNext order self.old line.now self.new)) }
-        ensures refused { ((order : Order) → IfErr result (RefusesLine order self.old line.now number)) }
+        ensures refused { ((order : Order)
+            → IfErr result (RefusesLine order self.old line.now number)) }
     {
         match head_of(self.graph.allocator(), self.graph.format(), line)? {
             Some(head) => {

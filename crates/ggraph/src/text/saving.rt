@@ -28,7 +28,8 @@ pub fn save<A: Allocator + Copy>(
     refs: &Refs<A>,
     head: &Head<A>,
 ) -> Result<Vec<u8, A>, SaveFault>
-    ensures text { MatchResult result (λ text. text.items ≡ repository_text graph.now refs.now head.now)
+    ensures text { MatchResult result (λ text. text.items
+        ≡ repository_text graph.now refs.now head.now)
         (SaveRefuses graph.now.format refs.now head.now) }
     ensures loadable { IfOk result (λ text. IsLoadable Order.Any graph.now refs.now head.now) }
 {
@@ -58,7 +59,8 @@ fn other_id<A: Allocator + Copy>(
 
 // The first id at which a ref stands that is not of the format.
 fn other_ref<A: Allocator + Copy>(format: Format, refs: &[(RefName<A>, Oid)]) -> Option<Oid>
-    ensures { MatchOption result (All (IsIdOf format) (ref_ids refs.now)) (IsFirstOther format (ref_ids refs.now)) }
+    ensures { MatchOption result (All (IsIdOf format) (ref_ids refs.now))
+        (IsFirstOther format (ref_ids refs.now)) }
 {
     for pair in refs {
         if !is_of(format, &pair.1) {
@@ -70,7 +72,8 @@ fn other_ref<A: Allocator + Copy>(format: Format, refs: &[(RefName<A>, Oid)]) ->
 
 // The id at which HEAD stands, if it is not of the format.
 fn other_head<A: Allocator + Copy>(format: Format, head: &Head<A>) -> Option<Oid>
-    ensures { MatchOption result (All (IsIdOf format) (head_ids head.now)) (IsFirstOther format (head_ids head.now)) }
+    ensures { MatchOption result (All (IsIdOf format) (head_ids head.now))
+        (IsFirstOther format (head_ids head.now)) }
 {
     match head {
         Head::Id(id) => { if is_of(format, id) { None } else { Some(*id) } }
@@ -115,7 +118,8 @@ fn written<A: Allocator + Copy>(
 }
 
 fn put_nodes<A: Allocator + Copy>(text: &mut Vec<u8, A>, graph: &Graph<A>) -> Result<(), AllocError>
-    ensures text { OnOk result (text.new.items ≡ text.old.items ++ text_of (map node_text graph.now.entries)) }
+    ensures text { OnOk result (text.new.items
+        ≡ text.old.items ++ text_of (map node_text graph.now.entries)) }
     ensures graph { IsGraph graph.now }
 {
     for place in 0..graph.len() {

@@ -144,7 +144,8 @@ fn after_id<A: Allocator + Copy>(
     entry: Entry<A>,
     separator: Separator,
 ) -> Result<Next<A>, AllocError>
-    ensures ok { IfOk result (λ next. EndsId entries.old.items entry separator next entries.new.items) }
+    ensures ok { IfOk result (λ next. EndsId entries.old.items entry separator next
+        entries.new.items) }
     ensures err { OnErr result (separator ≡ Separator.LineFeed) }
 {
     match separator {
@@ -230,7 +231,8 @@ impl<A: Allocator + Copy> Lines<A> {
 
     /// The fault of a part that may not come next.
     pub fn bad_line(&self) -> IndexFault
-        ensures { result ≡ IndexFault.Bad (line_number self.now.next (length self.now.entries.items)) }
+        ensures { result ≡ IndexFault.Bad (line_number self.now.next
+            (length self.now.entries.items)) }
     {
         IndexFault::Bad { line: self.line() }
     }

@@ -103,7 +103,8 @@ fn put_pack<A: Allocator + Copy>(alloc: A, entries: &[Entry<A>]) -> Result<Vec<u
 /// Writes the pack of some entries. It fails with `TooLarge`, before it takes memory, where the
 /// pack has more than `MAX_PACK` bytes, and else with `Memory`.
 pub fn write<A: Allocator + Copy>(alloc: A, entries: &[Entry<A>]) -> Result<Vec<u8, A>, PackFault>
-    ensures packed { MatchResult result (λ pack. pack.items ≡ pack_text entries.now) (PackRefuses (pack_text entries.now)) }
+    ensures packed { MatchResult result (λ pack. pack.items ≡ pack_text entries.now)
+        (PackRefuses (pack_text entries.now)) }
     ensures bounded { IfOk result (λ pack. length pack.items ≤ max_pack) }
 {
     if !fits(entries) {

@@ -11,11 +11,11 @@ use crate::fault::ClientFault;
 use crate::session::Session;
 use crate::stage::Stage;
 use crate::taken::LsTaken;
+use gclientrepo::{Asks, Repo};
 use ggrammar::{MessageFault, Why};
 use glsreply::{LsReply, read_ls_reply_in};
 use gname::{NameFault, Oid};
 use gpkt::{LineReader, Source};
-use gclientrepo::{Asks, Repo};
 use grequest::{MAX_WANTS, Request};
 use std::alloc::{AllocError, Allocator};
 

@@ -13,11 +13,11 @@ use super::Parts;
 use crate::fault::DISAGREE;
 use crate::outcome::Outcome;
 use ganswer::BuildFault;
+use gclientrepo::RepoFault;
+use gclientrepo::laws::refusals_change_nothing;
 use ggraph::Graph;
 use gname::{Oid, RefName};
 use gobject::{Entry, Node};
-use gclientrepo::RepoFault;
-use gclientrepo::laws::refusals_change_nothing;
 use std::alloc::{AllocError, Allocator};
 
 impl<A: Allocator + Copy> Parts<A> {

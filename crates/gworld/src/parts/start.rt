@@ -11,10 +11,10 @@ use super::Parts;
 use super::changes::agrees;
 use crate::fault::WorldFault;
 use ganswer::Server;
+use gclientrepo::Repo;
 use ggraph::Graph;
 use ggraph::graph_laws::places_are_nodes;
 use gname::Oid;
-use gclientrepo::Repo;
 use std::alloc::Allocator;
 
 impl<A: Allocator + Copy> Parts<A> {
