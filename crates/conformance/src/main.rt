@@ -6,8 +6,9 @@
 //! devices; over a socket of this process, from the first line of a connection on; with an indexer that watches; with each
 //! call of each device failing in turn; cut after each byte; with each byte changed; by a table of what is due then, where it
 //! has one; and with each allocation refused in turn. What is made of a text is tried in pieces, too, and with each allocation
-//! refused. Simulations are tried in worlds of their own, too, and in others events happen by chance. Both ends of a pair are
-//! tried as they stand, over sockets. A try that goes wrong is a line on standard output, and the last lines count the tries.
+//! refused; that is looked at also of the words of a command line. Simulations are tried in worlds of their own, too, and in
+//! others events happen by chance. Both ends of a pair are tried as they stand, over sockets. A try that goes wrong is a line
+//! on standard output, and the last lines count the tries.
 //!
 //! # Proved
 //!
@@ -19,11 +20,12 @@
 //!
 //! # Stands on
 //!
-//! `gcmd` and `gsimulate` for the programs, `gconnect` and `gtcp` for those of the network; `gworld` and `gscenario` for
-//! events; `gserve` and `gclient` where a packer or an indexer lies or watches; `ggraph`, `ghello`, `gpkt` and `gname` for
-//! what is made of texts; `scarce` for memory that ends.
+//! `gargs` for the words of a command line; `gcmd` and `gsimulate` for the programs, `gconnect` and `gtcp` for those of the
+//! network; `gworld` and `gscenario` for events; `gserve` and `gclient` where a packer or an indexer lies or watches;
+//! `ggraph`, `ghello`, `gpkt` and `gname` for what is made of texts; `scarce` for memory that ends.
 #![tactic(auto)]
 
+mod asked;
 mod chance;
 mod command;
 mod connected;
@@ -287,6 +289,8 @@ fn made_of_text(
 ) -> Result<String, Trouble> {
     if fact.kind == shown::KIND {
         fault_shown(alloc, fact)
+    } else if fact.kind == asked::KIND {
+        asked::answer(alloc, fact.text.as_slice())
     } else {
         fact::answer(alloc, memory, fact, most)
     }
