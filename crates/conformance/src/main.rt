@@ -1,4 +1,5 @@
-//! Cases of Git's fetch protocol, from files, tried on the programs of `gcmd` and on the calls below them.
+//! Cases of Git's fetch protocol, from files, tried on the programs of `gcmd` and on the calls below them; and words of the
+//! command line, with what they ask for.
 //!
 //! The words of the command line name files of cases, after `--quick` where no byte is to be changed, or `--once` where all
 //! is tried as it stands alone; `script.rt` says how one is written. Each case is run through its programs, with ids of both
@@ -6,9 +7,8 @@
 //! devices; over a socket of this process, from the first line of a connection on; with an indexer that watches; with each
 //! call of each device failing in turn; cut after each byte; with each byte changed; by a table of what is due then, where it
 //! has one; and with each allocation refused in turn. What is made of a text is tried in pieces, too, and with each allocation
-//! refused; that is looked at also of the words of a command line. Simulations are tried in worlds of their own, too, and in
-//! others events happen by chance. Both ends of a pair are tried as they stand, over sockets. A try that goes wrong is a line
-//! on standard output, and the last lines count the tries.
+//! refused. Simulations are tried in worlds of their own, too, and in others events happen by chance. Both ends of a pair are
+//! tried as they stand, over sockets. A try that goes wrong is a line on standard output, and the last lines count the tries.
 //!
 //! # Proved
 //!

@@ -32,7 +32,8 @@
 //! `C: command=` stands the object format.
 //!
 //! A line `KIND DUE: TEXT` says what is made of a text (`fact.rt`), what is printed of a fault (`shown.rt`), what words of the
-//! command line ask for (`asked.rt`), and after `graph NAME` what is found in a repository (`history.rt`, `known.rt`), or what comes of events by chance (`random.rt`).
+//! command line ask for (`asked.rt`), and after `graph NAME` what is found in a repository (`history.rt`, `known.rt`), or what
+//! comes of events by chance (`random.rt`).
 
 use crate::command::first_of;
 use crate::liars::Liar;
