@@ -1,5 +1,5 @@
 -- The numbers of a command line.
-use Rattle.std.specs.Prelude.{◌≡◌}
+use Rattle.std.specs.Prelude.{◌≡◌, ℕ, List}
 use Rattle.std.specs.Str.Parse.{IsNumeral, digits_value}
 
 -- the text is decimal digits, at least one, that stand for the number

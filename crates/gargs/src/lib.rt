@@ -8,7 +8,7 @@
 //!
 //! - That it ends, and is safe, whatever the words are.
 //! - Within the crate, of a limit and of a count of connections: it is the number that the decimal digits say, at least
-//!   one digit and nothing else, and at most 67,108,864, or from 1 to 1,000,000; no such text is refused
+//!   one digit and nothing else, and at most 67,108,864, or from 1 to 1,000,000; and no such text is refused
 //!   (`specs/Numbers.antt`).
 //!
 //! # Only tested

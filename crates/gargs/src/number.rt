@@ -11,7 +11,8 @@ const MAX_CONNECTIONS: u32 = 1_000_000;
 
 /// The limit of a pack that the text says. `None` where it is no number, or too high.
 pub(crate) fn limit_of(text: &str) -> Option<PackLimit>
-    ensures { MatchOption result (((bytes : ℕ) → bytes ≤ max_pack → Says text.now bytes → ⊥)) (Says text.now) }
+    ensures { MatchOption result (((bytes : ℕ) → bytes ≤ max_pack → Says text.now bytes → ⊥))
+        (Says text.now) }
 {
     PackLimit::new(number_of(text)?)
 }
@@ -30,11 +31,12 @@ pub(crate) fn connections_of(text: &str) -> Option<u32>
     }
 }
 
-// The number that some decimal digits, at least one, stand for.
+// The number that some decimal digits, at least one, stand for. `parse` takes a `+` before them, too.
 fn number_of(text: &str) -> Option<usize>
-    ensures { MatchOption result (((number : ℕ) → number < 2 ^ 64 → Says text.now number → ⊥)) (Says text.now) }
+    ensures { MatchOption result (((number : ℕ) → number < 2 ^ 64 → Says text.now number → ⊥))
+        (Says text.now) }
 {
-    if !text.as_bytes().iter().all(|byte| byte.is_ascii_digit()) {
+    if text.as_bytes().first() == Some(&b'+') {
         return None;
     }
     text.parse::<usize>().ok()
