@@ -40,7 +40,8 @@ module _ {A : Type 0} (indexes : Indexes A) (index_fails : IndexFails) (start : 
   abbrev pub FetchesBetween : Change → Change → RepoState A → Result (Fetched A) (FetchFault A) → Type 0
   FetchesBetween read written new result =
       (reader_failed writer_failed : Bool)
-      × FetchesGit indexes index_fails start hello (input_by read reader_failed) (output_by written writer_failed) new result
+      × FetchesGit indexes index_fails start hello
+          (input_by read reader_failed) (output_by written writer_failed) new result
 
 -- ---- listing
 
