@@ -1,5 +1,4 @@
 pub mod Sessions
-pub mod Keeping
 pub mod Asking
 pub mod Requesting
 pub mod TakingRefs
