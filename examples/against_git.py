@@ -295,7 +295,7 @@ def without_advertisement(said):
 REASONS = [
     (
         "error line",
-        "Both refuse the request. Here an `ERR` line tells the client; git says it on standard error alone, and ends.",
+        "Both refuse the request. Here an `ERR` line reports it to the client; git prints it on standard error alone, and ends.",
         r"ERR .*",
         r"(fatal|BUG): .*",
     ),
@@ -479,7 +479,7 @@ Written by `examples/against-git.sh`, which replays the served cases of `crates/
 
 The ids of the cases are made up, so git has a repository with the same graph, and ids are put in each other's place.
 Packs are compared by the commits and tags in them: their order, their format, and git's trees are its own. Where a case
-stops at the packet that is refused here, a flush is added, so that git has a whole request. Progress is left out.
+stops at the packet that is refused here, a flush is added, so that git has a complete request. Progress is left out.
 
 {replayed} cases were replayed, and {alike} of them are answered alike. Left out are {packers} cases with a packer
 that fails or lies, {broken} with a file of which something is missing, which git can't have, and those with our client

@@ -1,4 +1,5 @@
-//! Cases of Git's fetch protocol, from files, tried on the programs of `gcmd` and on the calls below them.
+//! Cases of Git's fetch protocol, from files, tried on the programs of `gcmd` and on the calls below them; and words of the
+//! command line, with what they ask for.
 //!
 //! The words of the command line name files of cases, after `--quick` where no byte is to be changed, or `--once` where all
 //! is tried as it stands alone; `script.rt` says how one is written. Each case is run through its programs, with ids of both
@@ -19,11 +20,12 @@
 //!
 //! # Stands on
 //!
-//! `gcmd` and `gsimulate` for the programs, `gconnect` and `gtcp` for those of the network; `gworld` and `gscenario` for
-//! events; `gserve` and `gclient` where a packer or an indexer lies or watches; `ggraph`, `ghello`, `gpkt` and `gname` for
-//! what is made of texts; `scarce` for memory that ends.
+//! `gargs` for the words of a command line; `gcmd` and `gsimulate` for the programs, `gconnect` and `gtcp` for those of the
+//! network; `gworld` and `gscenario` for events; `gserve` and `gclient` where a packer or an indexer lies or watches;
+//! `ggraph`, `ghello`, `gpkt` and `gname` for what is made of texts; `scarce` for memory that ends.
 #![tactic(auto)]
 
+mod asked;
 mod chance;
 mod command;
 mod connected;
@@ -287,6 +289,8 @@ fn made_of_text(
 ) -> Result<String, Trouble> {
     if fact.kind == shown::KIND {
         fault_shown(alloc, fact)
+    } else if fact.kind == asked::KIND {
+        asked::answer(alloc, fact.text.as_slice())
     } else {
         fact::answer(alloc, memory, fact, most)
     }

@@ -31,8 +31,9 @@
 //! first line of a repository and the object format of an advertisement are those of SHA-256, and after each line
 //! `C: command=` stands the object format.
 //!
-//! A line `KIND DUE: TEXT` says what is made of a text (`fact.rt`), what is printed of a fault (`shown.rt`), and after
-//! `graph NAME` what is found in a repository (`history.rt`, `known.rt`), or what comes of events by chance (`random.rt`).
+//! A line `KIND DUE: TEXT` says what is made of a text (`fact.rt`), what is printed of a fault (`shown.rt`), what words of the
+//! command line ask for (`asked.rt`), and after `graph NAME` what is found in a repository (`history.rt`, `known.rt`), or what
+//! comes of events by chance (`random.rt`).
 
 use crate::command::first_of;
 use crate::liars::Liar;
@@ -41,7 +42,7 @@ use crate::packet::{full_packet, packet, read_said, text_line};
 use crate::spell::{Form, Text, number_of, spelled};
 use crate::table::{Due, Outcome};
 use crate::trouble::Trouble;
-use crate::{fact, history, known, random, shown};
+use crate::{asked, fact, history, known, random, shown};
 use gname::Format;
 use std::alloc::Global;
 
@@ -567,6 +568,7 @@ fn say_format(alloc: Global, word: &str, said: &mut Vec<Said>) -> Result<(), Tro
 // Whether a line that begins so says what is made of a text.
 fn is_fact(word: &str) -> bool {
     word == shown::KIND
+        || word == asked::KIND
         || word == random::KIND
         || fact::KINDS.contains(&word)
         || history::KINDS.contains(&word)

@@ -1,11 +1,12 @@
 -- Each request for refs has one answer.
 use Rattle.std.proofs.Common.{◌≡◌, inl, inr, ℕ, Bool, true, false, List, [], ◌∷◌, ◌++◌, Option, Some, None, refl, sym, ap, ◌∙◌}
 use Rattle.gobject.specs.declared.node.Entry.{Entry}
-use Rattle.ghistory.proofs.IdLists.{either_way}
-use Rattle.ghistory.specs.Laws.{PeelsToOne}
-use Rattle.ghistory.specs.Peeling.{IsTagOf}
+use Rattle.gdag.proofs.IdLists.{either_way}
+use Rattle.gdag.specs.Laws.{PeelsToOne}
+use Rattle.gdag.specs.Peeling.{IsTagOf}
 use Rattle.grefs.specs.RefLists.{RefList}
-use Rattle.grequest.specs.Asked.{LsRefsAsked}
+use Rattle.grequest.specs.declared.flag.LsRefsFlag.TheVariants.{Peel}
+use Rattle.grequest.specs.Asked.{LsRefsAsked, ls_has}
 use Rattle.glsreply.specs.LsReplies.{LsReply}
 use Rattle.glsreply.specs.RefTexts.{RefLine}
 use Rattle.ganswer.specs.LsAnswers.{IsPeeled, IsPeeledIf, LsAnswer, ShowsLines, all_refs, is_shown, symref_of, unborn_of}
@@ -33,7 +34,7 @@ module _ {A : Type 0} (g : List (Entry A)) where
 module _ {A : Type 0} (server : Server A) (asked : LsRefsAsked) where
   line_for : (ref : List ℕ × List ℕ) → (lines : List RefLine) × ShowsLines server asked (ref ∷ []) lines
   line_for ref =
-      let peeled = peeled_if server.graph.entries asked.peel ref.1 in
+      let peeled = peeled_if server.graph.entries (ls_has asked Peel) ref.1 in
       let line : RefLine = record { id = ref.1; name = ref.0; symref = symref_of server.head asked ref.0; peeled = peeled.0 } in
       either_way (is_shown asked.prefixes ref)
       (λ shown. (line ∷ [], shows_line server asked ref line shown refl (record { symref = refl; peeled = peeled.1 })))

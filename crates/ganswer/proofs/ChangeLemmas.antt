@@ -5,14 +5,14 @@ use Rattle.std.specs.Map.{values_of}
 use Rattle.std.proofs.lemmas.List.Elements.{All-contains, All-cons, All-head, All-nil, All-tail, All-weaker}
 use Rattle.gobject.specs.declared.node.Entry.{Entry}
 use Rattle.gobject.specs.Objects.{node_at}
-use Rattle.ghistory.specs.Graphs.{History, Holds, HoldsParents, IsGraph}
-use Rattle.ghistory.specs.Insert.{AddsOne, ComesIn}
-use Rattle.ghistory.specs.declared.fault.GraphFault.{GraphFault}
+use Rattle.gdag.specs.Graphs.{History, Holds, HoldsParents, IsGraph}
+use Rattle.gdag.specs.Insert.{AddsOne, ComesIn}
+use Rattle.gdag.specs.declared.fault.GraphFault.{GraphFault}
 use Rattle.grefs.specs.declared.fault.RefsFault.{RefsFault}
-use Rattle.ghistory.specs.Laws.{ClosedStays}
-use Rattle.ghistory.specs.Reach.{Keeps}
+use Rattle.gdag.specs.Laws.{ClosedStays}
+use Rattle.gdag.specs.Reach.{Keeps}
 use Rattle.grefs.specs.RefLists.{IsRefs, RefList, SetsRef}
-use Rattle.ghistory.proofs.Growing.{keeps_held}
+use Rattle.gdag.proofs.Growing.{keeps_held}
 use Rattle.grefs.specs.declared.head.Head.{Head}
 use Rattle.grefs.specs.declared.head.Head.TheVariants as heads
 use Rattle.ganswer.specs.Servers.{HoldsHead, HoldsRefs, IsServer, served}

@@ -11,12 +11,12 @@ use Rattle.grequest.specs.Asked.{max_haves}
 use Rattle.gname.specs.declared.formats.Format.{Format}
 use Rattle.gobject.specs.declared.node.Entry.{Entry}
 use Rattle.gobject.specs.Objects.{node_at}
-use Rattle.ghistory.specs.Graphs.{IsGraph, History}
-use Rattle.ghistory.specs.Laws.{PlacesAreNodes}
-use Rattle.ghistory.specs.Levels.{is_in, new_ids}
-use Rattle.ghistory.specs.Walks.{common_of}
-use Rattle.ghistory.proofs.IdLists.{either_way}
-use Rattle.ghistory.proofs.Places.{held_id}
+use Rattle.gdag.specs.Graphs.{IsGraph, History}
+use Rattle.gdag.specs.Laws.{PlacesAreNodes}
+use Rattle.gdag.specs.Levels.{is_in, new_ids}
+use Rattle.gdag.specs.Walks.{common_of}
+use Rattle.gdag.proofs.IdLists.{either_way}
+use Rattle.gdag.proofs.Places.{held_id}
 use Rattle.ganswer.proofs.FormatLemmas.{filter_short}
 
 new_short : (earlier ids : List (List ℕ)) → length (new_ids earlier ids) ≤ length ids

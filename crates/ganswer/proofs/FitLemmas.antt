@@ -10,13 +10,14 @@ use Rattle.gname.specs.Names.{IsRefName, head_name}
 use Rattle.gname.specs.declared.formats.Format.{Format}
 use Rattle.gobject.specs.Objects.{node_at}
 use Rattle.gobject.specs.Packs.{Packs}
-use Rattle.ghistory.specs.Graphs.{Holds}
-use Rattle.ghistory.specs.Laws.{PlacesAreNodes}
-use Rattle.ghistory.specs.Levels.{new_ids}
+use Rattle.gdag.specs.Graphs.{Holds}
+use Rattle.gdag.specs.Laws.{PlacesAreNodes}
+use Rattle.gdag.specs.Levels.{new_ids}
 use Rattle.grefs.specs.RefLists.{RefList, IsBelowRefs, ref_at}
 use Rattle.grefs.specs.declared.head.Head.{Head}
 use Rattle.grefs.specs.declared.head.Head.TheVariants as heads
-use Rattle.grequest.specs.Asked.{FetchAsked, LsRefsAsked, max_haves}
+use Rattle.grequest.specs.declared.flag.LsRefsFlag.TheVariants.{Peel, Symrefs, Unborn}
+use Rattle.grequest.specs.Asked.{FetchAsked, LsRefsAsked, max_haves, ls_has}
 use Rattle.glsreply.specs.LsReplies.{unborn_packets}
 use Rattle.glsreply.specs.RefTexts.{RefLine}
 use Rattle.glsreply.specs.WellFormed.{IsRefLine}
@@ -26,7 +27,7 @@ use Rattle.ganswer.specs.FetchAnswers.{commons_of}
 use Rattle.ganswer.specs.Laws.{FetchAnswersFit, LsAnswersFit}
 use Rattle.ganswer.specs.LsAnswers.{HasAttributes, ShowsLines, all_refs, head_id, head_ref, is_asked, is_shown, missing_target, name_and_id, target_of}
 use Rattle.ganswer.specs.Servers.{Server, IsServer, PointsBelowRefs}
-use Rattle.ghistory.proofs.Places.{held_id}
+use Rattle.gdag.proofs.Places.{held_id}
 use Rattle.ganswer.proofs.FetchLemmas.{commons_short}
 use Rattle.ganswer.proofs.FormatLemmas.{all_held, filter_short, lines_held, peeled_format, unborn_or_shown, unmap}
 
@@ -76,8 +77,8 @@ module _ {A : Type 0} where
     fit_line line held name has = record {
       id = held_id places server.graph is.graph line.id held;
       name = name;
-      symref = subst (λ (o : Option (List ℕ)). IfSome o IsRefName) (sym has.symref) (symref_named server.head is.target (asked.symrefs && bytes_eq line.name head_name));
-      peeled = peeled_format places server.graph is.graph asked.peel line.id line.peeled has.peeled;
+      symref = subst (λ (o : Option (List ℕ)). IfSome o IsRefName) (sym has.symref) (symref_named server.head is.target (ls_has asked Symrefs && bytes_eq line.name head_name));
+      peeled = peeled_format places server.graph is.graph (ls_has asked Peel) line.id line.peeled has.peeled;
     }
 
     fit_lines : (lines : List RefLine) → All (λ line. Holds server.graph.entries line.id) lines → All (λ line. IsRefName line.name) lines → All (HasAttributes server asked) lines
@@ -92,14 +93,14 @@ module _ {A : Type 0} where
 
   pub ls_answers_fit : PlacesAreNodes A → IsRefName head_name → LsAnswersFit A
   ls_answers_fit places law server asked reply is answers = record {
-    unborn = subst (λ (o : Option (List ℕ)). IfSome o IsRefName) (sym answers.unborn) (unborn_named server.head server.refs is.target (asked.unborn && is_asked asked.prefixes head_name));
+    unborn = subst (λ (o : Option (List ℕ)). IfSome o IsRefName) (sym answers.unborn) (unborn_named server.head server.refs is.target (ls_has asked Unborn && is_asked asked.prefixes head_name));
     lines = fit_lines places server is asked reply.lines (lines_held server asked (all_refs server) reply.lines answers.lines (all_held server is))
         (lines_named server asked (all_refs server) reply.lines answers.lines (all_named law server is)) answers.lines.attributes;
     few =
         let shown : length reply.lines ≡ length (filter (is_shown asked.prefixes) (all_refs server)) = sym (length-map reply.lines name_and_id) ∙ ap length answers.lines.shown in
         let short = filter_short (is_shown asked.prefixes) (all_refs server) in
         let both = length-append (head_ref (head_id server.head server.refs)) server.refs in
-        let one = unborn_or_shown (asked.unborn && is_asked asked.prefixes head_name) server.head server.refs in
+        let one = unborn_or_shown (ls_has asked Unborn && is_asked asked.prefixes head_name) server.head server.refs in
         let unborn = ap (λ (o : Option (List ℕ)). length (unborn_packets o)) answers.unborn in
         let refs = is.refs.few in
         omega (arith, shown, short, both, one, unborn, refs);

@@ -14,21 +14,22 @@ use Rattle.gname.specs.declared.formats.Format.{Format}
 use Rattle.gobject.specs.declared.node.Node.{Node}
 use Rattle.gobject.specs.declared.node.Entry.{Entry}
 use Rattle.gobject.specs.Objects.{node_at}
-use Rattle.ghistory.specs.Graphs.{Holds, IsGraph, History}
-use Rattle.ghistory.specs.Laws.{PlacesAreNodes}
-use Rattle.ghistory.specs.Peeling.{PeelsTo}
+use Rattle.gdag.specs.Graphs.{Holds, IsGraph, History}
+use Rattle.gdag.specs.Laws.{PlacesAreNodes}
+use Rattle.gdag.specs.Peeling.{PeelsTo}
 use Rattle.grefs.specs.RefLists.{RefList, has_name, ref_at}
 use Rattle.grefs.specs.declared.head.Head.{Head}
 use Rattle.grefs.specs.declared.head.Head.TheVariants as heads
-use Rattle.grequest.specs.Asked.{LsRefsAsked}
+use Rattle.grequest.specs.declared.flag.LsRefsFlag.TheVariants.{Peel, Unborn}
+use Rattle.grequest.specs.Asked.{LsRefsAsked, ls_has}
 use Rattle.glsreply.specs.LsReplies.{LsReply, max_lines, unborn_packets}
 use Rattle.glsreply.specs.RefTexts.{RefLine}
 use Rattle.glsreply.specs.WellFormed.{first_has_format_of, has_format_of, has_one_format, has_room, is_format, line_count}
 use Rattle.ganswer.specs.LsAnswers.{HasAttributes, IsPeeledIf, ShowsLines, all_refs, head_id, head_ref, is_asked, is_shown, missing_target, name_and_id}
-use Rattle.ganswer.specs.LsBuilding.{IsNextRef}
+use Rattle.ganswer.specs.steps.LsBuilding.{IsNextRef}
 use Rattle.ganswer.specs.Servers.{Server, HoldsHead, HoldsRefs, IsServer}
-use Rattle.ghistory.proofs.IdLists.{either_way}
-use Rattle.ghistory.proofs.Places.{held_id}
+use Rattle.gdag.proofs.IdLists.{either_way}
+use Rattle.gdag.proofs.Places.{held_id}
 use Rattle.glsreply.proofs.ValueLemmas.{is_format-same}
 
 pub unmap : {X Y : Type 0} (P : Y → Type 0) (f : X → Y) (xs : List X) → All P (map f xs) → All (λ x. P (f x)) xs
@@ -155,7 +156,7 @@ module _ {A : Type 0} where
           let here = lines_held server asked (ref ∷ []) (line ∷ []) shows (All-cons (λ (r : List ℕ × List ℕ). Holds server.graph.entries r.1) ref [] ref_is_held (All-nil (λ (r : List ℕ × List ℕ). Holds server.graph.entries r.1))) in
           let id = held_id places server.graph is.graph line.id (All-head P line [] here) in
           let has : HasAttributes server asked line = All-head (HasAttributes server asked) line [] shows.attributes in
-          one_format ids server.graph.format reply.lines line id (peeled_format places server.graph is.graph asked.peel line.id line.peeled has.peeled) formats
+          one_format ids server.graph.format reply.lines line id (peeled_format places server.graph is.graph (ls_has asked Peel) line.id line.peeled has.peeled) formats
 
       -- and there is room for it
       pub room : has_room reply ≡ true
@@ -165,7 +166,8 @@ module _ {A : Type 0} where
           let sum = length-append next.front (ref ∷ next.back) in
           let all = ap length next.parts in
           let both = length-append (head_ref (head_id server.head server.refs)) server.refs in
-          let one = unborn_or_shown (asked.unborn && is_asked asked.prefixes head_name) server.head server.refs in
+          let one = unborn_or_shown (ls_has asked Unborn && is_asked asked.prefixes head_name)
+          server.head server.refs in
           let unborn = ap (λ (o : Option (List ℕ)). length (unborn_packets o)) next.so_far.unborn in
           let refs = is.refs.few in
           lt-ltb (line_count reply) max_lines (omega (arith, shown, few, sum, all, both, one, unborn, refs))

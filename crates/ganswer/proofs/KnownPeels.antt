@@ -7,11 +7,11 @@ use Rattle.std.proofs.lemmas.Bool.{ltb-true}
 use Rattle.std.proofs.lemmas.Option.{none-some, same_Some, get_or_from_slice_get, slice_get_read, slice_get_within}
 use Rattle.gobject.specs.declared.node.Node.{Node}
 use Rattle.gobject.specs.declared.node.Entry.{Entry}
-use Rattle.ghistory.specs.Graphs.{Holds}
-use Rattle.ghistory.specs.Peeling.{IsCommit, IsTagOf, PeelsTo, Tags}
-use Rattle.ghistory.specs.Reach.{IsClosed, Keeps}
-use Rattle.ghistory.proofs.Growing.{all_standing}
-use Rattle.ghistory.proofs.Holding.{held_node, one_node}
+use Rattle.gdag.specs.Graphs.{Holds}
+use Rattle.gdag.specs.Peeling.{IsCommit, IsTagOf, PeelsTo, Tags}
+use Rattle.gdag.specs.Reach.{IsClosed, Keeps}
+use Rattle.gdag.proofs.Growing.{all_standing}
+use Rattle.gdag.proofs.Holding.{held_node, one_node}
 use Rattle.grefs.specs.RefLists.{RefList}
 use Rattle.ganswer.specs.KnownPeels.{KnowsPeels}
 use Rattle.ganswer.specs.LsAnswers.{IsPeeled, TagPeelsTo}

@@ -8,10 +8,10 @@ use Rattle.gname.specs.declared.formats.Format.{Format}
 use Rattle.gobject.specs.declared.node.Entry.{Entry}
 use Rattle.gobject.specs.Packs.{PackFails, Packs}
 use Rattle.gobject.specs.Objects.{node_at}
-use Rattle.ghistory.specs.Graphs.{Holds, IsFirstAbsent}
-use Rattle.ghistory.specs.Insert.{ComesIn}
-use Rattle.ghistory.specs.Laws.{CommonsAreHeld, SendingIsEnough, SentAreEntries}
-use Rattle.ghistory.specs.Reach.{Grows, IsFull}
+use Rattle.gdag.specs.Graphs.{Holds, IsFirstAbsent}
+use Rattle.gdag.specs.Insert.{ComesIn}
+use Rattle.gdag.specs.Laws.{CommonsAreHeld, SendingIsEnough, SentAreEntries}
+use Rattle.gdag.specs.Reach.{Grows, IsFull}
 use Rattle.grefs.specs.declared.head.Head.{Head}
 use Rattle.grequest.specs.Asked.{FetchAsked}
 use Rattle.gfetchreply.specs.FetchReplies.{Acks, Ready, Pack}
@@ -23,8 +23,8 @@ use Rattle.ganswer.specs.Servers.{Server}
 use Rattle.ganswer.specs.declared.fault.BuildFault.{BuildFault}
 use Rattle.ganswer.specs.declared.fault.BuildFault.TheVariants as build
 use Rattle.ganswer.specs.declared.fault.ServeFault.TheVariants as serve
-use Rattle.ghistory.proofs.Growing.{comes_grows}
-use Rattle.ghistory.proofs.Holding.{held_node}
+use Rattle.gdag.proofs.Growing.{comes_grows}
+use Rattle.gdag.proofs.Holding.{held_node}
 use Rattle.ganswer.proofs.FormatLemmas.{all_held, lines_held}
 
 pub ls_answers_are_held : {A : Type 0} → LsAnswersAreHeld A

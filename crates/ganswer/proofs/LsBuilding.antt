@@ -12,11 +12,11 @@ use Rattle.grequest.specs.Asked.{LsRefsAsked}
 use Rattle.glsreply.specs.LsReplies.{LsReply}
 use Rattle.glsreply.specs.RefTexts.{RefLine}
 use Rattle.ganswer.specs.LsAnswers.{ShowsLines, head_id, head_ref, unborn_of}
-use Rattle.ganswer.specs.LsBuilding.{IsAnswering, IsNextRef}
+use Rattle.ganswer.specs.steps.LsBuilding.{IsAnswering, IsNextRef}
 use Rattle.ganswer.specs.Servers.{Server}
 use Rattle.ganswer.specs.declared.fault.ServeFault.{ServeFault}
 use Rattle.ganswer.proofs.LsLemmas.{shows_join, shows_none}
-use Rattle.ghistory.proofs.Growing.{at_front}
+use Rattle.gdag.proofs.Growing.{at_front}
 
 module _ {A : Type 0} (server : Server A) (asked : LsRefsAsked) where
   -- one line more, or none where the ref is hidden

@@ -3,10 +3,11 @@ use Rattle.std.proofs.Common.{◌≡◌, ℕ, Bool, true, false, cond, List, [],
 use Rattle.std.specs.Prelude.{filter}
 use Rattle.std.proofs.lemmas.List.{map-append}
 use Rattle.std.proofs.lemmas.List.Elements.{All-append, All-cons, All-head, All-nil, All-tail, filter-append}
-use Rattle.ghistory.proofs.IdLists.{either_way}
-use Rattle.ghistory.specs.Laws.{PeelsToOne}
+use Rattle.gdag.proofs.IdLists.{either_way}
+use Rattle.gdag.specs.Laws.{PeelsToOne}
 use Rattle.grefs.specs.RefLists.{RefList}
-use Rattle.grequest.specs.Asked.{LsRefsAsked}
+use Rattle.grequest.specs.declared.flag.LsRefsFlag.TheVariants.{Peel}
+use Rattle.grequest.specs.Asked.{LsRefsAsked, ls_has}
 use Rattle.glsreply.specs.RefTexts.{RefLine}
 use Rattle.ganswer.specs.LsAnswers.{HasAttributes, IsPeeled, IsPeeledIf, ShowsLines, is_shown, name_and_id, symref_of}
 use Rattle.ganswer.specs.Servers.{Server}
@@ -130,7 +131,7 @@ module _ {A : Type 0} (server : Server A) (asked : LsRefsAsked) where
         let names : x.name ≡ y.name = ap (λ (r : List ℕ × List ℕ). r.0) same in
         let ids : x.id ≡ y.id = ap (λ (r : List ℕ × List ℕ). r.1) same in
         let symrefs : x.symref ≡ y.symref = a.symref ∙ ap (λ (n : List ℕ). symref_of server.head asked n) names ∙ sym b.symref in
-        let peels : x.peeled ≡ y.peeled = one_peeled_if asked.peel x.id x.peeled y.peeled a.peeled (subst (λ (i : List ℕ). IsPeeledIf asked.peel server.graph.entries i y.peeled) (sym ids) b.peeled) in
+        let peels : x.peeled ≡ y.peeled = one_peeled_if (ls_has asked Peel) x.id x.peeled y.peeled a.peeled (subst (λ (i : List ℕ). IsPeeledIf (ls_has asked Peel) server.graph.entries i y.peeled) (sym ids) b.peeled) in
         ap (λ (i : List ℕ). record { id = i; name = x.name; symref = x.symref; peeled = x.peeled }) ids
         ∙ ap (λ (n : List ℕ). record { id = y.id; name = n; symref = x.symref; peeled = x.peeled }) names
         ∙ ap (λ (s : Option (List ℕ)). record { id = y.id; name = y.name; symref = s; peeled = x.peeled }) symrefs

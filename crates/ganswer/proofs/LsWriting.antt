@@ -1,7 +1,7 @@
 -- Writing the lines of refs one after the other.
 use Rattle.std.proofs.Common.{◌≡◌, ℕ, ◌+◌, ◌<◌, List, [], ◌∷◌, ◌++◌, length, map, get_or, drop, suc, add-one, drop-cons, Option, sym, ap, ◌∙◌, subst, append_assoc}
 use Rattle.std.proofs.lemmas.List.{map-append}
-use Rattle.ghistory.specs.Laws.{PeelsToOne}
+use Rattle.gdag.specs.Laws.{PeelsToOne}
 use Rattle.gpkt.specs.Packets.{Packet, Flush}
 use Rattle.ggrammar.specs.Endings.{ends_with}
 use Rattle.ggrammar.specs.declared.ends.Ends.{Ends}

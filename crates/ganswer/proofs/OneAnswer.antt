@@ -3,7 +3,7 @@ use Rattle.std.proofs.Common.{◌≡◌, ◌∙◌, ℕ, true, false, List, refl
 use Rattle.std.proofs.lemmas.Bool.{false≢true}
 use Rattle.gobject.specs.declared.node.Entry.{Entry}
 use Rattle.gobject.specs.Packs.{AreEntries, Indexes, IndexFails, LosesNothing, PackFails, Packs}
-use Rattle.ghistory.specs.Laws.{OneListToSend, PeelsToOne, SentAreEntries}
+use Rattle.gdag.specs.Laws.{OneListToSend, PeelsToOne, SentAreEntries}
 use Rattle.grequest.specs.Asked.{Asked, FetchAsked, Empty, Ls as LsAsked, Fetches}
 use Rattle.gfetchreply.specs.FetchReplies.{FetchReply, Acks, Ready, Pack}
 use Rattle.ganswer.specs.Answers.{Answers, Reply, Nothing, Ls, Fetch}

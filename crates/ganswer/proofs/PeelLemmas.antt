@@ -11,9 +11,9 @@ use Rattle.gobject.specs.declared.node.Kind.TheVariants.{Commit, Tag}
 use Rattle.gobject.specs.declared.node.Node.{Node}
 use Rattle.gobject.specs.declared.node.Entry.{Entry}
 use Rattle.gobject.specs.Objects.{has_id, node_at}
-use Rattle.ghistory.specs.Peeling.{IsCommit, IsTagOf, PeelsTo, Tags}
-use Rattle.ghistory.proofs.Holding.{one_node}
-use Rattle.ghistory.proofs.PeelLemmas.{no_cycle, no_tag, onward, tags_on}
+use Rattle.gdag.specs.Peeling.{IsCommit, IsTagOf, PeelsTo, Tags}
+use Rattle.gdag.proofs.Holding.{one_node}
+use Rattle.gdag.proofs.PeelLemmas.{no_cycle, no_tag, onward, tags_on}
 
 module _ {A : Type 0} (g : List (Entry A)) where
   -- the id leads to no commit

@@ -8,14 +8,14 @@ use Rattle.std.proofs.lemmas.List.Elements.{All-append, All-contains, All-map, C
 use Rattle.std.proofs.lemmas.Option.{none-some, same_Some, slice_get_within, get_or_from_slice_get}
 use Rattle.gobject.specs.declared.node.Entry.{Entry}
 use Rattle.gobject.specs.Objects.{node_at, entry_of, IdsDiffer}
-use Rattle.ghistory.proofs.ClosedLemmas.{parents_entry}
-use Rattle.ghistory.proofs.Growing.{at_front}
-use Rattle.ghistory.specs.Graphs.{Holds, IsFirstAbsent}
-use Rattle.ghistory.specs.Laws.{PlacesAreNodes}
-use Rattle.ghistory.specs.Reach.{IsClosed}
+use Rattle.gdag.proofs.ClosedLemmas.{parents_entry}
+use Rattle.gdag.proofs.Growing.{at_front}
+use Rattle.gdag.specs.Graphs.{Holds, IsFirstAbsent}
+use Rattle.gdag.specs.Laws.{PlacesAreNodes}
+use Rattle.gdag.specs.Reach.{IsClosed}
 use Rattle.grefs.specs.RefLists.{RefList}
 use Rattle.ganswer.specs.Servers.{HoldsRefs, IsFirstDangling, parents_in}
-use Rattle.ganswer.specs.Steps.{MissesRef, ReportsRef}
+use Rattle.ganswer.specs.steps.Answers.{MissesRef, ReportsRef}
 use Rattle.ganswer.specs.declared.fault.BuildFault.{BuildFault}
 use Rattle.ganswer.specs.declared.fault.BuildFault.TheVariants as build
 

@@ -1,13 +1,14 @@
 -- What a server advertises (gitprotocol-v2(5), "Capability Advertisement").
-use Rattle.std.specs.Prelude.{ℕ, List, [], ◌∷◌, codes, Some, None}
+use Rattle.std.specs.Prelude.{List, [], ◌∷◌, codes, Some, None}
 use Rattle.gname.specs.Formats.{format_name}
 use Rattle.gname.specs.declared.formats.Format.{Format}
+use Rattle.gpkt.specs.Packets.{Bytes}
 use Rattle.ggrammar.specs.Capabilities.{Capability}
 
-abbrev pub key : List ℕ → Capability
+abbrev pub key : Bytes → Capability
 key name = record { key = name; value = None }
 
-abbrev pub key_with : List ℕ → List ℕ → Capability
+abbrev pub key_with : Bytes → Bytes → Capability
 key_with name value = record { key = name; value = Some value }
 
 -- its name; that it lists refs, and an unborn HEAD, and sends packs; and the format of its ids

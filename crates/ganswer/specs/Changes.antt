@@ -1,10 +1,12 @@
 -- Changes of a server: an object is added, a ref is set (git-update-ref(1)), HEAD is set (git-symbolic-ref(1)). After a
 -- refusal the server is as it was.
-use Rattle.std.specs.Prelude.{◌≡◌, ℕ, List, None, Result, Ok, Err}
+use Rattle.std.specs.Prelude.{◌≡◌, None, Result, Ok, Err}
+use Rattle.gname.specs.Ids.{Id}
+use Rattle.gname.specs.Names.{Name}
 use Rattle.gobject.specs.declared.node.Entry.{Entry}
 use Rattle.gobject.specs.Objects.{node_at}
-use Rattle.ghistory.specs.Graphs.{Holds, HoldsParents, IsFirstAbsent}
-use Rattle.ghistory.specs.Insert.{ComesIn, IsCause}
+use Rattle.gdag.specs.Graphs.{Holds, HoldsParents, IsFirstAbsent}
+use Rattle.gdag.specs.Insert.{ComesIn, IsCause}
 use Rattle.grefs.specs.RefLists.{CannotSet, RefList, SetsRef, ref_at}
 use Rattle.grefs.specs.declared.fault.RefsFault.{RefsFault}
 use Rattle.grefs.specs.declared.fault.RefsFault.TheVariants as refs
@@ -37,24 +39,24 @@ Adds old entry new (Err fault) = (new ≡ old) × IsNotAdded old entry fault
 -- ---- a ref
 
 -- why refs do not take a name: it can't be set, or it is new and they are out of memory
-abbrev pub IsNotTaken : RefList → List ℕ → RefsFault → Type 0
+abbrev pub IsNotTaken : RefList → Name → RefsFault → Type 0
 IsNotTaken list name refs.Refs = CannotSet list name
 IsNotTaken list name refs.Memory = (ref_at list name ≡ None) × ¬ (CannotSet list name)
 
 -- why a ref is not set: the id is not held; else what the refs refuse
-abbrev pub IsNotSet : {A : Type 0} → Server A → List ℕ → List ℕ → BuildFault A → Type 0
+abbrev pub IsNotSet : {A : Type 0} → Server A → Name → Id → BuildFault A → Type 0
 IsNotSet server name id (build.RefMissing missing) = (missing ≡ name) × (node_at server.graph.entries id ≡ None)
 IsNotSet server name id (build.Refs cause) = Holds server.graph.entries id × IsNotTaken server.refs name cause
 IsNotSet server name id _ = ⊥
 
 -- only the refs change: the name stands at the id
-pub record SetsOneRef {A : Type 0} (old : Server A) (name id : List ℕ) (new : Server A) : Type 0 where
+pub record SetsOneRef {A : Type 0} (old : Server A) (name : Name) (id : Id) (new : Server A) : Type 0 where
   pub held : Holds old.graph.entries id
   pub graph : new.graph ≡ old.graph
   pub sets : SetsRef old.refs new.refs name id
   pub head : new.head ≡ old.head
 
-abbrev pub Sets : {A : Type 0} → Server A → List ℕ → List ℕ → Server A → Result (Unit {0}) (BuildFault A) → Type 0
+abbrev pub Sets : {A : Type 0} → Server A → Name → Id → Server A → Result (Unit {0}) (BuildFault A) → Type 0
 Sets old name id new (Ok _) = SetsOneRef old name id new
 Sets old name id new (Err fault) = (new ≡ old) × IsNotSet old name id fault
 

@@ -1,12 +1,13 @@
 -- The tables of faults: the number, the name and the text of each, and the words for a client.
-use Rattle.std.specs.Prelude.{ℕ, List, Bool, true, false, codes}
-use Rattle.gname.specs.Faults.{FaultRow}
+use Rattle.std.specs.Prelude.{Bool, true, false, codes}
+use Rattle.gname.specs.Faults.{FaultRow, missing_parent, out_of_memory, out_of_memory_text}
 use Rattle.gpkt.specs.Faults.{line_fault_row, line_fault_text}
 use Rattle.gpkt.specs.declared.fault.LineFault.TheVariants as line
+use Rattle.gpkt.specs.Packets.{Bytes}
 use Rattle.grefs.specs.Faults.{refs_fault_row, refs_fault_text}
 use Rattle.gobject.specs.Faults.{pack_fault_row, pack_fault_text}
 use Rattle.gobject.specs.declared.fault.PackFault.TheVariants as pack
-use Rattle.ghistory.specs.Faults.{graph_fault_row, graph_fault_text}
+use Rattle.gdag.specs.Faults.{graph_fault_row, graph_fault_text}
 use Rattle.ggrammar.specs.Faults.{WhyRow, line_phrase, message_fault_text, row_of, why_row}
 use Rattle.ggrammar.specs.declared.fault.Why.{Why}
 use Rattle.ggrammar.specs.declared.fault.Why.TheVariants as why
@@ -15,15 +16,19 @@ use Rattle.ganswer.specs.declared.fault.BuildFault.TheVariants as build
 use Rattle.ganswer.specs.declared.fault.ServeFault.{ServeFault}
 use Rattle.ganswer.specs.declared.fault.ServeFault.TheVariants as serve
 
+-- a ref, or HEAD, stands at an id that is not held
+abbrev pub ref_missing : FaultRow
+ref_missing = (71, codes "RefMissing")
+
 -- why a server was not made, or not changed
 abbrev pub build_fault_row : {A : Type 0} → BuildFault A → FaultRow
 build_fault_row (build.Graph fault) = graph_fault_row fault
 build_fault_row (build.Refs fault) = refs_fault_row fault
 build_fault_row (build.NotClosed id) = (70, codes "NotClosed")
-build_fault_row (build.RefMissing name) = (71, codes "RefMissing")
-build_fault_row build.HeadMissing = (71, codes "RefMissing")
-build_fault_row (build.MissingParent id) = (72, codes "MissingParent")
-build_fault_row build.Memory = (64, codes "Memory")
+build_fault_row (build.RefMissing name) = ref_missing
+build_fault_row build.HeadMissing = ref_missing
+build_fault_row (build.MissingParent id) = missing_parent
+build_fault_row build.Memory = out_of_memory
 
 -- why a request was not answered
 abbrev pub serve_fault_row : ServeFault → WhyRow
@@ -32,7 +37,7 @@ serve_fault_row (serve.Request fault) = why_row fault.why
 serve_fault_row serve.NoWants = row_of (73, codes "NoWants") (codes "no wants")
 serve_fault_row (serve.NotOurs id) = row_of (74, codes "NotOurs") (codes "not our ref")
 serve_fault_row (serve.Pack fault) = row_of (pack_fault_row fault) (codes "pack failed")
-serve_fault_row serve.Memory = row_of (64, codes "Memory") (codes "out of memory")
+serve_fault_row serve.Memory = row_of out_of_memory out_of_memory_text
 
 -- ---- out of memory
 
@@ -54,19 +59,19 @@ lacks_memory (serve.Pack _) = false
 lacks_memory serve.Memory = true
 
 -- ---- their texts
-abbrev pub build_fault_text : {A : Type 0} → BuildFault A → List ℕ
+abbrev pub build_fault_text : {A : Type 0} → BuildFault A → Bytes
 build_fault_text (build.Graph fault) = graph_fault_text fault
 build_fault_text (build.Refs fault) = refs_fault_text fault
 build_fault_text (build.NotClosed id) = codes "a parent is missing"
 build_fault_text (build.RefMissing name) = codes "a ref stands at a missing object"
 build_fault_text build.HeadMissing = codes "HEAD stands at a missing object"
 build_fault_text (build.MissingParent id) = codes "a parent of the new object is missing"
-build_fault_text build.Memory = codes "out of memory"
+build_fault_text build.Memory = out_of_memory_text
 
-abbrev pub serve_fault_text : ServeFault → List ℕ
+abbrev pub serve_fault_text : ServeFault → Bytes
 serve_fault_text (serve.Reader fault) = line_fault_text fault
 serve_fault_text (serve.Request fault) = message_fault_text fault
 serve_fault_text serve.NoWants = codes "nothing is wanted"
 serve_fault_text (serve.NotOurs id) = codes "a wanted object is missing"
 serve_fault_text (serve.Pack fault) = pack_fault_text fault
-serve_fault_text serve.Memory = codes "out of memory"
+serve_fault_text serve.Memory = out_of_memory_text

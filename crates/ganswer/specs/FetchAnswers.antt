@@ -1,14 +1,17 @@
 -- What fetch answers (gitprotocol-v2(5), "fetch"). A request with `done`, or without haves, is answered with a pack at
 -- once. Any other is answered with the common ids, and where each want reaches one of these, with a pack, too.
-use Rattle.std.specs.Prelude.{◌≡◌, ◌≢◌, ◌⊎◌, ℕ, true, false, List, [], All, if◌then◌else◌}
+use Rattle.std.specs.Prelude.{◌≡◌, ◌≢◌, ◌⊎◌, true, false, List, [], All, if◌then◌else◌}
 use Rattle.std.specs.Map.{values_of}
+use Rattle.gname.specs.Ids.{Id}
+use Rattle.gpkt.specs.Packets.{Bytes}
 use Rattle.gobject.specs.declared.node.Entry.{Entry}
 use Rattle.gobject.specs.declared.fault.PackFault.{PackFault}
 use Rattle.gobject.specs.Packs.{MayPack, PackFails, Packs}
-use Rattle.ghistory.specs.Graphs.{Holds}
-use Rattle.ghistory.specs.Sending.{IsListToSend}
-use Rattle.ghistory.specs.Walks.{IsReady, common_of}
-use Rattle.grequest.specs.Asked.{FetchAsked, is_direct}
+use Rattle.gdag.specs.Graphs.{Holds}
+use Rattle.gdag.specs.Sending.{IsListToSend}
+use Rattle.gdag.specs.Walks.{IsReady, common_of}
+use Rattle.grequest.specs.declared.flag.FetchFlag.TheVariants.{IncludeTag}
+use Rattle.grequest.specs.Asked.{FetchAsked, is_direct, fetch_has}
 use Rattle.gfetchreply.specs.FetchReplies.{FetchReply, Acks, Ready, Pack}
 use Rattle.ganswer.specs.Servers.{Server}
 
@@ -18,7 +21,7 @@ pub record CanServe {A : Type 0} (server : Server A) (asked : FetchAsked) : Type
   pub held : All (Holds server.graph.entries) asked.wants
 
 -- the common ids
-abbrev pub commons_of : {A : Type 0} → Server A → FetchAsked → List (List ℕ)
+abbrev pub commons_of : {A : Type 0} → Server A → FetchAsked → List Id
 commons_of server asked = common_of server.graph.entries asked.haves
 
 -- each want reaches one of them
@@ -26,8 +29,8 @@ abbrev pub IsReadyFor : {A : Type 0} → Server A → FetchAsked → Type 0
 IsReadyFor server asked = IsReady server.graph.entries asked.wants (commons_of server asked)
 
 -- the ids from which tags are sent: those of the refs with `include-tag`, and else none
-abbrev pub tag_tips : {A : Type 0} → Server A → FetchAsked → List (List ℕ)
-tag_tips server asked = if asked.include_tag then values_of server.refs else []
+abbrev pub tag_tips : {A : Type 0} → Server A → FetchAsked → List Id
+tag_tips server asked = if fetch_has asked IncludeTag then values_of server.refs else []
 
 -- the objects to send: what the wants reach and the common ids do not, and tags
 abbrev pub IsSent : {A : Type 0} → Server A → FetchAsked → List (Entry A) → Type 0
@@ -36,7 +39,7 @@ IsSent server asked list =
 
 -- the packer may answer these bytes for them
 pub record SendsPack {A : Type 0} (server : Server A) (packs : Packs A) (asked : FetchAsked)
-    (pack : List ℕ) : Type 0 where
+    (pack : Bytes) : Type 0 where
   pub list : List (Entry A)
   pub sent : IsSent server asked list
   pub packed : MayPack packs list pack

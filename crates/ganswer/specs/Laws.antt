@@ -1,15 +1,18 @@
 -- What follows from the definitions of answers and of changes.
-use Rattle.std.specs.Prelude.{◌≡◌, ◌⊎◌, ◌≤◌, ℕ, true, List, length, codes, All, Contains, None, Result}
+use Rattle.std.specs.Prelude.{◌≡◌, ◌⊎◌, ◌≤◌, true, List, length, codes, All, Contains, None, Result}
 use Rattle.std.specs.List.{IsDistinct}
 use Rattle.std.specs.Str.{bytes_eq}
 use Rattle.gname.specs.declared.formats.Format.{Format}
+use Rattle.gname.specs.Ids.{Id}
+use Rattle.gname.specs.Names.{Name}
+use Rattle.gpkt.specs.Packets.{Bytes}
 use Rattle.gobject.specs.declared.node.Entry.{Entry}
 use Rattle.gobject.specs.declared.fault.PackFault.{PackFault}
 use Rattle.gobject.specs.Packs.{AreEntries, MayPack, PackFails, Packs}
-use Rattle.ghistory.specs.Graphs.{Holds, IsGraph, IsNode}
-use Rattle.ghistory.specs.Insert.{Inserts}
-use Rattle.ghistory.specs.Laws.{HasAll}
-use Rattle.ghistory.specs.Reach.{Agree, Grows, IsFull}
+use Rattle.gdag.specs.Graphs.{Holds, IsGraph, IsNode}
+use Rattle.gdag.specs.Insert.{Inserts}
+use Rattle.gdag.specs.Laws.{HasAll}
+use Rattle.gdag.specs.Reach.{Agree, Grows, IsFull}
 use Rattle.grefs.specs.declared.head.Head.{Head}
 use Rattle.grequest.specs.Asked.{Asked, FetchAsked, LsRefsAsked, is_direct, max_haves}
 use Rattle.glsreply.specs.LsReplies.{LsReply}
@@ -79,7 +82,7 @@ FetchAnswersFit A packs =
     → length (pack_of reply) ≤ reading.limit → IsReplyIn reading reply
 
 -- these ids are common: the client has offered each, and the server holds it; none comes twice
-pub record AreCommon {A : Type 0} (server : Server A) (asked : FetchAsked) (ids : List (List ℕ)) : Type 0 where
+pub record AreCommon {A : Type 0} (server : Server A) (asked : FetchAsked) (ids : List Id) : Type 0 where
   pub once : IsDistinct bytes_eq ids
   pub offered : All (Contains asked.haves) ids
   pub held : All (Holds server.graph.entries) ids
@@ -94,7 +97,7 @@ AcksAreCommon A packs =
 -- agrees with the server's and at which each have is connected, each want is, and it holds all that a want reaches at
 -- the server.
 pub record IsEnough {A : Type 0} (server : Server A) (packs : Packs A) (asked : FetchAsked)
-    (pack : List ℕ) : Type 0 where
+    (pack : Bytes) : Type 0 where
   pub list : List (Entry A)
   pub packed : MayPack packs list pack
   pub entries : AreEntries list
@@ -107,7 +110,7 @@ pub record IsEnough {A : Type 0} (server : Server A) (packs : Packs A) (asked : 
 -- each pack that is sent is enough
 abbrev pub PacksAreEnough : (A : Type 0) → Packs A → Type 0
 PacksAreEnough A packs =
-    (server : Server A) (asked : FetchAsked) (pack : List ℕ)
+    (server : Server A) (asked : FetchAsked) (pack : Bytes)
     → IsServer server → CanServe server asked → SendsPack server packs asked pack → IsEnough server packs asked pack
 
 -- a request that can be served is refused only where the packer fails for entries as a graph has them, or out of memory
@@ -132,7 +135,7 @@ AnswersAreOne A packs =
 pub record ServersGrow (A : Type 0) : Type 0 where
   pub adding : (old new : Server A) (entry : Entry A) (result : Result (Unit {0}) (BuildFault A)) →
       Adds old entry new result → (new.graph.format ≡ old.graph.format) × Grows old.graph.entries new.graph.entries
-  pub setting : (old new : Server A) (name id : List ℕ) (result : Result (Unit {0}) (BuildFault A)) →
+  pub setting : (old new : Server A) (name : Name) (id : Id) (result : Result (Unit {0}) (BuildFault A)) →
       Sets old name id new result → new.graph ≡ old.graph
   pub setting_head : (old new : Server A) (head : Head A) (result : Result (Unit {0}) (BuildFault A)) →
       SetsHead old head new result → new.graph ≡ old.graph

@@ -1,16 +1,19 @@
 -- What ls-refs answers (gitprotocol-v2(5), "ls-refs"): HEAD first, then the refs in the byte order of their names, of
 -- these those that are asked for, each with the attributes that are asked for.
-use Rattle.std.specs.Prelude.{◌≡◌, ℕ, Bool, true, false, ◌&&◌, List, [], ◌∷◌, ◌++◌, All, filter, map, nat_eq}
+use Rattle.std.specs.Prelude.{◌≡◌, Bool, true, false, ◌&&◌, List, [], ◌∷◌, ◌++◌, All, filter, map, nat_eq}
 use Rattle.std.specs.Prelude.{if◌then◌else◌, is_none, MatchOption, Option, Some, None}
 use Rattle.std.specs.List.{list_any, starts_with}
 use Rattle.std.specs.Str.{bytes_eq}
-use Rattle.gname.specs.Names.{head_name}
+use Rattle.gname.specs.Names.{Name, head_name}
+use Rattle.gname.specs.Ids.{Id}
+use Rattle.gpkt.specs.Packets.{Bytes}
 use Rattle.gobject.specs.declared.node.Entry.{Entry}
-use Rattle.ghistory.specs.Peeling.{IsTagOf, PeelsTo}
+use Rattle.gdag.specs.Peeling.{IsTagOf, PeelsTo}
 use Rattle.grefs.specs.RefLists.{RefList, ref_at}
 use Rattle.grefs.specs.declared.head.Head.{Head}
 use Rattle.grefs.specs.declared.head.Head.TheVariants as heads
-use Rattle.grequest.specs.Asked.{LsRefsAsked}
+use Rattle.grequest.specs.declared.flag.LsRefsFlag.TheVariants.{Peel, Symrefs, Unborn}
+use Rattle.grequest.specs.Asked.{LsRefsAsked, ls_has}
 use Rattle.glsreply.specs.RefTexts.{RefLine}
 use Rattle.glsreply.specs.LsReplies.{LsReply}
 use Rattle.ganswer.specs.Servers.{Server}
@@ -18,12 +21,12 @@ use Rattle.ganswer.specs.Servers.{Server}
 -- ---- which refs are shown
 
 -- the id at which HEAD stands: its own, or that of the ref that it points at
-abbrev pub head_id : {A : Type 0} → Head A → RefList → Option (List ℕ)
+abbrev pub head_id : {A : Type 0} → Head A → RefList → Option Id
 head_id heads.None refs = None
 head_id (heads.Id id) refs = Some id
 head_id (heads.Symref target) refs = ref_at refs target
 
-abbrev pub head_ref : Option (List ℕ) → RefList
+abbrev pub head_ref : Option Id → RefList
 head_ref None = []
 head_ref (Some id) = (head_name, id) ∷ []
 
@@ -32,48 +35,48 @@ abbrev pub all_refs : {A : Type 0} → Server A → RefList
 all_refs server = head_ref (head_id server.head server.refs) ++ server.refs
 
 -- a name is asked for where it begins with one of the prefixes; without a prefix each name is
-abbrev pub is_asked : List (List ℕ) → List ℕ → Bool
+abbrev pub is_asked : List Bytes → Name → Bool
 is_asked [] name = true
 is_asked (prefix ∷ prefixes) name = list_any (starts_with nat_eq name) (prefix ∷ prefixes)
 
-abbrev pub is_shown : List (List ℕ) → List ℕ × List ℕ → Bool
+abbrev pub is_shown : List Bytes → Name × Id → Bool
 is_shown prefixes ref = is_asked prefixes ref.0
 
 -- ---- their attributes
 
 -- the name that HEAD points at
-abbrev pub target_of : {A : Type 0} → Head A → Option (List ℕ)
+abbrev pub target_of : {A : Type 0} → Head A → Option Name
 target_of heads.None = None
 target_of (heads.Id id) = None
 target_of (heads.Symref target) = Some target
 
 -- the target, where targets are asked for and the line is that of HEAD
-abbrev pub symref_of : {A : Type 0} → Head A → LsRefsAsked → List ℕ → Option (List ℕ)
-symref_of head asked name = if asked.symrefs && bytes_eq name head_name then target_of head else None
+abbrev pub symref_of : {A : Type 0} → Head A → LsRefsAsked → Name → Option Name
+symref_of head asked name = if ls_has asked Symrefs && bytes_eq name head_name then target_of head else None
 
 -- the id is that of a tag, and a chain of tags leads from it to the commit
-pub record TagPeelsTo {A : Type 0} (g : List (Entry A)) (id commit : List ℕ) : Type 0 where
-  pub named : List ℕ
+pub record TagPeelsTo {A : Type 0} (g : List (Entry A)) (id commit : Id) : Type 0 where
+  pub named : Id
   pub tag : IsTagOf g id named
   pub peels : PeelsTo g id commit
 
 -- the commit to which a tag leads, and nothing for other objects and for a tag that leads to no commit
-abbrev pub IsPeeled : {A : Type 0} → List (Entry A) → List ℕ → Option (List ℕ) → Type 0
-IsPeeled g id peeled = MatchOption peeled ((commit : List ℕ) → ¬ (TagPeelsTo g id commit)) (TagPeelsTo g id)
+abbrev pub IsPeeled : {A : Type 0} → List (Entry A) → Id → Option Id → Type 0
+IsPeeled g id peeled = MatchOption peeled ((commit : Id) → ¬ (TagPeelsTo g id commit)) (TagPeelsTo g id)
 
 -- where it is asked for
-abbrev pub IsPeeledIf : {A : Type 0} → Bool → List (Entry A) → List ℕ → Option (List ℕ) → Type 0
+abbrev pub IsPeeledIf : {A : Type 0} → Bool → List (Entry A) → Id → Option Id → Type 0
 IsPeeledIf false g id peeled = peeled ≡ None
 IsPeeledIf true g id peeled = IsPeeled g id peeled
 
 -- the attributes of a line are those that are asked for
 pub record HasAttributes {A : Type 0} (server : Server A) (asked : LsRefsAsked) (line : RefLine) : Type 0 where
   pub symref : line.symref ≡ symref_of server.head asked line.name
-  pub peeled : IsPeeledIf asked.peel server.graph.entries line.id line.peeled
+  pub peeled : IsPeeledIf (ls_has asked Peel) server.graph.entries line.id line.peeled
 
 -- ---- the lines
 
-abbrev pub name_and_id : RefLine → List ℕ × List ℕ
+abbrev pub name_and_id : RefLine → Name × Id
 name_and_id line = (line.name, line.id)
 
 -- there is a line for each of the refs that is shown, in order
@@ -85,15 +88,15 @@ pub record ShowsLines {A : Type 0} (server : Server A) (asked : LsRefsAsked) (re
 -- ---- an unborn HEAD
 
 -- the name that an unborn HEAD points at
-abbrev pub missing_target : {A : Type 0} → Head A → RefList → Option (List ℕ)
+abbrev pub missing_target : {A : Type 0} → Head A → RefList → Option Name
 missing_target heads.None refs = None
 missing_target (heads.Id id) refs = None
 missing_target (heads.Symref target) refs = if is_none (ref_at refs target) then Some target else None
 
 -- that name, where it is asked for and HEAD is
-abbrev pub unborn_of : {A : Type 0} → Server A → LsRefsAsked → Option (List ℕ)
+abbrev pub unborn_of : {A : Type 0} → Server A → LsRefsAsked → Option Name
 unborn_of server asked =
-    if asked.unborn && is_asked asked.prefixes head_name then missing_target server.head server.refs else None
+    if ls_has asked Unborn && is_asked asked.prefixes head_name then missing_target server.head server.refs else None
 
 -- ---- the answer
 

@@ -1,6 +1,5 @@
 -- A packer that is asked for one pack at most. What it answered shows in the answer to a request.
-use Rattle.std.specs.Prelude.{Bool, true, false, Result, Ok, Err}
-use Rattle.gobject.specs.declared.fault.PackFault.{PackFault}
+use Rattle.std.specs.Prelude.{Bool, true, false}
 use Rattle.gfetchreply.specs.FetchReplies.{FetchReply, Acks, Ready, Pack}
 use Rattle.ganswer.specs.Answers.{Reply, Nothing, Ls, Fetch}
 use Rattle.ganswer.specs.declared.fault.ServeFault.{ServeFault}
@@ -11,11 +10,6 @@ use Rattle.ganswer.specs.declared.one_pack.Packing.TheVariants as packing
 pub record OnePack (K : Type 0) : Type 0 where
   pub packer : K
   pub answered : Packing
-
--- what is noted of its answer
-abbrev pub packing_of : {X : Type 0} → Result X PackFault → Packing
-packing_of (Ok pack) = packing.Packed
-packing_of (Err fault) = packing.Failed fault
 
 -- it failed; then it is asked no more
 abbrev pub has_failed : Packing → Bool

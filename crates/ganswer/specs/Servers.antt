@@ -1,12 +1,14 @@
 -- What a server has: a graph, refs and HEAD (gitglossary(7), "ref", "HEAD"), none of which leads to an id that is not
 -- held.
-use Rattle.std.specs.Prelude.{◌≡◌, ◌⊎◌, ⊤, ℕ, List, ◌∷◌, ◌++◌, All, None, Result, Ok, Err}
+use Rattle.std.specs.Prelude.{◌≡◌, ◌⊎◌, ⊤, List, ◌∷◌, ◌++◌, All, None, Result, Ok, Err}
 use Rattle.std.specs.List.{flat_map}
 use Rattle.std.specs.Map.{values_of}
+use Rattle.gname.specs.Ids.{Id}
+use Rattle.gname.specs.Names.{Name}
 use Rattle.gobject.specs.declared.node.Entry.{Entry}
 use Rattle.gobject.specs.Objects.{node_at}
-use Rattle.ghistory.specs.Graphs.{History, Holds, IsFirstAbsent, IsGraph}
-use Rattle.ghistory.specs.Reach.{IsClosed}
+use Rattle.gdag.specs.Graphs.{History, Holds, IsFirstAbsent, IsGraph}
+use Rattle.gdag.specs.Reach.{IsClosed}
 use Rattle.grefs.specs.RefLists.{RefList, IsBelowRefs, IsRefs}
 use Rattle.grefs.specs.declared.head.Head.{Head}
 use Rattle.grefs.specs.declared.head.Head.TheVariants as heads
@@ -51,13 +53,13 @@ pub record IsServer {A : Type 0} (server : Server A) : Type 0 where
 -- ---- making one
 
 -- the parents of all objects, in store order
-abbrev pub parents_in : {A : Type 0} → List (Entry A) → List (List ℕ)
+abbrev pub parents_in : {A : Type 0} → List (Entry A) → List Id
 parents_in g = flat_map (λ entry. entry.node.parents) g
 
 -- of the refs, this is the first that stands at an id which is not held
-pub record IsFirstDangling {A : Type 0} (g : List (Entry A)) (refs : RefList) (name : List ℕ) : Type 0 where
+pub record IsFirstDangling {A : Type 0} (g : List (Entry A)) (refs : RefList) (name : Name) : Type 0 where
   pub front : RefList
-  pub id : List ℕ
+  pub id : Id
   pub back : RefList
   pub parts : refs ≡ front ++ (name, id) ∷ back
   pub held : HoldsRefs g front
@@ -74,7 +76,7 @@ IsUnserved server build.HeadMissing =
     × ¬ (HoldsHead server.graph.entries server.head)
 IsUnserved server build.Memory =
     IsClosed server.graph.entries
-    × (((name : List ℕ) × IsFirstDangling server.graph.entries server.refs name)
+    × (((name : Name) × IsFirstDangling server.graph.entries server.refs name)
     ⊎ (HoldsRefs server.graph.entries server.refs × HoldsHead server.graph.entries server.head))
 IsUnserved server _ = ⊥
 

@@ -42,7 +42,8 @@ fn add<A: Allocator + Copy>(
 ) -> Result<(), ServeFault>
     requires form { is_capability (record { key = key.now; value = option_copied value }) ≡ true }
     requires room { has_room advert.old ≡ true }
-    ensures ok { OnOk result (advert.new ≡ advert.old ++ record { key = key.now; value = option_copied value.entry } ∷ []) }
+    ensures ok { OnOk result (advert.new
+        ≡ advert.old ++ record { key = key.now; value = option_copied value.entry } ∷ []) }
     ensures fault { IfErr result (λ fault. fault ≡ Memory) }
 {
     match advert.push(Capability { key, value }) {

@@ -46,7 +46,8 @@ impl<A: Allocator + Copy> Server<A> {
         packer: &K,
     ) -> Result<Reply<A>, ServeFault>
         ensures answer { MatchResult result
-            (λ reply. Answers self.now (K.packs packer.now) (asked_by_request request.now) (reply_of reply))
+            (λ reply. Answers self.now (K.packs packer.now) (asked_by_request request.now)
+            (reply_of reply))
             (Refuses self.now (K.pack_fails packer.now) (asked_by_request request.now)) }
         ensures format { IfOk result (HasFormat self.now.graph.format) }
     {
@@ -63,7 +64,8 @@ impl<A: Allocator + Copy> Server<A> {
     ) -> Result<Reply<A>, ServeFault>
         requires { packer.old.answered ≡ packing.Unasked }
         ensures answer { MatchResult result
-            (λ reply. Answers self.now (K.packs packer.old.packer) (asked_by_request request.now) (reply_of reply))
+            (λ reply. Answers self.now (K.packs packer.old.packer) (asked_by_request request.now)
+            (reply_of reply))
             (Refuses self.now (K.pack_fails packer.old.packer) (asked_by_request request.now)) }
         ensures format { IfOk result (HasFormat self.now.graph.format) }
         ensures packing { MatchResult result

@@ -4,13 +4,13 @@ ghost use Rattle.std.specs.Prelude.{◌≡◌, Some};
 ghost use Rattle.gpkt.specs.Faults.{line_fault_row};
 ghost use Rattle.ggrammar.specs.Faults.{line_phrase, row_of};
 ghost use Rattle.ganswer.specs.Faults.{build_fault_row, build_fault_text, lacks_memory, serve_fault_row, serve_fault_text, why_lacks_memory};
-ghost use Rattle.ganswer.specs.FaultViews.{row_view};
+ghost use Rattle.ganswer.specs.steps.FaultViews.{row_view};
 ghost use Rattle.ganswer.specs.declared.fault.BuildFault.TheVariants as build;
 ghost use Rattle.ganswer.specs.declared.fault.ServeFault.TheVariants as serve;
 
 use ggrammar::{MessageFault, Why};
 use ggraph::{GraphFault, PackFault, RefsFault};
-use gname::{Oid, RefName};
+use gname::{MISSING_PARENT, OUT_OF_MEMORY, OUT_OF_MEMORY_TEXT, Oid, RefName};
 use gpkt::LineFault;
 use std::alloc::{AllocError, Allocator, Global};
 use std::error::Error;
@@ -55,13 +55,12 @@ impl<A: Allocator + Copy> BuildFault<A> {
         ensures { (result.0, result.1.now) ≡ build_fault_row self.now }
     {
         match self {
-            BuildFault::Graph(fault) => (fault.code(), fault.name()),
-            BuildFault::Refs(fault) => (fault.code(), fault.name()),
+            BuildFault::Graph(fault) => fault.row(),
+            BuildFault::Refs(fault) => fault.row(),
             BuildFault::NotClosed { .. } => (70, "NotClosed"),
-            BuildFault::RefMissing { .. } => (71, "RefMissing"),
-            BuildFault::HeadMissing => (71, "RefMissing"),
-            BuildFault::MissingParent { .. } => (72, "MissingParent"),
-            BuildFault::Memory => (64, "Memory"),
+            BuildFault::RefMissing { .. } | BuildFault::HeadMissing => (71, "RefMissing"),
+            BuildFault::MissingParent { .. } => MISSING_PARENT,
+            BuildFault::Memory => OUT_OF_MEMORY,
         }
     }
 }
@@ -79,7 +78,7 @@ impl<A: Allocator + Copy> fmt::Display for BuildFault<A> {
             BuildFault::MissingParent { .. } => f.write_str(
                 "a parent of the new object is missing",
             ),
-            BuildFault::Memory => f.write_str("out of memory"),
+            BuildFault::Memory => f.write_str(OUT_OF_MEMORY_TEXT),
         }
     }
 }
@@ -179,7 +178,7 @@ impl ServeFault {
             ServeFault::NoWants => row(73, "NoWants", "no wants"),
             ServeFault::NotOurs { .. } => row(74, "NotOurs", "not our ref"),
             ServeFault::Pack(fault) => row(fault.code(), fault.name(), "pack failed"),
-            ServeFault::Memory => row(64, "Memory", "out of memory"),
+            ServeFault::Memory => row(OUT_OF_MEMORY.0, OUT_OF_MEMORY.1, OUT_OF_MEMORY_TEXT),
         }
     }
 }
@@ -194,7 +193,7 @@ impl fmt::Display for ServeFault {
             ServeFault::NoWants => f.write_str("nothing is wanted"),
             ServeFault::NotOurs { .. } => f.write_str("a wanted object is missing"),
             ServeFault::Pack(fault) => fmt::Display::fmt(fault, f),
-            ServeFault::Memory => f.write_str("out of memory"),
+            ServeFault::Memory => f.write_str(OUT_OF_MEMORY_TEXT),
         }
     }
 }

@@ -1,12 +1,12 @@
 //! What fetch answers (gitprotocol-v2(5), "fetch").
 
 ghost use Rattle.std.specs.Prelude.{◌≡◌, ◌↔◌, IfOk, IfErr, IsTrue, MatchResult};
-ghost use Rattle.ghistory.specs.declared.fault.GraphFault.TheVariants.{Memory as OutOfMemory};
+ghost use Rattle.gdag.specs.declared.fault.GraphFault.TheVariants.{Memory as OutOfMemory};
 ghost use Rattle.gfetchreply.specs.Views.{IsReplyOf, reply_in};
 ghost use Rattle.ganswer.specs.Answers.{FetchRefuses};
 ghost use Rattle.ganswer.specs.FetchAnswers.{FetchAnswer, IsReadyFor, IsSent, commons_of};
 ghost use Rattle.ganswer.specs.OnePack.{packing_of_fault, packing_of_reply};
-ghost use Rattle.ganswer.specs.Steps.{ChecksWants, PacksFor};
+ghost use Rattle.ganswer.specs.steps.Answers.{ChecksWants, PacksFor};
 ghost use Rattle.ganswer.specs.declared.fault.ServeFault.TheVariants.{Memory};
 ghost use Rattle.ganswer.specs.declared.one_pack.Packing.TheVariants as packing;
 
@@ -32,7 +32,8 @@ impl<A: Allocator + Copy> Server<A> {
     ) -> Result<FetchReply<A>, ServeFault>
         requires { packer.old.answered ≡ packing.Unasked }
         ensures answer { MatchResult result
-            (λ reply. FetchAnswer self.now (K.packs packer.old.packer) asked.now.asked (reply_in reply))
+            (λ reply. FetchAnswer self.now (K.packs packer.old.packer) asked.now.asked
+            (reply_in reply))
             (FetchRefuses self.now (K.pack_fails packer.old.packer) asked.now.asked) }
         ensures format { IfOk result (IsReplyOf self.now.graph.format) }
         ensures packing { MatchResult result
@@ -107,7 +108,8 @@ impl<A: Allocator + Copy> Server<A> {
     ) -> Result<PackBytes<A>, ServeFault>
         requires commons { commons.now ≡ commons_of self.now asked.now.asked }
         requires unasked { packer.old.answered ≡ packing.Unasked }
-        ensures pack { PacksFor self.now (K.packs packer.old.packer) (K.pack_fails packer.old.packer) asked.now.asked result }
+        ensures pack { PacksFor self.now (K.packs packer.old.packer)
+            (K.pack_fails packer.old.packer) asked.now.asked result }
         ensures packing { MatchResult result
             (λ _. packer.new.answered ≡ packing.Packed)
             (λ fault. packer.new.answered ≡ packing_of_fault fault) }

@@ -44,7 +44,7 @@
 //!
 //! # Stands on
 //!
-//! `ggraph` for graphs, refs, walks and packers, which come from `gobject`, `ghistory`, `grefs` and `gwalk`;
+//! `ggraph` for graphs, refs, walks and packers, which come from `gobject`, `gdag`, `grefs` and `gwalk`;
 //! `grequest`, `glsreply`, `gfetchreply` and `ghello` for the messages, `ggrammar` and `gpkt` for what these share,
 //! `gname` for ids and names.
 #![tactic(auto)]

@@ -7,7 +7,7 @@ ghost use Rattle.ggrammar.specs.declared.fault.Why.TheVariants as why;
 ghost use Rattle.glsreply.specs.LentViews.{lent_view};
 ghost use Rattle.grefs.specs.RefLists.{RefList};
 ghost use Rattle.ganswer.specs.LsAnswers.{IsPeeled, LsAnswer, ShowsLines, all_refs, head_id, head_ref, is_asked, missing_target, symref_of, target_of, unborn_of};
-ghost use Rattle.ganswer.specs.LsBuilding.{IsAnswering, IsNextRef, line_list};
+ghost use Rattle.ganswer.specs.steps.LsBuilding.{IsAnswering, IsNextRef, line_list};
 ghost use Rattle.ganswer.specs.declared.fault.ServeFault.TheVariants.{Memory};
 
 use crate::fault::ServeFault;
@@ -36,7 +36,8 @@ impl<A: Allocator + Copy> Server<A> {
 
     // A reply without lines, with the target of an unborn HEAD.
     fn begin_ls(&self, asked: &LsRefsRequest<A>) -> Result<LsReply<A>, ServeFault>
-        ensures reply { IfOk result (λ reply. reply ≡ record { unborn = unborn_of self.now asked.now; lines = [] }) }
+        ensures reply { IfOk result (λ reply. reply
+            ≡ record { unborn = unborn_of self.now asked.now; lines = [] }) }
         ensures fault { IfErr result (λ fault. fault ≡ Memory) }
     {
         let mut reply = LsReply::new(self.graph().allocator());
@@ -49,7 +50,8 @@ impl<A: Allocator + Copy> Server<A> {
     // Adds the line of HEAD, where it stands at an id and is asked for.
     fn add_head(&self, asked: &LsRefsRequest<A>, reply: &mut LsReply<A>) -> Result<(), ServeFault>
         requires { reply.old ≡ record { unborn = unborn_of self.now asked.now; lines = [] } }
-        ensures head { OnOk result (IsAnswering self.now asked.now (head_ref (head_id self.now.head self.now.refs)) reply.new) }
+        ensures head { OnOk result (IsAnswering self.now asked.now
+            (head_ref (head_id self.now.head self.now.refs)) reply.new) }
         ensures fault { IfErr result (λ fault. fault ≡ Memory) }
     {
         match self.head_id() {
@@ -66,7 +68,8 @@ impl<A: Allocator + Copy> Server<A> {
         reply: &mut LsReply<A>,
     ) -> Result<(), ServeFault>
         requires refs { refs.now ≡ self.now.refs }
-        requires head { IsAnswering self.now asked.now (head_ref (head_id self.now.head self.now.refs)) reply.old }
+        requires head { IsAnswering self.now asked.now
+            (head_ref (head_id self.now.head self.now.refs)) reply.old }
         ensures all { OnOk result (IsAnswering self.now asked.now (all_refs self.now) reply.new) }
         ensures fault { IfErr result (λ fault. fault ≡ Memory) }
     {
@@ -88,7 +91,8 @@ impl<A: Allocator + Copy> Server<A> {
     ) -> Result<(), ServeFault>
         requires next { IsNextRef self.now asked.now (name.now, id) reply.old }
         requires known { IfSome known (IsPeeled self.now.graph.entries id) }
-        ensures added { OnOk result ((front : RefList) → IsAnswering self.now asked.now front reply.old
+        ensures added { OnOk result ((front : RefList)
+            → IsAnswering self.now asked.now front reply.old
             → IsAnswering self.now asked.now (front ++ (name.now, id) ∷ []) reply.new) }
         ensures fault { IfErr result (λ fault. fault ≡ Memory) }
     {

@@ -2,7 +2,7 @@
 
 ghost use Rattle.std.specs.Prelude.{◌≡◌, ◌⊎◌, ◌∷◌, ◌++◌, [], length, IfSome, MatchOption, None};
 ghost use Rattle.gobject.specs.Objects.{node_at};
-ghost use Rattle.ghistory.specs.Graphs.{Holds};
+ghost use Rattle.gdag.specs.Graphs.{Holds};
 ghost use Rattle.ganswer.specs.LsAnswers.{IsPeeled, IsPeeledIf};
 
 use ggraph::{Graph, Kind};

@@ -1,16 +1,17 @@
 //! The repository that is served, and its changes.
 
-ghost use Rattle.std.specs.Prelude.{◌≡◌, ◌↔◌, ℕ, List, slice_get, IfOk, IfSome, IsTrue, MatchOption, MatchResult, All, None, Some};
+ghost use Rattle.std.specs.Prelude.{◌≡◌, ◌↔◌, slice_get, IfOk, IfSome, IsTrue, MatchOption, MatchResult, All, None, Some};
+ghost use Rattle.gname.specs.Ids.{Id};
 ghost use Rattle.gobject.specs.Objects.{node_at};
-ghost use Rattle.ghistory.specs.Graphs.{Holds, IsFirstAbsent};
-ghost use Rattle.ghistory.specs.Reach.{Grows, IsClosed};
+ghost use Rattle.gdag.specs.Graphs.{Holds, IsFirstAbsent};
+ghost use Rattle.gdag.specs.Reach.{Grows, IsClosed};
 ghost use Rattle.grefs.specs.RefLists.{IsRefs};
 ghost use Rattle.ganswer.specs.Changes.{Adds, Sets, SetsHead};
 ghost use Rattle.ganswer.specs.KnownPeels.{KnowsPeels};
 ghost use Rattle.ganswer.specs.LsAnswers.{IsPeeled};
 ghost use Rattle.ganswer.specs.Servers.{HoldsHead, HoldsRefs, IsServer, IsUnserved, Makes, PointsBelowRefs, parents_in, served};
-ghost use Rattle.ganswer.specs.Steps.{MissesRef, ReportsRef};
-ghost use Rattle.gname.specs.Names.{head_name};
+ghost use Rattle.ganswer.specs.steps.Answers.{MissesRef, ReportsRef};
+ghost use Rattle.gname.specs.Names.{Name, head_name};
 
 use crate::fault::BuildFault;
 use crate::peels::{keep_peeled, look_up, no_peels};
@@ -158,7 +159,7 @@ impl<A: Allocator + Copy> Server<A> {
 
     // What the id of the ref at a position peels to where it is that of a tag, if that is known.
     pub(crate) fn peeled_at(&self, place: usize) -> Option<Option<Oid>>
-        ensures { (ref : List ℕ × List ℕ) → slice_get self.now.refs place ≡ Some ref
+        ensures { (ref : Name × Id) → slice_get self.now.refs place ≡ Some ref
             → IfSome result (IsPeeled self.now.graph.entries ref.1) }
     {
         self.peels.get(place).copied()
@@ -171,7 +172,8 @@ fn check_parts<A: Allocator + Copy>(
     refs: &Refs<A>,
     head: &Head<A>,
 ) -> Result<Vec<Option<Oid>, A>, BuildFault<A>>
-    ensures parts { let parts = served graph.now refs.now head.now in MatchResult result (λ _. IsServer parts) (IsUnserved parts) }
+    ensures parts { let parts = served graph.now refs.now head.now
+        in MatchResult result (λ _. IsServer parts) (IsUnserved parts) }
     ensures peels { IfOk result (λ peels. KnowsPeels graph.now.entries refs.now peels.items) }
 {
     // Laws.
@@ -221,7 +223,8 @@ fn check_refs<A: Allocator + Copy>(
     graph: &Graph<A>,
     refs: &[(RefName<A>, Oid)],
 ) -> Result<Vec<Option<Oid>, A>, BuildFault<A>>
-    ensures held { MatchResult result (λ _. HoldsRefs graph.now.entries refs.now) (MissesRef graph.now.entries refs.now) }
+    ensures held { MatchResult result (λ _. HoldsRefs graph.now.entries refs.now)
+        (MissesRef graph.now.entries refs.now) }
     ensures peels { IfOk result (λ peels. KnowsPeels graph.now.entries refs.now peels.items) }
 {
     let mut peels = no_peels(graph.allocator(), refs.len());

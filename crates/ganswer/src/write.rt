@@ -8,7 +8,7 @@ ghost use Rattle.ggrammar.specs.Writing.{WritesLines, WritesPart};
 ghost use Rattle.glsreply.specs.LsReplies.{LsReply, canonical_reply, ref_packet};
 ghost use Rattle.glsreply.specs.RefTexts.{RefLine};
 ghost use Rattle.ganswer.specs.LsAnswers.{LsAnswer, ShowsLines, all_refs, head_id, head_ref};
-ghost use Rattle.ganswer.specs.LsBuilding.{line_list};
+ghost use Rattle.ganswer.specs.steps.LsBuilding.{line_list};
 
 use crate::server::Server;
 use ggrammar::Ends;
@@ -32,7 +32,8 @@ impl<A: Allocator + Copy> Server<A> {
         writer: &mut LineWriter<W>,
     ) -> Result<(), WriteFault>
         ensures { (reply : LsReply) → LsAnswer self.now asked.now reply
-            → WritesLines W.contents W.passed_on W.is_down W.loans writer.old writer.new result (canonical_reply ends reply) }
+            → WritesLines W.contents W.passed_on W.is_down W.loans writer.old writer.new result
+            (canonical_reply ends reply) }
     {
         // Laws.
         writes_lines::<W>();
@@ -66,8 +67,10 @@ impl<A: Allocator + Copy> Server<A> {
         text: &mut RefText,
         writer: &mut LineWriter<W>,
     ) -> Result<(), WriteFault>
-        ensures { (lines : List RefLine) → ShowsLines self.now asked.now (head_ref (head_id self.now.head self.now.refs)) lines
-            → WritesPart W.contents W.passed_on W.is_down W.loans writer.old writer.new result (map ref_packet lines) }
+        ensures { (lines : List RefLine)
+            → ShowsLines self.now asked.now (head_ref (head_id self.now.head self.now.refs)) lines
+            → WritesPart W.contents W.passed_on W.is_down W.loans writer.old writer.new result
+            (map ref_packet lines) }
     {
         // Laws.
         writes_lines::<W>();
@@ -89,7 +92,8 @@ impl<A: Allocator + Copy> Server<A> {
         writer: &mut LineWriter<W>,
     ) -> Result<(), WriteFault>
         ensures { (lines : List RefLine) → ShowsLines self.now asked.now self.now.refs lines
-            → WritesPart W.contents W.passed_on W.is_down W.loans writer.old writer.new result (map ref_packet lines) }
+            → WritesPart W.contents W.passed_on W.is_down W.loans writer.old writer.new result
+            (map ref_packet lines) }
     {
         // Laws.
         writes_lines::<W>();
@@ -109,7 +113,8 @@ fn write_line<A: Allocator + Copy, W: Sink>(
     text: &mut RefText,
     writer: &mut LineWriter<W>,
 ) -> Result<(), WriteFault>
-    ensures { WritesPart W.contents W.passed_on W.is_down W.loans writer.old writer.new result (map ref_packet (line_list (option_copied line.entry))) }
+    ensures { WritesPart W.contents W.passed_on W.is_down W.loans writer.old writer.new result
+        (map ref_packet (line_list (option_copied line.entry))) }
 {
     // Laws.
     writes_lines::<W>();

@@ -5,11 +5,11 @@ use Rattle.gpkt.specs.Change.{Change}
 use Rattle.gpkt.specs.Packets.{Packet}
 use Rattle.ggrammar.specs.Capabilities.{Capability}
 use Rattle.gfetchreply.specs.FetchReplies.{FetchReply}
-use Rattle.ghistory.specs.Reach.{Grows}
-use Rattle.ghistory.proofs.Growing.{grows_on}
-use Rattle.ghistory.specs.Walks.{CountsReached}
+use Rattle.gdag.specs.Reach.{Grows}
+use Rattle.gdag.proofs.Growing.{grows_on}
+use Rattle.gdag.specs.Walks.{CountsReached}
 use Rattle.gobject.specs.Packs.{Indexes, IndexFails}
-use Rattle.grepo.specs.Repos.{IsWhole, RepoState}
+use Rattle.gclientrepo.specs.Repos.{IsWhole, RepoState}
 use Rattle.grequest.specs.Asked.{Asked, Empty, Ls, Fetches}
 use Rattle.gsession.specs.Bounds.{BeganOn, BeganStaysOn, BeginsCounted, BeganBegins, CountedAreFew, CountedStays}
 use Rattle.gsession.specs.Bounds.{IsCounted}

@@ -6,9 +6,9 @@ use Rattle.std.specs.Io.KnownBytes.{Appends}
 use Rattle.std.proofs.lemmas.Grind.{flat_map-append}
 use Rattle.gname.specs.declared.formats.Format.{Format}
 use Rattle.gpkt.specs.Sending.{Input, Output, IsUnwritten}
-use Rattle.ghistory.specs.Walks.{CountsReached}
+use Rattle.gdag.specs.Walks.{CountsReached}
 use Rattle.gobject.specs.Packs.{Indexes, IndexFails}
-use Rattle.grepo.specs.Repos.{IsWhole, RepoState}
+use Rattle.gclientrepo.specs.Repos.{IsWhole, RepoState}
 use Rattle.grequest.specs.Asked.{Asked, Empty}
 use Rattle.gsession.specs.Sessions.{tips_of}
 use Rattle.gclient.specs.Conversations.{Start, Converses, Fails, cannot_ask, cannot_begin, cannot_hear, cannot_send}

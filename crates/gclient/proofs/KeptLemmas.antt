@@ -2,14 +2,14 @@
 use Rattle.std.proofs.Common.{◌≡◌, List, [], Result, Ok, Err, refl, sym, subst, append-nil}
 use Rattle.std.specs.Prelude.{IfOk, OnErr}
 use Rattle.gpkt.specs.Sending.{Input, Output}
-use Rattle.ghistory.specs.Graphs.{History}
-use Rattle.ghistory.specs.Reach.{Grows}
+use Rattle.gdag.specs.Graphs.{History}
+use Rattle.gdag.specs.Reach.{Grows}
 use Rattle.gobject.specs.Packs.{Indexes, IndexFails}
 use Rattle.grefs.specs.RefLists.{RefList}
-use Rattle.grepo.specs.Repos.{RepoState}
-use Rattle.grepo.specs.Settling.{Settles}
-use Rattle.grepo.specs.declared.ask.Ask.{Ask}
-use Rattle.grepo.proofs.Refusals.{refusals_change_nothing}
+use Rattle.gclientrepo.specs.Repos.{RepoState}
+use Rattle.gclientrepo.specs.Settling.{Settles}
+use Rattle.gclientrepo.specs.declared.ask.Ask.{Ask}
+use Rattle.gclientrepo.proofs.Refusals.{refusals_change_nothing}
 use Rattle.gclient.specs.Conversations.{Start, Converses, Fails, cannot_ask, cannot_begin, cannot_hear, cannot_send}
 use Rattle.gclient.specs.Conversations.{cannot_settle, cannot_take, no_buffer, HasFetched, FetchesOver, heard}
 use Rattle.gclient.specs.Turns.{ClientState, Turn}

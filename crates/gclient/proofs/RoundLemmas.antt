@@ -16,13 +16,13 @@ use Rattle.gobject.specs.declared.node.Entry.{Entry}
 use Rattle.gobject.specs.Objects.{has_id}
 use Rattle.gobject.specs.Packs.{Indexes, IndexFails}
 use Rattle.gfetchreply.specs.FetchReplies.{FetchReply}
-use Rattle.ghistory.specs.Graphs.{Holds}
-use Rattle.ghistory.specs.Laws.{DistinctAreOnce}
-use Rattle.ghistory.specs.Reach.{IsFull, SomeReaches}
-use Rattle.ghistory.proofs.Counting.{ids_of}
-use Rattle.ghistory.proofs.Holding.{node_there}
-use Rattle.ghistory.proofs.IdLists.{either_way}
-use Rattle.grepo.specs.Repos.{RepoState, IsWhole}
+use Rattle.gdag.specs.Graphs.{Holds}
+use Rattle.gdag.specs.Laws.{DistinctAreOnce}
+use Rattle.gdag.specs.Reach.{IsFull, SomeReaches}
+use Rattle.gdag.proofs.Counting.{ids_of}
+use Rattle.gdag.proofs.Holding.{node_there}
+use Rattle.gdag.proofs.IdLists.{either_way}
+use Rattle.gclientrepo.specs.Repos.{RepoState, IsWhole}
 use Rattle.grequest.specs.Asked.{Asked, Empty, Ls, Fetches}
 use Rattle.gsession.specs.Bounds.{BeganOn}
 use Rattle.gsession.specs.Requesting.{Requests}
@@ -34,7 +34,7 @@ use Rattle.gsession.specs.declared.taken.Taken.{Taken}
 use Rattle.gsession.specs.declared.taken.Taken.TheVariants.{Round, PackTaken}
 use Rattle.gsession.proofs.NextLaws.{tips_are_full}
 use Rattle.gsession.proofs.SessionLemmas.{listing_fetches, settling_fetches}
-use Rattle.gclient.specs.Steps.{TakesTurn, stage_after}
+use Rattle.gclient.specs.steps.Conversations.{TakesTurn, stage_after}
 use Rattle.gclient.specs.Turns.{ClientState, IsTurn, Takes, Turn}
 
 -- ---- distinct held ids are at most as many as there are objects

@@ -15,7 +15,7 @@ use Rattle.std.specs.List.{flat_map}
 use Rattle.std.proofs.lemmas.Grind.{flat_map-append}
 use Rattle.gname.specs.declared.formats.Format.{Format}
 use Rattle.gclient.specs.Conversations.{FailsToAsk, HasAsked, request_bytes, requests_bytes}
-use Rattle.gclient.specs.Steps.{HasPassed}
+use Rattle.gclient.specs.Conversations.{HasPassed}
 use Rattle.gclient.specs.Turns.{Turn}
 
 module _ {W : Type 0} (contents passed_on : W → Option (List ℕ)) (is_down : W → Bool) (loans : W → List ℕ) where

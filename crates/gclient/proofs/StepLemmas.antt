@@ -11,14 +11,14 @@ use Rattle.ggrammar.specs.declared.fault.MessageFault.{MessageFault}
 use Rattle.ghello.specs.Adverts.{Says, judge}
 use Rattle.ghello.specs.Offers.{check_fault}
 use Rattle.gobject.specs.declared.node.Entry.{Entry}
-use Rattle.grepo.specs.Repos.{RepoState}
+use Rattle.gclientrepo.specs.Repos.{RepoState}
 use Rattle.gsession.specs.Requesting.{is_due}
 use Rattle.gsession.specs.Sessions.{SessionState, IsBegun, tells_unborn, tips_of}
 use Rattle.gsession.specs.TakingRefs.{TakesLs, stage_for}
 use Rattle.gsession.specs.declared.stage.Stage.TheVariants.{Listing, Fetching, Settling}
 use Rattle.gsession.specs.declared.taken.LsTaken.{LsTaken}
 use Rattle.gclient.specs.Conversations.{Start, RefusesAdvert, heard}
-use Rattle.gclient.specs.Steps.{HasBegun, HearsServer, start_with}
+use Rattle.gclient.specs.steps.Conversations.{HasBegun, HearsServer, start_with}
 
 -- ---- faults
 

@@ -9,8 +9,8 @@ use Rattle.gpkt.specs.LineReading.{ReadsLines}
 use Rattle.gpkt.specs.Packets.{Packet}
 use Rattle.gpkt.specs.Sending.{Input, input_of, output_of, IsUnread, Passes, SendsSome}
 use Rattle.gobject.specs.Packs.{Indexes, IndexFails}
-use Rattle.grepo.specs.Changes.{SettlesAsks}
-use Rattle.grepo.specs.Repos.{RepoState}
+use Rattle.gclientrepo.specs.Changes.{SettlesAsks}
+use Rattle.gclientrepo.specs.Repos.{RepoState}
 use Rattle.grequest.specs.Asked.{Empty}
 use Rattle.gsession.specs.Sessions.{SessionState, max_specs, tells_unborn, tips_of}
 use Rattle.gsession.specs.declared.fault.ClientFault.TheVariants as client
@@ -19,8 +19,9 @@ use Rattle.gsession.specs.declared.taken.Settled.{Settled}
 use Rattle.gclient.specs.Conversations.{Start, Converses, Fails, cannot_ask, cannot_hear, cannot_send, cannot_settle}
 use Rattle.gclient.specs.Conversations.{cannot_take, HasFetched, request, ending, IsLeft, begun, heard, rest_of}
 use Rattle.gclient.specs.Conversations.{request_bytes}
-use Rattle.gclient.specs.Steps.{Closes, FailsTurn, unasked, unsent, untaken, HasTalked, HasTurned, HearsServer}
-use Rattle.gclient.specs.Steps.{client_of}
+use Rattle.gclient.specs.steps.Conversations.{Closes, FailsTurn, unasked, unsent, untaken, HasTalked, HasTurned}
+use Rattle.gclient.specs.steps.Conversations.{HearsServer}
+use Rattle.gclient.specs.steps.Conversations.{client_of}
 use Rattle.gclient.specs.Turns.{AreTurns, ClientState, Refuses, Turn}
 use Rattle.gclient.specs.declared.fault.FetchFault.{FetchFault}
 use Rattle.gclient.specs.declared.fault.FetchFault.TheVariants as fetch

@@ -8,9 +8,9 @@ use Rattle.ggrammar.specs.MessageReading.{IsReadFailure}
 use Rattle.gfetchreply.specs.FetchReplies.{FetchReply}
 use Rattle.gobject.specs.Packs.{Indexes, IndexFails}
 use Rattle.gobject.specs.declared.node.Entry.{Entry}
-use Rattle.ghistory.specs.Reach.{Grows}
-use Rattle.ghistory.proofs.Growing.{grows_none, grows_on, inserts_grows}
-use Rattle.grepo.specs.Repos.{RepoState}
+use Rattle.gdag.specs.Reach.{Grows}
+use Rattle.gdag.proofs.Growing.{grows_none, grows_on, inserts_grows}
+use Rattle.gclientrepo.specs.Repos.{RepoState}
 use Rattle.grequest.specs.Asked.{Asked, Empty, Ls, Fetches, LsRefsAsked, FetchAsked}
 use Rattle.gsession.specs.Bounds.{BeganOn, BeganStays}
 use Rattle.gsession.specs.Requesting.{Requests, waiting_for}
@@ -24,8 +24,9 @@ use Rattle.gsession.specs.declared.taken.LsTaken.{LsTaken}
 use Rattle.gsession.specs.declared.taken.Taken.{Taken}
 use Rattle.gsession.specs.declared.taken.Taken.TheVariants.{Round, PackTaken}
 use Rattle.gclient.specs.Conversations.{request_bytes}
-use Rattle.gclient.specs.Steps.{AsksServer, FailsTurn, unasked, unsent, untaken, HasTurned, TakesTurn, client_of}
-use Rattle.gclient.specs.Steps.{stage_after}
+use Rattle.gclient.specs.steps.Conversations.{AsksServer, FailsTurn, unasked, unsent, untaken, HasTurned, TakesTurn}
+use Rattle.gclient.specs.steps.Conversations.{client_of}
+use Rattle.gclient.specs.steps.Conversations.{stage_after}
 use Rattle.gclient.specs.Turns.{ClientState, FitsSource, IsTurn, IsUntaken, AreTurns, Takes, Turn}
 use Rattle.gclient.specs.declared.fault.FetchFault.{FetchFault}
 use Rattle.gclient.specs.declared.fault.FetchFault.TheVariants as fetch

@@ -5,7 +5,7 @@ use Rattle.std.specs.List.{flat_map}
 use Rattle.gname.specs.declared.formats.Format.{Format}
 use Rattle.gpkt.specs.Devices.{KeepsPassed}
 use Rattle.gpkt.specs.LineReading.{ReadsLines}
-use Rattle.gpkt.specs.Packets.{Packet, canonical_all}
+use Rattle.gpkt.specs.Packets.{Bytes, Packet, canonical_all}
 use Rattle.gpkt.specs.Sending.{Input, Output, IsUnread, IsUnwritten, IsUp, Passes, SendsAndFails, SendsSome}
 use Rattle.ggrammar.specs.Capabilities.{Capability}
 use Rattle.ggrammar.specs.MessageReading.{IsReadFailure, ReadsRefused}
@@ -14,10 +14,10 @@ use Rattle.ggrammar.specs.declared.fault.MessageFault.{MessageFault}
 use Rattle.ghello.specs.Adverts as advert
 use Rattle.ghello.specs.Offers.{check_fault}
 use Rattle.gobject.specs.Packs.{Indexes, IndexFails}
-use Rattle.gspec.specs.Refspecs.{Refspec}
-use Rattle.grepo.specs.Changes.{SettlesAsks}
-use Rattle.grepo.specs.Repos.{RepoState}
-use Rattle.grepo.specs.declared.fault.RepoFault.{RepoFault}
+use Rattle.grefspec.specs.Refspecs.{Refspec}
+use Rattle.gclientrepo.specs.Changes.{SettlesAsks}
+use Rattle.gclientrepo.specs.Repos.{RepoState}
+use Rattle.gclientrepo.specs.declared.fault.RepoFault.{RepoFault}
 use Rattle.grequest.specs.Asked.{Asked, Empty}
 use Rattle.grequest.specs.RequestWriting.{canonical_request}
 use Rattle.gsession.specs.Requesting.{Requests}
@@ -40,11 +40,11 @@ pub record Start (A : Type 0) : Type 0 where
 -- ---- what is written
 
 -- the bytes of a request
-abbrev pub request_bytes : Format → Asked → List ℕ
+abbrev pub request_bytes : Format → Asked → Bytes
 request_bytes format asked = canonical_all (canonical_request format asked)
 
 -- the bytes of the requests of some turns
-abbrev pub requests_bytes : Format → List Turn → List ℕ
+abbrev pub requests_bytes : Format → List Turn → Bytes
 requests_bytes format turns = flat_map (λ turn. request_bytes format turn.asked) turns
 
 -- the requests of some turns were passed on; before the first nothing was written
@@ -53,11 +53,11 @@ HasAsked format output [] = IsUnwritten output
 HasAsked format output (turn ∷ turns) = Passes output (requests_bytes format (turn ∷ turns))
 
 -- The sink failed as these bytes were to be sent: a beginning of them stands, and what was passed on before still is.
-abbrev pub FailsToSend : Output → List ℕ → Type 0
+abbrev pub FailsToSend : Output → Bytes → Type 0
 FailsToSend output due = SendsSome output due × KeepsPassed output.passed_on
 
 -- the requests of some turns were passed on, and the sink failed as the next bytes were to be sent
-abbrev pub FailsToAsk : Format → Output → List Turn → List ℕ → Type 0
+abbrev pub FailsToAsk : Format → Output → List Turn → Bytes → Type 0
 FailsToAsk format output [] due = FailsToSend output due
 FailsToAsk format output (turn ∷ turns) due = SendsAndFails output (requests_bytes format (turn ∷ turns)) due
 
@@ -91,7 +91,7 @@ RefusesAdvert format input cause =
     RefusesToRead input cause ⊎ Mismatches format input cause
 
 -- what is left of the input where so much of it is still to come
-abbrev pub rest_of : Input → Option (List ℕ) → Input
+abbrev pub rest_of : Input → Option Bytes → Input
 rest_of input between = record {
   read = record { old = between; new = input.read.new };
   was_down = input.was_down;
@@ -132,7 +132,7 @@ module _ {A : Type 0} (indexes : Indexes A) (index_fails : IndexFails) (start : 
     pub capabilities : List Capability
     pub advertises : Advertises start.repo.graph.format packets capabilities
     pub each : AreTurns indexes index_fails (heard start capabilities) talk last
-    pub between : Option (List ℕ)
+    pub between : Option Bytes
     pub read : ReadsLines (record { old = input.read.old; new = between })
         (packets ++ flat_map (λ turn. turn.reply) talk)
     pub rest : Rest (rest_of input between)
@@ -141,7 +141,7 @@ module _ {A : Type 0} (indexes : Indexes A) (index_fails : IndexFails) (start : 
 
   -- a lone flush ends the conversation, once there is nothing more to ask (gitprotocol-v2(5), "Command Request":
   -- `empty-request`)
-  abbrev pub talk_bytes : List Turn → List ℕ
+  abbrev pub talk_bytes : List Turn → Bytes
   talk_bytes talk =
       requests_bytes start.repo.graph.format talk ++ request_bytes start.repo.graph.format Empty
 
@@ -202,3 +202,8 @@ module _ {A : Type 0} (indexes : Indexes A) (index_fails : IndexFails) (start : 
   abbrev pub FetchesOver : Input → Output → RepoState A → Result (Fetched A) (FetchFault A) → Type 0
   FetchesOver input output new (Ok fetched) = HasFetched input output new fetched
   FetchesOver input output new (Err fault) = Fails input output new fault
+
+-- what a call did that was to write these bytes and to pass them on
+abbrev pub HasPassed : {E : Type 0} → Output → Result (Unit {0}) E → Bytes → Type 0
+HasPassed output (Ok done) bytes = Passes output bytes
+HasPassed output (Err failed) bytes = FailsToSend output bytes

@@ -4,11 +4,12 @@ use Rattle.std.specs.List.{flat_map}
 use Rattle.std.specs.Io.KnownBytes.{Appends}
 use Rattle.gname.specs.declared.formats.Format.{Format}
 use Rattle.gpkt.specs.Sending.{Input, Output}
+use Rattle.gpkt.specs.Packets.{Bytes}
 use Rattle.ggrammar.specs.Capabilities.{Capability}
-use Rattle.ghistory.specs.Reach.{Grows}
-use Rattle.ghistory.specs.Walks.{CountsReached}
+use Rattle.gdag.specs.Reach.{Grows}
+use Rattle.gdag.specs.Walks.{CountsReached}
 use Rattle.gobject.specs.Packs.{Indexes, IndexFails}
-use Rattle.grepo.specs.Repos.{IsWhole, RepoState}
+use Rattle.gclientrepo.specs.Repos.{IsWhole, RepoState}
 use Rattle.grequest.specs.Asked.{Asked, Fetches}
 use Rattle.gsession.specs.Sessions.{SessionState, max_specs, tips_of}
 use Rattle.gclient.specs.Conversations.{FetchesOver, Start, heard, request_bytes}
@@ -62,8 +63,8 @@ NextIsFew {A} indexes index_fails =
 pub record AsksAtMost (format : Format) (output : Output) (most : ℕ) : Type 0 where
   pub requests : List Asked
   pub few : objects_asked requests ≤ most
-  pub front : List ℕ
-  pub rest : List ℕ
+  pub front : Bytes
+  pub rest : Bytes
   pub parts : flat_map (request_bytes format) requests ≡ front ++ rest
   pub written : Appends output.written.old output.written.new front
 

@@ -1,8 +1,8 @@
 pub mod Turns
 pub mod Conversations
-pub mod Steps
 pub mod Laws
 pub mod Faults
+pub mod steps
 pub use Rattle.gsession.specs.Sessions
 pub use Rattle.gsession.specs.Asking
 pub use Rattle.gsession.specs.Requesting
@@ -10,12 +10,12 @@ pub use Rattle.gsession.specs.TakingRefs
 pub use Rattle.gsession.specs.TakingReplies
 pub use Rattle.gsession.specs.SettlingRefs
 pub use Rattle.gsession.specs.Bounds
-pub use Rattle.grepo.specs.Changes
-pub use Rattle.grepo.specs.Repos
-pub use Rattle.grepo.specs.Settling
+pub use Rattle.gclientrepo.specs.Changes
+pub use Rattle.gclientrepo.specs.Repos
+pub use Rattle.gclientrepo.specs.Settling
 pub use Rattle.gpkt.specs.Sending
-pub use Rattle.ghistory.specs.Reach
-pub use Rattle.ghistory.specs.Walks
+pub use Rattle.gdag.specs.Reach
+pub use Rattle.gdag.specs.Walks
 pub use Rattle.ggrammar.specs.MessageReading
 pub use Rattle.ghello.specs.Adverts
 pub use Rattle.ghello.specs.Offers

@@ -1,6 +1,7 @@
 -- A turn of a client's conversation: its next request, and what it takes of the reply (gitprotocol-v2(5), "Command
 -- Request").
-use Rattle.std.specs.Prelude.{◌≡◌, ℕ, Bool, false, List, [], ◌∷◌, Option, Ok}
+use Rattle.std.specs.Prelude.{◌≡◌, Bool, false, List, [], ◌∷◌, Option, Ok}
+use Rattle.gname.specs.Names.{Name}
 use Rattle.gpkt.specs.Change.{Change}
 use Rattle.gpkt.specs.Packets.{Packet}
 use Rattle.gpkt.specs.Sending.{Input}
@@ -10,7 +11,7 @@ use Rattle.glsreply.specs.LsReplies as ls
 use Rattle.gfetchreply.specs.FetchReplies.{FetchReply}
 use Rattle.gfetchreply.specs.FetchReplies as fetch
 use Rattle.gobject.specs.Packs.{Indexes, IndexFails}
-use Rattle.grepo.specs.Repos.{RepoState}
+use Rattle.gclientrepo.specs.Repos.{RepoState}
 use Rattle.grequest.specs.Asked.{Asked, Empty, Ls, Fetches, FetchAsked}
 use Rattle.gsession.specs.Requesting.{Requests}
 use Rattle.gsession.specs.Sessions.{SessionState}
@@ -25,7 +26,7 @@ use Rattle.gsession.specs.declared.taken.Taken.{Taken}
 pub record ClientState (A : Type 0) : Type 0 where
   pub session : SessionState A
   pub repo : RepoState A
-  pub unborn : Option (List ℕ)
+  pub unborn : Option Name
 
 -- what is asked, and the packets of the reply
 pub record Turn : Type 0 where

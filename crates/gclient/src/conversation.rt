@@ -1,22 +1,24 @@
 //! A conversation, from the advertisement to the refs here that move.
 #![tactic(auto)]
 
-ghost use Rattle.std.specs.Prelude.{◌≡◌, ◌≤◌, ◌+◌, ℕ, List, Option, None, false, length, IfOk, OnErr, OnOk};
+ghost use Rattle.std.specs.Prelude.{◌≡◌, ◌≤◌, ◌+◌, ℕ, Option, None, false, length, IfOk, OnErr, OnOk};
+ghost use Rattle.gname.specs.Names.{Name};
 ghost use Rattle.gpkt.specs.Sending.{input_of, output_of};
-ghost use Rattle.ghistory.specs.Reach.{Grows};
-ghost use Rattle.ghistory.specs.Walks.{CountsReached};
-ghost use Rattle.grepo.specs.Repos.{IsWhole};
-ghost use Rattle.grepo.specs.Settling.{Settles};
+ghost use Rattle.gdag.specs.Reach.{Grows};
+ghost use Rattle.gdag.specs.Walks.{CountsReached};
+ghost use Rattle.gclientrepo.specs.Repos.{IsWhole};
+ghost use Rattle.gclientrepo.specs.Settling.{Settles};
 ghost use Rattle.gsession.specs.Bounds.{BeganOn};
 ghost use Rattle.gsession.specs.Sessions.{max_specs, tips_of};
 ghost use Rattle.gsession.specs.declared.stage.Stage.TheVariants.{Fetching, Settling};
 ghost use Rattle.gclient.specs.Conversations.{FetchesOver, Start, start_of};
-ghost use Rattle.gclient.specs.Steps.{Closes, HasBegun, HasTalked, Talks, TalksTo, client_of, start_with};
+ghost use Rattle.gclient.specs.steps.Conversations.{Closes, HasBegun, HasTalked, Talks, TalksTo, client_of, start_with};
 
 use crate::fault::FetchFault;
 use crate::fetched::Fetched;
 use crate::send::send_request;
 use crate::turn::{ask, fetch, hear};
+use gclientrepo::Repo;
 use gfetchreply::PackLimit;
 use ggrammar::Ends;
 use ggraph::Indexer;
@@ -24,11 +26,10 @@ use ggraph::graph_laws::distinct_are_once;
 use gname::RefName;
 use gpkt::laws::reads_join;
 use gpkt::{LineBuffer, LineReader, LineWriter, Sink, Source};
-use grepo::Repo;
+use grefspec::Spec;
 use grequest::Request;
 use gsession::laws::{began_stays, rounds_are_few};
 use gsession::{Session, Settled, Taken};
-use gspec::Spec;
 use std::alloc::Allocator;
 
 /// Fetches by refspecs from a server (gitprotocol-v2(5)): reads its advertisement, asks for its refs, asks for the
@@ -55,13 +56,14 @@ pub fn fetch_over<S: Source, W: Sink, A: Allocator + Copy, K: Indexer<A>>(
         (start_of repo.old specs.now limit ends)
         (input_of S.remaining S.is_down source.old source.new)
         (output_of W.contents W.passed_on W.is_down sink.old sink.new) repo.new result }
-    ensures settled { IfOk result (λ fetched. Settles repo.new.graph.entries repo.old.refs fetched.settled.asks
-        fetched.settled.updates.items repo.new.refs) }
+    ensures settled { IfOk result (λ fetched. Settles repo.new.graph.entries repo.old.refs
+        fetched.settled.asks fetched.settled.updates.items repo.new.refs) }
     ensures refs { OnErr result (repo.new.refs ≡ repo.old.refs) }
     ensures grows { Grows repo.old.graph.entries repo.new.graph.entries }
     ensures safe { IsWhole repo.new }
     ensures bound { IfOk result (λ fetched. (held parents : ℕ)
-        → CountsReached repo.old.graph.entries (tips_of repo.old) held parents → fetched.requests ≤ held + 1) }
+        → CountsReached repo.old.graph.entries (tips_of repo.old) held parents
+        → fetched.requests ≤ held + 1) }
     ensures source_loans { S.loans source.new ≡ S.loans source.old }
     ensures sink_loans { W.loans sink.new ≡ W.loans sink.old }
 {
@@ -96,9 +98,11 @@ fn fetch_to<S: Source, W: Sink, A: Allocator + Copy, K: Indexer<A>>(
     ensures fetches { FetchesOver (K.indexes indexer.now) (K.index_fails indexer.now)
         (start_of repo.old options.now.specs.now options.now.limit options.now.ends)
         (input_of S.remaining S.is_down source.old source.new)
-        (output_of W.contents W.passed_on W.is_down writer.old.sink writer.new.sink) repo.new result }
+        (output_of W.contents W.passed_on W.is_down writer.old.sink writer.new.sink) repo.new
+        result }
     ensures bound { IfOk result (λ fetched. (held parents : ℕ)
-        → CountsReached repo.old.graph.entries (tips_of repo.old) held parents → fetched.requests ≤ held + 1) }
+        → CountsReached repo.old.graph.entries (tips_of repo.old) held parents
+        → fetched.requests ≤ held + 1) }
     ensures source_loans { S.loans source.new ≡ S.loans source.old }
     ensures sink_loans { W.loans writer.new.sink ≡ W.loans writer.old.sink }
 {
@@ -126,11 +130,14 @@ fn converse<S: Source, W: Sink, A: Allocator + Copy, K: Indexer<A>>(
     requires writer { writer.old.failed ≡ false }
     requires begun { HasBegun session.old repo.old }
     requires few { length session.old.refspecs ≤ max_specs }
-    ensures fetches { FetchesOver (K.indexes indexer.now) (K.index_fails indexer.now) (start_with session.old repo.old)
+    ensures fetches { FetchesOver (K.indexes indexer.now) (K.index_fails indexer.now)
+        (start_with session.old repo.old)
         (input_of S.remaining S.is_down reader.old.source reader.new.source)
-        (output_of W.contents W.passed_on W.is_down writer.old.sink writer.new.sink) repo.new result }
+        (output_of W.contents W.passed_on W.is_down writer.old.sink writer.new.sink) repo.new
+        result }
     ensures bound { IfOk result (λ fetched. (held parents : ℕ)
-        → CountsReached repo.old.graph.entries (tips_of repo.old) held parents → fetched.requests ≤ held + 1) }
+        → CountsReached repo.old.graph.entries (tips_of repo.old) held parents
+        → fetched.requests ≤ held + 1) }
     ensures source_loans { S.loans reader.new.source ≡ S.loans reader.old.source }
     ensures sink_loans { W.loans writer.new.sink ≡ W.loans writer.old.sink }
 {
@@ -157,9 +164,11 @@ fn talk<S: Source, W: Sink, A: Allocator + Copy, K: Indexer<A>>(
     requires writer { writer.old.failed ≡ false }
     requires begun { HasBegun session.old repo.old }
     requires few { length session.old.refspecs ≤ max_specs }
-    ensures talks { Talks (K.indexes indexer.now) (K.index_fails indexer.now) (start_with session.old repo.old)
+    ensures talks { Talks (K.indexes indexer.now) (K.index_fails indexer.now)
+        (start_with session.old repo.old)
         (input_of S.remaining S.is_down reader.old.source reader.new.source)
-        (output_of W.contents W.passed_on W.is_down writer.old.sink writer.new.sink) session.new repo.new result }
+        (output_of W.contents W.passed_on W.is_down writer.old.sink writer.new.sink) session.new
+        repo.new result }
     ensures settles_next { OnOk result (session.new.stage ≡ Settling) }
     ensures began { OnOk result (BeganOn repo.old.graph.entries session.new) }
     ensures goes_on { OnOk result (writer.new.failed ≡ false) }
@@ -194,10 +203,11 @@ fn fetch_all<S: Source, W: Sink, A: Allocator + Copy, K: Indexer<A>>(
     requires pending { session.old.pending ≡ None }
     requires format { session.old.format ≡ repo.old.graph.format }
     requires began { BeganOn repo.old.graph.entries session.old }
-    ensures talks { (start : Start A) (source : S) (sink : W) (unborn : Option (List ℕ))
+    ensures talks { (start : Start A) (source : S) (sink : W) (unborn : Option Name)
         → HasTalked (K.indexes indexer.now) (K.index_fails indexer.now) start
         (input_of S.remaining S.is_down source reader.old.source)
-        (output_of W.contents W.passed_on W.is_down sink writer.old.sink) (client_of session.old repo.old unborn)
+        (output_of W.contents W.passed_on W.is_down sink writer.old.sink)
+        (client_of session.old repo.old unborn)
         → TalksTo (K.indexes indexer.now) (K.index_fails indexer.now) start
         (input_of S.remaining S.is_down source reader.new.source)
         (output_of W.contents W.passed_on W.is_down sink writer.new.sink)
@@ -227,7 +237,8 @@ fn close<W: Sink, A: Allocator + Copy>(
     requires writer { writer.old.failed ≡ false }
     requires settles_next { session.old.stage ≡ Settling }
     ensures closes { Closes session.old repo.old
-        (output_of W.contents W.passed_on W.is_down writer.old.sink writer.new.sink) repo.new result }
+        (output_of W.contents W.passed_on W.is_down writer.old.sink writer.new.sink) repo.new
+        result }
     ensures loans { W.loans writer.new.sink ≡ W.loans writer.old.sink }
 {
     send_request(&Request::<A>::Empty, repo.format(), writer)?;

@@ -7,7 +7,7 @@ ghost use Rattle.gclient.specs.declared.fault.FetchFault.TheVariants as fetch;
 ghost use Rattle.gsession.specs.declared.fault.ClientFault.TheVariants.{Message};
 
 use ggrammar::MessageFault;
-use gpkt::WriteFault;
+use gpkt::{LineFault, WriteFault};
 use gsession::ClientFault;
 use std::alloc::{Allocator, Global};
 use std::error::Error;
@@ -45,9 +45,9 @@ impl<A: Allocator + Copy> FetchFault<A> {
         ensures { (result.0, result.1.now) ≡ fetch_fault_row self.now }
     {
         match self {
-            FetchFault::Client(fault) => (fault.code(), fault.name()),
-            FetchFault::NoBuffer => (28, "Memory"),
-            FetchFault::WriteFailed => (27, "Io"),
+            FetchFault::Client(fault) => fault.row(),
+            FetchFault::NoBuffer => LineFault::Memory.row(),
+            FetchFault::WriteFailed => WriteFault::Io.row(),
         }
     }
 }
@@ -58,8 +58,8 @@ impl<A: Allocator + Copy> fmt::Display for FetchFault<A> {
     fn fmt<W: fmt::Write>(&self, f: &mut fmt::Formatter<W>) -> fmt::Result {
         match self {
             FetchFault::Client(fault) => fmt::Display::fmt(fault, f),
-            FetchFault::NoBuffer => f.write_str("out of memory"),
-            FetchFault::WriteFailed => f.write_str("the sink failed"),
+            FetchFault::NoBuffer => fmt::Display::fmt(&LineFault::Memory, f),
+            FetchFault::WriteFailed => fmt::Display::fmt(&WriteFault::Io, f),
         }
     }
 }

@@ -18,6 +18,7 @@
 //! - A conversation asks for objects at most once more than there are ids that the refs reached when it began, also
 //!   where it fails; the rounds that its session counts are these requests ([`laws`]). So it ends where each call of
 //!   its devices returns, whatever the server says.
+//! - [`send_request`] writes a request and passes it on, for those who hold another conversation.
 //! - Each fault has the number, the name and the text of its row.
 //!
 //! # Only tested
@@ -35,7 +36,7 @@
 //!
 //! # Stands on
 //!
-//! `gsession` for the session, `gspec` and `grepo` for refspecs and the repository, which it offers again; `ghello`
+//! `gsession` for the session, `grefspec` and `gclientrepo` for refspecs and the repository, which it offers again; `ghello`
 //! for the advertisement, `grequest` for requests, `ggrammar` and `gpkt` for what messages share, `gfetchreply` for
 //! the limit of a pack, `ggraph` for indexers.
 #![tactic(auto)]
@@ -50,6 +51,7 @@ mod turn;
 pub use crate::conversation::fetch_over;
 pub use crate::fault::FetchFault;
 pub use crate::fetched::Fetched;
-pub use grepo::{Ask, Asks, RefUpdate, Repo, RepoFault};
+pub use crate::send::send_request;
+pub use gclientrepo::{Ask, Asks, RefUpdate, Repo, RepoFault};
+pub use grefspec::{Spec, SpecFault};
 pub use gsession::{ClientFault, LsTaken, MAX_SPECS, Session, Settled, Taken};
-pub use gspec::{Spec, SpecFault};

@@ -1,11 +1,11 @@
-//! What is written and passed on.
+//! Requests, written and passed on.
 #![tactic(auto)]
 
 ghost use Rattle.std.specs.Prelude.{◌≡◌, false, OnOk};
 ghost use Rattle.gpkt.specs.Sending.{output_of};
 ghost use Rattle.grequest.specs.RequestValues.{IsOfFormat, asked_by_request};
 ghost use Rattle.gclient.specs.Conversations.{request_bytes};
-ghost use Rattle.gclient.specs.Steps.{HasPassed};
+ghost use Rattle.gclient.specs.Conversations.{HasPassed};
 
 use gname::Format;
 use gpkt::laws::writes_join;
@@ -13,16 +13,19 @@ use gpkt::{LineWriter, Sink, WriteFault};
 use grequest::{Request, write_request};
 use std::alloc::Allocator;
 
-/// Writes a request, and passes it on. It leaves the writer well, or its sink is down.
-pub(crate) fn send_request<W: Sink, A: Allocator + Copy>(
+/// Writes a request in its one spelling (gitprotocol-v2(5), "Command Request"), and passes it on.
+///
+/// The writer has not failed, and the ids of the request are of the format. It fails where the sink is down; a beginning
+/// of the request stands written then, and the writer takes no more.
+pub fn send_request<W: Sink, A: Allocator + Copy>(
     request: &Request<A>,
     format: Format,
     writer: &mut LineWriter<W>,
 ) -> Result<(), WriteFault>
     requires well { writer.old.failed ≡ false }
     requires ids { IsOfFormat format request.now }
-    ensures sent { HasPassed (output_of W.contents W.passed_on W.is_down writer.old.sink writer.new.sink) result
-        (request_bytes format (asked_by_request request.now)) }
+    ensures sent { HasPassed (output_of W.contents W.passed_on W.is_down writer.old.sink
+        writer.new.sink) result (request_bytes format (asked_by_request request.now)) }
     ensures goes_on { OnOk result (writer.new.failed ≡ false) }
     ensures loans { W.loans writer.new.sink ≡ W.loans writer.old.sink }
 {

@@ -1,20 +1,21 @@
 //! The turns of a conversation.
 #![tactic(auto)]
 
-ghost use Rattle.std.specs.Prelude.{◌≡◌, ℕ, true, false, List, Option, None, OnOk};
+ghost use Rattle.std.specs.Prelude.{◌≡◌, true, false, Option, None, OnOk};
+ghost use Rattle.gname.specs.Names.{Name};
 ghost use Rattle.gpkt.specs.Sending.{input_of, output_of};
-ghost use Rattle.grepo.specs.Repos.{IsWhole};
+ghost use Rattle.gclientrepo.specs.Repos.{IsWhole};
 ghost use Rattle.gsession.specs.Requesting.{is_due};
 ghost use Rattle.gsession.specs.Sessions.{IsBegun, IsSession};
 ghost use Rattle.gsession.specs.declared.stage.Stage.TheVariants.{Fetching};
-ghost use Rattle.gclient.specs.Steps.{AsksServer, HearsServer, TakesTurn, client_of};
+ghost use Rattle.gclient.specs.steps.Conversations.{AsksServer, HearsServer, TakesTurn, client_of};
 
 use crate::fault::FetchFault;
 use crate::send::send_request;
+use gclientrepo::Repo;
 use ggraph::Indexer;
 use ghello::read_advert;
 use gpkt::{LineReader, LineWriter, Sink, Source};
-use grepo::Repo;
 use gsession::{Session, Taken};
 use std::alloc::Allocator;
 
@@ -48,7 +49,8 @@ pub(crate) fn ask<W: Sink, A: Allocator + Copy>(
     requires due { is_due session.old.stage session.old.pending ≡ true }
     requires format { session.old.format ≡ repo.now.graph.format }
     ensures asks { AsksServer session.old repo.now
-        (output_of W.contents W.passed_on W.is_down writer.old.sink writer.new.sink) session.new result }
+        (output_of W.contents W.passed_on W.is_down writer.old.sink writer.new.sink) session.new
+        result }
     ensures goes_on { OnOk result (writer.new.failed ≡ false) }
     ensures loans { W.loans writer.new.sink ≡ W.loans writer.old.sink }
 {
@@ -70,7 +72,8 @@ pub(crate) fn fetch<S: Source, W: Sink, A: Allocator + Copy, K: Indexer<A>>(
     requires stage { session.old.stage ≡ Fetching }
     requires pending { session.old.pending ≡ None }
     requires format { session.old.format ≡ repo.old.graph.format }
-    ensures turns { (unborn : Option (List ℕ)) → TakesTurn (K.indexes indexer.now) (K.index_fails indexer.now)
+    ensures turns { (unborn : Option Name)
+        → TakesTurn (K.indexes indexer.now) (K.index_fails indexer.now)
         (client_of session.old repo.old unborn)
         (input_of S.remaining S.is_down reader.old.source reader.new.source)
         (output_of W.contents W.passed_on W.is_down writer.old.sink writer.new.sink)

@@ -1,21 +1,21 @@
 -- The client of a file, and what is saved of it.
 use Rattle.std.proofs.Common.{◌≡◌, ◌≢◌, ℕ, List, All, Result, Ok, Err, inl, inr, refl, sym, ap, subst, ◌∙◌}
 use Rattle.std.proofs.lemmas.List.{append-nil}
-use Rattle.ghistory.proofs.OrderLemmas.{all_at}
-use Rattle.ghistory.proofs.Places.{held_id}
-use Rattle.ghistory.specs.Graphs.{History, IsGraph}
-use Rattle.ghistory.specs.Laws.{PlacesAreNodes}
-use Rattle.ghistory.specs.Reach.{IsFull, here}
+use Rattle.gdag.proofs.OrderLemmas.{all_at}
+use Rattle.gdag.proofs.Places.{held_id}
+use Rattle.gdag.specs.Graphs.{History, IsGraph}
+use Rattle.gdag.specs.Laws.{PlacesAreNodes}
+use Rattle.gdag.specs.Reach.{IsFull, here}
 use Rattle.ggraph.specs.Saving.{IsFirstOther, SaveRefuses, named_ids, ref_ids}
 use Rattle.ggraph.specs.declared.fault.SaveFault.{SaveFault}
 use Rattle.ggraph.specs.declared.fault.SaveFault.TheVariants.{Memory, OtherFormat}
-use Rattle.grepo.specs.Repos.{IsWhole, RepoState}
+use Rattle.gclientrepo.specs.Repos.{IsWhole, RepoState}
 use Rattle.ggraph.specs.RepositoryText.{repository_text, IsLoadable}
 use Rattle.ggraph.specs.declared.text.Order.TheVariants.{Any}
 use Rattle.grefs.specs.RefLists.{RefList}
 use Rattle.grefs.specs.declared.head.Head.{Head}
-use Rattle.grepo.specs.Changes.{Opens}
-use Rattle.grepo.specs.declared.fault.RepoFault.{RepoFault}
+use Rattle.gclientrepo.specs.Changes.{Opens}
+use Rattle.gclientrepo.specs.declared.fault.RepoFault.{RepoFault}
 use Rattle.gsession.specs.declared.fault.ClientFault.TheVariants as client
 use Rattle.gclient.specs.declared.fault.FetchFault.TheVariants as fetch
 use Rattle.gcmd.specs.Fetching.{NamesClient, RefusesClient, no_head}

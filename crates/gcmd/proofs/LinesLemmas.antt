@@ -13,9 +13,10 @@ use Rattle.gpkt.specs.Packets.{Packet}
 use Rattle.gpkt.specs.LineReading.{Reader, HasRead, ReadsLines}
 use Rattle.gpkt.specs.declared.device.Down.{Down}
 use Rattle.gpkt.specs.declared.fault.LineFault.{LineFault}
-use Rattle.gcmd.specs.Lines.{digits_part, max_lines, shown_line, shown_lines, ShowsEach, ShowsSome, HasPassed}
+use Rattle.gcmd.specs.Lines.{digits_part, max_lines, shown_line, shown_lines, ShowsSome}
+use Rattle.gcmd.specs.steps.Lines.{ShowsEach, HasPassed}
 use Rattle.gpkt.specs.Sending.{Input, Output, input_of, output_of}
-use Rattle.gcmd.specs.Outputs.{IsPut}
+use Rattle.gcmd.specs.steps.Outputs.{IsPut}
 use Rattle.gpkt.proofs.Joins.{IsSome-kept}
 use Rattle.gpkt.proofs.SendingLemmas.{keeps_on}
 use Rattle.gcmd.proofs.ReadingLemmas.{read_failure}

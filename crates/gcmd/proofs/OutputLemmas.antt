@@ -9,7 +9,8 @@ use Rattle.gpkt.specs.Sending.{output_of}
 use Rattle.gpkt.proofs.Joins.{IsSome-kept}
 use Rattle.gpkt.proofs.SendingLemmas.{keeps_on}
 use Rattle.gpkt.specs.declared.device.Down.{Down}
-use Rattle.gcmd.specs.Outputs.{IsPut, IsSent}
+use Rattle.gcmd.specs.steps.Outputs.{IsPut}
+use Rattle.gcmd.specs.Outputs.{IsSent}
 
 module _ {W : Type 0} (contents passed_on : W → Option (List ℕ)) (is_down : W → Bool) where
   -- after a flush they are passed on, or that failed

@@ -5,12 +5,12 @@ use Rattle.std.specs.Prelude.{String, string_bytes}
 use Rattle.std.proofs.lemmas.List.{append-nil, length-take-le, map-append, take_all, take_more, take-append-drop}
 use Rattle.std.proofs.lemmas.List.Elements.{All-cons, All-nil}
 use Rattle.std.proofs.lemmas.Option.{get_or_from_slice_get}
-use Rattle.gspec.specs.Refspecs.{IsSpec, Reads, Refspec}
-use Rattle.gspec.specs.declared.fault.SpecFault.{SpecFault}
-use Rattle.grepo.proofs.SettlingLemmas.{zip_push}
-use Rattle.grepo.specs.Asks.{IsAskAt}
-use Rattle.grepo.specs.declared.ask.Ask.{Ask}
-use Rattle.grepo.specs.declared.ask.RefUpdate.{RefUpdate}
+use Rattle.grefspec.specs.Refspecs.{IsSpec, Reads, Refspec}
+use Rattle.grefspec.specs.declared.fault.SpecFault.{SpecFault}
+use Rattle.gclientrepo.proofs.SettlingLemmas.{zip_push}
+use Rattle.gclientrepo.specs.Asks.{IsAskAt}
+use Rattle.gclientrepo.specs.declared.ask.Ask.{Ask}
+use Rattle.gclientrepo.specs.declared.ask.RefUpdate.{RefUpdate}
 use Rattle.gcmd.specs.Fetching.{IsSpecText, ReadsSpecs, RefusesWord}
 use Rattle.gcmd.specs.Reporting.{update_line, update_lines, update_text}
 use Rattle.gcmd.specs.declared.fault.ProgramFault.{ProgramFault}

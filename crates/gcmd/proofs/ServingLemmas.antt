@@ -6,10 +6,10 @@ use Rattle.std.specs.Option.{option_or}
 use Rattle.std.proofs.lemmas.Bool.{false≢true}
 use Rattle.std.proofs.lemmas.List.Elements.{All-append, All-nil, All-weaker}
 use Rattle.std.proofs.lemmas.List.Folds.{find-append}
-use Rattle.ghistory.proofs.OrderLemmas.{all_at}
+use Rattle.gdag.proofs.OrderLemmas.{all_at}
 use Rattle.gobject.specs.Objects.{has_id}
 use Rattle.gobject.specs.declared.node.Entry.{Entry}
-use Rattle.ghistory.specs.Graphs.{Holds, IsFirstAbsent}
+use Rattle.gdag.specs.Graphs.{Holds, IsFirstAbsent}
 use Rattle.ganswer.specs.Servers.{Server, IsServer, IsUnserved, parents_in}
 use Rattle.ganswer.specs.declared.fault.BuildFault.{BuildFault}
 use Rattle.ganswer.specs.declared.fault.BuildFault.TheVariants as build

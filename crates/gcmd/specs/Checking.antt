@@ -1,7 +1,8 @@
 -- `check`: what it reports of a repository's file.
-use Rattle.std.specs.Prelude.{◌≡◌, ◌↔◌, ℕ, ◌++◌, Bool, IsTrue, if◌then◌else◌, List, length, codes, Ok, Err}
+use Rattle.std.specs.Prelude.{◌≡◌, ◌↔◌, ◌++◌, Bool, IsTrue, if◌then◌else◌, length, codes, Ok, Err}
 use Rattle.std.specs.Fmt.{decimal}
-use Rattle.ghistory.specs.Reach.{IsClosed}
+use Rattle.gpkt.specs.Packets.{Bytes}
+use Rattle.gdag.specs.Reach.{IsClosed}
 use Rattle.ggraph.specs.SafeRefs.{IsSafe}
 use Rattle.ggraph.specs.Loading.{StopsAt}
 use Rattle.ggraph.specs.RepositoryText.{repository_text, IsLoadable}
@@ -20,23 +21,23 @@ pub record IsReport {A : Type 0} (repo : Repository A) (report : Report) : Type 
   pub closed : IsTrue report.closed ↔ IsClosed repo.graph.entries
   pub safe : IsTrue report.safe ↔ IsSafe repo.graph.entries repo.refs
 
-abbrev pub yes_or_no : Bool → List ℕ
+abbrev pub yes_or_no : Bool → Bytes
 yes_or_no holds = if holds then codes "yes" else codes "no"
 
 -- the line that reports it
-abbrev pub report_line : Report → List ℕ
+abbrev pub report_line : Report → Bytes
 report_line report =
     codes "nodes " ++ decimal report.nodes ++ codes " refs " ++ decimal report.refs
     ++ codes " closed " ++ yes_or_no report.closed ++ codes " safe " ++ yes_or_no report.safe ++ codes "\n"
 
 -- the file is the text of a repository
-pub record IsRepository (A : Type 0) (file : List ℕ) : Type 0 where
+pub record IsRepository (A : Type 0) (file : Bytes) : Type 0 where
   pub repo : Repository A
   pub names : file ≡ repository_text repo.graph repo.refs repo.head
   pub loadable : IsLoadable Any repo.graph repo.refs repo.head
 
 -- the repository that the file names, and its report
-pub record IsReported (A : Type 0) (file : List ℕ) (report : Report) : Type 0 where
+pub record IsReported (A : Type 0) (file : Bytes) (report : Report) : Type 0 where
   pub repo : Repository A
   pub names : file ≡ repository_text repo.graph repo.refs repo.head
   pub loadable : IsLoadable Any repo.graph repo.refs repo.head
@@ -44,7 +45,7 @@ pub record IsReported (A : Type 0) (file : List ℕ) (report : Report) : Type 0 
 
 -- what `check` does: the line is written and passed on; or a beginning of it is written, where the sink fails; or
 -- nothing, where the file is no repository, or out of memory to judge it
-abbrev pub Checks : {A : Type 0} → List ℕ → Output → Outcome A → Type 0
+abbrev pub Checks : {A : Type 0} → Bytes → Output → Outcome A → Type 0
 Checks {A} file output (Ok done) = (report : Report) × IsReported A file report × Sends output (report_line report)
 Checks {A} file output (Err program.WriteFailed) =
     (report : Report) × IsReported A file report × BreaksOff output (report_line report)

@@ -1,16 +1,18 @@
 -- The table of the programs' faults: what is printed of each.
-use Rattle.std.specs.Prelude.{ℕ, List, codes, Option, Some, None}
-use Rattle.gname.specs.Faults.{FaultRow, name_fault_row, name_fault_text}
+use Rattle.std.specs.Prelude.{ℕ, codes, Option, Some, None}
+use Rattle.gname.specs.Faults.{FaultRow, name_fault_row, name_fault_text, out_of_memory, out_of_memory_text}
 use Rattle.gname.specs.declared.faults.NameFault.{NameFault}
 use Rattle.gname.specs.declared.faults.NameFault.TheVariants as name
-use Rattle.gname.specs.Names.{head_name}
+use Rattle.gname.specs.Names.{Name, head_name}
+use Rattle.gname.specs.Ids.{Id}
 use Rattle.gpkt.specs.Faults.{line_fault_row, line_fault_text, write_fault_row}
 use Rattle.gpkt.specs.declared.fault.WriteFault.TheVariants.{Io}
+use Rattle.gpkt.specs.Packets.{Bytes}
 use Rattle.ggrammar.specs.Faults.{WhyRow}
 use Rattle.ggrammar.specs.declared.fault.Why.{Why}
 use Rattle.ggrammar.specs.declared.fault.Why.TheVariants as why
-use Rattle.ghistory.specs.declared.fault.GraphFault.{GraphFault}
-use Rattle.ghistory.specs.declared.fault.GraphFault.TheVariants as graph
+use Rattle.gdag.specs.declared.fault.GraphFault.{GraphFault}
+use Rattle.gdag.specs.declared.fault.GraphFault.TheVariants as graph
 use Rattle.ggraph.specs.Faults.{load_fault_row, load_fault_text}
 use Rattle.ggraph.specs.declared.fault.LoadFault.{LoadFault}
 use Rattle.ggraph.specs.declared.fault.LoadFault.TheVariants as load
@@ -20,9 +22,9 @@ use Rattle.ganswer.specs.declared.fault.BuildFault.TheVariants as build
 use Rattle.ganswer.specs.declared.fault.ServeFault.{ServeFault}
 use Rattle.ganswer.specs.declared.fault.ServeFault.TheVariants as serve
 use Rattle.gobject.specs.declared.fault.IndexFault.TheVariants as index
-use Rattle.gspec.specs.Faults.{spec_fault_row, spec_fault_text}
-use Rattle.grepo.specs.declared.fault.RepoFault.{RepoFault}
-use Rattle.grepo.specs.declared.fault.RepoFault.TheVariants as repo
+use Rattle.grefspec.specs.Faults.{spec_fault_row, spec_fault_text}
+use Rattle.gclientrepo.specs.declared.fault.RepoFault.{RepoFault}
+use Rattle.gclientrepo.specs.declared.fault.RepoFault.TheVariants as repo
 use Rattle.gsession.specs.Faults.{client_fault_row}
 use Rattle.gsession.specs.declared.fault.ClientFault.{ClientFault}
 use Rattle.gsession.specs.declared.fault.ClientFault.TheVariants as client
@@ -36,12 +38,12 @@ use Rattle.gcmd.specs.declared.fault.ProgramFault.TheVariants as program
 -- message, the line of a text, the position of a byte in a name, an id, and a name or a text
 pub record Printed : Type 0 where
   pub number : ℕ
-  pub name : List ℕ
+  pub name : Bytes
   pub frame : Option ℕ
   pub line : Option ℕ
   pub at : Option ℕ
-  pub id : Option (List ℕ)
-  pub text : Option (List ℕ)
+  pub id : Option Id
+  pub text : Option Bytes
 
 -- a number and a name alone
 abbrev pub plain : FaultRow → Printed
@@ -74,20 +76,20 @@ printed_of_text fault = record (plain (load_fault_row fault)) { line = line_in_t
 -- ---- repositories that are not served
 
 -- the id that two objects have, or that is of another format
-abbrev pub id_in_graph : GraphFault → Option (List ℕ)
+abbrev pub id_in_graph : GraphFault → Option Id
 id_in_graph (graph.Conflict id) = Some id
 id_in_graph (graph.OtherFormat id) = Some id
 id_in_graph _ = None
 
 -- the id that is missing
-abbrev pub id_in_build : {A : Type 0} → BuildFault A → Option (List ℕ)
+abbrev pub id_in_build : {A : Type 0} → BuildFault A → Option Id
 id_in_build (build.Graph cause) = id_in_graph cause
 id_in_build (build.NotClosed id) = Some id
 id_in_build (build.MissingParent id) = Some id
 id_in_build _ = None
 
 -- the ref whose object is missing
-abbrev pub ref_in_build : {A : Type 0} → BuildFault A → Option (List ℕ)
+abbrev pub ref_in_build : {A : Type 0} → BuildFault A → Option Name
 ref_in_build (build.RefMissing name) = Some name
 ref_in_build build.HeadMissing = Some head_name
 ref_in_build _ = None
@@ -104,17 +106,17 @@ frame_in_request (serve.Request fault) = Some fault.frame
 frame_in_request _ = None
 
 -- the want that is missing
-abbrev pub id_in_request : ServeFault → Option (List ℕ)
+abbrev pub id_in_request : ServeFault → Option Id
 id_in_request (serve.NotOurs id) = Some id
 id_in_request _ = None
 
 -- what a peer said
-abbrev pub said_in : Why → Option (List ℕ)
+abbrev pub said_in : Why → Option Bytes
 said_in (why.RemoteErr said) = Some said
 said_in (why.RemoteFatal said) = Some said
 said_in _ = None
 
-abbrev pub said_in_request : ServeFault → Option (List ℕ)
+abbrev pub said_in_request : ServeFault → Option Bytes
 said_in_request (serve.Request fault) = said_in fault.why
 said_in_request _ = None
 
@@ -141,7 +143,7 @@ line_in_client (client.Index (index.Bad line)) = Some line
 line_in_client _ = None
 
 -- the id that is missing, that two objects have, or that is of another format
-abbrev pub id_in_repo : {A : Type 0} → RepoFault A → Option (List ℕ)
+abbrev pub id_in_repo : {A : Type 0} → RepoFault A → Option Id
 id_in_repo (repo.MissingParent id) = Some id
 id_in_repo (repo.NotHeld missing) = Some missing
 id_in_repo (repo.NotConnected missing) = Some missing
@@ -149,13 +151,13 @@ id_in_repo (repo.Graph cause) = id_in_graph cause
 id_in_repo _ = None
 
 -- and the id that was acknowledged and not offered
-abbrev pub id_in_client : {A : Type 0} → ClientFault A → Option (List ℕ)
+abbrev pub id_in_client : {A : Type 0} → ClientFault A → Option Id
 id_in_client (client.StrangeAck id) = Some id
 id_in_client (client.Repo cause) = id_in_repo cause
 id_in_client _ = None
 
 -- the ref that is not connected, or what a peer said
-abbrev pub text_in_client : {A : Type 0} → ClientFault A → Option (List ℕ)
+abbrev pub text_in_client : {A : Type 0} → ClientFault A → Option Bytes
 text_in_client (client.Message fault) = said_in fault.why
 text_in_client (client.Repo (repo.UnsafeRef name)) = Some name
 text_in_client _ = None
@@ -175,7 +177,7 @@ printed_of_fetch fault = plain (fetch_fault_row fault)
 -- ---- the table
 
 abbrev pub printed_of : {A : Type 0} → ProgramFault A → Printed
-printed_of program.Memory = plain (64, codes "Memory")
+printed_of program.Memory = plain out_of_memory
 printed_of program.File = plain (95, codes "File")
 printed_of (program.Text fault) = printed_of_text fault
 printed_of (program.Build fault) = printed_of_build fault
@@ -189,8 +191,8 @@ printed_of program.PairLimit = plain (94, codes "PairLimit")
 printed_of program.Socket = plain (96, codes "Socket")
 
 -- ---- their texts
-abbrev pub program_fault_text : {A : Type 0} → ProgramFault A → List ℕ
-program_fault_text program.Memory = codes "out of memory"
+abbrev pub program_fault_text : {A : Type 0} → ProgramFault A → Bytes
+program_fault_text program.Memory = out_of_memory_text
 program_fault_text program.File = codes "the file can't be read"
 program_fault_text (program.Text fault) = load_fault_text fault
 program_fault_text (program.Build fault) = build_fault_text fault

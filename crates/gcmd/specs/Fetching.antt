@@ -1,6 +1,7 @@
 -- The program that fetches into the repository of a file: `fetch`.
 use Rattle.std.specs.Prelude.{◌≡◌, ◌≢◌, ◌⊎◌, ℕ, ◌+◌, List, ◌∷◌, ◌++◌, length, All, Option, None, Some, Result, Ok, Err}
 use Rattle.std.specs.List.{AllZip}
+use Rattle.gpkt.specs.Packets.{Bytes}
 use Rattle.ggraph.specs.Loading.{StopsAt}
 use Rattle.ggraph.specs.RepositoryText.{repository_text, IsLoadable}
 use Rattle.ggraph.specs.declared.fault.LoadFault.{LoadFault}
@@ -8,19 +9,19 @@ use Rattle.ggraph.specs.declared.fault.LoadFault.TheVariants as load
 use Rattle.ggraph.specs.declared.text.Order.TheVariants.{Any}
 use Rattle.ggraph.specs.declared.text.Repository.{Repository}
 use Rattle.ggrammar.specs.declared.ends.Ends.{Ends}
-use Rattle.ghistory.specs.Graphs.{History}
-use Rattle.ghistory.specs.Reach.{Grows}
+use Rattle.gdag.specs.Graphs.{History}
+use Rattle.gdag.specs.Reach.{Grows}
 use Rattle.gobject.specs.Packs.{Indexes, IndexFails}
 use Rattle.gobject.specs.PlainPackText.{IndexRefuses, IsPack}
 use Rattle.gpkt.specs.Sending.{Input, Output, IsUnread, IsUnwritten, Sends}
 use Rattle.grefs.specs.RefLists.{RefList}
 use Rattle.grefs.specs.declared.head.Head.{Head}
 use Rattle.grefs.specs.declared.head.Head.TheVariants as head
-use Rattle.gspec.specs.Refspecs.{IsSpec, Reads, Refspec}
-use Rattle.gspec.specs.declared.fault.SpecFault.{SpecFault}
-use Rattle.grepo.specs.Changes.{Opens}
-use Rattle.grepo.specs.Repos.{IsWhole, RepoState}
-use Rattle.grepo.specs.Settling.{Settles}
+use Rattle.grefspec.specs.Refspecs.{IsSpec, Reads, Refspec}
+use Rattle.grefspec.specs.declared.fault.SpecFault.{SpecFault}
+use Rattle.gclientrepo.specs.Changes.{Opens}
+use Rattle.gclientrepo.specs.Repos.{IsWhole, RepoState}
+use Rattle.gclientrepo.specs.Settling.{Settles}
 use Rattle.gsession.specs.declared.fault.ClientFault.TheVariants as client
 use Rattle.gclient.specs.Conversations.{FetchesOver, start_of}
 use Rattle.gclient.specs.declared.fault.FetchFault.{FetchFault}
@@ -35,20 +36,20 @@ use Rattle.gcmd.specs.declared.fault.ProgramFault.TheVariants as program
 -- ---- the words
 
 -- the text is that of a refspec
-abbrev pub IsSpecText : List ℕ → Type 0
+abbrev pub IsSpecText : Bytes → Type 0
 IsSpecText text = (spec : Refspec) × IsSpec text spec
 
 -- the first word that is no refspec; or one that is, out of memory to keep it
-pub record RefusesWord (words : List (List ℕ)) (fault : SpecFault) : Type 0 where
-  pub front : List (List ℕ)
-  pub word : List ℕ
-  pub back : List (List ℕ)
+pub record RefusesWord (words : List Bytes) (fault : SpecFault) : Type 0 where
+  pub front : List Bytes
+  pub word : Bytes
+  pub back : List Bytes
   pub parts : words ≡ front ++ word ∷ back
   pub before : All IsSpecText front
   pub refused : Reads (IsSpec word) (Err fault)
 
 -- what reading words answers: a refspec for each
-abbrev pub ReadsSpecs : {A : Type 0} → List (List ℕ) → Result (List Refspec) (ProgramFault A) → Type 0
+abbrev pub ReadsSpecs : {A : Type 0} → List Bytes → Result (List Refspec) (ProgramFault A) → Type 0
 ReadsSpecs words (Ok specs) = AllZip IsSpec words specs
 ReadsSpecs words (Err (program.Spec fault)) = RefusesWord words fault
 ReadsSpecs words (Err _) = ⊥
@@ -60,13 +61,13 @@ abbrev pub no_head : {A : Type 0} → Head A
 no_head = head.None
 
 -- the file is the text of a client's repository, which is connected
-pub record NamesClient {A : Type 0} (file : List ℕ) (repo : RepoState A) : Type 0 where
+pub record NamesClient {A : Type 0} (file : Bytes) (repo : RepoState A) : Type 0 where
   pub text : file ≡ repository_text repo.graph repo.refs (no_head {A = A})
   pub loadable : IsLoadable Any repo.graph repo.refs (no_head {A = A})
   pub whole : IsWhole repo
 
 -- the file is the text of a repository that has a HEAD, as this line of it says
-pub record NamesHead (A : Type 0) (file : List ℕ) (line : ℕ) : Type 0 where
+pub record NamesHead (A : Type 0) (file : Bytes) (line : ℕ) : Type 0 where
   pub repo : Repository A
   pub text : file ≡ repository_text repo.graph repo.refs repo.head
   pub loadable : IsLoadable Any repo.graph repo.refs repo.head
@@ -74,7 +75,7 @@ pub record NamesHead (A : Type 0) (file : List ℕ) (line : ℕ) : Type 0 where
   pub place : line ≡ length repo.graph.entries + length repo.refs + 2
 
 -- the file is the text of a repository that is no client's, for this cause
-pub record NamesUnsafe (A : Type 0) (file : List ℕ) (Cause : History A → RefList → Type 0) : Type 0 where
+pub record NamesUnsafe (A : Type 0) (file : Bytes) (Cause : History A → RefList → Type 0) : Type 0 where
   pub graph : History A
   pub refs : RefList
   pub text : file ≡ repository_text graph refs (no_head {A = A})
@@ -83,7 +84,7 @@ pub record NamesUnsafe (A : Type 0) (file : List ℕ) (Cause : History A → Ref
 
 -- why a file is no client's: it is the text of no repository, or of one that has a HEAD, or of one that is not
 -- connected
-abbrev pub RefusesClient : {A : Type 0} → List ℕ → ProgramFault A → Type 0
+abbrev pub RefusesClient : {A : Type 0} → Bytes → ProgramFault A → Type 0
 RefusesClient {A} file (program.Text cause) =
     StopsAt A Any file cause ⊎ ((line : ℕ) × (cause ≡ load.Text line) × NamesHead A file line)
 RefusesClient {A} file (program.Fetch (fetch.Client (client.Repo cause))) =
@@ -91,7 +92,7 @@ RefusesClient {A} file (program.Fetch (fetch.Client (client.Repo cause))) =
 RefusesClient file _ = ⊥
 
 -- what opening it answers
-abbrev pub OpensClient : {A : Type 0} → List ℕ → Result (RepoState A) (ProgramFault A) → Type 0
+abbrev pub OpensClient : {A : Type 0} → Bytes → Result (RepoState A) (ProgramFault A) → Type 0
 OpensClient file (Ok repo) = NamesClient file repo
 OpensClient file (Err fault) = RefusesClient file fault
 
@@ -111,12 +112,12 @@ pub record IsFetchedInto {A : Type 0} (old new : RepoState A) (fetched : Fetched
   pub settles : Settles new.graph.entries old.refs fetched.settled.asks fetched.settled.updates.items new.refs
 
 -- the new file is the text of the repository as the fetch left it
-abbrev pub IsNewFile : {A : Type 0} → RepoState A → RepoState A → Fetched A → Option (List ℕ) → Type 0
+abbrev pub IsNewFile : {A : Type 0} → RepoState A → RepoState A → Fetched A → Option Bytes → Type 0
 IsNewFile old new fetched None = ⊥
 IsNewFile old new fetched (Some text) = NamesClient text new × IsFetchedInto old new fetched
 
 -- the report is written and passed on; or its sink failed
-abbrev pub SendsReport : {A : Type 0} → List ℕ → Output → Outcome A → Type 0
+abbrev pub SendsReport : {A : Type 0} → Bytes → Output → Outcome A → Type 0
 SendsReport bytes report (Ok done) = Sends report bytes
 SendsReport bytes report (Err program.WriteFailed) = BreaksOff report bytes
 SendsReport bytes report (Err _) = ⊥
@@ -128,23 +129,22 @@ Reports fetched report outcome =
 
 -- how the program ends once the refs are settled: there is a new file, and that is reported; or it is out of memory for
 -- the new file, and nothing is
-abbrev pub Concludes : {A : Type 0} → RepoState A → RepoState A → Fetched A → Output → Option (List ℕ) → Outcome A
-    → Type 0
+abbrev pub Concludes : {A : Type 0} → RepoState A → RepoState A → Fetched A → Output → Option Bytes → Outcome A → Type 0
 Concludes old new fetched report file outcome =
     (IsNewFile old new fetched file × Reports fetched report outcome)
     ⊎ ((file ≡ None) × IsUnwritten report × (outcome ≡ Err program.Memory))
 
 -- how it ends after the conversation; where that failed, there is no new file, and nothing is reported
 abbrev pub EndsAfter : {A : Type 0} → RepoState A → RepoState A → Result (Fetched A) (FetchFault A) → Output
-    → Option (List ℕ) → Outcome A → Type 0
+    → Option Bytes → Outcome A → Type 0
 EndsAfter old new (Ok fetched) report file outcome = Concludes old new fetched report file outcome
 EndsAfter old new (Err fault) report file outcome =
     (file ≡ None) × IsUnwritten report × (outcome ≡ Err (program.Fetch fault))
 
 -- ---- the program
 
-module _ {A : Type 0} (old : List ℕ) (specs : List Refspec) (limit : ℕ) (ends : Ends) (input : Input)
-    (output report : Output) (file : Option (List ℕ))
+module _ {A : Type 0} (old : Bytes) (specs : List Refspec) (limit : ℕ) (ends : Ends) (input : Input)
+    (output report : Output) (file : Option Bytes)
   where
     -- the file is no client's; nothing is read or written, and there is no new file
     pub record IsNotFetched (outcome : Outcome A) : Type 0 where

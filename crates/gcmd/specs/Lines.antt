@@ -4,40 +4,35 @@ use Rattle.std.specs.Prelude.{Ok, Err}
 use Rattle.std.specs.Fmt.{decimal}
 use Rattle.hex.specs.Hex.{encode_lower}
 use Rattle.gpkt.specs.Change.{Change}
-use Rattle.gpkt.specs.Packets.{Packet, Data, Flush, Delim, ResponseEnd}
+use Rattle.gpkt.specs.Packets.{Bytes, Packet, Data, Flush, Delim, ResponseEnd}
 use Rattle.gpkt.specs.LineReading.{Reads, ReadsLines}
-use Rattle.gpkt.specs.declared.device.Down.{Down}
 use Rattle.gpkt.specs.declared.fault.LineFault.{LineFault}
 use Rattle.gpkt.specs.declared.fault.LineFault.TheVariants.{Memory}
 use Rattle.gpkt.specs.Sending.{Input, Output, IsUnread, IsUnwritten, Sends}
 use Rattle.ggrammar.specs.MessageReading.{IsReadFailure}
 use Rattle.ggrammar.specs.declared.fault.Why.TheVariants as why
-use Rattle.gcmd.specs.Outputs.{BreaksOff, FailsAtWrite, IsPut}
+use Rattle.gcmd.specs.Outputs.{BreaksOff}
 use Rattle.gcmd.specs.Programs.{Outcome}
 use Rattle.gcmd.specs.declared.fault.ProgramFault.TheVariants as program
 
 -- ---- what is shown
 
 -- the digits of a payload, after a space; nothing where it is empty
-abbrev pub digits_part : List ℕ → List ℕ
+abbrev pub digits_part : Bytes → Bytes
 digits_part [] = []
 digits_part (byte ∷ bytes) = codes " " ++ encode_lower (byte ∷ bytes)
 
 -- a packet as it is shown
-abbrev pub shown_line : Packet → List ℕ
+abbrev pub shown_line : Packet → Bytes
 shown_line (Data payload) = (codes "data " ++ decimal (length payload)) ++ (digits_part payload ++ codes "\n")
 shown_line Flush = codes "flush\n"
 shown_line Delim = codes "delim\n"
 shown_line ResponseEnd = codes "response-end\n"
 
 -- the packets, one after the other
-abbrev pub shown_lines : List Packet → List ℕ
+abbrev pub shown_lines : List Packet → Bytes
 shown_lines [] = []
 shown_lines (line ∷ lines) = shown_line line ++ shown_lines lines
-
--- how many bytes of a payload are shown in one call
-abbrev pub chunk : ℕ
-chunk = 512
 
 -- ---- what is read
 
@@ -57,7 +52,7 @@ LeavesSource down (Err fault) = IsReadFailure false down (why.Line fault)
 
 -- these packets are read, and no more for this reason
 pub record ReadsEach (input : Input) (lines : List Packet) (ended : Result (Unit {0}) LineFault) : Type 0 where
-  pub between : Option (List ℕ)
+  pub between : Option Bytes
   pub before : ReadsLines (record { old = input.read.old; new = between }) lines
   pub stops : StopsAfter (length lines) (record { old = between; new = input.read.new }) ended
   pub source : LeavesSource input.is_down ended
@@ -86,18 +81,3 @@ ShowsLines input output (Ok done) =
 ShowsLines input output (Err (program.Line fault)) = ShowsUntil input output fault
 ShowsLines input output (Err program.WriteFailed) = ShowsSome input output
 ShowsLines input output (Err _) = ⊥
-
--- ---- its steps, by how reading ended, or the sink's failure
-
--- the packets are shown
-abbrev pub ShowsEach : Input → Output → Result (Result (Unit {0}) LineFault) Down → Type 0
-ShowsEach input output (Ok ended) =
-    (lines : List Packet) × ReadsEach input lines ended × IsPut output (Ok tt) (shown_lines lines)
-ShowsEach input output (Err down) =
-    (lines : List Packet) × ReadsSome input lines × FailsAtWrite output (shown_lines lines)
-
--- and passed on
-abbrev pub HasPassed : Input → Output → Result (Result (Unit {0}) LineFault) Down → Type 0
-HasPassed input output (Ok ended) =
-    (lines : List Packet) × ReadsEach input lines ended × Sends output (shown_lines lines)
-HasPassed input output (Err down) = ShowsSome input output

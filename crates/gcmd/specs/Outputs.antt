@@ -1,31 +1,26 @@
 -- What a program writes to a sink and passes on, and what stands where the sink fails.
-use Rattle.std.specs.Prelude.{◌≡◌, ℕ, ◌⊎◌, true, List, Result, Ok, Err}
+use Rattle.std.specs.Prelude.{◌≡◌, ◌⊎◌, true, Result, Ok, Err}
 use Rattle.std.specs.Io.KnownBytes.{Appends, Keeps}
 use Rattle.gpkt.specs.Devices.{KeepsPassed}
 use Rattle.gpkt.specs.Sending.{Output, Sends, SendsSome}
 use Rattle.gpkt.specs.declared.device.Down.{Down}
+use Rattle.gpkt.specs.Packets.{Bytes}
 
 -- the sink failed at a write: a beginning of these bytes stands, perhaps all of them, and nothing more was passed on
-abbrev pub FailsAtWrite : Output → List ℕ → Type 0
+abbrev pub FailsAtWrite : Output → Bytes → Type 0
 FailsAtWrite output bytes = SendsSome output bytes × Keeps output.passed_on.old output.passed_on.new
 
 -- the sink failed at passing on: all of these bytes stand, and what was passed on before stays so, perhaps with more
-pub record FailsAtFlush (output : Output) (bytes : List ℕ) : Type 0 where
+pub record FailsAtFlush (output : Output) (bytes : Bytes) : Type 0 where
   pub written : Appends output.written.old output.written.new bytes
   pub passed_on : KeepsPassed output.passed_on
   pub down : output.is_down ≡ true
 
 -- the sink failed before these bytes were written and passed on
-abbrev pub BreaksOff : Output → List ℕ → Type 0
+abbrev pub BreaksOff : Output → Bytes → Type 0
 BreaksOff output bytes = FailsAtWrite output bytes ⊎ FailsAtFlush output bytes
 
 -- what a call did that was to write these bytes and to pass them on
-abbrev pub IsSent : Output → Result (Unit {0}) Down → List ℕ → Type 0
+abbrev pub IsSent : Output → Result (Unit {0}) Down → Bytes → Type 0
 IsSent output (Ok done) bytes = Sends output bytes
 IsSent output (Err down) bytes = BreaksOff output bytes
-
--- what a call did that was to write these bytes, and to pass nothing on
-abbrev pub IsPut : Output → Result (Unit {0}) Down → List ℕ → Type 0
-IsPut output (Ok done) bytes =
-    Appends output.written.old output.written.new bytes × Keeps output.passed_on.old output.passed_on.new
-IsPut output (Err down) bytes = FailsAtWrite output bytes

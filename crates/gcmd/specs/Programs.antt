@@ -1,6 +1,7 @@
 -- How programs end: what each prints, and its exit status.
-use Rattle.std.specs.Prelude.{◌≡◌, ℕ, ◌⊎◌, List, Result, Ok, Err}
+use Rattle.std.specs.Prelude.{◌≡◌, ℕ, ◌⊎◌, Result, Ok, Err}
 use Rattle.gpkt.specs.Sending.{Output, IsUnwritten, Sends}
+use Rattle.gpkt.specs.Packets.{Bytes}
 use Rattle.gcmd.specs.Outputs.{BreaksOff}
 use Rattle.gcmd.specs.Printing.{fault_line}
 use Rattle.gcmd.specs.declared.fault.ProgramFault.{ProgramFault}
@@ -10,7 +11,7 @@ abbrev pub Outcome : Type 0 → Type 0
 Outcome A = Result (Unit {0}) (ProgramFault A)
 
 -- a line is printed and passed on; or the sink fails, and a beginning of the line is printed
-abbrev pub Prints : Output → List ℕ → Type 0
+abbrev pub Prints : Output → Bytes → Type 0
 Prints errors line = Sends errors line ⊎ BreaksOff errors line
 
 -- where the work is done nothing is printed, and the status is 0; else the fault's line is printed, and it is 1

@@ -1,5 +1,6 @@
 -- The programs that serve the repository of a file: `ls --stdio-server` and `upload`.
-use Rattle.std.specs.Prelude.{◌≡◌, ℕ, ◌⊎◌, List, Result, Ok, Err}
+use Rattle.std.specs.Prelude.{◌≡◌, ℕ, ◌⊎◌, Result, Ok, Err}
+use Rattle.gpkt.specs.Packets.{Bytes}
 use Rattle.ggraph.specs.Loading.{StopsAt}
 use Rattle.ggraph.specs.RepositoryText.{repository_text, IsLoadable}
 use Rattle.ggraph.specs.declared.text.Order.TheVariants.{ParentsFirst}
@@ -24,12 +25,12 @@ use Rattle.gcmd.specs.declared.fault.ProgramFault.TheVariants as program
 -- ---- the file
 
 -- the file is the text of what a server has, each parent before its children
-pub record NamesParts {A : Type 0} (file : List ℕ) (parts : Server A) : Type 0 where
+pub record NamesParts {A : Type 0} (file : Bytes) (parts : Server A) : Type 0 where
   pub text : file ≡ repository_text parts.graph parts.refs parts.head
   pub loadable : IsLoadable ParentsFirst parts.graph parts.refs parts.head
 
 -- and nothing of it is missing
-pub record NamesServer {A : Type 0} (file : List ℕ) (server : Server A) : Type 0 where
+pub record NamesServer {A : Type 0} (file : Bytes) (server : Server A) : Type 0 where
   pub names : NamesParts file server
   pub whole : IsServer server
 
@@ -39,17 +40,17 @@ MissesPart parts (build.NotClosed id) = ⊥
 MissesPart parts cause = IsUnserved parts cause
 
 -- why a file is not served: it is the text of no repository with parents first, or one of which something is missing
-abbrev pub RefusesFile : {A : Type 0} → List ℕ → ProgramFault A → Type 0
+abbrev pub RefusesFile : {A : Type 0} → Bytes → ProgramFault A → Type 0
 RefusesFile {A} file (program.Text cause) = StopsAt A ParentsFirst file cause
 RefusesFile {A} file (program.Build cause) = (parts : Server A) × NamesParts file parts × MissesPart parts cause
 RefusesFile file _ = ⊥
 
 -- what loading it answers
-abbrev pub LoadsServer : {A : Type 0} → List ℕ → Result (Server A) (ProgramFault A) → Type 0
+abbrev pub LoadsServer : {A : Type 0} → Bytes → Result (Server A) (ProgramFault A) → Type 0
 LoadsServer file (Ok server) = NamesServer file server
 LoadsServer file (Err fault) = RefusesFile file fault
 
-module _ {A : Type 0} (file : List ℕ) (input : Input) (output : Output) where
+module _ {A : Type 0} (file : Bytes) (input : Input) (output : Output) where
   -- the file is not served, and nothing is read or written
   pub record IsNotServed (outcome : Outcome A) : Type 0 where
     pub fault : ProgramFault A
@@ -109,9 +110,9 @@ pub record AnswersAll {A : Type 0} (ends : Ends) (input : Input) (output : Outpu
   pub comes_out : outcome ≡ outcome_of_connection ended
 
 -- what `ls --stdio-server` does
-abbrev pub ServesRequest : {A : Type 0} → List ℕ → Input → Output → Outcome A → Type 0
+abbrev pub ServesRequest : {A : Type 0} → Bytes → Input → Output → Outcome A → Type 0
 ServesRequest file input output = ServesFile file input output (AnswersOne input output)
 
 -- what `upload` does
-abbrev pub ServesConnection : {A : Type 0} → List ℕ → Ends → Input → Output → Outcome A → Type 0
+abbrev pub ServesConnection : {A : Type 0} → Bytes → Ends → Input → Output → Outcome A → Type 0
 ServesConnection file ends input output = ServesFile file input output (AnswersAll ends input output)

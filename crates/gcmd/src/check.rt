@@ -6,11 +6,12 @@ ghost use Rattle.gcmd.specs.Programs.{Runs};
 ghost use Rattle.gpkt.specs.Sending.{output_of};
 ghost use Rattle.gcmd.specs.Outputs.{IsSent};
 
-use crate::compose::{add, add_number};
+use crate::compose::add_number;
 use crate::fault::ProgramFault;
 use crate::program::finish;
 use crate::send::send;
 use arrayvec::ArrayVec;
+use ggrammar::compose::add;
 use ggraph::{GraphFault, Order, Repository, is_safe, load};
 use gpkt::{Down, Sink};
 use std::alloc::Allocator;
@@ -30,7 +31,8 @@ pub fn cmd_check<A: Allocator + Copy, W: Sink, E: Sink>(
     output: &mut W,
     errors: &mut E,
 ) -> u8
-    ensures runs { Runs {A = A} (Checks file.now (output_of W.contents W.passed_on W.is_down output.old output.new))
+    ensures runs { Runs {A = A} (Checks file.now
+        (output_of W.contents W.passed_on W.is_down output.old output.new))
         (output_of E.contents E.passed_on E.is_down errors.old errors.new) result }
     ensures output_loans { W.loans output.new ≡ W.loans output.old }
     ensures errors_loans { E.loans errors.new ≡ E.loans errors.old }
@@ -44,7 +46,8 @@ fn check<A: Allocator + Copy, W: Sink>(
     file: &[u8],
     output: &mut W,
 ) -> Result<(), ProgramFault<A>>
-    ensures checks { Checks file.now (output_of W.contents W.passed_on W.is_down output.old output.new) result }
+    ensures checks { Checks file.now (output_of W.contents W.passed_on W.is_down output.old
+        output.new) result }
     ensures loans { W.loans output.new ≡ W.loans output.old }
 {
     let repo = load(alloc, file, Order::Any)?;
@@ -80,7 +83,8 @@ fn report_of<A: Allocator + Copy>(repo: &Repository<A>) -> Result<Report, GraphF
 }
 
 fn send_report<W: Sink>(report: &Report, output: &mut W) -> Result<(), Down>
-    ensures sent { IsSent (output_of W.contents W.passed_on W.is_down output.old output.new) result (report_line report.now) }
+    ensures sent { IsSent (output_of W.contents W.passed_on W.is_down output.old output.new) result
+        (report_line report.now) }
     ensures loans { W.loans output.new ≡ W.loans output.old }
 {
     let mut text = ArrayVec::new();

@@ -3,7 +3,7 @@
 ghost use Rattle.std.specs.Prelude.{◌≡◌};
 ghost use Rattle.std.specs.Option.{option_copied};
 ghost use Rattle.gcmd.specs.Faults.{frame_in_client, id_in_client, id_in_repo, line_in_client, text_in_client};
-ghost use Rattle.gcmd.specs.Printing.{IsShortText};
+ghost use Rattle.gcmd.specs.steps.Printing.{IsShortText};
 
 use crate::print::{id_in_graph, said_in};
 use gclient::{ClientFault, RepoFault};

@@ -1,7 +1,7 @@
 //! The repository that is fetched into, from its file, and what is fetched, from words.
 
 ghost use Rattle.std.specs.Prelude.{◌≡◌, ◌↔◌, ◌+◌, ◌++◌, ◌∷◌, [], IfErr, IsTrue, MatchResult, OnOk, Ok, Err, length, map, string_bytes};
-ghost use Rattle.gspec.specs.declared.fault.SpecFault.TheVariants.{Memory};
+ghost use Rattle.grefspec.specs.declared.fault.SpecFault.TheVariants.{Memory};
 ghost use Rattle.gcmd.specs.Fetching.{OpensClient, ReadsSpecs, no_head};
 
 use crate::fault::ProgramFault;
@@ -16,8 +16,8 @@ pub fn read_specs<A: Allocator + Copy>(
     alloc: A,
     words: &[String<A>],
 ) -> Result<Vec<Spec<A>, A>, ProgramFault<A>>
-    ensures { MatchResult result (λ specs. ReadsSpecs {A = A} (map string_bytes words.now) (Ok specs.items))
-        (λ fault. ReadsSpecs (map string_bytes words.now) (Err fault)) }
+    ensures { MatchResult result (λ specs. ReadsSpecs {A = A} (map string_bytes words.now)
+        (Ok specs.items)) (λ fault. ReadsSpecs (map string_bytes words.now) (Err fault)) }
 {
     let mut specs = Vec::new(alloc);
     for word in words {

@@ -10,7 +10,7 @@ use crate::print::FaultLine;
 use ganswer::{BuildFault, ServeFault};
 use gclient::{ClientFault, FetchFault, RepoFault, SpecFault};
 use ggraph::LoadFault;
-use gname::NameFault;
+use gname::{NameFault, OUT_OF_MEMORY_TEXT};
 use gpkt::LineFault;
 use std::alloc::{Allocator, Global};
 use std::error::Error;
@@ -67,7 +67,7 @@ impl<A: Allocator + Copy> fmt::Display for ProgramFault<A> {
 
     fn fmt<W: fmt::Write>(&self, f: &mut fmt::Formatter<W>) -> fmt::Result {
         match self {
-            ProgramFault::Memory => f.write_str("out of memory"),
+            ProgramFault::Memory => f.write_str(OUT_OF_MEMORY_TEXT),
             ProgramFault::File => f.write_str("the file can't be read"),
             ProgramFault::Text(fault) => fmt::Display::fmt(fault, f),
             ProgramFault::Build(fault) => fmt::Display::fmt(fault, f),

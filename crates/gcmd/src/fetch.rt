@@ -1,9 +1,10 @@
 //! `gitv2 fetch`, as a function over bytes and devices.
 
-ghost use Rattle.std.specs.Prelude.{◌≡◌, ℕ, List, MatchResult, length, option_map};
+ghost use Rattle.std.specs.Prelude.{◌≡◌, MatchResult, length, option_map};
+ghost use Rattle.gpkt.specs.Packets.{Bytes};
 ghost use Rattle.ggraph.specs.declared.fault.SaveFault.TheVariants.{Memory};
 ghost use Rattle.gpkt.specs.Sending.{input_of, output_of};
-ghost use Rattle.grepo.specs.Repos.{RepoState};
+ghost use Rattle.gclientrepo.specs.Repos.{RepoState};
 ghost use Rattle.gcmd.specs.Fetching.{Concludes, FetchesFile, IsFetched, IsFetchedInto, NamesClient, Reports, SendsReport};
 ghost use Rattle.gcmd.specs.Programs.{Runs};
 
@@ -91,8 +92,8 @@ fn fetch_into<A: Allocator + Copy, S: Source, W: Sink, R: Sink>(
     output: &mut W,
     report: &mut R,
 ) -> (Result<(), ProgramFault<A>>, Option<Vec<u8, A>>)
-    ensures fetches { FetchesFile {A = A} fetch.now.file.now fetch.now.specs.now fetch.now.limit fetch.now.ends
-        (input_of S.remaining S.is_down input.old input.new)
+    ensures fetches { FetchesFile {A = A} fetch.now.file.now fetch.now.specs.now fetch.now.limit
+        fetch.now.ends (input_of S.remaining S.is_down input.old input.new)
         (output_of W.contents W.passed_on W.is_down output.old output.new)
         (output_of R.contents R.passed_on R.is_down report.old report.new)
         (option_map (λ text. text.items) result.1) result.0 }
@@ -114,7 +115,7 @@ fn fetch_for<A: Allocator + Copy, S: Source, W: Sink, R: Sink>(
     output: &mut W,
     report: &mut R,
 ) -> (Result<(), ProgramFault<A>>, Option<Vec<u8, A>>)
-    ensures fetches { (file : List ℕ) → NamesClient file repo.old
+    ensures fetches { (file : Bytes) → NamesClient file repo.old
         → IsFetched {A = A} file fetch.now.specs.now fetch.now.limit fetch.now.ends
         (input_of S.remaining S.is_down input.old input.new)
         (output_of W.contents W.passed_on W.is_down output.old output.new)
@@ -149,8 +150,8 @@ pub fn conclude<A: Allocator + Copy, R: Sink>(
 ) -> (Result<(), ProgramFault<A>>, Option<Vec<u8, A>>)
     requires { length fetched.now.settled.updates.items ≡ length fetched.now.settled.asks }
     ensures concludes { (before : RepoState A) → IsFetchedInto before repo.now fetched.now
-        → Concludes before repo.now fetched.now (output_of R.contents R.passed_on R.is_down report.old report.new)
-        (option_map (λ text. text.items) result.1) result.0 }
+        → Concludes before repo.now fetched.now (output_of R.contents R.passed_on R.is_down
+        report.old report.new) (option_map (λ text. text.items) result.1) result.0 }
     ensures loans { R.loans report.new ≡ R.loans report.old }
 {
     match text_of(alloc, repo) {
@@ -161,7 +162,8 @@ pub fn conclude<A: Allocator + Copy, R: Sink>(
 
 // The text of a client's repository. It fails out of memory.
 fn text_of<A: Allocator + Copy>(alloc: A, repo: &Repo<A>) -> Result<Vec<u8, A>, SaveFault>
-    ensures { MatchResult result (λ text. NamesClient text.items repo.now) (λ fault. fault ≡ Memory) }
+    ensures { MatchResult result (λ text. NamesClient text.items repo.now)
+        (λ fault. fault ≡ Memory) }
 {
     // Laws. The look-up says that the repository is connected.
     places_are_nodes::<A>();
@@ -181,7 +183,8 @@ pub fn send_report<A: Allocator + Copy, R: Sink>(
     report: &mut R,
 ) -> Result<(), ProgramFault<A>>
     requires { length fetched.now.settled.updates.items ≡ length fetched.now.settled.asks }
-    ensures reports { Reports fetched.now (output_of R.contents R.passed_on R.is_down report.old report.new) result }
+    ensures reports { Reports fetched.now (output_of R.contents R.passed_on R.is_down report.old
+        report.new) result }
     ensures loans { R.loans report.new ≡ R.loans report.old }
 {
     match report_of(alloc, fetched) {
@@ -197,7 +200,8 @@ pub fn send_text<A: Allocator + Copy, R: Sink>(
     text: &[u8],
     report: &mut R,
 ) -> Result<(), ProgramFault<A>>
-    ensures sends { SendsReport {A = A} text.now (output_of R.contents R.passed_on R.is_down report.old report.new) result }
+    ensures sends { SendsReport {A = A} text.now
+        (output_of R.contents R.passed_on R.is_down report.old report.new) result }
     ensures loans { R.loans report.new ≡ R.loans report.old }
 {
     match send(text, report) {

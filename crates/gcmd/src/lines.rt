@@ -4,16 +4,18 @@ ghost use Rattle.std.specs.Prelude.{◌≡◌, ◌+◌, ◌≤◌, ◌++◌, cod
 ghost use Rattle.std.specs.Fmt.{decimal};
 ghost use Rattle.hex.specs.Hex.{encode_lower};
 ghost use Rattle.gpkt.specs.Packets.{packet_of};
-ghost use Rattle.gcmd.specs.Lines.{chunk, digits_part, shown_line, ShowsEach, HasPassed, ShowsLines};
+ghost use Rattle.gcmd.specs.steps.Lines.{chunk, ShowsEach, HasPassed};
+ghost use Rattle.gcmd.specs.Lines.{digits_part, shown_line, ShowsLines};
 ghost use Rattle.gcmd.specs.Programs.{Runs};
 ghost use Rattle.gpkt.specs.Sending.{input_of, output_of};
-ghost use Rattle.gcmd.specs.Outputs.{IsPut};
+ghost use Rattle.gcmd.specs.steps.Outputs.{IsPut};
 
-use crate::compose::{add, add_number};
+use crate::compose::add_number;
 use crate::fault::ProgramFault;
 use crate::program::finish;
 use crate::send::put;
 use arrayvec::ArrayVec;
+use ggrammar::compose::add;
 use gpkt::{Down, Line, LineBuffer, LineFault, LineReader, Sink, Source, laws};
 use std::alloc::Allocator;
 
@@ -125,7 +127,8 @@ fn show_line<W: Sink>(line: Line<'_>, output: &mut W) -> Result<(), Down>
 
 fn show_data<W: Sink>(payload: &[u8], output: &mut W) -> Result<(), Down>
     ensures shown { IsPut (output_of W.contents W.passed_on W.is_down output.old output.new) result
-        ((codes "data " ++ decimal (length payload.now)) ++ (digits_part payload.now ++ codes "\n")) }
+        ((codes "data " ++ decimal (length payload.now))
+        ++ (digits_part payload.now ++ codes "\n")) }
     ensures loans { W.loans output.new ≡ W.loans output.old }
 {
     let mut head = ArrayVec::new();

@@ -27,7 +27,8 @@ pub fn cmd_ls<A: Allocator + Copy, S: Source, W: Sink, E: Sink>(
     output: &mut W,
     errors: &mut E,
 ) -> u8
-    ensures runs { Runs {A = A} (ServesRequest file.now (input_of S.remaining S.is_down input.old input.new)
+    ensures runs { Runs {A = A} (ServesRequest file.now
+        (input_of S.remaining S.is_down input.old input.new)
         (output_of W.contents W.passed_on W.is_down output.old output.new))
         (output_of E.contents E.passed_on E.is_down errors.old errors.new) result }
     ensures input_loans { S.loans input.new ≡ S.loans input.old }

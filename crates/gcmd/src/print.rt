@@ -4,20 +4,22 @@
 ghost use Rattle.std.specs.Prelude.{◌≡◌, ◌+◌, ◌≤◌, ◌++◌, length, map, None, []};
 ghost use Rattle.std.specs.Option.{option_copied};
 ghost use Rattle.gcmd.specs.Faults.{id_in_build, id_in_graph, id_in_request, frame_in_request, line_in_text, place_in_name, printed_of, printed_of_build, printed_of_client, printed_of_fetch, printed_of_name, printed_of_request, printed_of_text, ref_in_build, said_in, said_in_request};
-ghost use Rattle.gcmd.specs.Printing.{max_decimal, max_fault_line, max_fault_name, max_subject, number_part, printed_line, row_view, shown, subject_part, IsShort, IsShortText};
+ghost use Rattle.gcmd.specs.steps.Printing.{max_decimal, max_fault_line, max_fault_name, max_subject, row_view, IsShort, IsShortText};
+ghost use Rattle.gcmd.specs.Printing.{number_part, printed_line, shown, subject_part};
 ghost use Rattle.gpkt.specs.Sending.{output_of};
 ghost use Rattle.gcmd.specs.Outputs.{IsSent};
 
 use crate::client_fault::{frame_in_client, id_in_client, line_in_client, text_in_client};
-use crate::compose::{add, add_id, add_number};
+use crate::compose::add_number;
 use crate::fault::ProgramFault;
 use crate::send::send;
 use arrayvec::ArrayVec;
 use ganswer::{BuildFault, ServeFault};
 use gclient::{ClientFault, FetchFault};
 use ggrammar::Why;
+use ggrammar::compose::{add, add_id};
 use ggraph::{GraphFault, LoadFault};
-use gname::{HEAD, NameFault, Oid};
+use gname::{HEAD, NameFault, OUT_OF_MEMORY, Oid};
 use gpkt::{Down, Sink, WriteFault};
 use std::alloc::Allocator;
 
@@ -45,7 +47,7 @@ impl<'a> FaultLine<'a> {
         ensures short { IsShort result }
     {
         match fault {
-            ProgramFault::Memory => FaultLine::plain(64, "Memory"),
+            ProgramFault::Memory => FaultLine::plain(OUT_OF_MEMORY.0, OUT_OF_MEMORY.1),
             ProgramFault::File => FaultLine::plain(95, "File"),
             ProgramFault::Text(fault) => FaultLine::of_text(fault),
             ProgramFault::Build(fault) => FaultLine::of_build(fault),
@@ -172,7 +174,8 @@ impl<'a> FaultLine<'a> {
     /// sink is down.
     pub(crate) fn print<E: Sink>(&self, errors: &mut E) -> Result<(), Down>
         requires { IsShort self.now }
-        ensures sent { IsSent (output_of E.contents E.passed_on E.is_down errors.old errors.new) result (printed_line (row_view self.now)) }
+        ensures sent { IsSent (output_of E.contents E.passed_on E.is_down errors.old errors.new)
+            result (printed_line (row_view self.now)) }
         ensures loans { E.loans errors.new ≡ E.loans errors.old }
     {
         let mut text = ArrayVec::new();

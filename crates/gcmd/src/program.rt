@@ -28,7 +28,8 @@ pub fn print_fault<A: Allocator + Copy, E: Sink>(
     fault: &ProgramFault<A>,
     errors: &mut E,
 ) -> Result<(), Down>
-    ensures printed { IsSent (output_of E.contents E.passed_on E.is_down errors.old errors.new) result (fault_line fault.now) }
+    ensures printed { IsSent (output_of E.contents E.passed_on E.is_down errors.old errors.new)
+        result (fault_line fault.now) }
     ensures loans { E.loans errors.new ≡ E.loans errors.old }
 {
     FaultLine::of(fault).print(errors)

@@ -2,12 +2,12 @@
 
 ghost use Rattle.std.specs.Prelude.{◌≡◌, ◌<◌, ◌++◌, IfOk, OnOk, Some, codes, length, slice_get};
 ghost use Rattle.gname.specs.Ids.{id_text};
-ghost use Rattle.grepo.specs.declared.ask.Ask.{Ask};
-ghost use Rattle.grepo.specs.declared.ask.RefUpdate.TheVariants.{Moved};
+ghost use Rattle.gclientrepo.specs.declared.ask.Ask.{Ask};
+ghost use Rattle.gclientrepo.specs.declared.ask.RefUpdate.TheVariants.{Moved};
 ghost use Rattle.gcmd.specs.Reporting.{fetch_report, unborn_line, update_line, update_lines, update_text};
 
 use gclient::{Asks, Fetched, RefUpdate};
-use gname::{MAX_ID_TEXT, Oid, RefName};
+use gname::{Oid, RefName};
 use std::alloc::{AllocError, Allocator};
 
 /// The lines of the report: what became of each ask, in their order, and where an unborn HEAD of the server points. It
@@ -93,7 +93,7 @@ fn put_moved<A: Allocator + Copy>(
 {
     put_named(text, b"moved ", name)?;
     text.extend_from_slice(b" ")?;
-    put_id(text, id)?;
+    id.push_hex(text)?;
     text.extend_from_slice(b"\n")
 }
 
@@ -116,7 +116,8 @@ fn put_line<A: Allocator + Copy>(
     word: &[u8],
     name: &RefName<A>,
 ) -> Result<(), AllocError>
-    ensures { OnOk result (text.new.items ≡ text.old.items ++ (word.now ++ (name.now ++ codes "\n"))) }
+    ensures { OnOk result (text.new.items
+        ≡ text.old.items ++ (word.now ++ (name.now ++ codes "\n"))) }
 {
     put_named(text, word, name)?;
     text.extend_from_slice(b"\n")
@@ -132,12 +133,4 @@ fn put_named<A: Allocator + Copy>(
 {
     text.extend_from_slice(word)?;
     text.extend_from_slice(name.as_bytes())
-}
-
-fn put_id<A: Allocator + Copy>(text: &mut Vec<u8, A>, id: &Oid) -> Result<(), AllocError>
-    ensures { OnOk result (text.new.items ≡ text.old.items ++ id_text id.now) }
-{
-    let mut digits = [0; MAX_ID_TEXT];
-    let count = id.to_hex(&mut digits);
-    text.extend_from_slice(&digits[..count])
 }

@@ -30,7 +30,8 @@ pub fn cmd_upload<A: Allocator + Copy, S: Source, W: Sink, E: Sink>(
     output: &mut W,
     errors: &mut E,
 ) -> u8
-    ensures runs { Runs {A = A} (ServesConnection file.now ends (input_of S.remaining S.is_down input.old input.new)
+    ensures runs { Runs {A = A} (ServesConnection file.now ends
+        (input_of S.remaining S.is_down input.old input.new)
         (output_of W.contents W.passed_on W.is_down output.old output.new))
         (output_of E.contents E.passed_on E.is_down errors.old errors.new) result }
     ensures input_loans { S.loans input.new ≡ S.loans input.old }
@@ -48,7 +49,8 @@ fn answer_all<A: Allocator + Copy, S: Source, W: Sink>(
     input: &mut S,
     output: &mut W,
 ) -> Result<(), ProgramFault<A>>
-    ensures serves { ServesConnection file.now ends (input_of S.remaining S.is_down input.old input.new)
+    ensures serves { ServesConnection file.now ends
+        (input_of S.remaining S.is_down input.old input.new)
         (output_of W.contents W.passed_on W.is_down output.old output.new) result }
     ensures input_loans { S.loans input.new ≡ S.loans input.old }
     ensures output_loans { W.loans output.new ≡ W.loans output.old }

@@ -12,14 +12,15 @@ use Rattle.ggrammar.specs.declared.fault.MessageFault.{MessageFault}
 use Rattle.ghello.specs.Adverts as advert
 use Rattle.ghello.specs.Offers.{check_fault}
 use Rattle.glsreply.specs.LsReplies as ls
-use Rattle.grequest.specs.Asked.{LsRefsAsked, Ls}
+use Rattle.grequest.specs.declared.flag.LsRefsFlag.TheVariants.{Unborn}
+use Rattle.grequest.specs.Asked.{LsRefsAsked, Ls, ls_with}
 use Rattle.gsession.specs.Sessions.{tells_unborn}
 use Rattle.gsession.specs.declared.fault.ClientFault.TheVariants as client
 use Rattle.gclient.specs.Conversations.{FailsToSend, IsLeft, request_bytes, rest_of}
 use Rattle.gclient.specs.declared.fault.FetchFault.TheVariants as fetch
 use Rattle.gconnect.specs.Listings.{FailsToList, FitsNone, HasHeard, HasListed, ReadsReply, RefusesReply}
 use Rattle.gconnect.specs.Listings.{asking_bytes, cannot_ask, cannot_end, cannot_take, ending_bytes}
-use Rattle.gconnect.specs.Steps.{HasHeardServer}
+use Rattle.gconnect.specs.steps.Listings.{HasHeardServer}
 use Rattle.gconnect.specs.declared.listing.Heard.{Heard}
 
 -- ---- hearing
@@ -87,15 +88,15 @@ module _ (asked : LsRefsAsked) {S : Type 0} (remaining : S → Option (List ℕ)
 
   -- the request as it is sent
   same_asked : (heard : Heard) (capabilities : List Capability) (told : LsRefsAsked)
-      → told ≡ record asked { unborn = heard.tells_unborn } → heard.tells_unborn ≡ tells_unborn capabilities
+      → told ≡ ls_with asked Unborn heard.tells_unborn → heard.tells_unborn ≡ tells_unborn capabilities
       → request_bytes heard.format (Ls told) ≡ asking_bytes heard.format capabilities asked
   same_asked heard capabilities told is unborn =
       ap (λ (a : LsRefsAsked). request_bytes heard.format (Ls a))
-      (is ∙ ap (λ (tells : Bool). record asked { unborn = tells }) unborn)
+      (is ∙ ap (λ (tells : Bool). ls_with asked Unborn tells) unborn)
 
   -- the request can't be sent
   pub unasked : {A : Type 0} (a b : S) (x y : W) (heard : Heard) (told : LsRefsAsked)
-      → HasHeardServer (Reading a b) heard → told ≡ record asked { unborn = heard.tells_unborn }
+      → HasHeardServer (Reading a b) heard → told ≡ ls_with asked Unborn heard.tells_unborn
       → FailsToSend (Writing x y) (request_bytes heard.format (Ls told))
       → FailsToList asked {A = A} (Reading a b) (Writing x y) fetch.WriteFailed
   unasked a b x y heard told before is fails =
@@ -104,7 +105,7 @@ module _ (asked : LsRefsAsked) {S : Type 0} (remaining : S → Option (List ℕ)
 
   -- the reply is refused
   pub untaken : {A : Type 0} (a b c : S) (x y : W) (heard : Heard) (told : LsRefsAsked) (cause : MessageFault)
-      → HasHeardServer (Reading a b) heard → told ≡ record asked { unborn = heard.tells_unborn }
+      → HasHeardServer (Reading a b) heard → told ≡ ls_with asked Unborn heard.tells_unborn
       → Passes (Writing x y) (request_bytes heard.format (Ls told))
       → RefusesReply heard.format (rest_of (Reading a c) (remaining b)) cause
       → FailsToList asked {A = A} (Reading a c) (Writing x y) (fetch.Client (client.Message cause))
@@ -116,7 +117,7 @@ module _ (asked : LsRefsAsked) {S : Type 0} (remaining : S → Option (List ℕ)
 
   -- the lone flush can't be sent
   pub unended : {A : Type 0} (a b c : S) (x y z : W) (heard : Heard) (told : LsRefsAsked) (reply : ls.LsReply)
-      → HasHeardServer (Reading a b) heard → told ≡ record asked { unborn = heard.tells_unborn }
+      → HasHeardServer (Reading a b) heard → told ≡ ls_with asked Unborn heard.tells_unborn
       → Passes (Writing x y) (request_bytes heard.format (Ls told))
       → ReadsReply heard.format (rest_of (Reading a c) (remaining b)) reply
       → FailsToSend (Writing y z) (ending_bytes heard.format)
@@ -131,7 +132,7 @@ module _ (asked : LsRefsAsked) {S : Type 0} (remaining : S → Option (List ℕ)
 
   -- all is read and sent
   pub listed : (a b c : S) (x y z : W) (heard : Heard) (told : LsRefsAsked) (reply : ls.LsReply)
-      → HasHeardServer (Reading a b) heard → told ≡ record asked { unborn = heard.tells_unborn }
+      → HasHeardServer (Reading a b) heard → told ≡ ls_with asked Unborn heard.tells_unborn
       → Passes (Writing x y) (request_bytes heard.format (Ls told))
       → ReadsReply heard.format (rest_of (Reading a c) (remaining b)) reply
       → Passes (Writing y z) (ending_bytes heard.format)

@@ -1,8 +1,8 @@
 -- A served connection of the `git://` transport, from its first line on (gitprotocol-pack(5), "Git Transport").
-use Rattle.std.specs.Prelude.{◌≡◌, ◌≢◌, ℕ, false, List, [], ◌∷◌, ◌++◌, codes, Option, Result, Ok, Err}
+use Rattle.std.specs.Prelude.{◌≡◌, ◌≢◌, false, List, [], ◌∷◌, ◌++◌, codes, Option, Result, Ok, Err}
 use Rattle.gpkt.specs.Devices.{KeepsPassed}
 use Rattle.gpkt.specs.LineReading.{ReadsLines}
-use Rattle.gpkt.specs.Packets.{Packet, canonical_all}
+use Rattle.gpkt.specs.Packets.{Bytes, Packet, canonical_all}
 use Rattle.gpkt.specs.Sending.{Input, Output, IsUp, Passes, SendsSome}
 use Rattle.ggrammar.specs.MessageReading.{IsReadFailure, ReadsRefused}
 use Rattle.ggrammar.specs.Texts.{text_packet}
@@ -41,16 +41,16 @@ Hears input (Err (serve.Request cause)) = RefusesHello input cause
 Hears input (Err fault) = LacksBuffer input fault
 
 -- the client asks for this path, or for another
-abbrev pub AsksFor : List ℕ → Input → Type 0
+abbrev pub AsksFor : Bytes → Input → Type 0
 AsksFor path input = (hello : Hello) × ReadsHello input hello × (hello.path ≡ path)
 
-abbrev pub AsksForAnother : List ℕ → Input → Type 0
+abbrev pub AsksForAnother : Bytes → Input → Type 0
 AsksForAnother path input = (hello : Hello) × ReadsHello input hello × (hello.path ≢ path)
 
 -- ---- a packet instead of the advertisement
 
 -- the packet of an error
-abbrev pub error_packets : List ℕ → List Packet
+abbrev pub error_packets : Bytes → List Packet
 error_packets text = text_packet (codes "ERR " ++ text) ∷ []
 
 -- what a client reads that asks for another path
@@ -58,14 +58,14 @@ abbrev pub elsewhere_packets : List Packet
 elsewhere_packets = error_packets (codes "upload-pack: no such repository")
 
 -- what is due where the repository is not served: the client asks for another path, or its first line is refused
-pub data IsDueInstead (path : List ℕ) (input : Input) : List Packet → Type 0 where
+pub data IsDueInstead (path : Bytes) (input : Input) : List Packet → Type 0 where
   elsewhere : AsksForAnother path input → IsDueInstead path input elsewhere_packets
   refusal : (fault : ServeFault) → Hears input (Err fault) → IsDueInstead path input (err_packets fault)
 
 -- ---- the whole
 
 -- the input up to a point, with the source well there
-abbrev pub head_of : Input → Option (List ℕ) → Input
+abbrev pub head_of : Input → Option Bytes → Input
 head_of input between = record {
   read = record { old = input.read.old; new = between };
   was_down = input.was_down;
@@ -73,18 +73,18 @@ head_of input between = record {
 }
 
 -- the input from there on
-abbrev pub tail_of : Input → Option (List ℕ) → Input
+abbrev pub tail_of : Input → Option Bytes → Input
 tail_of input between = record {
   read = record { old = between; new = input.read.new };
   was_down = false;
   is_down = input.is_down;
 }
 
-module _ {A : Type 0} (server : Server A) (packs : Packs A) (fails : PackFails A) (path : List ℕ) (ends : Ends) where
+module _ {A : Type 0} (server : Server A) (packs : Packs A) (fails : PackFails A) (path : Bytes) (ends : Ends) where
   -- What was read and written on a connection, and how it ended.
   abbrev pub ServesGit : Input → Output → GitEnd → Type 0
   ServesGit input output (git.Served served) =
-      (between : Option (List ℕ)) × AsksFor path (head_of input between)
+      (between : Option Bytes) × AsksFor path (head_of input between)
       × Serves server packs fails ends (tail_of input between) output served.requests served.end
   ServesGit input output git.Elsewhere = AsksForAnother path input × Passes output (canonical_all elsewhere_packets)
   ServesGit input output (git.Refused fault) =

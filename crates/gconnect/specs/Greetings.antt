@@ -1,16 +1,16 @@
 -- The first line of a `git://` connection, as the client writes it (gitprotocol-pack(5), "Git Transport").
-use Rattle.std.specs.Prelude.{false, List, Option, ℕ}
-use Rattle.gpkt.specs.Packets.{canonical_all}
+use Rattle.std.specs.Prelude.{false, Option}
+use Rattle.gpkt.specs.Packets.{Bytes, canonical_all}
 use Rattle.gpkt.specs.Sending.{Input, Output, IsUnread, Passes}
 use Rattle.ghello.specs.Hello.{Hello, canonical_hello}
 use Rattle.gclient.specs.Conversations.{FailsToSend}
 
 -- its bytes
-abbrev pub hello_bytes : Hello → List ℕ
+abbrev pub hello_bytes : Hello → Bytes
 hello_bytes hello = canonical_all (canonical_hello hello)
 
 -- the output up to a point, with the sink well there
-abbrev pub head_of : Output → Option (List ℕ) → Option (List ℕ) → Output
+abbrev pub head_of : Output → Option Bytes → Option Bytes → Output
 head_of output written passed = record {
   written = record { old = output.written.old; new = written };
   passed_on = record { old = output.passed_on.old; new = passed };
@@ -19,7 +19,7 @@ head_of output written passed = record {
 }
 
 -- the output from there on
-abbrev pub tail_of : Output → Option (List ℕ) → Option (List ℕ) → Output
+abbrev pub tail_of : Output → Option Bytes → Option Bytes → Output
 tail_of output written passed = record {
   written = record { old = written; new = output.written.new };
   passed_on = record { old = passed; new = output.passed_on.new };
@@ -29,8 +29,8 @@ tail_of output written passed = record {
 
 -- the first line is passed on, and then this holds of the rest of the output
 pub record HasGreeted (hello : Hello) (output : Output) (Rest : Output → Type 0) : Type 0 where
-  pub written : Option (List ℕ)
-  pub passed : Option (List ℕ)
+  pub written : Option Bytes
+  pub passed : Option Bytes
   pub greets : Passes (head_of output written passed) (hello_bytes hello)
   pub rest : Rest (tail_of output written passed)
 

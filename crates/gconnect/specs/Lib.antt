@@ -2,5 +2,5 @@ pub mod Greetings
 pub mod GitConnections
 pub mod GitFetches
 pub mod Listings
-pub mod Steps
+pub mod steps
 pub use Rattle.gpkt.specs.Sending

@@ -1,8 +1,8 @@
 -- Listing the refs of a server: what is read, and what is written for it (gitprotocol-v2(5), "ls-refs").
-use Rattle.std.specs.Prelude.{◌≡◌, ◌⊎◌, ℕ, false, List, ◌++◌, Option, Some, Result, Ok, Err}
+use Rattle.std.specs.Prelude.{◌≡◌, ◌⊎◌, false, List, ◌++◌, Option, Some, Result, Ok, Err}
 use Rattle.gname.specs.declared.formats.Format.{Format}
 use Rattle.gpkt.specs.LineReading.{ReadsLines}
-use Rattle.gpkt.specs.Packets.{Packet}
+use Rattle.gpkt.specs.Packets.{Bytes, Packet}
 use Rattle.gpkt.specs.Sending.{Input, Output, IsUnread, IsUnwritten, IsUp, Passes, SendsAndFails}
 use Rattle.ggrammar.specs.Capabilities.{Capability}
 use Rattle.ggrammar.specs.MessageReading.{IsReadFailure, ReadsRefused}
@@ -12,7 +12,8 @@ use Rattle.ghello.specs.Adverts as advert
 use Rattle.ghello.specs.Hello.{Hello}
 use Rattle.ghello.specs.Offers.{check_fault}
 use Rattle.glsreply.specs.LsReplies as ls
-use Rattle.grequest.specs.Asked.{LsRefsAsked, Empty, Ls}
+use Rattle.grequest.specs.declared.flag.LsRefsFlag.TheVariants.{Unborn}
+use Rattle.grequest.specs.Asked.{LsRefsAsked, Empty, Ls, ls_with}
 use Rattle.gsession.specs.Sessions.{tells_unborn}
 use Rattle.gsession.specs.declared.fault.ClientFault.TheVariants as client
 use Rattle.gclient.specs.Conversations.{Advertises, FailsToSend, IsLeft, RefusesToRead, request_bytes, rest_of}
@@ -24,14 +25,14 @@ use Rattle.gconnect.specs.Greetings.{CannotGreet, HasGreeted}
 
 -- what is asked: for an unborn HEAD too exactly where the server offers to report it
 abbrev pub asked_of : List Capability → LsRefsAsked → LsRefsAsked
-asked_of capabilities asked = record asked { unborn = tells_unborn capabilities }
+asked_of capabilities asked = ls_with asked Unborn (tells_unborn capabilities)
 
 -- the request
-abbrev pub asking_bytes : Format → List Capability → LsRefsAsked → List ℕ
+abbrev pub asking_bytes : Format → List Capability → LsRefsAsked → Bytes
 asking_bytes format capabilities asked = request_bytes format (Ls (asked_of capabilities asked))
 
 -- the lone flush that ends the conversation
-abbrev pub ending_bytes : Format → List ℕ
+abbrev pub ending_bytes : Format → Bytes
 ending_bytes format = request_bytes format Empty
 
 -- ---- what is read
@@ -42,7 +43,7 @@ pub record HasHeard (input : Input) (format : Format) (capabilities : List Capab
     : Type 0 where
   pub packets : List Packet
   pub advertises : Advertises format packets capabilities
-  pub between : Option (List ℕ)
+  pub between : Option Bytes
   pub read : ReadsLines (record { old = input.read.old; new = between }) packets
   pub rest : Rest (rest_of input between)
 

@@ -4,7 +4,7 @@ ghost use Rattle.std.specs.Prelude.{◌≡◌, ◌≤◌, false, length};
 ghost use Rattle.gpkt.specs.Sending.{output_of};
 ghost use Rattle.ggrammar.specs.Writing.{WritesLines};
 ghost use Rattle.gserve.specs.Refusals.{max_err_text};
-ghost use Rattle.gserve.specs.Steps.{PassesPackets};
+ghost use Rattle.gserve.specs.steps.Connections.{PassesPackets};
 ghost use Rattle.gconnect.specs.GitConnections.{error_packets};
 
 use ggrammar::laws::writes_lines;
@@ -14,8 +14,8 @@ use gpkt::{LineWriter, Sink, WriteFault};
 /// Writes the packet of an error with a text of at most 128 bytes, and passes it on.
 pub(crate) fn send_error<W: Sink>(text: &[u8], sink: &mut W) -> Result<(), WriteFault>
     requires { length text.now ≤ max_err_text }
-    ensures sent { PassesPackets (output_of W.contents W.passed_on W.is_down sink.old sink.new) result
-        (error_packets text.now) }
+    ensures sent { PassesPackets (output_of W.contents W.passed_on W.is_down sink.old sink.new)
+        result (error_packets text.now) }
     ensures loans { W.loans sink.new ≡ W.loans sink.old }
 {
     let mut writer = LineWriter::new(sink);
@@ -27,8 +27,8 @@ pub(crate) fn send_error<W: Sink>(text: &[u8], sink: &mut W) -> Result<(), Write
 fn send_to<W: Sink>(text: &[u8], writer: &mut LineWriter<W>) -> Result<(), WriteFault>
     requires well { writer.old.failed ≡ false }
     requires short { length text.now ≤ max_err_text }
-    ensures sent { PassesPackets (output_of W.contents W.passed_on W.is_down writer.old.sink writer.new.sink) result
-        (error_packets text.now) }
+    ensures sent { PassesPackets (output_of W.contents W.passed_on W.is_down writer.old.sink
+        writer.new.sink) result (error_packets text.now) }
     ensures loans { W.loans writer.new.sink ≡ W.loans writer.old.sink }
 {
     writes_join::<W>();

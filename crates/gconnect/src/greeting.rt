@@ -2,7 +2,7 @@
 
 ghost use Rattle.std.specs.Prelude.{◌≡◌, false};
 ghost use Rattle.gpkt.specs.Sending.{output_of};
-ghost use Rattle.gclient.specs.Steps.{HasPassed};
+ghost use Rattle.gclient.specs.Conversations.{HasPassed};
 ghost use Rattle.gconnect.specs.Greetings.{hello_bytes};
 
 use ghello::{Hello, write_hello};
@@ -15,8 +15,8 @@ pub(crate) fn greet<W: Sink, A: Allocator + Copy>(
     hello: &Hello<A>,
     sink: &mut W,
 ) -> Result<(), WriteFault>
-    ensures greets { HasPassed (output_of W.contents W.passed_on W.is_down sink.old sink.new) result
-        (hello_bytes hello.now) }
+    ensures greets { HasPassed (output_of W.contents W.passed_on W.is_down sink.old sink.new)
+        result (hello_bytes hello.now) }
     ensures loans { W.loans sink.new ≡ W.loans sink.old }
 {
     let mut writer = LineWriter::new(sink);
@@ -30,8 +30,8 @@ fn send_hello<W: Sink, A: Allocator + Copy>(
     writer: &mut LineWriter<W>,
 ) -> Result<(), WriteFault>
     requires well { writer.old.failed ≡ false }
-    ensures sent { HasPassed (output_of W.contents W.passed_on W.is_down writer.old.sink writer.new.sink) result
-        (hello_bytes hello.now) }
+    ensures sent { HasPassed (output_of W.contents W.passed_on W.is_down writer.old.sink
+        writer.new.sink) result (hello_bytes hello.now) }
     ensures loans { W.loans writer.new.sink ≡ W.loans writer.old.sink }
 {
     writes_join::<W>();

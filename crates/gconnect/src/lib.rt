@@ -43,7 +43,6 @@ mod error_line;
 mod fetching;
 mod greeting;
 mod listing;
-mod request_line;
 mod serving;
 
 pub use crate::fetching::fetch_git;

@@ -3,11 +3,10 @@
 ghost use Rattle.std.specs.Prelude.{◌≡◌, false, OnOk};
 ghost use Rattle.gpkt.specs.Sending.{input_of, output_of};
 ghost use Rattle.gconnect.specs.Listings.{Lists, ListsGit};
-ghost use Rattle.gconnect.specs.Steps.{FitsFormat, HearsServer};
+ghost use Rattle.gconnect.specs.steps.Listings.{FitsFormat, HearsServer};
 
 use crate::greeting::greet;
-use crate::request_line::send_request;
-use gclient::FetchFault;
+use gclient::{FetchFault, send_request};
 use ggrammar::{Ends, MessageFault};
 use ghello::{Advert, Hello, read_advert};
 use glsreply::{LsReply, read_ls_reply_in};
@@ -108,7 +107,8 @@ fn hear_server<S: Source, A: Allocator + Copy>(
     alloc: A,
 ) -> Result<Heard, MessageFault>
     requires { reader.old.failed ≡ false }
-    ensures hears { HearsServer (input_of S.remaining S.is_down reader.old.source reader.new.source) result }
+    ensures hears { HearsServer (input_of S.remaining S.is_down reader.old.source
+        reader.new.source) result }
     ensures goes_on { OnOk result (reader.new.failed ≡ false) }
     ensures loans { S.loans reader.new.source ≡ S.loans reader.old.source }
 {

@@ -4,7 +4,7 @@ ghost use Rattle.std.specs.Prelude.{◌≡◌, ◌↔◌, IsTrue};
 ghost use Rattle.gpkt.specs.Sending.{input_of, output_of};
 ghost use Rattle.gconnect.specs.GitConnections.{Hears, ServesGit, elsewhere_packets};
 ghost use Rattle.gserve.specs.Refusals.{err_packets};
-ghost use Rattle.gserve.specs.Steps.{PassesPackets};
+ghost use Rattle.gserve.specs.steps.Connections.{PassesPackets};
 
 use crate::error_line::send_error;
 use ganswer::{ServeFault, Server};
@@ -42,8 +42,8 @@ pub fn serve_git<S: Source, W: Sink, A: Allocator + Copy, K: Packer<A>>(
     source: &mut S,
     sink: &mut W,
 ) -> GitEnd
-    ensures serves { ServesGit server.now (K.packs packer.now) (K.pack_fails packer.now) path.now ends
-        (input_of S.remaining S.is_down source.old source.new)
+    ensures serves { ServesGit server.now (K.packs packer.now) (K.pack_fails packer.now) path.now
+        ends (input_of S.remaining S.is_down source.old source.new)
         (output_of W.contents W.passed_on W.is_down sink.old sink.new) result }
     ensures source_loans { S.loans source.new ≡ S.loans source.old }
     ensures sink_loans { W.loans sink.new ≡ W.loans sink.old }
@@ -96,8 +96,8 @@ fn asks_for<A: Allocator + Copy>(path: &[u8], hello: &Hello<A>) -> bool
 
 // Says to the client that its repository is not served.
 fn send_away<W: Sink>(sink: &mut W) -> Result<(), WriteFault>
-    ensures sent { PassesPackets (output_of W.contents W.passed_on W.is_down sink.old sink.new) result
-        elsewhere_packets }
+    ensures sent { PassesPackets (output_of W.contents W.passed_on W.is_down sink.old sink.new)
+        result elsewhere_packets }
     ensures loans { W.loans sink.new ≡ W.loans sink.old }
 {
     send_error(b"upload-pack: no such repository", sink)
@@ -105,8 +105,8 @@ fn send_away<W: Sink>(sink: &mut W) -> Result<(), WriteFault>
 
 // Reports that the first line was refused. It takes no memory.
 fn report<W: Sink>(fault: &ServeFault, sink: &mut W) -> Result<(), WriteFault>
-    ensures sent { PassesPackets (output_of W.contents W.passed_on W.is_down sink.old sink.new) result
-        (err_packets fault.now) }
+    ensures sent { PassesPackets (output_of W.contents W.passed_on W.is_down sink.old sink.new)
+        result (err_packets fault.now) }
     ensures loans { W.loans sink.new ≡ W.loans sink.old }
 {
     let mut text = [0; MAX_ERR_TEXT];

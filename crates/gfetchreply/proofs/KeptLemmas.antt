@@ -16,7 +16,9 @@ use Rattle.gfetchreply.specs.FetchReplies.{Reading, State, Place, Start, Acking,
 use Rattle.gfetchreply.specs.FetchReplies.{ReplyForm, Acknowledgments, Nak, Readiness, Packfile, Ack, OtherForm, reply_form, is_readiness, is_ready}
 use Rattle.gfetchreply.specs.FetchReplies.{after_text, next_place, place_of, texts_there, bands_there, ack_texts, band_payloads}
 use Rattle.gfetchreply.specs.FetchReplies.{acks_of, ack_id, brings_into, data_in, data_of, judge, judge_at, judge_payload, judge_there}
-use Rattle.gfetchreply.specs.ReplyState.{Kept, kept_of, first_kept, state_kept, id_list, with_text, with_band, with_packet, data_there, brings_there, TakesOr, TakesMore, TakesBoth, Holds, Leaves}
+use Rattle.gfetchreply.specs.steps.ReplyState.{Kept, kept_of, first_kept, state_kept, id_list, with_text, with_band}
+use Rattle.gfetchreply.specs.steps.ReplyState.{with_packet, data_there, brings_there, TakesOr, TakesMore, TakesBoth}
+use Rattle.gfetchreply.specs.steps.ReplyState.{Holds, Leaves}
 use Rattle.gfetchreply.specs.Values.{Acks}
 use Rattle.gfetchreply.proofs.StateLemmas.{place_of-push, ack_texts-push, band_payloads-push, ack_texts-nil, band_payloads-nil, acks_of-append, data-push, data_of-one}
 

@@ -8,8 +8,9 @@ use Rattle.ggrammar.specs.Kinds.{ReadsMessage}
 use Rattle.ggrammar.specs.MessageReading.{ReadsWhole, ReadsRefused}
 use Rattle.ggrammar.specs.declared.fault.MessageFault.{MessageFault}
 use Rattle.gfetchreply.specs.FetchReplies.{Reading, State, Place, Start, Acking, AfterNak, AfterReady, BeforePack, InPack, Over, judge_at, place_of, state_of, brings_into, judge, Says, FetchReply, reply_of, ack_texts, acks_of, band_payloads, data_of, is_ready, Acks, Ready, Pack}
-use Rattle.gfetchreply.specs.FetchHeads.{FetchHead, head_of, head_by, pack_of, reply_with}
-use Rattle.gfetchreply.specs.ReplyState.{Kept, data_there, Holds, Leaves}
+use Rattle.gfetchreply.specs.FetchHeads.{FetchHead, head_of, pack_of}
+use Rattle.gfetchreply.specs.steps.FetchHeads.{head_by, reply_with}
+use Rattle.gfetchreply.specs.steps.ReplyState.{Kept, data_there, Holds, Leaves}
 use Rattle.gfetchreply.specs.ReplyReading.{TakesReply, RefusesReply}
 use Rattle.gfetchreply.proofs.KeptLemmas.{pack_push}
 use Rattle.gfetchreply.proofs.ReplyEndings.{open_keeps_limit}

@@ -1,11 +1,13 @@
 -- The reply to fetch without its pack, which goes to a sink piece by piece.
-use Rattle.std.specs.Prelude.{ℕ, Bool, true, false, List, [], if◌then◌else◌}
+use Rattle.std.specs.Prelude.{Bool, true, false, List, []}
+use Rattle.gname.specs.Ids.{Id}
+use Rattle.gpkt.specs.Packets.{Bytes}
 use Rattle.gfetchreply.specs.FetchReplies.{FetchReply}
 use Rattle.gfetchreply.specs.FetchReplies as reply
 
 pub data FetchHead : Type 0 where
-  Acks : (ids : List (List ℕ)) → FetchHead
-  Ready : (ids : List (List ℕ)) → FetchHead
+  Acks : (ids : List Id) → FetchHead
+  Ready : (ids : List Id) → FetchHead
   Pack : FetchHead
 
 abbrev pub head_of : FetchReply → FetchHead
@@ -14,13 +16,13 @@ head_of (reply.Ready ids pack) = Ready ids
 head_of (reply.Pack pack) = Pack
 
 -- the pack, which is empty where none comes
-abbrev pub pack_of : FetchReply → List ℕ
+abbrev pub pack_of : FetchReply → Bytes
 pack_of (reply.Acks ids) = []
 pack_of (reply.Ready ids pack) = pack
 pack_of (reply.Pack pack) = pack
 
 -- the ids that are acknowledged
-abbrev pub acknowledged_by : FetchReply → List (List ℕ)
+abbrev pub acknowledged_by : FetchReply → List Id
 acknowledged_by (reply.Acks ids) = ids
 acknowledged_by (reply.Ready ids pack) = ids
 acknowledged_by (reply.Pack pack) = []
@@ -30,13 +32,3 @@ abbrev pub is_alone : FetchReply → Bool
 is_alone (reply.Acks ids) = false
 is_alone (reply.Ready ids pack) = false
 is_alone (reply.Pack pack) = true
-
--- the head, by whether the reply is direct, whether `ready` came, and the acknowledged ids
-abbrev pub head_by : Bool → Bool → List (List ℕ) → FetchHead
-head_by direct ready ids = if direct then Pack else if ready then Ready ids else Acks ids
-
--- the reply of a head and its pack
-abbrev pub reply_with : FetchHead → List ℕ → FetchReply
-reply_with (Acks ids) pack = reply.Acks ids
-reply_with (Ready ids) pack = reply.Ready ids pack
-reply_with Pack pack = reply.Pack pack

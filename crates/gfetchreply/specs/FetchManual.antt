@@ -1,7 +1,8 @@
 -- What a server may send as the reply to fetch, in the words of gitprotocol-v2(5): sections one after the other.
 use Rattle.std.specs.Prelude.{◌≡◌, ℕ, ◌≤◌, ◌⊎◌, true, false, List, [], ◌∷◌, ◌++◌, length, map, codes, All, Result, Ok}
 use Rattle.std.specs.Option.{IsSome}
-use Rattle.gpkt.specs.Packets.{Packet, Data, Flush, Delim, text}
+use Rattle.gname.specs.Ids.{Id}
+use Rattle.gpkt.specs.Packets.{Bytes, Packet, Data, Flush, Delim, text}
 use Rattle.gpkt.specs.Bands.{BandPacket, band_form, Data as BandData, Progress}
 use Rattle.gpkt.specs.declared.fault.BandFault.{BandFault}
 use Rattle.gname.specs.declared.formats.Format.{Format}
@@ -10,7 +11,7 @@ use Rattle.gfetchreply.specs.FetchReplies.{Reading, FetchReply, Acks, Ready, Pac
 use Rattle.gfetchreply.specs.FetchReplies.{max_acks, max_packets}
 
 -- `ACK ` and an id
-abbrev pub IsAck : Format → List ℕ → Type 0
+abbrev pub IsAck : Format → Bytes → Type 0
 IsAck format line = IsSome (ack_id format (reply_form line))
 
 -- some bytes of the pack, or of progress
@@ -20,9 +21,9 @@ IsDataOrProgress (Ok (Progress bytes)) = Unit {0}
 IsDataOrProgress _ = ⊥
 
 -- `acknowledgments`, and the acknowledged ids
-pub record IsAckSection (format : Format) (packets : List Packet) (ids : List (List ℕ)) : Type 0 where
-  pub heading : List ℕ
-  pub acks : List (List ℕ)
+pub record IsAckSection (format : Format) (packets : List Packet) (ids : List Id) : Type 0 where
+  pub heading : Bytes
+  pub acks : List Bytes
   pub parts : packets ≡ Data heading ∷ map Data acks
   pub is_heading : text heading ≡ codes "acknowledgments"
   pub are_acks : All (IsAck format) (map text acks)
@@ -30,9 +31,9 @@ pub record IsAckSection (format : Format) (packets : List Packet) (ids : List (L
   pub are : ids ≡ acks_of format (map text acks)
 
 -- `packfile`, side-band packets and a flush
-pub record IsPackSection (limit : ℕ) (packets : List Packet) (pack : List ℕ) : Type 0 where
-  pub heading : List ℕ
-  pub payloads : List (List ℕ)
+pub record IsPackSection (limit : ℕ) (packets : List Packet) (pack : Bytes) : Type 0 where
+  pub heading : Bytes
+  pub payloads : List Bytes
   pub parts : packets ≡ Data heading ∷ (map Data payloads ++ Flush ∷ [])
   pub is_heading : text heading ≡ codes "packfile"
   pub are_bands : All (λ payload. IsDataOrProgress (band_form payload)) payloads
@@ -43,22 +44,22 @@ pub record IsPackSection (limit : ℕ) (packets : List Packet) (pack : List ℕ)
 -- nothing is common
 pub record IsNakReply (format : Format) (packets : List Packet) : Type 0 where
   pub section : List Packet
-  pub nak : List ℕ
+  pub nak : Bytes
   pub acks : IsAckSection format section []
   pub is_nak : text nak ≡ codes "NAK"
   pub parts : packets ≡ section ++ Data nak ∷ Flush ∷ []
 
 -- some ids are common, and it is not enough
-pub record IsAckReply (format : Format) (packets : List Packet) (ids : List (List ℕ)) : Type 0 where
+pub record IsAckReply (format : Format) (packets : List Packet) (ids : List Id) : Type 0 where
   pub section : List Packet
   pub acks : IsAckSection format section ids
   pub parts : packets ≡ section ++ Flush ∷ []
 
 -- enough is common, and the pack follows
-pub record IsReadyReply (format : Format) (limit : ℕ) (packets : List Packet) (ids : List (List ℕ))
-    (pack : List ℕ) : Type 0 where
+pub record IsReadyReply (format : Format) (limit : ℕ) (packets : List Packet) (ids : List Id)
+    (pack : Bytes) : Type 0 where
   pub section : List Packet
-  pub readiness : List ℕ
+  pub readiness : Bytes
   pub rest : List Packet
   pub acks : IsAckSection format section ids
   pub is_readiness : text readiness ≡ codes "ready"

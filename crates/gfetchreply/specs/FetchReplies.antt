@@ -11,10 +11,10 @@ use Rattle.std.specs.Prelude.{◌≡◌, ℕ, zero, suc, ◌+◌, Bool, true, fa
 use Rattle.std.specs.Prelude.{if◌then◌else◌, codes, nat_le, nat_lt, Option, Some, None, is_some, Result, Ok, Err}
 use Rattle.std.specs.List.{filter_map, flat_map, list_any}
 use Rattle.std.specs.Str.{bytes_eq}
-use Rattle.gpkt.specs.Packets.{Packet, Data, Flush, Delim, ResponseEnd, text}
+use Rattle.gpkt.specs.Packets.{Bytes, Packet, Data, Flush, Delim, ResponseEnd, text}
 use Rattle.gpkt.specs.Bands.{BandPacket, band_form, band_payload, max_band, Data as BandData, Progress, Fatal}
 use Rattle.gpkt.specs.declared.fault.BandFault.{BandFault}
-use Rattle.gname.specs.Ids.{id_text}
+use Rattle.gname.specs.Ids.{Id, id_text}
 use Rattle.gname.specs.declared.formats.Format.{Format}
 use Rattle.ggrammar.specs.Grammar.{Verdict, Open, Refused, IsWhole, if_room}
 use Rattle.ggrammar.specs.Endings.{ends_with, at_flush, after_flush}
@@ -28,9 +28,9 @@ use Rattle.ggrammar.specs.declared.fault.Why.TheVariants as why
 
 -- what the reply says
 pub data FetchReply : Type 0 where
-  Acks : (ids : List (List ℕ)) → FetchReply
-  Ready : (ids : List (List ℕ)) (pack : List ℕ) → FetchReply
-  Pack : (pack : List ℕ) → FetchReply
+  Acks : (ids : List Id) → FetchReply
+  Ready : (ids : List Id) (pack : Bytes) → FetchReply
+  Pack : (pack : Bytes) → FetchReply
 
 -- how a reply is read: whether the pack comes at once, the most bytes of a pack, how a reply ends, and the format
 pub record Reading : Type 0 where
@@ -47,15 +47,15 @@ max_acks = 4096
 
 pub data ReplyForm : Type 0 where
   Acknowledgments Nak Readiness Packfile : ReplyForm
-  Ack : (id : List ℕ) → ReplyForm
+  Ack : (id : Bytes) → ReplyForm
   OtherForm : ReplyForm
 
-abbrev pub ack_or_other : Option (List ℕ) → ReplyForm
+abbrev pub ack_or_other : Option Bytes → ReplyForm
 ack_or_other None = OtherForm
 ack_or_other (Some id) = Ack id
 
 -- `ACK ` has that form whatever follows
-unfoldable pub reply_form : List ℕ → ReplyForm
+unfoldable pub reply_form : Bytes → ReplyForm
 reply_form line =
     if bytes_eq line (codes "acknowledgments") then Acknowledgments
     else if bytes_eq line (codes "NAK") then Nak
@@ -111,45 +111,45 @@ place_of direct packets = place_after next_place (first_place direct) packets
 -- ---- what the packets so far say
 
 -- acknowledged ids, bytes of the pack and its packets, by where a packet stands
-abbrev pub ack_id : Format → ReplyForm → Option (List ℕ)
+abbrev pub ack_id : Format → ReplyForm → Option Id
 ack_id format (Ack id) = id_of_text format id
 ack_id format _ = None
 
-abbrev pub texts_there : Place → Packet → List (List ℕ)
+abbrev pub texts_there : Place → Packet → List Bytes
 texts_there Acking (Data payload) = text payload ∷ []
 texts_there place packet = []
 
-abbrev pub bands_there : Place → Packet → List (List ℕ)
+abbrev pub bands_there : Place → Packet → List Bytes
 bands_there InPack (Data payload) = payload ∷ []
 bands_there place packet = []
 
 -- the texts of the acknowledgments, without the heading
-unfoldable pub ack_texts : Bool → List Packet → List (List ℕ)
+unfoldable pub ack_texts : Bool → List Packet → List Bytes
 ack_texts direct packets = collected next_place texts_there (first_place direct) packets
 
 -- the payloads of the pack's section, without the heading
-unfoldable pub band_payloads : Bool → List Packet → List (List ℕ)
+unfoldable pub band_payloads : Bool → List Packet → List Bytes
 band_payloads direct packets = collected next_place bands_there (first_place direct) packets
 
-abbrev pub acks_of : Format → List (List ℕ) → List (List ℕ)
+abbrev pub acks_of : Format → List Bytes → List Id
 acks_of format texts = filter_map (λ line. ack_id format (reply_form line)) texts
 
-abbrev pub data_in : Result BandPacket BandFault → List ℕ
+abbrev pub data_in : Result BandPacket BandFault → Bytes
 data_in (Ok (BandData bytes)) = bytes
 data_in _ = []
 
 -- the data of band 1, in order
-abbrev pub data_of : List (List ℕ) → List ℕ
+abbrev pub data_of : List Bytes → Bytes
 data_of payloads = flat_map (λ payload. data_in (band_form payload)) payloads
 
 abbrev pub is_readiness : ReplyForm → Bool
 is_readiness Readiness = true
 is_readiness _ = false
 
-abbrev pub is_ready : List (List ℕ) → Bool
+abbrev pub is_ready : List Bytes → Bool
 is_ready texts = list_any (λ line. is_readiness (reply_form line)) texts
 
-abbrev pub reply_by : Reading → List (List ℕ) → List (List ℕ) → FetchReply
+abbrev pub reply_by : Reading → List Bytes → List Bytes → FetchReply
 reply_by reading texts payloads =
     if reading.direct then Pack (data_of payloads)
     else if is_ready texts then Ready (acks_of reading.format texts) (data_of payloads)
@@ -179,7 +179,7 @@ state_of reading packets = record {
 abbrev pub max_packets : ℕ
 max_packets = 4294967295
 
-abbrev pub judge_ack : Format → State → List ℕ → Verdict
+abbrev pub judge_ack : Format → State → Bytes → Verdict
 judge_ack format state id =
     if is_some (id_of_text format id) then if_room (nat_lt state.ack_count max_acks) else Refused why.BadId
 
@@ -213,7 +213,7 @@ judge_band limit state (Ok (BandData bytes)) =
     if_room (nat_lt state.band_count max_packets && nat_le (state.byte_count + length bytes) limit)
 judge_band limit state (Ok (Progress bytes)) = if_room (nat_lt state.band_count max_packets)
 
-abbrev pub judge_payload : Reading → Place → State → List ℕ → Verdict
+abbrev pub judge_payload : Reading → Place → State → Bytes → Verdict
 judge_payload reading Start state payload = judge_start (reply_form (text payload))
 judge_payload reading Acking state payload = judge_acking reading.format state (reply_form (text payload))
 judge_payload reading AfterNak state payload = judge_late (reply_form (text payload))
@@ -258,7 +258,7 @@ abbrev pub band_brings : Bool → Result BandPacket BandFault → Bool
 band_brings refuses (Ok (BandData bytes)) = refuses && nat_lt 0 (length bytes)
 band_brings refuses _ = false
 
-abbrev pub payload_brings : Bool → Place → List ℕ → Bool
+abbrev pub payload_brings : Bool → Place → Bytes → Bool
 payload_brings refuses Acking payload = form_brings (reply_form (text payload))
 payload_brings refuses InPack payload = band_brings refuses (band_form payload)
 payload_brings refuses _ payload = false
@@ -279,7 +279,7 @@ pub record Says (reading : Reading) (packets : List Packet) (reply : FetchReply)
 
 -- ---- what is written
 
-abbrev pub ack_packet : List ℕ → Packet
+abbrev pub ack_packet : Id → Packet
 ack_packet id = text_packet (codes "ACK " ++ id_text id)
 
 abbrev pub nak_if_none : List Packet → List Packet
@@ -287,21 +287,21 @@ nak_if_none [] = text_packet (codes "NAK") ∷ []
 nak_if_none (first ∷ acks) = first ∷ acks
 
 -- the pack in pieces of the largest size, the last one shorter or equal: so many at most
-abbrev pub pieces_within : ℕ → List ℕ → List (List ℕ)
+abbrev pub pieces_within : ℕ → Bytes → List Bytes
 pieces_within zero pack = []
 pieces_within (suc most) [] = []
 pieces_within (suc most) (byte ∷ rest) =
     take max_band (byte ∷ rest) ∷ pieces_within most (drop max_band (byte ∷ rest))
 
 -- all of them, which are no more than the bytes; none of an empty pack
-unfoldable pub pieces : List ℕ → List (List ℕ)
+unfoldable pub pieces : Bytes → List Bytes
 pieces pack = pieces_within (length pack) pack
 
-abbrev pub data_packet : List ℕ → Packet
+abbrev pub data_packet : Bytes → Packet
 data_packet bytes = Data (band_payload (BandData bytes))
 
 -- `packfile`, the pack on band 1, and a flush
-abbrev pub pack_section : List ℕ → List Packet
+abbrev pub pack_section : Bytes → List Packet
 pack_section pack = text_packet (codes "packfile") ∷ (map data_packet (pieces pack) ++ Flush ∷ [])
 
 abbrev pub heading_packet : Packet

@@ -1,6 +1,6 @@
 -- What the laws of replies to fetch speak of.
 use Rattle.std.specs.Prelude.{◌≡◌, ℕ, ◌≤◌, Bool, List, [], ◌++◌, length, Result, Ok, IfErr}
-use Rattle.gpkt.specs.Packets.{Packet, canonical_all}
+use Rattle.gpkt.specs.Packets.{Bytes, Packet, canonical_all}
 use Rattle.ggrammar.specs.Grammar.{IsOpen, IsWhole}
 use Rattle.ggrammar.specs.Kinds.{SaysAtFront}
 use Rattle.ggrammar.specs.MessageBytes.{known, IsFront, IsOfBytes}
@@ -40,26 +40,26 @@ IsInAnyLimit =
 -- where it is refused within another limit, for a reason in the bytes, the reason is the limit
 abbrev pub IsRefusedOverLimit : Type 0
 IsRefusedOverLimit =
-    (reading : Reading) (limit : ℕ) (packets front : List Packet) (reply : FetchReply) (bytes new rest : List ℕ)
+    (reading : Reading) (limit : ℕ) (packets front : List Packet) (reply : FetchReply) (bytes new rest : Bytes)
     (fault : MessageFault) → Says (record reading { limit = limit }) packets reply → IsFront packets bytes rest
     → ReadsRefused (judge reading) (brings reading) front (known bytes new) fault → IsOfBytes fault.why
     → fault.why ≡ Limit
 
 -- ---- reading into a sink
 
-module _ {S : Type 0} (taken : S → List ℕ → Type 0) where
+module _ {S : Type 0} (taken : S → Bytes → Type 0) where
   -- the reply is answered, nothing after it is taken, and the sink has its pack
-  pub record HasReadInto (rest new : List ℕ) (old sink : S) (result : Result FetchHead MessageFault)
+  pub record HasReadInto (rest new : Bytes) (old sink : S) (result : Result FetchHead MessageFault)
       (reply : FetchReply) : Type 0 where
     pub head : result ≡ Ok (head_of reply)
     pub left : new ≡ rest
-    pub pack : (before : List ℕ) → taken old before → taken sink (before ++ pack_of reply)
+    pub pack : (before : Bytes) → taken old before → taken sink (before ++ pack_of reply)
 
   -- A reply is read where a front of the bytes spells packets that say it. Memory that is refused, a device that fails
   -- and a reader that had failed are apart.
   abbrev pub ReadsIntoWhereSaid : Bool → Reading → Type 0
   ReadsIntoWhereSaid refuses reading =
-      (bytes new rest : List ℕ) (old sink : S) (result : Result FetchHead MessageFault) (reply : FetchReply)
+      (bytes new rest : Bytes) (old sink : S) (result : Result FetchHead MessageFault) (reply : FetchReply)
       → ReadsReply taken refuses reading (known bytes new) (taken old) sink result
       → IfErr result (λ fault. IsOfBytes fault.why) → SaysAtFront (Says reading) bytes rest reply
       → HasReadInto rest new old sink result reply
@@ -67,7 +67,7 @@ module _ {S : Type 0} (taken : S → List ℕ → Type 0) where
   -- and only there
   abbrev pub ReadsIntoOnlySaid : Reading → Type 0
   ReadsIntoOnlySaid reading =
-      (bytes new : List ℕ) (old sink : S) (head : FetchHead)
+      (bytes new : Bytes) (old sink : S) (head : FetchHead)
       → TakesReply taken reading (known bytes new) (taken old) sink head
       → (reply : FetchReply) × SaysAtFront (Says reading) bytes new reply
       × HasReadInto new new old sink (Ok head) reply
@@ -75,7 +75,7 @@ module _ {S : Type 0} (taken : S → List ℕ → Type 0) where
   -- what is written of a reply reads back, whatever follows
   abbrev pub ReadsBackInto : Bool → Reading → Type 0
   ReadsBackInto refuses reading =
-      (rest new : List ℕ) (old sink : S) (result : Result FetchHead MessageFault) (reply : FetchReply)
+      (rest new : Bytes) (old sink : S) (result : Result FetchHead MessageFault) (reply : FetchReply)
       → IsReplyIn reading reply
       → ReadsReply taken refuses reading (known (canonical_all (canonical_reply reading.ends reply) ++ rest) new)
       (taken old) sink result → IfErr result (λ fault. IsOfBytes fault.why) → HasReadInto rest new old sink result reply

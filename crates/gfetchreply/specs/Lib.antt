@@ -6,7 +6,7 @@ pub mod Values
 pub mod WellFormed
 pub mod Laws
 pub mod Views
-pub mod ReplyState
 pub mod ReplyReading
+pub mod steps
 pub use Rattle.ggrammar.specs.Grammar
 pub use Rattle.ggrammar.specs.MessageReading

@@ -1,32 +1,32 @@
 -- What reading a reply to fetch answers, and what it leaves in the sink.
-use Rattle.std.specs.Prelude.{◌≡◌, ℕ, ◌≤◌, Bool, List, ◌++◌, length, Result, Ok, Err}
+use Rattle.std.specs.Prelude.{◌≡◌, ◌≤◌, Bool, List, ◌++◌, length, Result, Ok, Err}
 use Rattle.gpkt.specs.Change.{Change}
-use Rattle.gpkt.specs.Packets.{Packet}
+use Rattle.gpkt.specs.Packets.{Bytes, Packet}
 use Rattle.ggrammar.specs.Kinds.{ReadsMessage}
 use Rattle.ggrammar.specs.MessageReading.{ReadsRefused}
 use Rattle.ggrammar.specs.declared.fault.MessageFault.{MessageFault}
 use Rattle.gfetchreply.specs.FetchReplies.{Reading, FetchReply, Says, band_payloads, brings_into, data_of, judge}
 use Rattle.gfetchreply.specs.FetchHeads.{FetchHead, head_of, pack_of}
 
-module _ {S : Type 0} (taken : S → List ℕ → Type 0) where
+module _ {S : Type 0} (taken : S → Bytes → Type 0) where
   -- a complete reply is read; the head is that of what it says, and the sink has taken its pack after what it had
-  pub record TakesReply (reading : Reading) (bytes : Change) (had : List ℕ → Type 0) (sink : S) (head : FetchHead)
+  pub record TakesReply (reading : Reading) (bytes : Change) (had : Bytes → Type 0) (sink : S) (head : FetchHead)
       : Type 0 where
     pub reply : FetchReply
     pub read : ReadsMessage (judge reading) (Says reading) bytes reply
     pub is_head : head ≡ head_of reply
     pub short : length (pack_of reply) ≤ reading.limit
-    pub pack : (before : List ℕ) → had before → taken sink (before ++ pack_of reply)
+    pub pack : (before : Bytes) → had before → taken sink (before ++ pack_of reply)
 
   -- It is refused after these packets, and the sink has taken their data, which is within the limit. Out of memory
   -- comes only at an acknowledgment and, where the sink may refuse a piece, at some data of the pack.
-  pub record RefusesReply (refuses : Bool) (reading : Reading) (bytes : Change) (had : List ℕ → Type 0) (sink : S)
+  pub record RefusesReply (refuses : Bool) (reading : Reading) (bytes : Change) (had : Bytes → Type 0) (sink : S)
       (fault : MessageFault) : Type 0 where
     pub packets : List Packet
     pub refused : ReadsRefused (judge reading) (brings_into refuses reading) packets bytes fault
     pub short : length (data_of (band_payloads reading.direct packets)) ≤ reading.limit
-    pub pack : (before : List ℕ) → had before → taken sink (before ++ data_of (band_payloads reading.direct packets))
+    pub pack : (before : Bytes) → had before → taken sink (before ++ data_of (band_payloads reading.direct packets))
 
-  abbrev pub ReadsReply : Bool → Reading → Change → (List ℕ → Type 0) → S → Result FetchHead MessageFault → Type 0
+  abbrev pub ReadsReply : Bool → Reading → Change → (Bytes → Type 0) → S → Result FetchHead MessageFault → Type 0
   ReadsReply refuses reading bytes had sink (Ok head) = TakesReply reading bytes had sink head
   ReadsReply refuses reading bytes had sink (Err fault) = RefusesReply refuses reading bytes had sink fault

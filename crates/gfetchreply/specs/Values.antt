@@ -5,6 +5,8 @@ use Rattle.std.specs.List.{list_all}
 use Rattle.gname.specs.Formats.{id_length}
 use Rattle.gname.specs.Limits.{max_pack}
 use Rattle.gname.specs.declared.formats.Format.{Format}
+use Rattle.gname.specs.Ids.{Id}
+use Rattle.gpkt.specs.Packets.{Bytes}
 use Rattle.ggrammar.specs.declared.fault.Why.{Why}
 use Rattle.ggrammar.specs.declared.fault.Why.TheVariants as why
 use Rattle.ggrammar.specs.declared.fault.MessageFault.{MessageFault}
@@ -17,36 +19,29 @@ default_limit = 16777216
 -- acknowledged ids of a format
 pub record Acks : Type 0 where
   pub format : Format
-  pub ids : List (List ℕ)
+  pub ids : List Id
 
-abbrev pub with_id : Acks → List ℕ → Acks
+abbrev pub with_id : Acks → Id → Acks
 with_id acks id = record acks { ids = acks.ids ++ id ∷ [] }
 
 -- an id has the format
-abbrev pub has_format : Format → List ℕ → Bool
+abbrev pub has_format : Format → Id → Bool
 has_format format id = length id == id_length format
 
 -- why ids are not acknowledged together: one has another format; else they are too many
-abbrev pub acks_fault : Format → List (List ℕ) → Option Why
+abbrev pub acks_fault : Format → List Id → Option Why
 acks_fault format ids =
     if list_all (has_format format) ids then if nat_le (length ids) max_acks then None else Some why.Limit
     else Some why.BadText
 
 -- ids are acknowledged together; or not, for that reason
-abbrev pub MakesAcks : Format → List (List ℕ) → Result Acks MessageFault → Type 0
+abbrev pub MakesAcks : Format → List Id → Result Acks MessageFault → Type 0
 MakesAcks format ids (Ok acks) =
     (acks_fault format ids ≡ None) × (acks ≡ record { format = format; ids = ids })
 MakesAcks format ids (Err fault) = (fault.frame ≡ 0) × (acks_fault format ids ≡ Some fault.why)
 
--- an id of the format is added at the end, where there is room for it and memory
-abbrev pub AddsId : Acks → Acks → List ℕ → Result Unit Why → Type 0
-AddsId old new id (Ok _) = (length old.ids < max_acks) × (new ≡ with_id old id)
-AddsId old new id (Err why.Limit) = (max_acks ≤ length old.ids) × (new ≡ old)
-AddsId old new id (Err why.Memory) = (length old.ids < max_acks) × (new ≡ old)
-AddsId old new id (Err _) = ⊥
-
 -- some bytes are a pack where they are not too many
-abbrev pub MakesPack : List ℕ → Result (List ℕ) MessageFault → Type 0
+abbrev pub MakesPack : Bytes → Result Bytes MessageFault → Type 0
 MakesPack bytes (Ok pack) = (length bytes ≤ max_pack) × (pack ≡ bytes)
 MakesPack bytes (Err fault) =
     (max_pack < length bytes) × (fault.frame ≡ 0) × (fault.why ≡ why.Limit)

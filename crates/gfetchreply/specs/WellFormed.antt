@@ -1,10 +1,10 @@
 -- The replies to fetch that can be written.
-use Rattle.std.specs.Prelude.{◌≡◌, ℕ, ◌≤◌, true, false, List, length, All}
-use Rattle.gname.specs.Ids.{IsIdOf}
+use Rattle.std.specs.Prelude.{◌≡◌, ◌≤◌, true, false, List, length, All}
+use Rattle.gname.specs.Ids.{Id, IsIdOf}
 use Rattle.gname.specs.declared.formats.Format.{Format}
 use Rattle.gfetchreply.specs.FetchReplies.{FetchReply, Acks, Ready, Pack, Reading, max_acks}
 
-pub record AreAcks (format : Format) (acked : List (List ℕ)) : Type 0 where
+pub record AreAcks (format : Format) (acked : List Id) : Type 0 where
   pub ids : All (IsIdOf format) acked
   pub few : length acked ≤ max_acks
 

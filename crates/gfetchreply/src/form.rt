@@ -2,7 +2,7 @@
 
 ghost use Rattle.std.specs.Prelude.{◌≡◌, codes};
 ghost use Rattle.gfetchreply.specs.FetchReplies.{ack_or_other, reply_form};
-ghost use Rattle.gfetchreply.specs.Views.{form_in};
+ghost use Rattle.gfetchreply.specs.steps.Views.{form_in};
 ghost use Rattle.ggrammar.specs.PeerErrors.{after_word};
 
 use ggrammar::after_word;

@@ -88,7 +88,8 @@ pub fn every_input()
 /// What is written of a reply says it, and each payload fits a packet. The limit within which it is read is one
 /// that a [`PackLimit`](crate::PackLimit) can have.
 pub fn canonical_says()
-    ensures { (reading : Reading) → reading.limit ≤ max_pack → CanonicalSays (Says reading) (IsReplyIn reading) (IsCanonical reading.ends) }
+    ensures { (reading : Reading) → reading.limit ≤ max_pack
+        → CanonicalSays (Says reading) (IsReplyIn reading) (IsCanonical reading.ends) }
 {
     ids_have_one_format();
     ids_have_texts();
@@ -108,7 +109,8 @@ pub fn reads_exactly()
 /// [`PackLimit`](crate::PackLimit) can have and its pack keeps.
 pub fn reads_back()
     ensures { (reading : Reading) → reading.limit ≤ max_pack
-        → ReadsBack (judge reading) (brings reading) (Says reading) (IsReplyIn reading) (IsCanonical reading.ends) }
+        → ReadsBack (judge reading) (brings reading) (Says reading) (IsReplyIn reading)
+        (IsCanonical reading.ends) }
 {
     one_meaning();
     canonical_says();
@@ -127,7 +129,8 @@ pub fn reads_into_exactly<T: PackSink>()
 
 /// What is written of a reply reads back into a sink, whatever follows it.
 pub fn reads_back_into<T: PackSink>()
-    ensures { (reading : Reading) → reading.limit ≤ max_pack → ReadsBackInto T.taken T.refuses reading }
+    ensures { (reading : Reading) → reading.limit ≤ max_pack
+        → ReadsBackInto T.taken T.refuses reading }
 {
     one_meaning();
     canonical_says();

@@ -1,7 +1,7 @@
 //! Reading a reply to fetch.
 
 ghost use Rattle.std.specs.Prelude.{◌≡◌, ◌≤◌, ◌&&◌, ℕ, List, length, nat_lt, IfOk, OnOk, Ok};
-ghost use Rattle.gpkt.specs.Packets.{Data, packet_of};
+ghost use Rattle.gpkt.specs.Packets.{Bytes, Data, packet_of};
 ghost use Rattle.gpkt.specs.Bands.{Data as BandData, band_form};
 ghost use Rattle.ggrammar.specs.PeerErrors.{peer_error, unless_error};
 ghost use Rattle.gpkt.specs.Change.{change_of};
@@ -10,9 +10,10 @@ ghost use Rattle.ggrammar.specs.Kinds.{ReadsOrRefuses};
 ghost use Rattle.ggrammar.specs.MessageReading.{LeavesReader};
 ghost use Rattle.gfetchreply.specs.FetchReplies.{Says, band_brings, brings, data_in, judge, judge_at, judge_band, judge_payload, payload_brings};
 ghost use Rattle.gfetchreply.specs.FetchHeads.{pack_of};
-ghost use Rattle.gfetchreply.specs.ReplyState.{TakesBoth, brings_there, data_there, first_kept, kept_in, place_in, state_in, with_band, with_packet, with_payload};
+ghost use Rattle.gfetchreply.specs.steps.ReplyState.{TakesBoth, brings_there, data_there, first_kept, kept_in, place_in, state_in, with_band, with_packet, with_payload};
 ghost use Rattle.gfetchreply.specs.ReplyReading.{ReadsReply};
-ghost use Rattle.gfetchreply.specs.Views.{IsHeadOf, IsReplyOf, head_after, head_result, reading_in, reading_with, reply_in, reply_result, sha1_reading};
+ghost use Rattle.gfetchreply.specs.Views.{IsHeadOf, IsReplyOf, head_result, reading_in, reply_in, reply_result, sha1_reading};
+ghost use Rattle.gfetchreply.specs.steps.Views.{head_after, reading_with};
 
 use crate::form::reply_form;
 use crate::limit::PackLimit;
@@ -52,7 +53,7 @@ trait Lent<T> {
 }
 
 impl<T> Lent<T> for Brand {
-    ghost use Rattle.gfetchreply.specs.Views.{no_reading};
+    ghost use Rattle.gfetchreply.specs.steps.Views.{no_reading};
 
     ghost asked = { no_reading };
 
@@ -92,10 +93,14 @@ impl<'s, T: PackSink, A: Allocator + Copy, L: Lent<T>> ReplyReader<'s, T, A, L> 
         ensures reading { self.new.reading ≡ self.old.reading }
         ensures in_place { self.new.sink.ghost_name ≡ self.old.sink.ghost_name }
         ensures same { T.same self.old.sink.now self.new.sink.now }
-        ensures takes { TakesBoth T.taken (judge_at (reading_with self.old.reading self.old.sections) (state_in self.old.sections) (packet_of line.entry))
+        ensures takes { TakesBoth T.taken (judge_at
+            (reading_with self.old.reading self.old.sections) (state_in self.old.sections)
+            (packet_of line.entry))
             (brings_there T.refuses (place_in self.old.sections.place) (packet_of line.entry))
-            (with_packet (kept_in self.old.sections) (packet_of line.entry)) (kept_in self.new.sections)
-            (data_there (place_in self.old.sections.place) (packet_of line.entry)) self.old.sink.now self.new.sink.now result }
+            (with_packet (kept_in self.old.sections) (packet_of line.entry))
+            (kept_in self.new.sections)
+            (data_there (place_in self.old.sections.place) (packet_of line.entry))
+            self.old.sink.now self.new.sink.now result }
     {
         T::laws();
         match line {
@@ -111,10 +116,14 @@ impl<'s, T: PackSink, A: Allocator + Copy, L: Lent<T>> ReplyReader<'s, T, A, L> 
         ensures in_place { self.new.sink.ghost_name ≡ self.old.sink.ghost_name }
         ensures same { T.same self.old.sink.now self.new.sink.now }
         ensures takes { TakesBoth T.taken
-            (unless_error (peer_error payload.now) (judge_payload (reading_with self.old.reading self.old.sections) (place_in self.old.sections.place) (state_in self.old.sections) payload.now))
+            (unless_error (peer_error payload.now)
+            (judge_payload (reading_with self.old.reading self.old.sections)
+            (place_in self.old.sections.place) (state_in self.old.sections) payload.now))
             (payload_brings T.refuses (place_in self.old.sections.place) payload.now)
-            (with_payload (place_in self.old.sections.place) (kept_in self.old.sections) payload.now) (kept_in self.new.sections)
-            (data_there (place_in self.old.sections.place) (Data payload.now)) self.old.sink.now self.new.sink.now result }
+            (with_payload (place_in self.old.sections.place) (kept_in self.old.sections)
+            payload.now) (kept_in self.new.sections)
+            (data_there (place_in self.old.sections.place) (Data payload.now)) self.old.sink.now
+            self.new.sink.now result }
     {
         T::laws();
         if let Some(said) = peer_error(payload) {
@@ -135,9 +144,11 @@ impl<'s, T: PackSink, A: Allocator + Copy, L: Lent<T>> ReplyReader<'s, T, A, L> 
         ensures reading { self.new.reading ≡ self.old.reading }
         ensures in_place { self.new.sink.ghost_name ≡ self.old.sink.ghost_name }
         ensures same { T.same self.old.sink.now self.new.sink.now }
-        ensures takes { TakesBoth T.taken (judge_band self.old.reading.limit (state_in self.old.sections) (band_form payload.now))
+        ensures takes { TakesBoth T.taken (judge_band self.old.reading.limit
+            (state_in self.old.sections) (band_form payload.now))
             (band_brings T.refuses (band_form payload.now))
-            (with_band (kept_in self.old.sections) (length (data_in (band_form payload.now)))) (kept_in self.new.sections)
+            (with_band (kept_in self.old.sections) (length (data_in (band_form payload.now))))
+            (kept_in self.new.sections)
             (data_in (band_form payload.now)) self.old.sink.now self.new.sink.now result }
     {
         T::laws();
@@ -153,7 +164,8 @@ impl<'s, T: PackSink, A: Allocator + Copy, L: Lent<T>> ReplyReader<'s, T, A, L> 
         ensures reading { self.new.reading ≡ self.old.reading }
         ensures in_place { self.new.sink.ghost_name ≡ self.old.sink.ghost_name }
         ensures same { T.same self.old.sink.now self.new.sink.now }
-        ensures takes { TakesBoth T.taken (judge_band self.old.reading.limit (state_in self.old.sections) (Ok (BandData bytes.now)))
+        ensures takes { TakesBoth T.taken (judge_band self.old.reading.limit
+            (state_in self.old.sections) (Ok (BandData bytes.now)))
             (T.refuses && nat_lt 0 (length bytes.now))
             (with_band (kept_in self.old.sections) (length bytes.now)) (kept_in self.new.sections)
             bytes.now self.old.sink.now self.new.sink.now result }
@@ -173,7 +185,7 @@ impl<'s, T: PackSink, A: Allocator + Copy, L: Lent<T>> ReplyReader<'s, T, A, L> 
 
 impl<T: PackSink, A: Allocator + Copy, L: Lent<T>> Message for ReplyReader<'_, T, A, L> {
     ghost use Rattle.gfetchreply.specs.FetchReplies.{brings_into, judge};
-    ghost use Rattle.gfetchreply.specs.ReplyState.{Holds, Leaves, kept_in};
+    ghost use Rattle.gfetchreply.specs.steps.ReplyState.{Holds, Leaves, kept_in};
     ghost use Rattle.gfetchreply.specs.Views.{reading_in};
 
     ghost judge = { λ reader. judge (reading_in reader.reading) };
@@ -205,7 +217,8 @@ pub fn read_fetch_reply_into<S: Source, T: PackSink, A: Allocator + Copy, B: All
     alloc: B,
 ) -> Result<FetchHead<B>, MessageFault>
     ensures read { ReadsReply T.taken T.refuses (sha1_reading direct limit ends)
-        (change_of S.remaining reader.old.source reader.new.source) (T.taken sink.old) sink.new (head_result result) }
+        (change_of S.remaining reader.old.source reader.new.source) (T.taken sink.old) sink.new
+        (head_result result) }
     ensures format { IfOk result (IsHeadOf Sha1) }
     ensures same { T.same sink.old sink.new }
     ensures loans { S.loans reader.new.source ≡ S.loans reader.old.source }
@@ -236,7 +249,8 @@ pub fn read_fetch_reply_into_in<S: Source, T: PackSink, A: Allocator + Copy, B: 
     sink: &mut T,
     alloc: B,
 ) -> Result<FetchHead<B>, MessageFault>
-    ensures read { ReadsReply T.taken T.refuses (reading_in reading) (change_of S.remaining reader.old.source reader.new.source)
+    ensures read { ReadsReply T.taken T.refuses (reading_in reading)
+        (change_of S.remaining reader.old.source reader.new.source)
         (T.taken sink.old) sink.new (head_result result) }
     ensures format { IfOk result (IsHeadOf reading.format) }
     ensures same { T.same sink.old sink.new }
@@ -268,7 +282,8 @@ pub fn read_fetch_reply<S: Source, A: Allocator + Copy, B: Allocator + Copy>(
     ends: Ends,
     alloc: B,
 ) -> Result<FetchReply<B>, MessageFault>
-    ensures read { ReadsOrRefuses (judge (sha1_reading direct limit ends)) (brings (sha1_reading direct limit ends)) (Says (sha1_reading direct limit ends))
+    ensures read { ReadsOrRefuses (judge (sha1_reading direct limit ends))
+        (brings (sha1_reading direct limit ends)) (Says (sha1_reading direct limit ends))
         (change_of S.remaining reader.old.source reader.new.source) (reply_result result) }
     ensures short { IfOk result (λ reply. length (pack_of (reply_in reply)) ≤ limit) }
     ensures format { IfOk result (IsReplyOf Sha1) }
@@ -291,7 +306,8 @@ pub fn read_fetch_reply_in<S: Source, A: Allocator + Copy, B: Allocator + Copy>(
     reading: FetchReading,
     alloc: B,
 ) -> Result<FetchReply<B>, MessageFault>
-    ensures read { ReadsOrRefuses (judge (reading_in reading)) (brings (reading_in reading)) (Says (reading_in reading))
+    ensures read { ReadsOrRefuses (judge (reading_in reading)) (brings (reading_in reading))
+        (Says (reading_in reading))
         (change_of S.remaining reader.old.source reader.new.source) (reply_result result) }
     ensures short { IfOk result (λ reply. length (pack_of (reply_in reply)) ≤ reading.limit) }
     ensures format { IfOk result (IsReplyOf reading.format) }
@@ -311,13 +327,15 @@ fn read_to_end<S: Source, T: PackSink, A: Allocator + Copy, B: Allocator + Copy,
     reader: &mut LineReader<S, A>,
     reply: &mut ReplyReader<'_, T, B, L>,
 ) -> Result<(), MessageFault>
-    requires kept { kept_in reply.old.sections ≡ first_kept reply.old.reading.format reply.old.reading.direct }
+    requires kept { kept_in reply.old.sections
+        ≡ first_kept reply.old.reading.format reply.old.reading.direct }
     requires asked { reading_in reply.old.reading ≡ L.asked }
     requires seat { reply.old.sink.ghost_name ≡ L.seat }
-    requires had { (before : List ℕ) → L.had before → T.taken reply.old.sink.now before }
+    requires had { (before : Bytes) → L.had before → T.taken reply.old.sink.now before }
     requires starts { (start : T) → L.starts start → T.same start reply.old.sink.now }
     ensures in_place { reply.new.sink.ghost_name ≡ reply.old.sink.ghost_name }
-    ensures read { ReadsReply T.taken T.refuses (reading_in reply.old.reading) (change_of S.remaining reader.old.source reader.new.source)
+    ensures read { ReadsReply T.taken T.refuses (reading_in reply.old.reading)
+        (change_of S.remaining reader.old.source reader.new.source)
         L.had reply.new.sink.now (head_after reply.old.reading.direct reply.new.sections result) }
     ensures format { OnOk result (reply.new.sections.acks.format ≡ reply.old.reading.format) }
     ensures same { (start : T) → L.starts start → T.same start reply.new.sink.now }

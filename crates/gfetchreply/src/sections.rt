@@ -6,9 +6,10 @@ ghost use Rattle.ggrammar.specs.Grammar.{Refused, if_room};
 ghost use Rattle.ggrammar.specs.Endings.{at_flush};
 ghost use Rattle.gfetchreply.specs.FetchReplies.{Reading, Acking, Start, BeforePack, Ack, Nak, judge_acking, judge_ack, judge_before_pack, judge_late, judge_start, judge_there, max_packets, form_brings};
 ghost use Rattle.ggrammar.specs.MessageReading.{TakesAs};
-ghost use Rattle.gfetchreply.specs.FetchHeads.{head_by};
-ghost use Rattle.gfetchreply.specs.ReplyState.{kept_in, first_kept, place_in, state_in, verdict_of, with_band, with_packet, with_text};
-ghost use Rattle.gfetchreply.specs.Views.{IsHeadOf, form_in, head_in};
+ghost use Rattle.gfetchreply.specs.steps.FetchHeads.{head_by};
+ghost use Rattle.gfetchreply.specs.steps.ReplyState.{kept_in, first_kept, place_in, state_in, verdict_of, with_band, with_packet, with_text};
+ghost use Rattle.gfetchreply.specs.Views.{IsHeadOf, head_in};
+ghost use Rattle.gfetchreply.specs.steps.Views.{form_in};
 
 use crate::form::ReplyForm;
 use crate::limit::PackLimit;
@@ -85,7 +86,8 @@ impl<A: Allocator + Copy> Sections<A> {
 
     /// Takes a text of the acknowledgments.
     pub(crate) fn take_acking(&mut self, form: ReplyForm<'_>) -> Result<Step, Why>
-        ensures { TakesAs (judge_acking self.old.acks.format (state_in self.old) (form_in form.entry)) (form_brings (form_in form.entry))
+        ensures { TakesAs (judge_acking self.old.acks.format (state_in self.old)
+            (form_in form.entry)) (form_brings (form_in form.entry))
             (kept_in self.new ≡ with_text Acking (kept_in self.old) (form_in form.entry)) result }
     {
         match form {
@@ -131,7 +133,8 @@ impl<A: Allocator + Copy> Sections<A> {
     /// Takes a text where the heading of the pack is due.
     pub(crate) fn take_before_pack(&mut self, form: ReplyForm<'_>) -> Result<Step, Why>
         ensures { TakesAs (judge_before_pack (form_in form.entry)) false
-            (kept_in self.new ≡ with_text BeforePack (kept_in self.old) (form_in form.entry)) result }
+            (kept_in self.new ≡ with_text BeforePack (kept_in self.old) (form_in form.entry))
+            result }
     {
         match form {
             ReplyForm::Packfile => {
@@ -145,8 +148,8 @@ impl<A: Allocator + Copy> Sections<A> {
 
     /// How many bytes the pack has with some more. `None` where there is no room for them in a packet more.
     pub(crate) fn with_room(&self, limit: PackLimit, more: usize) -> Option<usize>
-        ensures { result ≡ (if nat_lt self.now.band_count max_packets && nat_le (self.now.byte_count + more) limit
-            then Some (self.now.byte_count + more) else None) }
+        ensures { result ≡ (if nat_lt self.now.band_count max_packets && nat_le
+            (self.now.byte_count + more) limit then Some (self.now.byte_count + more) else None) }
     {
         match self.byte_count.checked_add(more) {
             Some(bytes) if self.band_count < MAX_PACKETS && bytes <= limit.bytes() => Some(bytes),
@@ -157,7 +160,12 @@ impl<A: Allocator + Copy> Sections<A> {
     /// Counts a packet of the pack's section, with which the pack has so many bytes.
     pub(crate) fn count(&mut self, bytes: usize)
         requires { self.old.band_count < max_packets }
-        ensures { kept_in self.new ≡ record (kept_in self.old) { band_count = self.old.band_count + 1; byte_count = bytes } }
+        ensures { kept_in self.new
+            ≡ record (kept_in self.old) {
+              band_count = self.old.band_count
+                  + 1;
+              byte_count = bytes;
+            } }
     {
         self.band_count += 1;
         self.byte_count = bytes;
@@ -178,8 +186,8 @@ impl<A: Allocator + Copy> Sections<A> {
     /// Takes a flush.
     pub(crate) fn take_flush(&mut self, ends: Ends) -> Result<Step, Why>
         ensures { (reading : Reading) → reading.ends ≡ ends
-            → TakesAs (judge_there reading (place_in self.old.place) (state_in self.old) Flush) false
-            (kept_in self.new ≡ with_packet (kept_in self.old) Flush) result }
+            → TakesAs (judge_there reading (place_in self.old.place) (state_in self.old) Flush)
+            false (kept_in self.new ≡ with_packet (kept_in self.old) Flush) result }
     {
         match self.place {
             Place::Acking | Place::AfterNak | Place::InPack => {
@@ -193,8 +201,9 @@ impl<A: Allocator + Copy> Sections<A> {
 
     /// Takes a delimiter.
     pub(crate) fn take_delim(&mut self) -> Result<Step, Why>
-        ensures { (reading : Reading) → TakesAs (judge_there reading (place_in self.old.place) (state_in self.old) Delim) false
-            (kept_in self.new ≡ with_packet (kept_in self.old) Delim) result }
+        ensures { (reading : Reading)
+            → TakesAs (judge_there reading (place_in self.old.place) (state_in self.old) Delim)
+            false (kept_in self.new ≡ with_packet (kept_in self.old) Delim) result }
     {
         match self.place {
             Place::AfterReady => {
@@ -208,7 +217,9 @@ impl<A: Allocator + Copy> Sections<A> {
 
     /// Takes a response-end.
     pub(crate) fn take_response_end(&self) -> Result<Step, Why>
-        ensures { (reading : Reading) → TakesAs (judge_there reading (place_in self.now.place) (state_in self.now) ResponseEnd) false
+        ensures { (reading : Reading)
+            → TakesAs (judge_there reading (place_in self.now.place) (state_in self.now)
+            ResponseEnd) false
             (kept_in self.now ≡ with_packet (kept_in self.now) ResponseEnd) result }
     {
         match self.place {

@@ -26,7 +26,8 @@ pub trait PackSink {
     /// Laws of the sink. Each sink is still itself, and stays so piece after piece.
     fn laws()
         ensures still { (sink : Self) → same sink sink }
-        ensures onward { (first : Self) (second : Self) (third : Self) → same first second → same second third → same first third };
+        ensures onward { (first : Self) (second : Self) (third : Self) → same first second
+            → same second third → same first third };
 }
 
 /// A vector takes a pack after the bytes that it has. It may refuse a piece, out of memory.

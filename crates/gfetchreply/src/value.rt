@@ -7,9 +7,11 @@ ghost use Rattle.gname.specs.Limits.{max_pack};
 ghost use Rattle.ggrammar.specs.Building.{Builds};
 ghost use Rattle.gfetchreply.specs.FetchReplies.{max_acks};
 ghost use Rattle.gfetchreply.specs.WellFormed.{AreAcks};
-ghost use Rattle.gfetchreply.specs.FetchHeads.{reply_with};
-ghost use Rattle.gfetchreply.specs.Views.{KeepsFormat, head_in, reply_in};
-ghost use Rattle.gfetchreply.specs.Values.{AddsId, MakesAcks, MakesPack, has_format, with_id};
+ghost use Rattle.gfetchreply.specs.steps.FetchHeads.{reply_with};
+ghost use Rattle.gfetchreply.specs.steps.Views.{KeepsFormat};
+ghost use Rattle.gfetchreply.specs.Views.{head_in, reply_in};
+ghost use Rattle.gfetchreply.specs.steps.Values.{AddsId};
+ghost use Rattle.gfetchreply.specs.Values.{MakesAcks, MakesPack, has_format, with_id};
 
 use ggrammar::{MessageFault, Why};
 use gname::{Format, MAX_PACK, Oid};

@@ -31,10 +31,12 @@ pub fn write_fetch_reply<A: Allocator + Copy, W: Sink>(
     ends: Ends,
     writer: &mut LineWriter<W>,
 ) -> Result<(), WriteFault>
-    ensures lines { WritesLines W.contents W.passed_on W.is_down W.loans writer.old writer.new result
-        (canonical_reply ends (reply_in reply.now)) }
-    ensures form { (reading : Reading) → IsReplyOf reading.format reply.now → reading.direct ≡ is_alone (reply_in reply.now)
-        → length (pack_of (reply_in reply.now)) ≤ reading.limit → IsReplyIn reading (reply_in reply.now) }
+    ensures lines { WritesLines W.contents W.passed_on W.is_down W.loans writer.old writer.new
+        result (canonical_reply ends (reply_in reply.now)) }
+    ensures form { (reading : Reading) → IsReplyOf reading.format reply.now
+        → reading.direct ≡ is_alone (reply_in reply.now)
+        → length (pack_of (reply_in reply.now)) ≤ reading.limit
+        → IsReplyIn reading (reply_in reply.now) }
 {
     match reply {
         FetchReply::Acks(acks) => write_acks(acks.ids(), ends, writer),
@@ -50,7 +52,8 @@ fn write_acks<W: Sink>(
     writer: &mut LineWriter<W>,
 ) -> Result<(), WriteFault>
     ensures { WritesLines W.contents W.passed_on W.is_down W.loans writer.old writer.new result
-        ((heading_packet ∷ (nak_if_none (map ack_packet ids.now) ++ Flush ∷ [])) ++ ends_with ends) }
+        ((heading_packet ∷ (nak_if_none (map ack_packet ids.now) ++ Flush ∷ []))
+        ++ ends_with ends) }
 {
     writes_lines::<W>();
     writer.text(b"acknowledgments")?;
@@ -66,7 +69,8 @@ fn write_ready<W: Sink>(
     writer: &mut LineWriter<W>,
 ) -> Result<(), WriteFault>
     ensures { WritesLines W.contents W.passed_on W.is_down W.loans writer.old writer.new result
-        ((heading_packet ∷ (map ack_packet ids.now ++ ready_packet ∷ Delim ∷ pack_section pack.now)) ++ ends_with ends) }
+        ((heading_packet ∷ (map ack_packet ids.now
+        ++ ready_packet ∷ Delim ∷ pack_section pack.now)) ++ ends_with ends) }
 {
     writes_lines::<W>();
     writer.text(b"acknowledgments")?;
@@ -82,7 +86,8 @@ fn write_pack<W: Sink>(
     ends: Ends,
     writer: &mut LineWriter<W>,
 ) -> Result<(), WriteFault>
-    ensures { WritesLines W.contents W.passed_on W.is_down W.loans writer.old writer.new result (pack_section pack.now ++ ends_with ends) }
+    ensures { WritesLines W.contents W.passed_on W.is_down W.loans writer.old writer.new result
+        (pack_section pack.now ++ ends_with ends) }
 {
     writes_lines::<W>();
     writer.text(b"packfile")?;
@@ -92,7 +97,8 @@ fn write_pack<W: Sink>(
 
 // Writes the bytes of the pack on band 1, in pieces of the largest size.
 fn write_pieces<W: Sink>(pack: &[u8], writer: &mut LineWriter<W>) -> Result<(), WriteFault>
-    ensures { WritesPart W.contents W.passed_on W.is_down W.loans writer.old writer.new result (map data_packet (pieces pack.now)) }
+    ensures { WritesPart W.contents W.passed_on W.is_down W.loans writer.old writer.new result
+        (map data_packet (pieces pack.now)) }
 {
     writes_lines::<W>();
     for piece in in_pieces(pack) {
@@ -111,7 +117,8 @@ fn in_pieces(pack: &[u8]) -> Chunks<'_, u8>
 
 // Writes the acknowledged ids, or `NAK` where there are none.
 fn write_ids_or_nak<W: Sink>(ids: &[Oid], writer: &mut LineWriter<W>) -> Result<(), WriteFault>
-    ensures { WritesPart W.contents W.passed_on W.is_down W.loans writer.old writer.new result (nak_if_none (map ack_packet ids.now)) }
+    ensures { WritesPart W.contents W.passed_on W.is_down W.loans writer.old writer.new result
+        (nak_if_none (map ack_packet ids.now)) }
 {
     writes_lines::<W>();
     if ids.is_empty() {
@@ -123,7 +130,8 @@ fn write_ids_or_nak<W: Sink>(ids: &[Oid], writer: &mut LineWriter<W>) -> Result<
 
 // Writes the acknowledged ids.
 fn write_ids<W: Sink>(ids: &[Oid], writer: &mut LineWriter<W>) -> Result<(), WriteFault>
-    ensures { WritesPart W.contents W.passed_on W.is_down W.loans writer.old writer.new result (map ack_packet ids.now) }
+    ensures { WritesPart W.contents W.passed_on W.is_down W.loans writer.old writer.new result
+        (map ack_packet ids.now) }
 {
     writes_lines::<W>();
     for id in ids {
@@ -134,7 +142,8 @@ fn write_ids<W: Sink>(ids: &[Oid], writer: &mut LineWriter<W>) -> Result<(), Wri
 
 // Writes one acknowledged id.
 fn write_id<W: Sink>(id: &Oid, writer: &mut LineWriter<W>) -> Result<(), WriteFault>
-    ensures { WritesLines W.contents W.passed_on W.is_down W.loans writer.old writer.new result (ack_packet id.now ∷ []) }
+    ensures { WritesLines W.contents W.passed_on W.is_down W.loans writer.old writer.new result
+        (ack_packet id.now ∷ []) }
 {
     writes_lines::<W>();
     let mut digits = [0; MAX_ID_TEXT];
@@ -144,7 +153,8 @@ fn write_id<W: Sink>(id: &Oid, writer: &mut LineWriter<W>) -> Result<(), WriteFa
 
 // Writes the flush, and what follows it.
 fn write_end<W: Sink>(ends: Ends, writer: &mut LineWriter<W>) -> Result<(), WriteFault>
-    ensures { WritesLines W.contents W.passed_on W.is_down W.loans writer.old writer.new result (Flush ∷ ends_with ends) }
+    ensures { WritesLines W.contents W.passed_on W.is_down W.loans writer.old writer.new result
+        (Flush ∷ ends_with ends) }
 {
     writes_lines::<W>();
     match ends {

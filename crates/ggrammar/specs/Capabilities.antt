@@ -5,59 +5,60 @@
 --   value = 1*(ALPHA | DIGIT | " -_.,?\/{}[]()<>!@#$%^&*+=:;")
 --
 -- Keys and values have at most 1,000 bytes here, and a value any printable byte.
-use Rattle.std.specs.Prelude.{◌≡◌, ◌↔◌, ℕ, ◌+◌, Bool, ◌&&◌, ◌||◌, List, [], ◌++◌, length, drop, take, codes}
+use Rattle.std.specs.Prelude.{◌≡◌, ◌↔◌, ℕ, ◌+◌, Bool, ◌&&◌, ◌||◌, [], ◌++◌, length, drop, take, codes}
 use Rattle.std.specs.Prelude.{if◌then◌else◌, nat_eq, nat_le, Option, Some, None, position, IfSome, IsTrue}
 use Rattle.std.specs.List.{list_all}
 use Rattle.std.specs.Char.{is_ascii_alphanumeric}
+use Rattle.gpkt.specs.Packets.{Bytes}
 
 -- the most bytes of a key, and of a value
 abbrev pub max_capability : ℕ
 max_capability = 1000
 
-abbrev pub has_length : List ℕ → Bool
+abbrev pub has_length : Bytes → Bool
 has_length bytes = nat_le 1 (length bytes) && nat_le (length bytes) max_capability
 
 -- a letter, a digit, `-` or `_`
 abbrev pub is_key_byte : ℕ → Bool
 is_key_byte byte = is_ascii_alphanumeric byte || nat_eq byte 45 || nat_eq byte 95
 
-unfoldable pub is_key : List ℕ → Bool
+unfoldable pub is_key : Bytes → Bool
 is_key key = has_length key && list_all is_key_byte key
 
 -- from space to `~`
 abbrev pub is_printable : ℕ → Bool
 is_printable byte = nat_le 32 byte && nat_le byte 126
 
-unfoldable pub is_value : List ℕ → Bool
+unfoldable pub is_value : Bytes → Bool
 is_value value = has_length value && list_all is_printable value
 
 -- a value without a space
 abbrev pub is_graphic : ℕ → Bool
 is_graphic byte = nat_le 33 byte && nat_le byte 126
 
-unfoldable pub is_word_value : List ℕ → Bool
+unfoldable pub is_word_value : Bytes → Bool
 is_word_value value = has_length value && list_all is_graphic value
 
 pub record Capability : Type 0 where
-  pub key : List ℕ
-  pub value : Option (List ℕ)
+  pub key : Bytes
+  pub value : Option Bytes
 
 abbrev pub is_equals_sign : ℕ → Bool
 is_equals_sign byte = nat_eq byte 61
 
-abbrev pub key_alone : List ℕ → Option Capability
+abbrev pub key_alone : Bytes → Option Capability
 key_alone text = if is_key text then Some (record { key = text; value = None }) else None
 
-abbrev pub key_and_value : List ℕ → List ℕ → Option Capability
+abbrev pub key_and_value : Bytes → Bytes → Option Capability
 key_and_value key value =
     if is_key key && is_value value then Some (record { key = key; value = Some value }) else None
 
-abbrev pub capability_split : List ℕ → Option ℕ → Option Capability
+abbrev pub capability_split : Bytes → Option ℕ → Option Capability
 capability_split text None = key_alone text
 capability_split text (Some at) = key_and_value (take at text) (drop (at + 1) text)
 
 -- the capability that a text is: a key, or a key, the first `=` and a value
-unfoldable pub capability_of : List ℕ → Option Capability
+unfoldable pub capability_of : Bytes → Option Capability
 capability_of text = capability_split text (position is_equals_sign text)
 
 -- ---- in the manual's words
@@ -67,15 +68,15 @@ pub record IsWellFormed (capability : Capability) : Type 0 where
   pub key : IsTrue (is_key capability.key)
   pub value : IfSome capability.value (λ value. IsTrue (is_value value))
 
-abbrev pub value_text : Option (List ℕ) → List ℕ
+abbrev pub value_text : Option Bytes → Bytes
 value_text None = []
 value_text (Some value) = codes "=" ++ value
 
 -- the text of a capability
-abbrev pub capability_text : Capability → List ℕ
+abbrev pub capability_text : Capability → Bytes
 capability_text capability = capability.key ++ value_text capability.value
 
 -- a text is a capability exactly where it is that capability's text
 abbrev pub CapabilityIsItsText : Type 0
-CapabilityIsItsText = (text : List ℕ) (capability : Capability) → (capability_of text ≡ Some capability)
+CapabilityIsItsText = (text : Bytes) (capability : Capability) → (capability_of text ≡ Some capability)
     ↔ ((text ≡ capability_text capability) × IsWellFormed capability)

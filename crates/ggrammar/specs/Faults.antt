@@ -1,9 +1,10 @@
 -- The table of faults of messages: the number and the name of each, and what is reported to the peer; and what is kept
 -- of a peer's text.
-use Rattle.std.specs.Prelude.{ℕ, List, ◌++◌, codes, take}
+use Rattle.std.specs.Prelude.{ℕ, ◌++◌, codes, take}
 use Rattle.std.specs.Fmt.{decimal}
+use Rattle.gname.specs.Faults.{out_of_memory_text}
 use Rattle.gpkt.specs.Faults.{FaultRow, band_fault_row, line_fault_row}
-use Rattle.gpkt.specs.Packets.{text}
+use Rattle.gpkt.specs.Packets.{Bytes, text}
 use Rattle.gpkt.specs.declared.fault.LineFault.{LineFault}
 use Rattle.gpkt.specs.declared.fault.LineFault.TheVariants as line
 use Rattle.ggrammar.specs.declared.fault.MessageFault.{MessageFault}
@@ -15,27 +16,27 @@ abbrev pub max_peer_text : ℕ
 max_peer_text = 256
 
 -- the first 256 bytes of what the peer says, one line feed at its end left out before
-abbrev pub kept_text : List ℕ → List ℕ
+abbrev pub kept_text : Bytes → Bytes
 kept_text said = take max_peer_text (text said)
 
 -- a fault's number and name, and what is reported of it to the peer
 pub record WhyRow : Type 0 where
   pub code : ℕ
-  pub name : List ℕ
-  pub phrase : List ℕ
+  pub name : Bytes
+  pub phrase : Bytes
 
-abbrev pub row_of : FaultRow → List ℕ → WhyRow
+abbrev pub row_of : FaultRow → Bytes → WhyRow
 row_of row phrase = record { code = row.0; name = row.1; phrase = phrase }
 
 -- why no packet is read, in a peer's words
-abbrev pub line_phrase : LineFault → List ℕ
+abbrev pub line_phrase : LineFault → Bytes
 line_phrase line.BadDigits = codes "bad packet line"
 line_phrase line.Reserved = codes "bad packet line"
 line_phrase line.TooLong = codes "bad packet line"
 line_phrase line.Truncated = codes "unexpected end"
 line_phrase line.Io = codes "read failed"
 line_phrase line.Failed = codes "read failed"
-line_phrase line.Memory = codes "out of memory"
+line_phrase line.Memory = out_of_memory_text
 
 -- why a message is refused
 abbrev pub why_row : Why → WhyRow
@@ -53,9 +54,9 @@ why_row (why.RemoteErr said) = row_of (49, codes "RemoteErr") (codes "peer repor
 why_row (why.RemoteFatal said) = row_of (50, codes "RemoteFatal") (codes "refused")
 why_row why.WrongSection = row_of (51, codes "WrongSection") (codes "refused")
 why_row why.Format = row_of (52, codes "Format") (codes "object format mismatch")
-why_row why.Memory = row_of (53, codes "Memory") (codes "out of memory")
+why_row why.Memory = row_of (53, codes "Memory") out_of_memory_text
 why_row why.Ended = row_of (54, codes "Ended") (codes "unexpected end")
 
 -- the text of a fault of a message: the position of its packet, and why
-abbrev pub message_fault_text : MessageFault → List ℕ
+abbrev pub message_fault_text : MessageFault → Bytes
 message_fault_text fault = codes "packet " ++ decimal fault.frame ++ codes ": " ++ (why_row fault.why).phrase

@@ -1,7 +1,7 @@
 -- The laws of a kind of message: of its judge, of what complete lists of packets say, of which values can be written,
 -- and as which packets.
-use Rattle.std.specs.Prelude.{◌≡◌, ℕ, ◌↔◌, All, Bool, List, ◌++◌, Option, Some, None, Result, Ok, Err, IfErr}
-use Rattle.gpkt.specs.Packets.{Packet, canonical_all}
+use Rattle.std.specs.Prelude.{◌≡◌, ◌↔◌, All, Bool, List, ◌++◌, Option, Some, None, Result, Ok, Err, IfErr}
+use Rattle.gpkt.specs.Packets.{Bytes, Packet, canonical_all}
 use Rattle.gpkt.specs.Change.{Change}
 use Rattle.gpkt.specs.LineReading.{Reads}
 use Rattle.gpkt.specs.Laws.{Fits}
@@ -48,21 +48,21 @@ module _ {M : Type 0} where
       (front : List Packet) × ReadsRefused judge brings front change fault
 
   -- a front of the bytes, which is all but the rest, spells packets that say the message
-  abbrev pub SaysAtFront : Meaning M → List ℕ → List ℕ → M → Type 0
+  abbrev pub SaysAtFront : Meaning M → Bytes → Bytes → M → Type 0
   SaysAtFront Says bytes rest message = (lines : List Packet) × IsFront lines bytes rest × Says lines message
 
   -- A message is read exactly where a front of the bytes spells packets that say it: that front is taken, and
   -- nothing after it. Out of memory, a device that fails and a reader that had failed are apart.
   abbrev pub ReadsExactly : Judge → (List Packet → Packet → Bool) → Meaning M → Type 0
   ReadsExactly judge brings Says =
-      (bytes new rest : List ℕ) (result : Result M MessageFault) (message : M)
+      (bytes new rest : Bytes) (result : Result M MessageFault) (message : M)
       → ReadsOrRefuses judge brings Says (known bytes new) result → IfErr result (λ fault. IsOfBytes fault.why)
       → ((result ≡ Ok message) × (new ≡ rest)) ↔ SaysAtFront Says bytes rest message
 
   -- what is written of a value reads back, whatever follows
   abbrev pub ReadsBack : Judge → (List Packet → Packet → Bool) → Meaning M → (M → Type 0) → Meaning M → Type 0
   ReadsBack judge brings Says IsValue IsCanonical =
-      (lines : List Packet) (rest new : List ℕ) (result : Result M MessageFault) (message : M) → IsValue message
+      (lines : List Packet) (rest new : Bytes) (result : Result M MessageFault) (message : M) → IsValue message
       → IsCanonical lines message
       → ReadsOrRefuses judge brings Says (known (canonical_all lines ++ rest) new) result
       → IfErr result (λ fault. IsOfBytes fault.why) → (result ≡ Ok message) × (new ≡ rest)
@@ -80,14 +80,14 @@ module _ {M : Type 0} where
   -- it is read exactly where a front of the bytes spells packets that say it
   abbrev pub ReadsExactlyIfAny : Judge → (List Packet → Packet → Bool) → Meaning M → Type 0
   ReadsExactlyIfAny judge brings Says =
-      (bytes new rest : List ℕ) (result : Result (Option M) MessageFault) (message : M)
+      (bytes new rest : Bytes) (result : Result (Option M) MessageFault) (message : M)
       → ReadsIfAny judge brings Says (known bytes new) result → IfErr result (λ fault. IsOfBytes fault.why)
       → ((result ≡ Ok (Some message)) × (new ≡ rest)) ↔ SaysAtFront Says bytes rest message
 
   -- what is written of a value reads back, whatever follows
   abbrev pub ReadsBackIfAny : Judge → (List Packet → Packet → Bool) → Meaning M → (M → Type 0) → Meaning M → Type 0
   ReadsBackIfAny judge brings Says IsValue IsCanonical =
-      (lines : List Packet) (rest new : List ℕ) (result : Result (Option M) MessageFault) (message : M)
+      (lines : List Packet) (rest new : Bytes) (result : Result (Option M) MessageFault) (message : M)
       → IsValue message → IsCanonical lines message
       → ReadsIfAny judge brings Says (known (canonical_all lines ++ rest) new) result
       → IfErr result (λ fault. IsOfBytes fault.why) → (result ≡ Ok (Some message)) × (new ≡ rest)

@@ -1,6 +1,6 @@
 -- Messages at the front of some bytes: what reading them comes to, whatever the kind of message.
-use Rattle.std.specs.Prelude.{◌≡◌, ◌⊎◌, ℕ, Bool, List, [], ◌++◌, Some, None, Ok}
-use Rattle.gpkt.specs.Packets.{Packet, SpellsAll}
+use Rattle.std.specs.Prelude.{◌≡◌, ◌⊎◌, Bool, List, [], ◌++◌, Some, None, Ok}
+use Rattle.gpkt.specs.Packets.{Bytes, Packet, SpellsAll}
 use Rattle.gpkt.specs.Change.{Change}
 use Rattle.gpkt.specs.LineReading.{Reads}
 use Rattle.gpkt.specs.declared.fault.LineFault.TheVariants.{Io, Failed}
@@ -11,12 +11,12 @@ use Rattle.ggrammar.specs.declared.fault.Why.TheVariants.{Line, Memory, Ended}
 use Rattle.ggrammar.specs.declared.fault.MessageFault.{MessageFault}
 
 -- bytes that are known before and after
-abbrev pub known : List ℕ → List ℕ → Change
+abbrev pub known : Bytes → Bytes → Change
 known old new = record { old = Some old; new = Some new }
 
 -- these packets are spelt at the front of the bytes, before the rest
-pub record IsFront (lines : List Packet) (bytes rest : List ℕ) : Type 0 where
-  pub front : List ℕ
+pub record IsFront (lines : List Packet) (bytes rest : Bytes) : Type 0 where
+  pub front : Bytes
   pub parts : bytes ≡ front ++ rest
   pub spelt : SpellsAll lines front
 
@@ -29,30 +29,30 @@ IsOfBytes why = Unit {0}
 
 -- a complete message at the front is read
 abbrev pub ReadsFront : Judge → Type 0
-ReadsFront judge = (lines : List Packet) (bytes rest : List ℕ) → IsWhole judge lines → IsFront lines bytes rest
+ReadsFront judge = (lines : List Packet) (bytes rest : Bytes) → IsWhole judge lines → IsFront lines bytes rest
     → ReadsWhole judge (known bytes rest) lines
 
 -- and nothing else is, and the bytes after it stay
 abbrev pub ReadsNoOther : Judge → Type 0
-ReadsNoOther judge = (lines others : List Packet) (bytes rest new : List ℕ) → IsWhole judge lines
+ReadsNoOther judge = (lines others : List Packet) (bytes rest new : Bytes) → IsWhole judge lines
     → IsFront lines bytes rest → ReadsWhole judge (known bytes new) others → (others ≡ lines) × (new ≡ rest)
 
 -- where reading is refused for a reason in the bytes, no complete message is at the front
 abbrev pub RefusedIsNoMessage : Judge → Type 0
 RefusedIsNoMessage judge =
-    (brings : List Packet → Packet → Bool) (front lines : List Packet) (bytes new rest : List ℕ) (fault : MessageFault)
+    (brings : List Packet → Packet → Bool) (front lines : List Packet) (bytes new rest : Bytes) (fault : MessageFault)
     → ReadsRefused judge brings front (known bytes new) fault → IsOfBytes fault.why → IsFront lines bytes rest
     → ¬ IsWhole judge lines
 
 -- where the input has ended, no complete message is at the front
 abbrev pub EndedIsNoMessage : Judge → Type 0
-EndedIsNoMessage judge = (lines : List Packet) (bytes new rest : List ℕ) → Reads (known bytes new) (Ok None)
+EndedIsNoMessage judge = (lines : List Packet) (bytes new rest : Bytes) → Reads (known bytes new) (Ok None)
     → IsFront lines bytes rest → ¬ IsWhole judge lines
 
 -- bytes that are refused for a reason in them are refused with one fault, and leave one rest
 abbrev pub OneRefusal : Judge → Type 0
 OneRefusal judge =
-    (brings : List Packet → Packet → Bool) (front others : List Packet) (bytes new after : List ℕ)
+    (brings : List Packet → Packet → Bool) (front others : List Packet) (bytes new after : Bytes)
     (fault other : MessageFault) → ReadsRefused judge brings front (known bytes new) fault
     → ReadsRefused judge brings others (known bytes after) other → IsOfBytes fault.why → IsOfBytes other.why
     → (fault ≡ other) × (new ≡ after)
@@ -74,21 +74,21 @@ abbrev pub RefusesPackets : Judge → Type 0
 RefusesPackets judge = (front : List Packet) (packet : Packet) → IsForPacket (judge front packet)
 
 -- the bytes begin with a message
-abbrev pub BeginsWithMessage : Judge → List ℕ → Type 0
+abbrev pub BeginsWithMessage : Judge → Bytes → Type 0
 BeginsWithMessage judge bytes =
-    (lines : List Packet) × (rest : List ℕ) × IsWhole judge lines × IsFront lines bytes rest
+    (lines : List Packet) × (rest : Bytes) × IsWhole judge lines × IsFront lines bytes rest
 
 -- the bytes are refused, for a reason in them
-pub record IsRefused (judge : Judge) (brings : List Packet → Packet → Bool) (bytes : List ℕ) : Type 0 where
+pub record IsRefused (judge : Judge) (brings : List Packet → Packet → Bool) (bytes : Bytes) : Type 0 where
   pub front : List Packet
-  pub rest : List ℕ
+  pub rest : Bytes
   pub fault : MessageFault
   pub refused : ReadsRefused judge brings front (known bytes rest) fault
   pub certain : IsOfBytes fault.why
 
 -- all bytes begin with a message or are refused
 abbrev pub BeginsOrIsRefused : Judge → (List Packet → Packet → Bool) → Type 0
-BeginsOrIsRefused judge brings = (bytes : List ℕ) → BeginsWithMessage judge bytes ⊎ IsRefused judge brings bytes
+BeginsOrIsRefused judge brings = (bytes : Bytes) → BeginsWithMessage judge bytes ⊎ IsRefused judge brings bytes
 
 -- so it is where the grammar has endings and reasons of packets alone
 abbrev pub EveryInput : Judge → Type 0
@@ -97,7 +97,7 @@ EveryInput judge = HasEndings judge → RefusesPackets judge → (brings : List 
 
 -- no spelling of a message begins another
 abbrev pub SpellingsPrefixFree : Judge → Type 0
-SpellingsPrefixFree judge = (lines others : List Packet) (bytes rest : List ℕ) → IsWhole judge lines
+SpellingsPrefixFree judge = (lines others : List Packet) (bytes rest : Bytes) → IsWhole judge lines
     → IsWhole judge others → SpellsAll lines bytes → SpellsAll others (bytes ++ rest)
     → (others ≡ lines) × (rest ≡ [])
 

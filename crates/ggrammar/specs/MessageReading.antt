@@ -1,7 +1,7 @@
 -- What reading a message takes from its source, and what it answers.
-use Rattle.std.specs.Prelude.{◌≡◌, ℕ, Bool, true, false, List, [], ◌∷◌, ◌++◌, length, Option, Some, None, Result}
+use Rattle.std.specs.Prelude.{◌≡◌, Bool, true, false, List, [], ◌∷◌, ◌++◌, length, Option, Some, None, Result}
 use Rattle.std.specs.Prelude.{IsTrue, Ok, Err}
-use Rattle.gpkt.specs.Packets.{Packet}
+use Rattle.gpkt.specs.Packets.{Bytes, Packet}
 use Rattle.gpkt.specs.Change.{Change}
 use Rattle.gpkt.specs.LineReading.{Reader, Reads, ReadsLines}
 use Rattle.gpkt.specs.declared.fault.LineFault.TheVariants.{Io, Failed, Memory as LineMemory}
@@ -45,7 +45,7 @@ IsReasonAfter judge brings front change why = ReadsRefusedPacket judge brings fr
 -- the message is refused after these packets, which begin a message and hold no complete one
 pub record ReadsRefused (judge : Judge) (brings : List Packet → Packet → Bool) (front : List Packet) (change : Change)
     (fault : MessageFault) : Type 0 where
-  pub between : Option (List ℕ)
+  pub between : Option Bytes
   pub goes : IsOpen judge front
   pub unfinished : IsUnfinished judge front
   pub frame : fault.frame ≡ length front

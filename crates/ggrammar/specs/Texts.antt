@@ -1,19 +1,19 @@
 -- The text packets of messages (gitprotocol-common(5), "pkt-line Format"): a text is written with a line feed after it,
 -- and read with or without.
-use Rattle.std.specs.Prelude.{◌≡◌, ℕ, List, [], ◌∷◌, ◌++◌, Option, Some, None}
+use Rattle.std.specs.Prelude.{◌≡◌, List, [], ◌∷◌, ◌++◌, Option, Some, None}
 use Rattle.std.specs.List.{filter_map}
-use Rattle.gpkt.specs.Packets.{Packet, Data, line_feed, text as stripped}
+use Rattle.gpkt.specs.Packets.{Bytes, Packet, Data, line_feed, text as stripped}
 
 -- the packet of a text that is written
-abbrev pub text_packet : List ℕ → Packet
+abbrev pub text_packet : Bytes → Packet
 text_packet text = Data (text ++ line_feed ∷ [])
 
-abbrev pub text_in : Packet → Option (List ℕ)
+abbrev pub text_in : Packet → Option Bytes
 text_in (Data payload) = Some (stripped payload)
 text_in _ = None
 
 -- the texts of all data packets, in order
-abbrev pub texts_of : List Packet → List (List ℕ)
+abbrev pub texts_of : List Packet → List Bytes
 texts_of packets = filter_map text_in packets
 
 -- texts come in the order of their packets
@@ -22,4 +22,4 @@ TextsOfMore = (packets more : List Packet) → texts_of (packets ++ more) ≡ te
 
 -- the packet of a text is read as that text
 abbrev pub TextIsRead : Type 0
-TextIsRead = (text : List ℕ) → text_in (text_packet text) ≡ Some text
+TextIsRead = (text : Bytes) → text_in (text_packet text) ≡ Some text

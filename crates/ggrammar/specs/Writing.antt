@@ -1,14 +1,14 @@
 -- Writing the packets of a message, one after the other.
 use Rattle.std.specs.Prelude.{◌≡◌, ◌≢◌, ℕ, ◌<◌, ◌↔◌, Bool, false, List, [], ◌∷◌, ◌++◌, length, Option, Result, Ok, Err}
 use Rattle.std.specs.Prelude.{IfErr, IsErrAnd, IsErrOf}
-use Rattle.gpkt.specs.Packets.{Packet, canonical, canonical_all, max_payload, payload_of}
+use Rattle.gpkt.specs.Packets.{Bytes, Packet, canonical, canonical_all, max_payload, payload_of}
 use Rattle.gpkt.specs.Laws.{Fits}
 use Rattle.gpkt.specs.LineWriting.{Writer, HasWritten}
 use Rattle.gpkt.specs.declared.fault.WriteFault.{WriteFault}
 use Rattle.gpkt.specs.declared.fault.WriteFault.TheVariants.{Payload}
 
 module _
-    {W : Type 0} (contents_of passed_on_of : W → Option (List ℕ)) (is_down : W → Bool)
+    {W : Type 0} (contents_of passed_on_of : W → Option Bytes) (is_down : W → Bool)
     (loans_of : W → List ℕ)
   where
     -- one call of a writer that was to write these packets, of which none is too long

@@ -4,7 +4,9 @@ ghost use Rattle.std.specs.Prelude.{◌≡◌, ◌+◌, ◌≤◌, ◌++◌, len
 ghost use Rattle.ggrammar.specs.Faults.{why_row, row_of, line_phrase, kept_text, max_peer_text, message_fault_text};
 ghost use Rattle.ggrammar.specs.FaultViews.{row_view};
 
+use crate::compose::add;
 use arrayvec::ArrayVec;
+use gname::OUT_OF_MEMORY_TEXT;
 use gpkt::{BandFault, LineFault, text_of};
 use std::error::Error;
 use std::fmt;
@@ -36,7 +38,7 @@ impl PeerText {
     {
         let text = text_of(said);
         let mut kept = ArrayVec::new();
-        add_short(&text[..text.len().min(MAX_PEER_TEXT)], &mut kept);
+        add(&text[..text.len().min(MAX_PEER_TEXT)], &mut kept);
         PeerText { text: kept }
     }
 
@@ -47,14 +49,6 @@ impl PeerText {
     {
         self.text.as_slice()
     }
-}
-
-// Adds a piece that fits.
-fn add_short(piece: &[u8], text: &mut ArrayVec<u8, MAX_PEER_TEXT>)
-    requires { length text.old.items + length piece.now ≤ max_peer_text }
-    ensures { text.new.items ≡ text.old.items ++ piece.now }
-{
-    text.try_extend_from_slice(piece).unwrap()
 }
 
 impl fmt::Debug for PeerText {
@@ -123,7 +117,7 @@ fn line_phrase(fault: &LineFault) -> &'static str
         LineFault::BadDigits | LineFault::Reserved | LineFault::TooLong => "bad packet line",
         LineFault::Truncated => "unexpected end",
         LineFault::Io | LineFault::Failed => "read failed",
-        LineFault::Memory => "out of memory",
+        LineFault::Memory => OUT_OF_MEMORY_TEXT,
     }
 }
 
@@ -169,7 +163,7 @@ impl Why {
             Why::RemoteFatal(_) => row(50, "RemoteFatal", "refused"),
             Why::WrongSection => row(51, "WrongSection", "refused"),
             Why::Format => row(52, "Format", "object format mismatch"),
-            Why::Memory => row(53, "Memory", "out of memory"),
+            Why::Memory => row(53, "Memory", OUT_OF_MEMORY_TEXT),
             Why::Ended => row(54, "Ended", "unexpected end"),
         }
     }

@@ -82,16 +82,22 @@ pub fn writes_lines<W: Sink>()
 /// begin with it, and what is written of a value of the kind reads back, whatever follows. The same
 /// where a message may be missing.
 pub fn kinds_are_read<K: Kind>()
-    ensures exactly { (given : K.Given) → SaysWhole (K.judge given) (K.says given) → OneMeaning (K.says given)
+    ensures exactly { (given : K.Given) → SaysWhole (K.judge given) (K.says given)
+        → OneMeaning (K.says given)
         → ReadsExactly (K.judge given) (K.brings given) (K.says given) }
-    ensures back { (given : K.Given) → SaysWhole (K.judge given) (K.says given) → OneMeaning (K.says given)
+    ensures back { (given : K.Given) → SaysWhole (K.judge given) (K.says given)
+        → OneMeaning (K.says given)
         → CanonicalSays (K.says given) (K.is_value given) (K.is_canonical given)
-        → ReadsBack (K.judge given) (K.brings given) (K.says given) (K.is_value given) (K.is_canonical given) }
-    ensures exactly_if_any { (given : K.Given) → SaysWhole (K.judge given) (K.says given) → OneMeaning (K.says given)
+        → ReadsBack (K.judge given) (K.brings given) (K.says given) (K.is_value given)
+        (K.is_canonical given) }
+    ensures exactly_if_any { (given : K.Given) → SaysWhole (K.judge given) (K.says given)
+        → OneMeaning (K.says given)
         → ReadsExactlyIfAny (K.judge given) (K.brings given) (K.says given) }
-    ensures back_if_any { (given : K.Given) → SaysWhole (K.judge given) (K.says given) → OneMeaning (K.says given)
+    ensures back_if_any { (given : K.Given) → SaysWhole (K.judge given) (K.says given)
+        → OneMeaning (K.says given)
         → CanonicalSays (K.says given) (K.is_value given) (K.is_canonical given)
-        → ReadsBackIfAny (K.judge given) (K.brings given) (K.says given) (K.is_value given) (K.is_canonical given) }
+        → ReadsBackIfAny (K.judge given) (K.brings given) (K.says given) (K.is_value given)
+        (K.is_canonical given) }
 {
     canonical_spells();
     messages_are_read();

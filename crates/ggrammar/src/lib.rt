@@ -20,6 +20,7 @@
 //!   [`id_of_text`] reads an id exactly where a text spells one.
 //! - The number, the name and the phrase of each fault stand in one row, `why_row`; of a peer's error the
 //!   first 256 bytes are kept. The constants are the limits of the definitions.
+//! - [`compose`] adds exactly a piece, or the digits of an id, to a text of bounded length.
 //!
 //! # What the contracts do not rule out
 //!
@@ -38,6 +39,7 @@
 #![tactic(auto)]
 
 mod capability;
+pub mod compose;
 mod ends;
 mod fault;
 mod id;

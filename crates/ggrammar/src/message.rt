@@ -38,16 +38,20 @@ pub trait Message {
     fn take(&mut self, line: Line<'_>) -> Result<Step, Why>
         ensures judge { judge self.new ≡ judge self.old }
         ensures brings { brings self.new ≡ brings self.old }
-        ensures takes { (front : List Packet) → IsOpen (judge self.old) front → holds self.old front
-            → TakesPacket (judge self.old) (brings self.old) holds left front (packet_of line.entry) self.new result };
+        ensures takes { (front : List Packet) → IsOpen (judge self.old) front
+            → holds self.old front
+            → TakesPacket (judge self.old) (brings self.old) holds left front
+            (packet_of line.entry) self.new result };
 
     /// Laws of the message; the call has no effect. What has been taken is left where the next packet does
     /// not come; each beginning has an ending; and a message that goes on has had no more packets than can
     /// be counted.
     fn laws()
-        ensures left { (message : Self) (front : List Packet) → holds message front → left message front }
+        ensures left { (message : Self) (front : List Packet) → holds message front
+            → left message front }
         ensures endings { (message : Self) → HasEndings (judge message) }
-        ensures bounded { (message : Self) (front : List Packet) → IsOpen (judge message) front → length front < 2 ^ 60 };
+        ensures bounded { (message : Self) (front : List Packet) → IsOpen (judge message) front
+            → length front < 2 ^ 60 };
 }
 
 /// Reads a message to its end, and nothing after it.
@@ -62,8 +66,10 @@ pub fn read_message<S: Source, A: Allocator + Copy, M: Message>(
 ) -> Result<(), MessageFault>
     requires { M.holds message.old [] }
     ensures read { MatchResult result
-        (λ _. HasTaken (M.judge message.old) (M.brings message.old) M.holds M.left (change_of S.remaining reader.old.source reader.new.source) message.new)
-        (λ fault. HasRefused (M.judge message.old) (M.brings message.old) M.holds M.left (change_of S.remaining reader.old.source reader.new.source) message.new fault) }
+        (λ _. HasTaken (M.judge message.old) (M.brings message.old) M.holds M.left
+        (change_of S.remaining reader.old.source reader.new.source) message.new)
+        (λ fault. HasRefused (M.judge message.old) (M.brings message.old) M.holds M.left
+        (change_of S.remaining reader.old.source reader.new.source) message.new fault) }
     ensures judge { M.judge message.new ≡ M.judge message.old }
     ensures brings { M.brings message.new ≡ M.brings message.old }
     ensures loans { S.loans reader.new.source ≡ S.loans reader.old.source }

@@ -3,7 +3,7 @@ use Rattle.std.proofs.Common.{◌≡◌, ℕ, List, [], ◌∷◌, ◌++◌, map
 use Rattle.ggraph.specs.declared.text.Order.{Order}
 use Rattle.ggraph.specs.declared.text.reading.Reading.{Reading}
 use Rattle.gobject.specs.PlainPackText.{text_of}
-use Rattle.ggraph.specs.Reading.{Item, MayCome, after, line_of, nothing_read}
+use Rattle.ggraph.specs.steps.Reading.{Item, MayCome, after, line_of, nothing_read}
 
 -- the items may come one after the other, and this is read then
 abbrev pub ReadsTo : {A : Type 0} → Order → Reading A → List (Item A) → Reading A → Type 0

@@ -8,7 +8,7 @@ use Rattle.ggraph.specs.declared.text.reading.Stage.TheVariants.{Done}
 use Rattle.ggraph.specs.declared.text.reading.Stage.{Stage}
 use Rattle.ggraph.specs.declared.text.reading.Reading.{Reading}
 use Rattle.gobject.specs.PlainPackText.{line, text_of}
-use Rattle.ggraph.specs.Reading.{Item, MayCome, ComesNext, after, line_of, nothing_read}
+use Rattle.ggraph.specs.steps.Reading.{Item, MayCome, ComesNext, after, line_of, nothing_read}
 use Rattle.ggraph.proofs.Items.{HasRead, ReadsTo, items_text}
 use Rattle.gobject.proofs.PlainPackLines.{text_of-append}
 

@@ -3,7 +3,7 @@ use Rattle.std.proofs.Common.{◌≡◌, ◌⊎◌, inl, inr, ℕ, List, None, S
 use Rattle.gname.specs.declared.faults.NameFault.{NameFault}
 use Rattle.gname.specs.declared.faults.NameFault.TheVariants.{Memory}
 use Rattle.gname.specs.Names.{IsRefName, name_fault}
-use Rattle.ggraph.specs.TextLaws.{TextLaws}
+use Rattle.ggraph.specs.steps.TextLaws.{TextLaws}
 
 -- no rule reports out of memory, so that a text of which it is reported is a name
 pub only_memory : TextLaws → (text : List ℕ) (fault : NameFault) → fault ≡ Memory → (name_fault text ≡ Some fault) ⊎ ((fault ≡ Memory) × (name_fault text ≡ None)) → IsRefName text

@@ -16,14 +16,15 @@ use Rattle.ggraph.specs.declared.text.reading.Stage.{Stage}
 use Rattle.ggraph.specs.declared.text.reading.Stage.TheVariants.{Nodes, Refs, Done}
 use Rattle.ggraph.specs.declared.text.reading.Reading.{Reading}
 use Rattle.gobject.specs.PlainPackText.{ids_of, ids_text, letter, node_text}
-use Rattle.ghistory.specs.Graphs.{History, HasIdsOf}
+use Rattle.gdag.specs.Graphs.{History, HasIdsOf}
 use Rattle.grefs.specs.RefLists.{IsBelowRefs, RefList}
 use Rattle.ggraph.specs.RepositoryText.{EachFollows, IsHead, IsLoadable, MayFollow, RefMayFollow, first_line, head_line, last_line, lines_of, ref_line, repository_text}
-use Rattle.ggraph.specs.Reading.{Item, MayCome, RefMayCome, after, begins, ends, heads, line_of, node, nothing_read, ref}
+use Rattle.ggraph.specs.steps.Reading.{Item, MayCome, RefMayCome, after, begins, ends, heads, line_of, node}
+use Rattle.ggraph.specs.steps.Reading.{nothing_read, ref}
 use Rattle.ggraph.proofs.Items.{ReadsTo}
 use Rattle.ggraph.proofs.Lines.{AreLines, IsLine, clean_line, line-append, one_list}
 use Rattle.ggraph.proofs.ReadingLemmas.{one_item}
-use Rattle.ggraph.specs.TextLaws.{TextLaws}
+use Rattle.ggraph.specs.steps.TextLaws.{TextLaws}
 
 module _ (laws : TextLaws) where
   -- ---- the same lines are the same items

@@ -10,7 +10,7 @@ use Rattle.gobject.specs.declared.node.Kind.TheVariants.{Commit, Tag}
 use Rattle.gobject.specs.declared.node.Entry.{Entry}
 use Rattle.gobject.specs.Objects.{entry_of, node_of}
 use Rattle.gobject.specs.PlainPackText.{ids_of, ids_text, letter, node_text}
-use Rattle.ghistory.specs.Graphs.{History, HasIdsOf}
+use Rattle.gdag.specs.Graphs.{History, HasIdsOf}
 use Rattle.grefs.specs.declared.head.Head.{Head}
 use Rattle.grefs.specs.declared.head.Head.TheVariants as heads_of
 use Rattle.grefs.specs.RefLists.{IsBelowRefs}
@@ -22,10 +22,12 @@ use Rattle.ggraph.specs.declared.text.reading.Stage.{Stage}
 use Rattle.ggraph.specs.declared.text.reading.Stage.TheVariants.{First, Nodes, Refs, Last, Done}
 use Rattle.ggraph.specs.declared.text.reading.Reading.{Reading}
 use Rattle.ggraph.specs.RepositoryText.{IsHead, MayFollow, RefMayFollow, first_line, head_line, last_line, ref_line}
-use Rattle.ggraph.specs.Reading.{Item, MayCome, begins, line_of, node, ref, heads, ends, RefusesLine, RefusesEntry, RefusesRef, ComesNext, NeverComes, RefMayCome, with_entry}
-use Rattle.ggraph.specs.NoSuchPart.{BeginsWithNoRefId, BeginsWithNoSpacedId, IsHeadOn, IsNoParents, IsNoNode, IsNoRef, IsNoHead, IsSymrefLine}
+use Rattle.ggraph.specs.steps.Reading.{Item, MayCome, begins, line_of, node, ref, heads, ends, RefusesLine}
+use Rattle.ggraph.specs.steps.Reading.{RefusesEntry, RefusesRef, ComesNext, NeverComes, RefMayCome, with_entry}
+use Rattle.ggraph.specs.steps.NoSuchPart.{BeginsWithNoRefId, BeginsWithNoSpacedId, IsHeadOn, IsNoParents, IsNoNode}
+use Rattle.ggraph.specs.steps.NoSuchPart.{IsNoRef, IsNoHead, IsSymrefLine}
 use Rattle.ggraph.proofs.TextLemmas.{one_front, one_id}
-use Rattle.ggraph.specs.TextLaws.{TextLaws}
+use Rattle.ggraph.specs.steps.TextLaws.{TextLaws}
 
 -- ---- lines that differ
 

@@ -6,10 +6,10 @@ use Rattle.std.proofs.lemmas.Bool.{false≢true}
 use Rattle.std.proofs.lemmas.Option.{none-some, same_Some}
 use Rattle.std.proofs.lemmas.List.Elements.{All-nil, All-cons, All-head, All-tail, All-contains}
 use Rattle.gobject.specs.declared.node.Entry.{Entry}
-use Rattle.ghistory.specs.Graphs.{Holds}
-use Rattle.ghistory.specs.Laws.{FullStaysFull}
-use Rattle.ghistory.specs.Reach.{IsFull, Keeps}
-use Rattle.ghistory.specs.Walks.{Misses}
+use Rattle.gdag.specs.Graphs.{Holds}
+use Rattle.gdag.specs.Laws.{FullStaysFull}
+use Rattle.gdag.specs.Reach.{IsFull, Keeps}
+use Rattle.gdag.specs.Walks.{Misses}
 use Rattle.grefs.specs.RefLists.{RefList}
 use Rattle.ggraph.specs.SafeRefs.{IsSafe, SafeStays, SettingStaysSafe}
 

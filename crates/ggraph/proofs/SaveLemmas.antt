@@ -5,16 +5,15 @@ use Rattle.std.proofs.lemmas.List.Elements.{All-append, All-cons, All-nil, All-p
 use Rattle.std.proofs.lemmas.Option.{slice_get-get_or}
 use Rattle.gname.specs.declared.formats.Format.{Format}
 use Rattle.gname.specs.Ids.{IsIdOf}
-use Rattle.gobject.specs.PlainPackText.{ids_text, line, node_text, text_of}
+use Rattle.gobject.specs.PlainPackText.{line, node_text, text_of}
 use Rattle.gobject.specs.declared.node.Entry.{Entry}
-use Rattle.ghistory.specs.Graphs.{History}
+use Rattle.gdag.specs.Graphs.{History}
 use Rattle.grefs.specs.RefLists.{RefList}
 use Rattle.grefs.specs.declared.head.Head.{Head}
 use Rattle.ggraph.specs.RepositoryText.{first_line, head_line, last_line, ref_line, repository_text}
 use Rattle.ggraph.specs.Saving.{IsFirstOther, head_ids, named_ids, ref_ids}
 use Rattle.gobject.proofs.PlainPackLines.{text_of-append}
 use Rattle.ggraph.proofs.LoadLemmas.{text_of-push}
-use Rattle.ggraph.proofs.TextLemmas.{ids_text-append}
 
 map_push : {X Y : Type 0} (f : X → Y) (xs : List X) (x : X) → map f (xs ++ x ∷ []) ≡ map f xs ++ f x ∷ []
 map_push f [] x = refl
@@ -24,11 +23,6 @@ pub lines_more : {X : Type 0} (f : X → List ℕ) (old : List ℕ) (xs : List X
 lines_more f old xs x =
     append_assoc old (text_of (map f xs)) (line (f x))
     ∙ ap (λ (t : List ℕ). old ++ t) (sym (ap text_of (map_push f xs x) ∙ text_of-push (map f xs) (f x)))
-
-pub ids_more : (old : List ℕ) (ids : List (List ℕ)) (id : List ℕ) → (old ++ ids_text ids) ++ ids_text (id ∷ []) ≡ old ++ ids_text (ids ++ id ∷ [])
-ids_more old ids id =
-    append_assoc old (ids_text ids) (ids_text (id ∷ []))
-    ∙ ap (λ (t : List ℕ). old ++ t) (sym (ids_text-append ids (id ∷ [])))
 
 -- the item that a loop is at is the next of those after it
 pub next_seen : {X : Type 0} (xs : List X) (i : ℕ) (x : X) → i < length xs → x ≡ get_or xs i x → take i xs ++ x ∷ [] ≡ take (i + 1) xs

@@ -12,16 +12,17 @@ use Rattle.ggraph.specs.declared.text.reading.Stage.TheVariants.{Done}
 use Rattle.ggraph.specs.declared.text.reading.Reading.{Reading}
 use Rattle.grefs.specs.RefLists.{RefList}
 use Rattle.ggraph.specs.RepositoryText.{IsLoadable, lines_of, repository_text}
-use Rattle.ggraph.specs.Reading.{Item, IsKept, MayCome, RefusesLine, NeverComes, after, begins, ends, heads, line_of, node, nothing_read, ref}
+use Rattle.ggraph.specs.steps.Reading.{Item, IsKept, MayCome, RefusesLine, NeverComes, after, begins, ends, heads}
+use Rattle.ggraph.specs.steps.Reading.{line_of, node, nothing_read, ref}
 use Rattle.gobject.specs.PlainPackText.{GoesOn, IsInLine, line}
-use Rattle.ghistory.specs.Graphs.{History}
+use Rattle.gdag.specs.Graphs.{History}
 use Rattle.ggraph.specs.Loading.{AcceptsText, BeginsText, EndsEarly, IsKeptLine, IsWholeText, IsWrongLine, StopsAt}
 use Rattle.ggraph.proofs.Items.{HasRead, ReadsTo, items_text}
 use Rattle.ggraph.proofs.Lines.{AreLines, front_lines, line_from, lines-append, more_lines, no_line_left}
 use Rattle.ggraph.proofs.LoadLemmas.{Progress, map_more, reads_more, text_of-push}
 use Rattle.ggraph.proofs.OneReading.{lines_are_lines, lines_whole, next_item, one_repository, reads_whole, same_reading, whole_items, whole_reading}
 use Rattle.ggraph.proofs.WholeLemmas.{begins_so_far}
-use Rattle.ggraph.specs.TextLaws.{TextLaws}
+use Rattle.ggraph.specs.steps.TextLaws.{TextLaws}
 
 module _ (laws : TextLaws) where
   -- ---- reading in any order

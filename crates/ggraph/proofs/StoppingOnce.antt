@@ -7,7 +7,7 @@ use Rattle.ggraph.specs.declared.text.Order.{Order}
 use Rattle.ggraph.specs.declared.text.Order.TheVariants.{Any, ParentsFirst}
 use Rattle.gobject.specs.PlainPackText.{GoesOn, line, text_of}
 use Rattle.ggraph.specs.Loading.{BeginsText, EndsEarly, IsWrongLine, NamesLaterParent, StopsAt}
-use Rattle.ggraph.specs.TextLaws.{TextLaws}
+use Rattle.ggraph.specs.steps.TextLaws.{TextLaws}
 use Rattle.ggraph.proofs.Lines.{AreLines, IsLine, back_lines, line_from, not_a_line, one_line}
 use Rattle.ggraph.proofs.LoadLemmas.{text_of-push}
 use Rattle.ggraph.proofs.Stopping.{lines_begun, loadable_in_any}

@@ -9,8 +9,9 @@ use Rattle.gname.specs.Ids.{IsIdOf, IsIdText, IsIdTextOf, ReadsId, id_text}
 use Rattle.gname.specs.declared.ids.OidFault.{OidFault}
 use Rattle.gobject.specs.Objects.{max_parents}
 use Rattle.gobject.specs.PlainPackText.{ids_text}
-use Rattle.ggraph.specs.TextLaws.{TextLaws}
-use Rattle.ggraph.specs.NoSuchPart.{BeginsWithNoId, BeginsWithNoSpacedId, BeginsWithNoRefId, IsNoParents, IsNoIdText}
+use Rattle.ggraph.specs.steps.TextLaws.{TextLaws}
+use Rattle.ggraph.specs.steps.NoSuchPart.{BeginsWithNoId, BeginsWithNoSpacedId, BeginsWithNoRefId, IsNoParents}
+use Rattle.ggraph.specs.steps.NoSuchPart.{IsNoIdText}
 
 -- ---- lists of ids
 

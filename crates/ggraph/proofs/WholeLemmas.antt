@@ -4,7 +4,7 @@ use Rattle.std.proofs.lemmas.List.{append_assoc, append-nil}
 use Rattle.gname.specs.declared.formats.Format.{Format}
 use Rattle.gname.specs.declared.formats.Format.TheVariants.{Sha1}
 use Rattle.gobject.specs.PlainPackText.{node_text, text_of}
-use Rattle.ghistory.specs.Graphs.{History}
+use Rattle.gdag.specs.Graphs.{History}
 use Rattle.grefs.specs.declared.head.Head.{Head}
 use Rattle.grefs.specs.declared.head.Head.TheVariants.{None}
 use Rattle.ggraph.specs.declared.text.Order.{Order}
@@ -13,7 +13,8 @@ use Rattle.ggraph.specs.declared.text.reading.Stage.TheVariants.{First, Nodes, R
 use Rattle.ggraph.specs.declared.text.reading.Reading.{Reading}
 use Rattle.grefs.specs.RefLists.{RefList}
 use Rattle.ggraph.specs.RepositoryText.{EachFollows, IsHead, IsLoadable, MayFollow, RefMayFollow, first_line, head_line, last_line, lines_of, ref_line, repository_text}
-use Rattle.ggraph.specs.Reading.{Item, MayCome, RefMayCome, after, begins, ends, heads, line_of, node, nothing_read, ref}
+use Rattle.ggraph.specs.steps.Reading.{Item, MayCome, RefMayCome, after, begins, ends, heads, line_of, node}
+use Rattle.ggraph.specs.steps.Reading.{nothing_read, ref}
 use Rattle.ggraph.specs.Loading.{BeginsText}
 use Rattle.ggraph.proofs.Items.{HasRead, ReadsTo, items_text}
 

@@ -1,9 +1,11 @@
 -- Loading a repository text: where it is refused, and for what.
 use Rattle.std.specs.Prelude.{◌≡◌, ◌≢◌, ◌⊎◌, ℕ, ◌+◌, List, [], ◌∷◌, ◌++◌, length, Result}
 use Rattle.std.specs.Prelude.{MatchResult}
+use Rattle.gname.specs.Ids.{Id}
+use Rattle.gname.specs.Names.{Name}
 use Rattle.gobject.specs.declared.node.Entry.{Entry}
 use Rattle.gobject.specs.PlainPackText.{GoesOn, IsInLine, node_text, text_of}
-use Rattle.ghistory.specs.Graphs.{History, IsOrdered}
+use Rattle.gdag.specs.Graphs.{History, IsOrdered}
 use Rattle.grefs.specs.declared.head.Head.{Head}
 use Rattle.grefs.specs.declared.head.Head.TheVariants.{Symref}
 use Rattle.grefs.specs.RefLists.{RefList}
@@ -49,8 +51,8 @@ NamesLaterParent A text lines =
 -- what a line says takes memory: it is a node's, a ref's, or that of HEAD on a ref
 abbrev pub IsKeptLine : (A : Type 0) → List ℕ → Type 0
 IsKeptLine A line =
-    ((entry : Entry A) × (line ≡ node_text entry)) ⊎ ((ref : List ℕ × List ℕ) × (line ≡ ref_line ref))
-    ⊎ ((target : List ℕ) × (line ≡ head_line {A = A} (Symref target)))
+    ((entry : Entry A) × (line ≡ node_text entry)) ⊎ ((ref : Name × Id) × (line ≡ ref_line ref))
+    ⊎ ((target : Name) × (line ≡ head_line {A = A} (Symref target)))
 
 -- the next line may come after these, and takes memory
 abbrev pub TakesMemory : (A : Type 0) → Order → List ℕ → List (List ℕ) → Type 0

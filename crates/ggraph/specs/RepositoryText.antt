@@ -3,15 +3,16 @@
 use Rattle.std.specs.Prelude.{◌≡◌, ⊤, ℕ, List, [], ◌∷◌, ◌++◌, map, codes}
 use Rattle.gname.specs.declared.formats.Format.{Format}
 use Rattle.gname.specs.declared.formats.Format.TheVariants.{Sha1, Sha256}
-use Rattle.gname.specs.Ids.{IsIdOf, id_text}
+use Rattle.gname.specs.Ids.{Id, IsIdOf, id_text}
+use Rattle.gname.specs.Names.{Name}
 use Rattle.gobject.specs.declared.node.Entry.{Entry}
 use Rattle.grefs.specs.declared.head.Head.{Head}
-use Rattle.grefs.specs.declared.head.Head.TheVariants.{Id, Symref}
+use Rattle.grefs.specs.declared.head.Head.TheVariants as head_is
 use Rattle.ggraph.specs.declared.text.Order.{Order}
 use Rattle.ggraph.specs.declared.text.Order.TheVariants.{Any, ParentsFirst}
 use Rattle.gobject.specs.PlainPackText.{node_text, text_of}
-use Rattle.ghistory.specs.Graphs.{History, HoldsParents}
-use Rattle.ghistory.specs.Laws.{MayComeNext}
+use Rattle.gdag.specs.Graphs.{History, HoldsParents}
+use Rattle.gdag.specs.Laws.{MayComeNext}
 use Rattle.grefs.specs.Laws.{MayComeNext as NameMayComeNext}
 use Rattle.grefs.specs.RefLists.{RefList, IsBelowRefs}
 
@@ -22,13 +23,13 @@ first_line Sha1 = codes "gitv2 1"
 first_line Sha256 = codes "gitv2 2 sha256"
 
 -- a ref: its id and its name
-abbrev pub ref_line : List ℕ × List ℕ → List ℕ
+abbrev pub ref_line : Name × Id → List ℕ
 ref_line ref = codes "r " ++ (id_text ref.1 ++ (codes " " ++ ref.0))
 
 -- HEAD
 abbrev pub head_line : {A : Type 0} → Head A → List ℕ
-head_line (Id id) = codes "h id " ++ id_text id
-head_line (Symref target) = codes "h ref " ++ target
+head_line (head_is.Id id) = codes "h id " ++ id_text id
+head_line (head_is.Symref target) = codes "h ref " ++ target
 head_line _ = codes "h none"
 
 abbrev pub last_line : List ℕ
@@ -47,8 +48,8 @@ repository_text g refs head = text_of (lines_of g refs head)
 
 -- what HEAD stands at is an id of the format, or a name below refs/
 abbrev pub IsHead : {A : Type 0} → Format → Head A → Type 0
-IsHead format (Id id) = IsIdOf format id
-IsHead format (Symref target) = IsBelowRefs target
+IsHead format (head_is.Id id) = IsIdOf format id
+IsHead format (head_is.Symref target) = IsBelowRefs target
 IsHead format _ = ⊤
 
 -- each parent is on an earlier line, where that is asked
@@ -63,7 +64,7 @@ pub record MayFollow {A : Type 0} (order : Order) (format : Format) (g : List (E
   pub after : ComesAfter order g entry
 
 -- the ref may follow these: its name may come next, and its id is of the format
-pub record RefMayFollow (format : Format) (refs : RefList) (ref : List ℕ × List ℕ) : Type 0 where
+pub record RefMayFollow (format : Format) (refs : RefList) (ref : Name × Id) : Type 0 where
   pub comes : NameMayComeNext refs ref.0
   pub id : IsIdOf format ref.1
 

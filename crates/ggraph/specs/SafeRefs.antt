@@ -1,8 +1,10 @@
 -- Whether refs are connected in a graph.
-use Rattle.std.specs.Prelude.{List, ℕ, All}
+use Rattle.std.specs.Prelude.{List, All}
 use Rattle.std.specs.Map.{values_of}
+use Rattle.gname.specs.Ids.{Id}
+use Rattle.gname.specs.Names.{Name}
 use Rattle.gobject.specs.declared.node.Entry.{Entry}
-use Rattle.ghistory.specs.Reach.{IsFull, Keeps}
+use Rattle.gdag.specs.Reach.{IsFull, Keeps}
 use Rattle.grefs.specs.RefLists.{RefList, SetsRef}
 
 -- each ref is connected
@@ -16,5 +18,5 @@ SafeStays A = (g h : List (Entry A)) (refs : RefList) → Keeps g h → IsSafe g
 -- and where one is set to a connected id
 abbrev pub SettingStaysSafe : Type 0 → Type 0
 SettingStaysSafe A =
-    (g : List (Entry A)) (old new : RefList) (name id : List ℕ)
+    (g : List (Entry A)) (old new : RefList) (name : Name) (id : Id)
     → IsSafe g old → IsFull g id → SetsRef old new name id → IsSafe g new

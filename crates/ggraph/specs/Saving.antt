@@ -1,35 +1,30 @@
 -- Saving a repository's text: for what it is refused.
-use Rattle.std.specs.Prelude.{◌≡◌, ⊤, ℕ, List, [], ◌∷◌, ◌++◌, map, All}
+use Rattle.std.specs.Prelude.{◌≡◌, List, [], ◌∷◌, ◌++◌, map, All}
 use Rattle.gname.specs.declared.formats.Format.{Format}
-use Rattle.gname.specs.Ids.{IsIdOf}
+use Rattle.gname.specs.Ids.{Id, IsIdOf}
 use Rattle.grefs.specs.declared.head.Head.{Head}
-use Rattle.grefs.specs.declared.head.Head.TheVariants.{Id, Symref}
-use Rattle.grefs.specs.RefLists.{RefList, IsBelowRefs}
+use Rattle.grefs.specs.declared.head.Head.TheVariants as head_is
+use Rattle.grefs.specs.RefLists.{RefList}
 use Rattle.ggraph.specs.declared.fault.SaveFault.{SaveFault}
 use Rattle.ggraph.specs.declared.fault.SaveFault.TheVariants.{Memory, OtherFormat}
 
 -- the id at which HEAD stands, if it stands at one
-abbrev pub head_ids : {A : Type 0} → Head A → List (List ℕ)
-head_ids (Id id) = id ∷ []
+abbrev pub head_ids : {A : Type 0} → Head A → List Id
+head_ids (head_is.Id id) = id ∷ []
 head_ids _ = []
 
 -- the ids at which the refs stand, in name order
-abbrev pub ref_ids : RefList → List (List ℕ)
+abbrev pub ref_ids : RefList → List Id
 ref_ids refs = map (λ ref. ref.1) refs
 
 -- these, and then HEAD's
-abbrev pub named_ids : {A : Type 0} → RefList → Head A → List (List ℕ)
+abbrev pub named_ids : {A : Type 0} → RefList → Head A → List Id
 named_ids refs head = ref_ids refs ++ head_ids head
 
--- a ref that HEAD is on is below refs/
-abbrev pub PointsBelowRefs : {A : Type 0} → Head A → Type 0
-PointsBelowRefs (Symref target) = IsBelowRefs target
-PointsBelowRefs _ = ⊤
-
 -- the first of the ids that is not of the format
-pub record IsFirstOther (format : Format) (ids : List (List ℕ)) (id : List ℕ) : Type 0 where
-  pub front : List (List ℕ)
-  pub rest : List (List ℕ)
+pub record IsFirstOther (format : Format) (ids : List Id) (id : Id) : Type 0 where
+  pub front : List Id
+  pub rest : List Id
   pub parts : ids ≡ front ++ id ∷ rest
   pub before : All (IsIdOf format) front
   pub other : ¬ (IsIdOf format id)

@@ -6,7 +6,8 @@ ghost use Rattle.ggraph.specs.Faults.{load_fault_row, load_fault_text, save_faul
 ghost use Rattle.ggraph.specs.declared.fault.LoadFault.TheVariants as load;
 ghost use Rattle.ggraph.specs.declared.fault.SaveFault.TheVariants as save;
 
-use gname::Oid;
+use gdag::GraphFault;
+use gname::{OUT_OF_MEMORY, OUT_OF_MEMORY_TEXT, Oid};
 use std::alloc::AllocError;
 use std::error::Error;
 use std::fmt;
@@ -45,7 +46,7 @@ impl LoadFault {
         match self {
             LoadFault::Text { .. } => (67, "Text"),
             LoadFault::ParentLater { .. } => (68, "ParentLater"),
-            LoadFault::Memory => (64, "Memory"),
+            LoadFault::Memory => OUT_OF_MEMORY,
         }
     }
 }
@@ -60,7 +61,7 @@ impl fmt::Display for LoadFault {
                 f,
                 "line {line} of the repository text names a parent that comes later"
             ),
-            LoadFault::Memory => f.write_str("out of memory"),
+            LoadFault::Memory => f.write_str(OUT_OF_MEMORY_TEXT),
         }
     }
 }
@@ -104,8 +105,8 @@ impl SaveFault {
         ensures { (result.0, result.1.now) ≡ save_fault_row self.now }
     {
         match self {
-            SaveFault::OtherFormat { .. } => (75, "OtherFormat"),
-            SaveFault::Memory => (64, "Memory"),
+            SaveFault::OtherFormat { id } => GraphFault::OtherFormat { id: *id }.row(),
+            SaveFault::Memory => OUT_OF_MEMORY,
         }
     }
 }
@@ -115,8 +116,10 @@ impl fmt::Display for SaveFault {
 
     fn fmt<W: fmt::Write>(&self, f: &mut fmt::Formatter<W>) -> fmt::Result {
         match self {
-            SaveFault::OtherFormat { .. } => f.write_str("an id is of another object format"),
-            SaveFault::Memory => f.write_str("out of memory"),
+            SaveFault::OtherFormat { id } => {
+                fmt::Display::fmt(&GraphFault::OtherFormat { id: *id }, f)
+            }
+            SaveFault::Memory => f.write_str(OUT_OF_MEMORY_TEXT),
         }
     }
 }

@@ -4,7 +4,7 @@ ghost use Rattle.ggraph.specs.Loading.{ParentsFirstIsOrdered, TextsStopOnce};
 ghost use Rattle.ggraph.specs.SafeRefs.{SafeStays, SettingStaysSafe};
 
 use crate::text::text_laws;
-use ghistory::laws::full_stays_full;
+use gdag::laws::full_stays_full;
 use std::alloc::Allocator;
 
 /// Refs stay connected where a graph keeps what it held.

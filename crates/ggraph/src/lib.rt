@@ -1,5 +1,5 @@
 //! The text that keeps a repository: its objects, its refs and HEAD. The crate offers under its own name, too,
-//! what programs need beside it: graphs (`ghistory`), walks (`gwalk`), objects and packs (`gobject`), refs and
+//! what programs need beside it: graphs (`gdag`), walks (`gwalk`), objects and packs (`gobject`), refs and
 //! HEAD (`grefs`).
 //!
 //! # Proved
@@ -31,7 +31,7 @@
 //!
 //! # Stands on
 //!
-//! `gobject`, `ghistory` and `grefs` for what a repository holds, `gname` for ids and names, `memchr` for
+//! `gobject`, `gdag` and `grefs` for what a repository holds, `gname` for ids and names, `memchr` for
 //! the ends of lines, `gwalk` for what the ancestries of refs lack.
 #![tactic(auto)]
 
@@ -43,7 +43,7 @@ mod text;
 pub use crate::fault::{LoadFault, SaveFault};
 pub use crate::safe::is_safe;
 pub use crate::text::{Order, Repository, load, save};
-pub use ghistory::{Graph, GraphFault, IdHasher, MAX_NODES, distinct_ids, laws as graph_laws};
+pub use gdag::{Graph, GraphFault, IdHasher, MAX_NODES, distinct_ids, laws as graph_laws};
 pub use gobject::{
     Entry, Faithful, IndexFault, Indexer, Kind, MAX_PARENTS, Node, PackFault, Packer, Parents,
     PlainPack,

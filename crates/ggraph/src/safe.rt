@@ -1,10 +1,10 @@
 //! Whether the refs are connected in a graph.
 
 ghost use Rattle.std.specs.Prelude.{◌≡◌, ◌↔◌, IfErr, IfOk, IsTrue};
-ghost use Rattle.ghistory.specs.declared.fault.GraphFault.TheVariants.{Memory};
+ghost use Rattle.gdag.specs.declared.fault.GraphFault.TheVariants.{Memory};
 ghost use Rattle.ggraph.specs.SafeRefs.{IsSafe};
 
-use ghistory::{Graph, GraphFault};
+use gdag::{Graph, GraphFault};
 use grefs::Refs;
 use gwalk::missing;
 use std::alloc::Allocator;

@@ -12,7 +12,7 @@ mod saving;
 pub(crate) use crate::text::laws::text_laws;
 pub use crate::text::loading::load;
 pub use crate::text::saving::save;
-use ghistory::Graph;
+use gdag::Graph;
 use grefs::{Head, Refs};
 use std::alloc::{Allocator, Global};
 

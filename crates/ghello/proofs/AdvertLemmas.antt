@@ -25,7 +25,8 @@ use Rattle.ggrammar.specs.declared.message.Step.{Step}
 use Rattle.ggrammar.specs.declared.message.Step.TheVariants as step
 use Rattle.ghello.specs.Adverts.{AreCapabilities, Says, brings, capabilities_in, capabilities_of, capability_packet, has_room, is_capability, is_value_or_none, judge, judge_at, judge_capability, judge_text, judge_version, max_advertised}
 use Rattle.ghello.specs.Offers.{first_with, has_key}
-use Rattle.ghello.specs.AdvertReading.{IsKept, added_by, brings_after, capability_list, judge_after, texts_at_least}
+use Rattle.ghello.specs.steps.AdvertReading.{IsKept, added_by, brings_after, capability_list, judge_after}
+use Rattle.ghello.specs.steps.AdvertReading.{texts_at_least}
 
 -- ---- looking up
 

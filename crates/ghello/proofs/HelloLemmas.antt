@@ -17,7 +17,7 @@ use Rattle.ggrammar.specs.Capabilities.{is_graphic, is_printable}
 use Rattle.ggrammar.specs.PeerErrors.{after_word}
 use Rattle.ggrammar.proofs.TextLemmas.{follows_word, tested}
 use Rattle.ghello.specs.Hello.{Hello, IsHello, Says, brings, judge, judge_payload, canonical_hello, hello_of, hello_of_parts, hello_payload, hello_with, is_hello, is_host, is_nul, is_path, max_host, max_path, nul}
-use Rattle.ghello.specs.HelloReading.{hello_in}
+use Rattle.ghello.specs.steps.HelloReading.{hello_in}
 use Rattle.gpkt.specs.Change.{Change}
 use Rattle.ggrammar.specs.Kinds.{ReadsOrRefuses, SaysWhole, OneMeaning}
 use Rattle.ggrammar.specs.MessageReading.{TakesAs, TakesPacket, HasTaken, HasRefused}

@@ -8,7 +8,7 @@ use Rattle.std.specs.Prelude.{◌≡◌, ℕ, ◌≤◌, Bool, true, false, List
 use Rattle.std.specs.Prelude.{if◌then◌else◌, ◌==◌, ◌&&◌, nat_lt, Option, Some, None}
 use Rattle.std.specs.List.{filter_map}
 use Rattle.std.specs.Str.{bytes_eq}
-use Rattle.gpkt.specs.Packets.{Packet, Data, Flush, Delim, ResponseEnd, text}
+use Rattle.gpkt.specs.Packets.{Bytes, Packet, Data, Flush, Delim, ResponseEnd, text}
 use Rattle.ggrammar.specs.Grammar.{Verdict, Open, Whole, Refused, IsWhole, if_room}
 use Rattle.ggrammar.specs.Texts.{text_packet, texts_of}
 use Rattle.ggrammar.specs.PeerErrors.{judge_unless_error}
@@ -19,15 +19,15 @@ use Rattle.ggrammar.specs.declared.fault.Why.TheVariants as why
 abbrev pub max_advertised : ℕ
 max_advertised = 64
 
-abbrev pub version : List ℕ
+abbrev pub version : Bytes
 version = codes "version 2"
 
 -- ---- in the manual's words
 
 -- the packets are an advertisement of these capabilities
 pub record IsAdvert (packets : List Packet) (capabilities : List Capability) : Type 0 where
-  pub first : List ℕ
-  pub payloads : List (List ℕ)
+  pub first : Bytes
+  pub payloads : List Bytes
   pub parts : packets ≡ Data first ∷ (map Data payloads ++ Flush ∷ [])
   pub is_version : text first ≡ version
   pub each : map (λ payload. capability_of (text payload)) payloads ≡ map (λ capability. Some capability) capabilities
@@ -35,14 +35,14 @@ pub record IsAdvert (packets : List Packet) (capabilities : List Capability) : T
 
 -- ---- the table
 
-abbrev pub capabilities_in : List (List ℕ) → List Capability
+abbrev pub capabilities_in : List Bytes → List Capability
 capabilities_in [] = []
 capabilities_in (first ∷ texts) = filter_map capability_of texts
 
 abbrev pub capabilities_of : List Packet → List Capability
 capabilities_of packets = capabilities_in (texts_of packets)
 
-abbrev pub judge_version : List ℕ → Verdict
+abbrev pub judge_version : Bytes → Verdict
 judge_version line = if bytes_eq line version then Open else Refused why.BadText
 
 abbrev pub judge_capability : ℕ → Option Capability → Verdict
@@ -50,7 +50,7 @@ judge_capability count None = Refused why.BadText
 judge_capability count (Some capability) = if_room (nat_lt count max_advertised)
 
 -- so many texts came before, and so many capabilities are among them
-abbrev pub judge_text : ℕ → ℕ → List ℕ → Verdict
+abbrev pub judge_text : ℕ → ℕ → Bytes → Verdict
 judge_text texts capabilities line =
     if texts == 0 then judge_version line else judge_capability capabilities (capability_of line)
 
@@ -93,7 +93,7 @@ IsCanonical packets capabilities = packets ≡ canonical_advert capabilities
 
 -- ---- what can be added
 
-abbrev pub is_value_or_none : Option (List ℕ) → Bool
+abbrev pub is_value_or_none : Option Bytes → Bool
 is_value_or_none None = true
 is_value_or_none (Some value) = is_value value
 

@@ -10,7 +10,7 @@ use Rattle.std.specs.Prelude.{◌≡◌, ℕ, Bool, true, false, ◌&&◌, IsTru
 use Rattle.std.specs.Prelude.{nat_le, if◌then◌else◌, Option, Some, None, is_some, Result, Ok, Err}
 use Rattle.std.specs.List.{list_all, slice_split, starts_with}
 use Rattle.std.specs.Str.{bytes_eq}
-use Rattle.gpkt.specs.Packets.{Packet, Data, Flush, Delim, ResponseEnd}
+use Rattle.gpkt.specs.Packets.{Bytes, Packet, Data, Flush, Delim, ResponseEnd}
 use Rattle.ggrammar.specs.Grammar.{Verdict, Whole, Refused}
 use Rattle.ggrammar.specs.Capabilities.{is_graphic, is_printable}
 use Rattle.ggrammar.specs.PeerErrors.{after_word}
@@ -26,17 +26,17 @@ abbrev pub max_host : ℕ
 max_host = 255
 
 -- a path begins with a slash and has printable bytes
-unfoldable pub is_path : List ℕ → Bool
+unfoldable pub is_path : Bytes → Bool
 is_path path =
     starts_with nat_eq path (codes "/") && nat_le (length path) max_path && list_all is_printable path
 
 -- a host has graphic bytes, one at least
-unfoldable pub is_host : List ℕ → Bool
+unfoldable pub is_host : Bytes → Bool
 is_host host = nat_le 1 (length host) && nat_le (length host) max_host && list_all is_graphic host
 
 pub record Hello : Type 0 where
-  pub path : List ℕ
-  pub host : List ℕ
+  pub path : Bytes
+  pub host : Bytes
 
 pub record IsHello (hello : Hello) : Type 0 where
   pub path : IsTrue (is_path hello.path)
@@ -52,11 +52,11 @@ MakesHello wanted (Err fault) = (fault.frame ≡ 0) × IsBuildReason (is_hello w
 
 -- ---- what is written
 
-abbrev pub nul : List ℕ
+abbrev pub nul : Bytes
 nul = 0 ∷ []
 
 -- the payload: no line feed is left out of it
-abbrev pub hello_payload : Hello → List ℕ
+abbrev pub hello_payload : Hello → Bytes
 hello_payload hello =
     codes "git-upload-pack " ++ hello.path ++ nul ++ codes "host=" ++ hello.host ++ nul ++ nul
     ++ codes "version=2" ++ nul
@@ -78,14 +78,14 @@ pub record Says (packets : List Packet) (hello : Hello) : Type 0 where
 abbrev pub is_nul : ℕ → Bool
 is_nul byte = nat_eq byte 0
 
-abbrev pub hello_with : Option (List ℕ) → Option (List ℕ) → Option Hello
+abbrev pub hello_with : Option Bytes → Option Bytes → Option Hello
 hello_with (Some path) (Some host) =
     if is_hello (record { path = path; host = host }) then Some (record { path = path; host = host }) else None
 hello_with (Some path) None = None
 hello_with None host = None
 
 -- the command with its path, the host, and the version after an empty part; the last NUL ends the payload
-abbrev pub hello_of_parts : List (List ℕ) → Option Hello
+abbrev pub hello_of_parts : List Bytes → Option Hello
 hello_of_parts (command ∷ host ∷ [] ∷ version ∷ [] ∷ []) =
     if bytes_eq version (codes "version=2")
     then hello_with (after_word (codes "git-upload-pack ") command) (after_word (codes "host=") host)
@@ -93,7 +93,7 @@ hello_of_parts (command ∷ host ∷ [] ∷ version ∷ [] ∷ []) =
 hello_of_parts parts = None
 
 -- what a payload says, by its parts between NULs
-unfoldable pub hello_of : List ℕ → Option Hello
+unfoldable pub hello_of : Bytes → Option Hello
 hello_of payload = hello_of_parts (slice_split is_nul payload)
 
 abbrev pub judge_payload : Option Hello → Verdict

@@ -1,9 +1,8 @@
 pub mod Hello
 pub mod Adverts
 pub mod Offers
-pub mod HelloReading
-pub mod AdvertReading
 pub mod Laws
+pub mod steps
 pub use Rattle.ggrammar.specs.Grammar
 pub use Rattle.ggrammar.specs.MessageReading
 pub use Rattle.ggrammar.specs.Kinds

@@ -6,20 +6,21 @@ use Rattle.std.specs.Str.{bytes_eq}
 use Rattle.gname.specs.Formats.{format_name}
 use Rattle.gname.specs.declared.formats.Format.{Format}
 use Rattle.gname.specs.declared.formats.Format.TheVariants.{Sha1}
+use Rattle.gpkt.specs.Packets.{Bytes}
 use Rattle.ggrammar.specs.Capabilities.{Capability}
 use Rattle.ggrammar.specs.declared.fault.Why.{Why}
 use Rattle.ggrammar.specs.declared.fault.Why.TheVariants.{UnknownCommand, Format as OtherFormat}
 
-abbrev pub has_key : List ℕ → Capability → Bool
+abbrev pub has_key : Bytes → Capability → Bool
 has_key key capability = bytes_eq capability.key key
 
 -- the first capability with a key
-abbrev pub first_with : List ℕ → List Capability → Option Capability
+abbrev pub first_with : Bytes → List Capability → Option Capability
 first_with key [] = None
 first_with key (capability ∷ capabilities) =
     if has_key key capability then Some capability else first_with key capabilities
 
-abbrev pub value_in : Option Capability → Option (List ℕ)
+abbrev pub value_in : Option Capability → Option Bytes
 value_in None = None
 value_in (Some capability) = capability.value
 
@@ -27,20 +28,20 @@ abbrev pub is_space : ℕ → Bool
 is_space byte = nat_eq byte 32
 
 -- there is a value, and the word is one of its parts between spaces
-abbrev pub has_word : List ℕ → Option (List ℕ) → Bool
+abbrev pub has_word : Bytes → Option Bytes → Bool
 has_word word None = false
 has_word word (Some value) = list_any (λ part. bytes_eq part word) (slice_split is_space value)
 
 -- the first capability with a key has a value with this word
-abbrev pub has_feature : List ℕ → List ℕ → List Capability → Bool
+abbrev pub has_feature : Bytes → Bytes → List Capability → Bool
 has_feature key word capabilities = has_word word (value_in (first_with key capabilities))
 
 -- an advertisement without `object-format` is for sha1; one without a value names none
-abbrev pub named_format : Option Capability → Option (List ℕ)
+abbrev pub named_format : Option Capability → Option Bytes
 named_format None = Some (format_name Sha1)
 named_format (Some capability) = capability.value
 
-abbrev pub is_name_of : Format → Option (List ℕ) → Bool
+abbrev pub is_name_of : Format → Option Bytes → Bool
 is_name_of format None = false
 is_name_of format (Some name) = bytes_eq name (format_name format)
 

@@ -15,10 +15,10 @@ ghost use Rattle.ggrammar.specs.Texts.{text_packet};
 ghost use Rattle.ggrammar.specs.Writing.{WritesLines, WritesPart};
 ghost use Rattle.ghello.specs.Adverts.{AreCapabilities, Says, brings, canonical_advert, capability_packet, version, has_room, is_capability, is_value_or_none, judge, judge_version, judge_capability, max_advertised};
 ghost use Rattle.ghello.specs.Offers.{IsFormatOf, check_fault, first_with, has_feature, has_format, has_key, has_word, is_name_of, is_space, lacks_command, named_format};
-ghost use Rattle.ghello.specs.AdvertReading.{IsKept, added_by, brings_after, judge_after, capability_list};
+ghost use Rattle.ghello.specs.steps.AdvertReading.{IsKept, added_by, brings_after, judge_after, capability_list};
 
-use crate::compose::add;
 use arrayvec::ArrayVec;
+use ggrammar::compose::add;
 use ggrammar::laws::{grammars_are_exact, texts_are_classified, texts_are_read, writes_lines};
 use ggrammar::{
     Capability, Message, MessageFault, PeerText, Step, Why, capability_of, is_key, is_value,
@@ -89,7 +89,8 @@ impl<A: Allocator + Copy> OwnedCapability<A> {
     // Writes the packet of the capability.
     fn write<W: Sink>(&self, writer: &mut LineWriter<W>) -> Result<(), WriteFault>
         requires { IsWellFormed self.now }
-        ensures { WritesLines W.contents W.passed_on W.is_down W.loans writer.old writer.new result (capability_packet self.now ∷ []) }
+        ensures { WritesLines W.contents W.passed_on W.is_down W.loans writer.old writer.new result
+            (capability_packet self.now ∷ []) }
     {
         writes_lines::<W>();
         let mut text = ArrayVec::new();
@@ -346,7 +347,8 @@ pub fn read_advert<S: Source, A: Allocator + Copy, B: Allocator + Copy>(
     reader: &mut LineReader<S, B>,
     alloc: A,
 ) -> Result<Advert<A>, MessageFault>
-    ensures read { ReadsOrRefuses judge brings Says (change_of S.remaining reader.old.source reader.new.source) result }
+    ensures read { ReadsOrRefuses judge brings Says
+        (change_of S.remaining reader.old.source reader.new.source) result }
     ensures loans { S.loans reader.new.source ≡ S.loans reader.old.source }
     ensures reader { LeavesReader S.is_down reader.old reader.new result }
 {
@@ -365,7 +367,8 @@ pub fn write_advert<A: Allocator + Copy, W: Sink>(
     advert: &Advert<A>,
     writer: &mut LineWriter<W>,
 ) -> Result<(), WriteFault>
-    ensures lines { WritesLines W.contents W.passed_on W.is_down W.loans writer.old writer.new result (canonical_advert advert.now) }
+    ensures lines { WritesLines W.contents W.passed_on W.is_down W.loans writer.old writer.new
+        result (canonical_advert advert.now) }
     ensures form { AreCapabilities advert.now }
 {
     let capabilities = advert.capabilities.as_slice();
@@ -376,14 +379,16 @@ pub fn write_advert<A: Allocator + Copy, W: Sink>(
 }
 
 fn write_version<W: Sink>(writer: &mut LineWriter<W>) -> Result<(), WriteFault>
-    ensures { WritesLines W.contents W.passed_on W.is_down W.loans writer.old writer.new result (text_packet version ∷ []) }
+    ensures { WritesLines W.contents W.passed_on W.is_down W.loans writer.old writer.new result
+        (text_packet version ∷ []) }
 {
     writes_lines::<W>();
     writer.text(VERSION)
 }
 
 fn write_flush<W: Sink>(writer: &mut LineWriter<W>) -> Result<(), WriteFault>
-    ensures { WritesLines W.contents W.passed_on W.is_down W.loans writer.old writer.new result (Flush ∷ []) }
+    ensures { WritesLines W.contents W.passed_on W.is_down W.loans writer.old writer.new result
+        (Flush ∷ []) }
 {
     writes_lines::<W>();
     writer.flush_pkt()
@@ -394,7 +399,8 @@ fn write_capabilities<A: Allocator + Copy, W: Sink>(
     writer: &mut LineWriter<W>,
 ) -> Result<(), WriteFault>
     requires { All IsWellFormed capabilities.now }
-    ensures { WritesPart W.contents W.passed_on W.is_down W.loans writer.old writer.new result (map capability_packet capabilities.now) }
+    ensures { WritesPart W.contents W.passed_on W.is_down W.loans writer.old writer.new result
+        (map capability_packet capabilities.now) }
 {
     writes_lines::<W>();
     for kept in capabilities {
@@ -424,7 +430,9 @@ impl<A: Allocator + Copy> AdvertReader<A> {
     fn take_packet(&mut self, line: Line<'_>) -> Result<Step, Why>
         ensures { TakesAs (judge_after self.old.has_version self.old.advert (packet_of line.entry))
             (brings_after self.old.has_version (packet_of line.entry))
-            ((self.new.has_version ≡ true) × (self.new.advert ≡ self.old.advert ++ added_by self.old.has_version (packet_of line.entry)))
+            ((self.new.has_version ≡ true)
+            × (self.new.advert ≡ self.old.advert
+            ++ added_by self.old.has_version (packet_of line.entry)))
             result }
     {
         match line {
@@ -436,7 +444,8 @@ impl<A: Allocator + Copy> AdvertReader<A> {
 
     #[tactic(auto, unfolding(crate::specs::Adverts::judge_at))]
     fn take_flush(&self) -> Result<Step, Why>
-        ensures { TakesAs (judge_after self.now.has_version self.now.advert Flush) false (self.now.has_version ≡ true) result }
+        ensures { TakesAs (judge_after self.now.has_version self.now.advert Flush) false
+            (self.now.has_version ≡ true) result }
     {
         if self.has_version {
             Ok(Step::Whole)
@@ -448,7 +457,9 @@ impl<A: Allocator + Copy> AdvertReader<A> {
     fn take_payload(&mut self, payload: &[u8]) -> Result<Step, Why>
         ensures { TakesAs (judge_after self.old.has_version self.old.advert (Data payload.now))
             self.old.has_version
-            ((self.new.has_version ≡ true) × (self.new.advert ≡ self.old.advert ++ added_by self.old.has_version (Data payload.now)))
+            ((self.new.has_version ≡ true)
+            × (self.new.advert ≡ self.old.advert
+            ++ added_by self.old.has_version (Data payload.now)))
             result }
     {
         if let Some(said) = peer_error(payload) {
@@ -463,7 +474,8 @@ impl<A: Allocator + Copy> AdvertReader<A> {
     }
 
     fn take_version(&mut self, text: &[u8]) -> Result<Step, Why>
-        ensures { TakesAs (judge_version text.now) false ((self.new.has_version ≡ true) × (self.new.advert ≡ self.old.advert)) result }
+        ensures { TakesAs (judge_version text.now) false
+            ((self.new.has_version ≡ true) × (self.new.advert ≡ self.old.advert)) result }
     {
         if text != VERSION {
             return Err(Why::BadText);
@@ -474,7 +486,8 @@ impl<A: Allocator + Copy> AdvertReader<A> {
 
     fn take_capability(&mut self, text: &[u8]) -> Result<Step, Why>
         ensures { TakesAs (judge_capability (length self.old.advert) (capability_of text.now)) true
-            ((self.new.has_version ≡ self.old.has_version) × (self.new.advert ≡ self.old.advert ++ capability_list (capability_of text.now)))
+            ((self.new.has_version ≡ self.old.has_version)
+            × (self.new.advert ≡ self.old.advert ++ capability_list (capability_of text.now)))
             result }
     {
         texts_are_classified();

@@ -9,10 +9,10 @@ ghost use Rattle.ggrammar.specs.Kinds.{ReadsOrRefuses};
 ghost use Rattle.ggrammar.specs.MessageReading.{LeavesReader, TakesAs};
 ghost use Rattle.ggrammar.specs.Writing.{WritesLines};
 ghost use Rattle.ghello.specs.Hello.{IsHello, MakesHello, Says, brings, canonical_hello, hello_payload, hello_of, hello_of_parts, hello_with, is_host, is_nul, is_path, judge, judge_payload, max_host, max_path};
-ghost use Rattle.ghello.specs.HelloReading.{hello_in, hello_view};
+ghost use Rattle.ghello.specs.steps.HelloReading.{hello_in, hello_view};
 
-use crate::compose::add;
 use arrayvec::ArrayVec;
+use ggrammar::compose::add;
 use ggrammar::laws::{grammars_are_exact, writes_lines};
 use ggrammar::{
     Message, MessageFault, Step, Why, after_word, are_graphic, are_printable, read_message,
@@ -132,7 +132,8 @@ pub fn read_hello<S: Source, A: Allocator + Copy, B: Allocator + Copy>(
     reader: &mut LineReader<S, B>,
     alloc: A,
 ) -> Result<Hello<A>, MessageFault>
-    ensures read { ReadsOrRefuses judge brings Says (change_of S.remaining reader.old.source reader.new.source) result }
+    ensures read { ReadsOrRefuses judge brings Says
+        (change_of S.remaining reader.old.source reader.new.source) result }
     ensures first { IfErr result (λ fault. fault.frame ≡ 0) }
     ensures loans { S.loans reader.new.source ≡ S.loans reader.old.source }
     ensures reader { LeavesReader S.is_down reader.old reader.new result }
@@ -156,7 +157,8 @@ pub fn write_hello<A: Allocator + Copy, W: Sink>(
     hello: &Hello<A>,
     writer: &mut LineWriter<W>,
 ) -> Result<(), WriteFault>
-    ensures lines { WritesLines W.contents W.passed_on W.is_down W.loans writer.old writer.new result (canonical_hello hello.now) }
+    ensures lines { WritesLines W.contents W.passed_on W.is_down W.loans writer.old writer.new
+        result (canonical_hello hello.now) }
     ensures form { IsHello hello.now }
 {
     writes_lines::<W>();
@@ -230,7 +232,8 @@ fn hello_of(payload: &[u8]) -> Option<HelloText<'_>>
 
 // What a payload of three words says.
 fn hello_of_words<'a>(command: &'a [u8], host: &'a [u8], version: &[u8]) -> Option<HelloText<'a>>
-    ensures { option_map hello_view result ≡ hello_of_parts (command.now ∷ host.now ∷ [] ∷ version.now ∷ [] ∷ []) }
+    ensures { option_map hello_view result
+        ≡ hello_of_parts (command.now ∷ host.now ∷ [] ∷ version.now ∷ [] ∷ []) }
 {
     if version != VERSION {
         return None;
@@ -239,7 +242,8 @@ fn hello_of_words<'a>(command: &'a [u8], host: &'a [u8], version: &[u8]) -> Opti
 }
 
 fn hello_with<'a>(path: Option<&'a [u8]>, host: Option<&'a [u8]>) -> Option<HelloText<'a>>
-    ensures { option_map hello_view result ≡ hello_with (option_copied path.entry) (option_copied host.entry) }
+    ensures { option_map hello_view result
+        ≡ hello_with (option_copied path.entry) (option_copied host.entry) }
 {
     match (path, host) {
         (Some(path), Some(host)) if is_path(path) && is_host(host) => {

@@ -144,7 +144,8 @@ pub fn reads_exactly()
 /// What is written of a hello, or of an advertisement, reads back as it, whatever follows.
 pub fn reads_back()
     ensures hello { ReadsBack hello.judge hello.brings hello.Says hello.IsHello hello.IsCanonical }
-    ensures advert { ReadsBack advert.judge advert.brings advert.Says advert.AreCapabilities advert.IsCanonical }
+    ensures advert { ReadsBack advert.judge advert.brings advert.Says advert.AreCapabilities
+        advert.IsCanonical }
 {
     one_meaning();
     manual();

@@ -38,7 +38,6 @@
 #![tactic(auto)]
 
 mod advert;
-mod compose;
 mod hello;
 pub mod laws;
 

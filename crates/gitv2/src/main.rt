@@ -8,10 +8,9 @@
 //!
 //! # Only tested
 //!
-//! What the words mean (`words.rt`), and one run of `ls` (`args`, `stdin`, `stdout`, `data/`). The other runs are tried
-//! by hand: no test of the gate sees which function `run` calls for the other commands, in which order the files of
-//! `pair` are read, what a missing file gives, or that `fetch` writes its file before it reports.
-//! `examples/over-tcp.sh` runs those that open sockets.
+//! One run of `ls` (`args`, `stdin`, `stdout`, `data/`). The other runs are tried by hand: no test of the gate sees which
+//! function `run` calls for the other commands, in which order the files of `pair` are read, what a missing file gives, or
+//! that `fetch` writes its file before it reports. `examples/over-tcp.sh` runs those that open sockets.
 //!
 //! # What the contracts do not rule out
 //!
@@ -19,12 +18,10 @@
 //!
 //! # Stands on
 //!
-//! `gcmd`, `gtcp` and `gsimulate` for the work, `gpkt` for devices, `clap` for the words.
+//! `gargs` for the words, `gcmd`, `gtcp` and `gsimulate` for the work, `gpkt` for devices.
 #![tactic(auto)]
 
-mod words;
-
-use crate::words::{Command, Fetch, Serve, Simulate};
+use gargs::{Command, Fetch, Serve, Simulate, read_command};
 use gcmd::{
     Ends, FetchRun, ProgramFault, Spec, cmd_check, cmd_failed, cmd_fetch, cmd_lines, cmd_ls,
     cmd_upload, load_server, open_client, read_specs,
@@ -56,7 +53,7 @@ fn main(rt: HostRuntime) -> ExitCode {
 // The command that the words name.
 fn read_words<R: Env + AllocGlobal>(rt: &R) -> Option<Command> {
     let words: Vec<String> = env::args(rt).ok()?.collect(rt.alloc()).ok()?;
-    words::read(rt.alloc(), words.as_slice())
+    read_command(rt.alloc(), words.as_slice())
 }
 
 fn run<R, E>(rt: &R, command: Command, errors: &mut E) -> u8

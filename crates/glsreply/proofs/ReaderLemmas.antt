@@ -8,7 +8,7 @@ use Rattle.ggrammar.specs.MessageReading.{HasTaken, HasRefused}
 use Rattle.ggrammar.specs.declared.ends.Ends.{Ends}
 use Rattle.ggrammar.specs.declared.fault.MessageFault.{MessageFault}
 use Rattle.glsreply.specs.LsReplies.{LsReply, Says, judge, brings}
-use Rattle.glsreply.specs.ReplyState.{Holds, state_in}
+use Rattle.glsreply.specs.steps.ReplyState.{Holds, state_in}
 use Rattle.glsreply.specs.WellFormed.{IsLsReplyIn}
 use Rattle.glsreply.specs.declared.reader.LsReplyReader.{LsReplyReader}
 use Rattle.glsreply.proofs.StateLemmas.{Left, says_reply}

@@ -26,7 +26,8 @@ use Rattle.ggrammar.proofs.IdLemmas.{spelt_by}
 use Rattle.ggrammar.proofs.VerdictLemmas.{accepted_unless}
 use Rattle.glsreply.specs.RefTexts.{RefLine, parts_of, line_of, line_of_parts, line_with_id, FirstForm, UnbornForm, RefForm, first_form, first_of_parts, unborn_of_parts}
 use Rattle.glsreply.specs.LsReplies.{is_flush, is_over, unborn_in, unborn_of, line_in, ref_lines, reply_of, judge_line, judge_first, within_limit, judge_text, judge_at, judge, brings}
-use Rattle.glsreply.specs.ReplyState.{State, Holds, IsLineText, AreLineTexts, KeepsKind, state_of, state_in, with_line, with_first, with_text, with_packet}
+use Rattle.glsreply.specs.steps.ReplyState.{State, Holds, IsLineText, AreLineTexts, KeepsKind, state_of, state_in}
+use Rattle.glsreply.specs.steps.ReplyState.{with_line, with_first, with_text, with_packet}
 use Rattle.glsreply.specs.declared.reader.LsReplyReader.{LsReplyReader}
 use Rattle.glsreply.proofs.GrammarLemmas.{cond_holds, open_induction}
 

@@ -13,7 +13,9 @@ use Rattle.ggrammar.specs.declared.fault.MessageFault.{MessageFault}
 use Rattle.ggrammar.specs.Building.{IsBuildReason}
 use Rattle.glsreply.specs.RefTexts.{RefLine}
 use Rattle.glsreply.specs.LsReplies.{LsReply, max_lines}
-use Rattle.glsreply.specs.WellFormed.{IsLine, IsRefLine, IsLsReplyIn, IsReplyValue, BeginsIn, is_format, has_format_of, has_one_format, line_count, has_room, Adds, Pushes}
+use Rattle.glsreply.specs.steps.WellFormed.{IsLine, Adds}
+use Rattle.glsreply.specs.WellFormed.{IsRefLine, IsLsReplyIn, IsReplyValue, BeginsIn, is_format, has_format_of}
+use Rattle.glsreply.specs.WellFormed.{has_one_format, line_count, has_room, Pushes}
 
 same_format : (a b : Format) → is_format a b ≡ true → a ≡ b
 same_format Sha1 Sha1 e = refl

@@ -2,9 +2,8 @@ pub mod RefTexts
 pub mod LsReplies
 pub mod LsManual
 pub mod WellFormed
-pub mod LineViews
 pub mod LentViews
-pub mod ReplyState
 pub mod TextLengths
+pub mod steps
 pub use Rattle.ggrammar.specs.Grammar
 pub use Rattle.ggrammar.specs.MessageReading

@@ -9,9 +9,9 @@
 --
 -- Here `unborn` comes only first, of HEAD, with its target alone; and an attribute comes once.
 use Rattle.std.specs.Prelude.{◌≡◌, ℕ, ◌≤◌, List, [], ◌∷◌, ◌++◌, length, map, codes, Option, Some, None, ◌⊎◌}
-use Rattle.gpkt.specs.Packets.{Packet, Data, Flush, text}
-use Rattle.gname.specs.Ids.{IsIdTextOf}
-use Rattle.gname.specs.Names.{IsRefName}
+use Rattle.gpkt.specs.Packets.{Bytes, Packet, Data, Flush, text}
+use Rattle.gname.specs.Ids.{Id, IsIdTextOf}
+use Rattle.gname.specs.Names.{Name, IsRefName}
 use Rattle.gname.specs.declared.formats.Format.{Format}
 use Rattle.ggrammar.specs.Endings.{ends_with}
 use Rattle.ggrammar.specs.declared.ends.Ends.{Ends}
@@ -19,50 +19,50 @@ use Rattle.glsreply.specs.RefTexts.{RefLine, unborn_text}
 use Rattle.glsreply.specs.LsReplies.{LsReply, max_lines}
 
 -- an attribute with its value: the target of a symbolic ref, and the id to which a tag leads
-abbrev pub IsSymref : List ℕ → List ℕ → Type 0
+abbrev pub IsSymref : Bytes → Name → Type 0
 IsSymref text target = (text ≡ codes " symref-target:" ++ target) × IsRefName target
 
-abbrev pub IsPeeled : Format → List ℕ → List ℕ → Type 0
-IsPeeled format text id = (digits : List ℕ) × (text ≡ codes " peeled:" ++ digits) × IsIdTextOf format digits id
+abbrev pub IsPeeled : Format → Bytes → Id → Type 0
+IsPeeled format text id = (digits : Bytes) × (text ≡ codes " peeled:" ++ digits) × IsIdTextOf format digits id
 
 -- an attribute, or nothing where there is no value
-abbrev pub IsAttribute : (List ℕ → List ℕ → Type 0) → List ℕ → Option (List ℕ) → Type 0
+abbrev pub IsAttribute : (Bytes → List ℕ → Type 0) → Bytes → Option (List ℕ) → Type 0
 IsAttribute IsTextOf text None = text ≡ []
 IsAttribute IsTextOf text (Some value) = IsTextOf text value
 
 -- each attribute at most once, in either order
-pub record AreAttributes (format : Format) (text : List ℕ) (symref peeled : Option (List ℕ)) : Type 0 where
-  pub target : List ℕ
-  pub leads : List ℕ
+pub record AreAttributes (format : Format) (text : Bytes) (symref : Option Name) (peeled : Option Id) : Type 0 where
+  pub target : Name
+  pub leads : Bytes
   pub parts : (text ≡ target ++ leads) ⊎ (text ≡ leads ++ target)
   pub is_target : IsAttribute IsSymref target symref
   pub is_leads : IsAttribute (IsPeeled format) leads peeled
 
 -- the text says the line of a ref: the digits of its id, a space, its name, and its attributes
-pub record IsRefText (format : Format) (text : List ℕ) (ref : RefLine) : Type 0 where
-  pub digits : List ℕ
-  pub attributes : List ℕ
+pub record IsRefText (format : Format) (text : Bytes) (ref : RefLine) : Type 0 where
+  pub digits : Bytes
+  pub attributes : Bytes
   pub parts : text ≡ digits ++ codes " " ++ ref.name ++ attributes
   pub is_id : IsIdTextOf format digits ref.id
   pub is_name : IsRefName ref.name
   pub are_attributes : AreAttributes format attributes ref.symref ref.peeled
 
 -- each text says its line
-abbrev pub AreRefTexts : Format → List (List ℕ) → List RefLine → Type 0
+abbrev pub AreRefTexts : Format → List Bytes → List RefLine → Type 0
 AreRefTexts format [] [] = Unit {0}
 AreRefTexts format (text ∷ texts) (ref ∷ refs) = IsRefText format text ref × AreRefTexts format texts refs
 AreRefTexts format _ _ = ⊥
 
 -- an unborn HEAD may come first
-abbrev pub IsUnbornFirst : Option (List ℕ) → List (List ℕ) → Type 0
+abbrev pub IsUnbornFirst : Option Name → List Bytes → Type 0
 IsUnbornFirst None payloads = payloads ≡ []
 IsUnbornFirst (Some target) payloads =
-    (payload : List ℕ) × (payloads ≡ payload ∷ []) × (text payload ≡ unborn_text target) × IsRefName target
+    (payload : Bytes) × (payloads ≡ payload ∷ []) × (text payload ≡ unborn_text target) × IsRefName target
 
 -- the packets are a reply, and say this
 pub record IsLsReply (format : Format) (ends : Ends) (packets : List Packet) (reply : LsReply) : Type 0 where
-  pub first : List (List ℕ)
-  pub refs : List (List ℕ)
+  pub first : List Bytes
+  pub refs : List Bytes
   pub parts : packets ≡ map Data (first ++ refs) ++ Flush ∷ ends_with ends
   pub is_first : IsUnbornFirst reply.unborn first
   pub are_refs : AreRefTexts format (map text refs) reply.lines

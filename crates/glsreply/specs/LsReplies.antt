@@ -4,7 +4,8 @@
 use Rattle.std.specs.Prelude.{◌≡◌, ℕ, Bool, true, false, List, [], ◌∷◌, ◌++◌, length, map, if◌then◌else◌, nat_lt}
 use Rattle.std.specs.Prelude.{◌==◌, Option, Some, None, Result, Ok, Err}
 use Rattle.std.specs.List.{filter_map, list_any}
-use Rattle.gpkt.specs.Packets.{Packet, Data, Flush, Delim, ResponseEnd, text}
+use Rattle.gname.specs.Names.{Name}
+use Rattle.gpkt.specs.Packets.{Bytes, Packet, Data, Flush, Delim, ResponseEnd, text}
 use Rattle.gname.specs.declared.formats.Format.{Format}
 use Rattle.ggrammar.specs.Grammar.{Verdict, Open, Refused, IsWhole, if_room}
 use Rattle.ggrammar.specs.Endings.{ends_with, at_flush, after_flush}
@@ -21,7 +22,7 @@ max_lines = 65537
 
 -- what the reply says
 pub record LsReply : Type 0 where
-  pub unborn : Option (List ℕ)
+  pub unborn : Option Name
   pub lines : List RefLine
 
 -- ---- what the packets so far say
@@ -34,12 +35,12 @@ is_flush _ = false
 abbrev pub is_over : List Packet → Bool
 is_over packets = list_any is_flush packets
 
-abbrev pub unborn_in : FirstForm → Option (List ℕ)
+abbrev pub unborn_in : FirstForm → Option Name
 unborn_in (UnbornForm (Ok target)) = Some target
 unborn_in (UnbornForm (Err why)) = None
 unborn_in RefForm = None
 
-abbrev pub unborn_of : List (List ℕ) → Option (List ℕ)
+abbrev pub unborn_of : List Bytes → Option Name
 unborn_of [] = None
 unborn_of (first ∷ texts) = unborn_in (first_form first)
 
@@ -48,7 +49,7 @@ line_in (Ok line) = Some line
 line_in (Err why) = None
 
 -- an unborn HEAD is no line of a ref: `unborn` is no id
-abbrev pub ref_lines : Format → List (List ℕ) → List RefLine
+abbrev pub ref_lines : Format → List Bytes → List RefLine
 ref_lines format texts = filter_map (λ line. line_in (line_of format line)) texts
 
 abbrev pub reply_of : Format → List Packet → LsReply
@@ -63,7 +64,7 @@ abbrev pub judge_line : Result RefLine Why → Verdict
 judge_line (Ok line) = Open
 judge_line (Err why) = Refused why
 
-abbrev pub judge_first : Format → List ℕ → FirstForm → Verdict
+abbrev pub judge_first : Format → Bytes → FirstForm → Verdict
 judge_first format line (UnbornForm (Ok target)) = Open
 judge_first format line (UnbornForm (Err why)) = Refused why
 judge_first format line RefForm = judge_line (line_of format line)
@@ -73,7 +74,7 @@ abbrev pub within_limit : ℕ → Verdict → Verdict
 within_limit count Open = if_room (nat_lt count max_lines)
 within_limit count verdict = verdict
 
-abbrev pub judge_text : Format → ℕ → List ℕ → Verdict
+abbrev pub judge_text : Format → ℕ → Bytes → Verdict
 judge_text format count line =
     within_limit count
     (if count == 0 then judge_first format line (first_form line) else judge_line (line_of format line))
@@ -103,7 +104,7 @@ pub record Says (format : Format) (ends : Ends) (packets : List Packet) (reply :
 
 -- ---- what is written
 
-abbrev pub unborn_packets : Option (List ℕ) → List Packet
+abbrev pub unborn_packets : Option Name → List Packet
 unborn_packets None = []
 unborn_packets (Some target) = text_packet (unborn_text target) ∷ []
 

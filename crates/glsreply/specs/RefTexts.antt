@@ -4,9 +4,10 @@ use Rattle.std.specs.Prelude.{ℕ, Bool, List, [], ◌∷◌, ◌++◌, codes, n
 use Rattle.std.specs.Prelude.{Result, Ok, Err}
 use Rattle.std.specs.List.{slice_split}
 use Rattle.std.specs.Str.{bytes_eq}
-use Rattle.gname.specs.Ids.{id_text}
-use Rattle.gname.specs.Names.{head_name, name_fault}
+use Rattle.gname.specs.Ids.{Id, id_text}
+use Rattle.gname.specs.Names.{Name, head_name, name_fault}
 use Rattle.gname.specs.declared.formats.Format.{Format}
+use Rattle.gpkt.specs.Packets.{Bytes}
 use Rattle.ggrammar.specs.Ids.{id_of_text}
 use Rattle.ggrammar.specs.PeerErrors.{after_word}
 use Rattle.ggrammar.specs.declared.fault.Why.{Why}
@@ -14,52 +15,52 @@ use Rattle.ggrammar.specs.declared.fault.Why.TheVariants.{BadText, BadId, BadNam
 
 -- a ref of the reply
 pub record RefLine : Type 0 where
-  pub id : List ℕ
-  pub name : List ℕ
-  pub symref : Option (List ℕ)
-  pub peeled : Option (List ℕ)
+  pub id : Id
+  pub name : Name
+  pub symref : Option Name
+  pub peeled : Option Id
 
 abbrev pub is_space : ℕ → Bool
 is_space byte = nat_eq byte 32
 
-unfoldable pub parts_of : List ℕ → List (List ℕ)
+unfoldable pub parts_of : Bytes → List Bytes
 parts_of text = slice_split is_space text
 
-abbrev pub is_name : List ℕ → Bool
+abbrev pub is_name : Bytes → Bool
 is_name text = is_none (name_fault text)
 
 -- ---- attributes
 
 pub data Attribute : Type 0 where
-  Symref : (target : List ℕ) → Attribute
-  Peeled : (id : List ℕ) → Attribute
+  Symref : (target : Bytes) → Attribute
+  Peeled : (id : Bytes) → Attribute
   UnknownAttribute : Attribute
 
-abbrev pub peeled_or_unknown : Option (List ℕ) → Attribute
+abbrev pub peeled_or_unknown : Option Bytes → Attribute
 peeled_or_unknown None = UnknownAttribute
 peeled_or_unknown (Some id) = Peeled id
 
-abbrev pub symref_or_else : Option (List ℕ) → Attribute → Attribute
+abbrev pub symref_or_else : Option Bytes → Attribute → Attribute
 symref_or_else None other = other
 symref_or_else (Some target) other = Symref target
 
 -- a part after the name; what follows the word is not looked at yet
-unfoldable pub attribute_of : List ℕ → Attribute
+unfoldable pub attribute_of : Bytes → Attribute
 attribute_of part =
     symref_or_else (after_word (codes "symref-target:") part) (peeled_or_unknown (after_word (codes "peeled:") part))
 
 -- an attribute comes once, which is judged before its value
-abbrev pub with_symref : RefLine → List ℕ → Result RefLine Why
+abbrev pub with_symref : RefLine → Bytes → Result RefLine Why
 with_symref line target =
     if is_none line.symref
     then (if is_name target then Ok (record line { symref = Some target }) else Err BadName)
     else Err BadText
 
-abbrev pub with_id : RefLine → Option (List ℕ) → Result RefLine Why
+abbrev pub with_id : RefLine → Option Id → Result RefLine Why
 with_id line None = Err BadId
 with_id line (Some id) = Ok (record line { peeled = Some id })
 
-abbrev pub with_peeled : Format → RefLine → List ℕ → Result RefLine Why
+abbrev pub with_peeled : Format → RefLine → Bytes → Result RefLine Why
 with_peeled format line id = if is_none line.peeled then with_id line (id_of_text format id) else Err BadText
 
 abbrev pub with_attribute : Format → RefLine → Attribute → Result RefLine Why
@@ -69,70 +70,70 @@ with_attribute format line UnknownAttribute = Err BadText
 
 -- ---- a line
 
-abbrev pub with_attributes : Format → Result RefLine Why → List (List ℕ) → Result RefLine Why
+abbrev pub with_attributes : Format → Result RefLine Why → List Bytes → Result RefLine Why
 with_attributes format (Err why) parts = Err why
 with_attributes format (Ok line) [] = Ok line
 with_attributes format (Ok line) (part ∷ parts) =
     with_attributes format (with_attribute format line (attribute_of part)) parts
 
-abbrev pub line_with_name : Format → List ℕ → List (List ℕ) → Result RefLine Why
+abbrev pub line_with_name : Format → Id → List Bytes → Result RefLine Why
 line_with_name format id [] = Err BadText
 line_with_name format id (name ∷ attributes) =
     if is_name name
     then with_attributes format (Ok (record { id = id; name = name; symref = None; peeled = None })) attributes
     else Err BadName
 
-abbrev pub line_with_id : Format → Option (List ℕ) → List (List ℕ) → Result RefLine Why
+abbrev pub line_with_id : Format → Option Id → List Bytes → Result RefLine Why
 line_with_id format None parts = Err BadId
 line_with_id format (Some id) parts = line_with_name format id parts
 
-abbrev pub line_of_parts : Format → List (List ℕ) → Result RefLine Why
+abbrev pub line_of_parts : Format → List Bytes → Result RefLine Why
 line_of_parts format [] = Err BadId
 line_of_parts format (first ∷ parts) = line_with_id format (id_of_text format first) parts
 
 -- what a text says as the line of a ref, or why it is none
-unfoldable pub line_of : Format → List ℕ → Result RefLine Why
+unfoldable pub line_of : Format → Bytes → Result RefLine Why
 line_of format text = line_of_parts format (parts_of text)
 
 -- ---- HEAD on a branch that is not there yet
 
-abbrev pub unborn_target : Option (List ℕ) → Result (List ℕ) Why
+abbrev pub unborn_target : Option Bytes → Result Name Why
 unborn_target None = Err BadText
 unborn_target (Some name) = if is_name name then Ok name else Err BadName
 
-abbrev pub unborn_after_head : List (List ℕ) → Result (List ℕ) Why
+abbrev pub unborn_after_head : List Bytes → Result Name Why
 unborn_after_head (part ∷ []) = unborn_target (after_word (codes "symref-target:") part)
 unborn_after_head parts = Err BadText
 
 -- `unborn HEAD symref-target:` and a name
-abbrev pub unborn_of_parts : List (List ℕ) → Result (List ℕ) Why
+abbrev pub unborn_of_parts : List Bytes → Result Name Why
 unborn_of_parts [] = Err BadText
 unborn_of_parts (head ∷ parts) = if bytes_eq head head_name then unborn_after_head parts else Err BadText
 
 pub data FirstForm : Type 0 where
-  UnbornForm : (target : Result (List ℕ) Why) → FirstForm
+  UnbornForm : (target : Result Name Why) → FirstForm
   RefForm : FirstForm
 
-abbrev pub first_of_parts : List (List ℕ) → FirstForm
+abbrev pub first_of_parts : List Bytes → FirstForm
 first_of_parts [] = RefForm
 first_of_parts (first ∷ parts) = if bytes_eq first (codes "unborn") then UnbornForm (unborn_of_parts parts) else RefForm
 
 -- the first text of a reply is an unborn HEAD where its first part says so
-unfoldable pub first_form : List ℕ → FirstForm
+unfoldable pub first_form : Bytes → FirstForm
 first_form text = first_of_parts (parts_of text)
 
 -- ---- the texts that are written
 
-abbrev pub symref_text : Option (List ℕ) → List ℕ
+abbrev pub symref_text : Option Name → Bytes
 symref_text None = []
 symref_text (Some target) = codes " symref-target:" ++ target
 
-abbrev pub peeled_text : Option (List ℕ) → List ℕ
+abbrev pub peeled_text : Option Id → Bytes
 peeled_text None = []
 peeled_text (Some id) = codes " peeled:" ++ id_text id
 
-unfoldable pub ref_text : RefLine → List ℕ
+unfoldable pub ref_text : RefLine → Bytes
 ref_text line = id_text line.id ++ codes " " ++ line.name ++ symref_text line.symref ++ peeled_text line.peeled
 
-unfoldable pub unborn_text : List ℕ → List ℕ
+unfoldable pub unborn_text : Name → Bytes
 unborn_text target = codes "unborn HEAD symref-target:" ++ target

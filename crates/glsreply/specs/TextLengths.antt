@@ -1,11 +1,7 @@
 -- The most bytes of the texts that are written.
 use Rattle.std.specs.Prelude.{ℕ, ◌+◌}
-use Rattle.gname.specs.Formats.{id_text_length}
+use Rattle.gname.specs.Formats.{max_id_text}
 use Rattle.gname.specs.Names.{max_name}
-use Rattle.gname.specs.declared.formats.Format.TheVariants.{Sha256}
-
-abbrev pub max_id_text : ℕ
-max_id_text = id_text_length Sha256
 
 -- ` symref-target:` and a name
 abbrev pub max_symref_text : ℕ

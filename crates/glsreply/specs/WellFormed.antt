@@ -1,25 +1,17 @@
 -- The replies to ls-refs that can be written.
-use Rattle.std.specs.Prelude.{◌≡◌, ℕ, ◌+◌, ◌≤◌, Bool, true, false, ◌&&◌, ◌||◌, nat_lt, List, [], ◌∷◌, ◌++◌, length}
-use Rattle.std.specs.Prelude.{All, IfSome, is_some, Some, Result, Ok, Err}
+use Rattle.std.specs.Prelude.{ℕ, ◌+◌, ◌≤◌, Bool, true, false, ◌&&◌, ◌||◌, nat_lt, List, [], ◌∷◌, ◌++◌, length, All}
+use Rattle.std.specs.Prelude.{IfSome, is_some, Some, Result}
 use Rattle.std.specs.Option.{option_map_or}
-use Rattle.gname.specs.Ids.{IsId, IsIdOf, format_of}
-use Rattle.gname.specs.Names.{IsRefName}
+use Rattle.gname.specs.Ids.{Id, IsIdOf, format_of}
+use Rattle.gname.specs.Names.{Name, IsRefName}
 use Rattle.gname.specs.declared.formats.Format.{Format}
 use Rattle.gname.specs.declared.formats.Format.TheVariants.{Sha1, Sha256}
 use Rattle.ggrammar.specs.Building.{Builds}
 use Rattle.ggrammar.specs.Endings.{ends_with}
 use Rattle.ggrammar.specs.declared.ends.Ends.{Ends}
-use Rattle.ggrammar.specs.declared.fault.Why.TheVariants.{Memory}
 use Rattle.ggrammar.specs.declared.fault.MessageFault.{MessageFault}
 use Rattle.glsreply.specs.RefTexts.{RefLine}
 use Rattle.glsreply.specs.LsReplies.{LsReply, max_lines, unborn_packets}
-
--- a line, whose ids may be of two formats
-pub record IsLine (line : RefLine) : Type 0 where
-  pub id : IsId line.id
-  pub name : IsRefName line.name
-  pub symref : IfSome line.symref IsRefName
-  pub peeled : IfSome line.peeled IsId
 
 -- a line of a repository with ids of one format
 pub record IsRefLine (format : Format) (line : RefLine) : Type 0 where
@@ -62,7 +54,7 @@ is_format Sha256 Sha256 = true
 is_format _ _ = false
 
 -- the ids of a line are of one format with each other and with those of the lines before it
-abbrev pub has_format_of : RefLine → List ℕ → Bool
+abbrev pub has_format_of : RefLine → Id → Bool
 has_format_of line id = is_format (format_of id) (format_of line.id)
 
 abbrev pub first_has_format_of : RefLine → List RefLine → Bool
@@ -81,17 +73,12 @@ has_room reply = nat_lt (line_count reply) max_lines
 abbrev pub has_room_for_unborn : LsReply → Bool
 has_room_for_unborn reply = is_some reply.unborn || has_room reply
 
--- the lines have one more, or there is no memory for it
-abbrev pub Adds : List RefLine → RefLine → List RefLine → Result Unit MessageFault → Type 0
-Adds old line new (Ok done) = new ≡ old ++ line ∷ []
-Adds old line new (Err fault) = (new ≡ old) × (fault.frame ≡ 0) × (fault.why ≡ Memory)
-
 -- the reply has a line more, or is refused and stays as it was
 abbrev pub Pushes : LsReply → RefLine → LsReply → Result Unit MessageFault → Type 0
 Pushes old line new result =
     Builds (has_one_format old.lines line) (has_room old) old new (record old { lines = old.lines ++ line ∷ [] }) result
 
 -- the reply has an unborn HEAD, or is refused and stays as it was
-abbrev pub SetsUnborn : LsReply → List ℕ → LsReply → Result Unit MessageFault → Type 0
+abbrev pub SetsUnborn : LsReply → Name → LsReply → Result Unit MessageFault → Type 0
 SetsUnborn old target new result =
     Builds true (has_room_for_unborn old) old new (record old { unborn = Some target }) result

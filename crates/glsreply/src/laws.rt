@@ -57,7 +57,8 @@ pub fn endings()
 /// A packet is refused for its own sake alone. All bytes begin with a reply, or are refused for a reason in them.
 pub fn every_input()
     ensures packets { (format : Format) (ends : Ends) → RefusesPackets (judge format ends) }
-    ensures bytes { (format : Format) (ends : Ends) → BeginsOrIsRefused (judge format ends) brings }
+    ensures bytes { (format : Format) (ends : Ends)
+        → BeginsOrIsRefused (judge format ends) brings }
 {
     endings();
     messages_are_read();
@@ -66,7 +67,8 @@ pub fn every_input()
 
 /// The lists of packets that are read as a reply are those that the manual has, and they say the same.
 pub fn manual()
-    ensures { (format : Format) (ends : Ends) → AsInManual (Says format ends) (IsLsReply format ends) }
+    ensures { (format : Format) (ends : Ends)
+        → AsInManual (Says format ends) (IsLsReply format ends) }
 {
     grammars_are_exact();
     names_are_clean();
@@ -124,7 +126,8 @@ impl Kind for Replies {
 
 /// A reply is read exactly where the bytes begin with one.
 pub fn reads_exactly()
-    ensures { (format : Format) (ends : Ends) → ReadsExactly (judge format ends) brings (Says format ends) }
+    ensures { (format : Format) (ends : Ends)
+        → ReadsExactly (judge format ends) brings (Says format ends) }
 {
     one_meaning();
     says_whole();
@@ -134,7 +137,8 @@ pub fn reads_exactly()
 /// What is written of a reply reads back as that reply, whatever follows.
 pub fn reads_back()
     ensures { (format : Format) (ends : Ends)
-        → ReadsBack (judge format ends) brings (Says format ends) (IsLsReplyIn format) (IsCanonicalReply ends) }
+        → ReadsBack (judge format ends) brings (Says format ends) (IsLsReplyIn format)
+        (IsCanonicalReply ends) }
 {
     one_meaning();
     says_whole();

@@ -2,16 +2,16 @@
 
 ghost use Rattle.std.specs.Prelude.{◌≡◌, ◌+◌, ◌≤◌, ◌++◌, [], length};
 ghost use Rattle.std.specs.Option.{option_copied};
-ghost use Rattle.gname.specs.Ids.{id_text};
 ghost use Rattle.gname.specs.Names.{max_name};
 ghost use Rattle.glsreply.specs.LentViews.{lent_view};
 ghost use Rattle.glsreply.specs.RefTexts.{peeled_text, ref_text, symref_text};
-ghost use Rattle.glsreply.specs.TextLengths.{max_id_text, max_peeled_text, max_ref_text, max_symref_text};
-ghost use Rattle.glsreply.specs.WellFormed.{IsLine};
+ghost use Rattle.glsreply.specs.TextLengths.{max_peeled_text, max_ref_text, max_symref_text};
+ghost use Rattle.glsreply.specs.steps.WellFormed.{IsLine};
 
 use crate::reply::keeps_rules;
 use arrayvec::ArrayVec;
-use gname::{MAX_ID_TEXT, Oid, RefName};
+use ggrammar::compose::{add, add_id};
+use gname::{Oid, RefName};
 use std::alloc::Allocator;
 use std::marker::Model;
 
@@ -39,7 +39,14 @@ impl<'a, A: Allocator + Copy> LentLine<'a, A> {
         symref: Option<&'a RefName<A>>,
         peeled: Option<Oid>,
     ) -> LentLine<'a, A>
-        ensures { lent_view result ≡ record { id = id; name = name.now; symref = option_copied symref.entry; peeled = peeled } }
+        ensures { lent_view result
+            ≡ record {
+              id = id;
+              name = name.now;
+              symref = option_copied symref.entry;
+              peeled =
+                  peeled;
+            } }
     {
         LentLine {
             id,
@@ -151,22 +158,4 @@ fn add_name<A: Allocator + Copy>(name: &RefName<A>, text: &mut ArrayVec<u8, MAX_
     ensures long { length text.new.items ≤ length text.old.items + max_name }
 {
     add(name.as_bytes(), text);
-}
-
-fn add_id(id: &Oid, text: &mut ArrayVec<u8, MAX_REF_TEXT>)
-    requires { length text.old.items + max_id_text ≤ max_ref_text }
-    ensures text { text.new.items ≡ text.old.items ++ id_text id.now }
-    ensures long { length text.new.items ≤ length text.old.items + max_id_text }
-{
-    let mut digits = [0; MAX_ID_TEXT];
-    let count = id.to_hex(&mut digits);
-    add(&digits[..count], text);
-}
-
-fn add(piece: &[u8], text: &mut ArrayVec<u8, MAX_REF_TEXT>)
-    requires { length text.old.items + length piece.now ≤ max_ref_text }
-    ensures text { text.new.items ≡ text.old.items ++ piece.now }
-    ensures long { length text.new.items ≡ length text.old.items + length piece.now }
-{
-    text.try_extend_from_slice(piece).unwrap()
 }

@@ -3,7 +3,7 @@
 ghost use Rattle.std.specs.Prelude.{◌≡◌, ◌∷◌, ◌<◌, codes, length, position, IfSome, None, Ok};
 ghost use Rattle.ggrammar.specs.PeerErrors.{after_word};
 ghost use Rattle.glsreply.specs.RefTexts.{is_space, parts_of, is_name, attribute_of, with_attributes, line_with_name, line_of, first_form, unborn_target, unborn_of_parts, unborn_after_head};
-ghost use Rattle.glsreply.specs.LineViews.{line_parts, line_read, attribute_view, form_view, target_read, parts_left};
+ghost use Rattle.glsreply.specs.steps.LineViews.{line_parts, line_read, attribute_view, form_view, target_read, parts_left};
 
 use ggrammar::{Why, after_word, id_of_text};
 use gname::{Format, HEAD, Oid, RefName};
@@ -91,7 +91,9 @@ fn with_attributes<'a>(
     name: &'a [u8],
     attributes: Option<&'a [u8]>,
 ) -> Result<LineParts<'a>, Why>
-    ensures { line_read result ≡ with_attributes format (Ok (line_parts id name.now None None)) (parts_left attributes.entry) }
+    ensures { line_read result
+        ≡ with_attributes format (Ok (line_parts id name.now None None))
+        (parts_left attributes.entry) }
 {
     let mut symref = None;
     let mut peeled = None;

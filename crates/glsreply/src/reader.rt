@@ -7,9 +7,9 @@ ghost use Rattle.ggrammar.specs.Kinds.{ReadsOrRefuses};
 ghost use Rattle.ggrammar.specs.MessageReading.{LeavesReader, TakesAs};
 ghost use Rattle.glsreply.specs.LsReplies.{Says, judge, judge_at, judge_text, judge_line, max_lines, within_limit, brings};
 ghost use Rattle.glsreply.specs.RefTexts.{line_of};
-ghost use Rattle.glsreply.specs.LineViews.{parts_view};
+ghost use Rattle.glsreply.specs.steps.LineViews.{parts_view};
 ghost use Rattle.ggrammar.specs.Grammar.{Open};
-ghost use Rattle.glsreply.specs.ReplyState.{Holds, KeepsKind, state_in, state_of, with_packet, with_text, with_line, with_unborn, with_flush};
+ghost use Rattle.glsreply.specs.steps.ReplyState.{Holds, KeepsKind, state_in, state_of, with_packet, with_text, with_line, with_unborn, with_flush};
 ghost use Rattle.glsreply.specs.WellFormed.{IsLsReplyIn, IsReplyValue};
 ghost use Rattle.gname.specs.declared.formats.Format.TheVariants as format;
 
@@ -28,7 +28,8 @@ pub fn read_ls_reply<S: Source, A: Allocator + Copy, B: Allocator + Copy>(
     ends: Ends,
     alloc: B,
 ) -> Result<LsReply<B>, MessageFault>
-    ensures read { ReadsOrRefuses (judge format.Sha1 ends) brings (Says format.Sha1 ends) (change_of S.remaining reader.old.source reader.new.source) result }
+    ensures read { ReadsOrRefuses (judge format.Sha1 ends) brings (Says format.Sha1 ends)
+        (change_of S.remaining reader.old.source reader.new.source) result }
     ensures formed { IfOk result (λ reply. IsLsReplyIn format.Sha1 reply) }
     ensures loans { S.loans reader.new.source ≡ S.loans reader.old.source }
     ensures reader { LeavesReader S.is_down reader.old reader.new result }
@@ -50,7 +51,8 @@ pub fn read_ls_reply_in<S: Source, A: Allocator + Copy, B: Allocator + Copy>(
     ends: Ends,
     alloc: B,
 ) -> Result<LsReply<B>, MessageFault>
-    ensures read { ReadsOrRefuses (judge format ends) brings (Says format ends) (change_of S.remaining reader.old.source reader.new.source) result }
+    ensures read { ReadsOrRefuses (judge format ends) brings (Says format ends)
+        (change_of S.remaining reader.old.source reader.new.source) result }
     ensures formed { IfOk result (λ reply. IsLsReplyIn format reply) }
     ensures loans { S.loans reader.new.source ≡ S.loans reader.old.source }
     ensures reader { LeavesReader S.is_down reader.old reader.new result }
@@ -109,9 +111,10 @@ impl<A: Allocator + Copy> LsReplyReader<A> {
     #[tactic(auto, unfolding(crate::specs::LsReplies::judge_at))]
     fn take_packet(&mut self, line: Line<'_>) -> Result<Step, Why>
         ensures kept { KeepsKind self.old self.new }
-        ensures takes { TakesAs (judge_at self.old.format self.old.ends self.old.is_over self.old.count (packet_of line.entry))
-            (brings [] (packet_of line.entry))
-            (state_in self.new ≡ with_packet self.old.format (state_in self.old) (packet_of line.entry)) result }
+        ensures takes { TakesAs (judge_at self.old.format self.old.ends self.old.is_over
+            self.old.count (packet_of line.entry)) (brings [] (packet_of line.entry))
+            (state_in self.new ≡ with_packet self.old.format (state_in self.old)
+            (packet_of line.entry)) result }
     {
         match line {
             Line::Data(payload) => self.take_data(payload),
@@ -124,7 +127,8 @@ impl<A: Allocator + Copy> LsReplyReader<A> {
     #[tactic(auto, unfolding(crate::specs::LsReplies::judge_at))]
     fn take_flush(&mut self) -> Result<Step, Why>
         ensures kept { KeepsKind self.old self.new }
-        ensures takes { TakesAs (judge_at self.old.format self.old.ends self.old.is_over self.old.count Flush) false
+        ensures takes { TakesAs (judge_at self.old.format self.old.ends self.old.is_over
+            self.old.count Flush) false
             (state_in self.new ≡ with_flush (state_in self.old)) result }
     {
         if self.is_over {
@@ -139,8 +143,8 @@ impl<A: Allocator + Copy> LsReplyReader<A> {
 
     #[tactic(auto, unfolding(crate::specs::LsReplies::judge_at))]
     fn take_response_end(&self) -> Result<Step, Why>
-        ensures { TakesAs (judge_at self.now.format self.now.ends self.now.is_over self.now.count ResponseEnd) false
-            (Unit {0}) result }
+        ensures { TakesAs (judge_at self.now.format self.now.ends self.now.is_over self.now.count
+            ResponseEnd) false (Unit {0}) result }
     {
         if self.is_over {
             Ok(Step::Whole)
@@ -152,8 +156,10 @@ impl<A: Allocator + Copy> LsReplyReader<A> {
     #[tactic(auto, unfolding(crate::specs::LsReplies::judge_at))]
     fn take_data(&mut self, payload: &[u8]) -> Result<Step, Why>
         ensures kept { KeepsKind self.old self.new }
-        ensures takes { TakesAs (judge_at self.old.format self.old.ends self.old.is_over self.old.count (Data payload.now)) true
-            (state_in self.new ≡ with_text self.old.format (state_in self.old) (text payload.now)) result }
+        ensures takes { TakesAs (judge_at self.old.format self.old.ends self.old.is_over
+            self.old.count (Data payload.now)) true
+            (state_in self.new ≡ with_text self.old.format (state_in self.old) (text payload.now))
+            result }
     {
         if let Some(said) = peer_error(payload) {
             return Err(Why::RemoteErr(PeerText::new(said)));
@@ -182,7 +188,8 @@ impl<A: Allocator + Copy> LsReplyReader<A> {
     fn take_unborn(&mut self, target: &[u8]) -> Result<Step, Why>
         requires { self.old.count ≡ 0 }
         ensures kept { KeepsKind self.old self.new }
-        ensures takes { TakesAs Open true (state_in self.new ≡ with_unborn (state_in self.old) (Ok target.now)) result }
+        ensures takes { TakesAs Open true (state_in self.new
+            ≡ with_unborn (state_in self.old) (Ok target.now)) result }
     {
         match RefName::new(self.alloc, target) {
             Ok(name) => {
@@ -196,8 +203,10 @@ impl<A: Allocator + Copy> LsReplyReader<A> {
 
     fn take_ref(&mut self, text: &[u8]) -> Result<Step, Why>
         ensures kept { KeepsKind self.old self.new }
-        ensures takes { TakesAs (within_limit self.old.count (judge_line (line_of self.old.format text.now))) true
-            (state_in self.new ≡ with_line (state_in self.old) (line_of self.old.format text.now)) result }
+        ensures takes { TakesAs (within_limit self.old.count
+            (judge_line (line_of self.old.format text.now))) true
+            (state_in self.new ≡ with_line (state_in self.old) (line_of self.old.format text.now))
+            result }
     {
         texts_have_one_reading();
         match line_of(self.format, text) {

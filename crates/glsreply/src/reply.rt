@@ -6,7 +6,8 @@ ghost use Rattle.std.specs.Option.{option_copied};
 ghost use Rattle.gname.specs.Names.{IsRefName};
 ghost use Rattle.ggrammar.specs.declared.fault.Why.TheVariants.{Limit};
 ghost use Rattle.glsreply.specs.LentViews.{lent_view};
-ghost use Rattle.glsreply.specs.WellFormed.{Adds, IsReplyValue, Pushes, SetsUnborn, has_one_format, has_room, last_frame, line_count};
+ghost use Rattle.glsreply.specs.steps.WellFormed.{Adds};
+ghost use Rattle.glsreply.specs.WellFormed.{IsReplyValue, Pushes, SetsUnborn, has_one_format, has_room, last_frame, line_count};
 
 use crate::lent::{LentLine, keeps_forms};
 use ggrammar::{Ends, MessageFault, Why};

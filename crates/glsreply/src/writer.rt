@@ -34,9 +34,10 @@ pub fn write_ls_reply<A: Allocator + Copy, W: Sink>(
     ends: Ends,
     writer: &mut LineWriter<W>,
 ) -> Result<(), WriteFault>
-    ensures lines { WritesLines W.contents W.passed_on W.is_down W.loans writer.old writer.new result
-        (canonical_reply ends reply.now) }
-    ensures form { (format : Format) → BeginsIn format reply.now.lines → IsLsReplyIn format reply.now }
+    ensures lines { WritesLines W.contents W.passed_on W.is_down W.loans writer.old writer.new
+        result (canonical_reply ends reply.now) }
+    ensures form { (format : Format) → BeginsIn format reply.now.lines
+        → IsLsReplyIn format reply.now }
 {
     writes_lines::<W>();
     ids_have_one_format();
@@ -54,8 +55,8 @@ pub fn write_unborn<A: Allocator + Copy, W: Sink>(
     target: Option<&RefName<A>>,
     writer: &mut LineWriter<W>,
 ) -> Result<(), WriteFault>
-    ensures lines { WritesPart W.contents W.passed_on W.is_down W.loans writer.old writer.new result
-        (unborn_packets (option_copied target.entry)) }
+    ensures lines { WritesPart W.contents W.passed_on W.is_down W.loans writer.old writer.new
+        result (unborn_packets (option_copied target.entry)) }
     ensures form { IfSome (option_copied target.entry) IsRefName }
 {
     writes_lines::<W>();
@@ -92,10 +93,11 @@ pub fn write_ref<A: Allocator + Copy, W: Sink>(
     text: &mut RefText,
     writer: &mut LineWriter<W>,
 ) -> Result<(), WriteFault>
-    ensures lines { WritesLines W.contents W.passed_on W.is_down W.loans writer.old writer.new result
-        (ref_packet (lent_view line.now) ∷ []) }
+    ensures lines { WritesLines W.contents W.passed_on W.is_down W.loans writer.old writer.new
+        result (ref_packet (lent_view line.now) ∷ []) }
     ensures text { text.new ≡ ref_text (lent_view line.now) }
-    ensures form { (format : Format) → HasIdsOf format (lent_view line.now) → IsRefLine format (lent_view line.now) }
+    ensures form { (format : Format) → HasIdsOf format (lent_view line.now)
+        → IsRefLine format (lent_view line.now) }
 {
     writes_lines::<W>();
     keeps_forms(line);

@@ -1,5 +1,5 @@
 -- What the laws of all messages speak of.
-use Rattle.std.specs.Prelude.{ℕ, List}
+use Rattle.gpkt.specs.Packets.{Bytes}
 use Rattle.ggrammar.specs.Grammar.{Judge, IsPrefixFree}
 use Rattle.ggrammar.specs.MessageBytes.{BeginsWithMessage, SpellingsPrefixFree}
 
@@ -10,4 +10,4 @@ pub record NoneBeginsAnother (judge : Judge) : Type 0 where
 
 -- no bytes begin with a message of the one kind and with one of the other
 abbrev pub NoneBeginsAsBoth : Judge → Judge → Type 0
-NoneBeginsAsBoth one other = (bytes : List ℕ) → BeginsWithMessage one bytes → BeginsWithMessage other bytes → ⊥
+NoneBeginsAsBoth one other = (bytes : Bytes) → BeginsWithMessage one bytes → BeginsWithMessage other bytes → ⊥

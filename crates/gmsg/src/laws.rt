@@ -41,8 +41,10 @@ pub fn prefix_free()
     ensures hello { NoneBeginsAnother hello.judge }
     ensures advert { NoneBeginsAnother advert.judge }
     ensures request { (format : Format) → NoneBeginsAnother (request.judge format) }
-    ensures ls_reply { (format : Format) (ends : Ends) → NoneBeginsAnother (ls_reply.judge format ends) }
-    ensures fetch_reply { (reading : fetch_reply.Reading) → NoneBeginsAnother (fetch_reply.judge reading) }
+    ensures ls_reply { (format : Format) (ends : Ends)
+        → NoneBeginsAnother (ls_reply.judge format ends) }
+    ensures fetch_reply { (reading : fetch_reply.Reading)
+        → NoneBeginsAnother (fetch_reply.judge reading) }
 {
     ghello::laws::prefix_free();
     grequest::laws::prefix_free();
@@ -66,7 +68,8 @@ pub fn replies_differ()
 pub fn manual()
     ensures hello { SaysWhole hello.judge hello.Says }
     ensures advert { AsInManual advert.Says advert.IsAdvert }
-    ensures request { (format : Format) → AsInManual (request.Says format) (request_manual.IsRequest format) }
+    ensures request { (format : Format)
+        → AsInManual (request.Says format) (request_manual.IsRequest format) }
     ensures ls_reply { (format : Format) (ends : Ends) → AsInManual (ls_reply.Says format ends)
         (ls_reply_manual.IsLsReply format ends) }
     ensures fetch_reply { (reading : fetch_reply.Reading) → AsInManual (fetch_reply.Says reading)
@@ -83,7 +86,8 @@ pub fn manual()
 pub fn canonical_says()
     ensures hello { CanonicalSays hello.Says hello.IsHello hello.IsCanonical }
     ensures advert { CanonicalSays advert.Says advert.AreCapabilities advert.IsCanonical }
-    ensures request { (format : Format) → CanonicalSays (request.Says format) (request_form.IsAsked format)
+    ensures request { (format : Format)
+        → CanonicalSays (request.Says format) (request_form.IsAsked format)
         (request_writing.IsCanonicalRequest format) }
     ensures ls_reply { (format : Format) (ends : Ends) → CanonicalSays (ls_reply.Says format ends)
         (ls_reply_form.IsLsReplyIn format) (ls_reply.IsCanonicalReply ends) }
@@ -105,11 +109,13 @@ pub use self::canonical_says as canon_says;
 pub fn reads_exactly()
     ensures hello { ReadsExactly hello.judge hello.brings hello.Says }
     ensures advert { ReadsExactly advert.judge advert.brings advert.Says }
-    ensures request { (format : Format) → ReadsExactlyIfAny (request.judge format) request.brings (request.Says format) }
+    ensures request { (format : Format)
+        → ReadsExactlyIfAny (request.judge format) request.brings (request.Says format) }
     ensures ls_reply { (format : Format) (ends : Ends)
         → ReadsExactly (ls_reply.judge format ends) ls_reply.brings (ls_reply.Says format ends) }
     ensures fetch_reply { (reading : fetch_reply.Reading)
-        → ReadsExactly (fetch_reply.judge reading) (fetch_reply.brings reading) (fetch_reply.Says reading) }
+        → ReadsExactly (fetch_reply.judge reading) (fetch_reply.brings reading)
+        (fetch_reply.Says reading) }
 {
     ghello::laws::reads_exactly();
     grequest::laws::reads_exactly();
@@ -122,7 +128,8 @@ pub fn every_input()
     ensures hello { BeginsOrIsRefused hello.judge hello.brings }
     ensures advert { BeginsOrIsRefused advert.judge advert.brings }
     ensures request { (format : Format) → BeginsOrIsRefused (request.judge format) request.brings }
-    ensures ls_reply { (format : Format) (ends : Ends) → BeginsOrIsRefused (ls_reply.judge format ends) ls_reply.brings }
+    ensures ls_reply { (format : Format) (ends : Ends)
+        → BeginsOrIsRefused (ls_reply.judge format ends) ls_reply.brings }
     ensures fetch_reply { (reading : fetch_reply.Reading)
         → BeginsOrIsRefused (fetch_reply.judge reading) (fetch_reply.brings reading) }
 {
@@ -136,13 +143,18 @@ pub fn every_input()
 /// [`PackLimit`](crate::PackLimit) can have and its pack keeps.
 pub fn reads_back()
     ensures hello { ReadsBack hello.judge hello.brings hello.Says hello.IsHello hello.IsCanonical }
-    ensures advert { ReadsBack advert.judge advert.brings advert.Says advert.AreCapabilities advert.IsCanonical }
-    ensures request { (format : Format) → ReadsBackIfAny (request.judge format) request.brings (request.Says format)
+    ensures advert { ReadsBack advert.judge advert.brings advert.Says advert.AreCapabilities
+        advert.IsCanonical }
+    ensures request { (format : Format)
+        → ReadsBackIfAny (request.judge format) request.brings (request.Says format)
         (request_form.IsAsked format) (request_writing.IsCanonicalRequest format) }
-    ensures ls_reply { (format : Format) (ends : Ends) → ReadsBack (ls_reply.judge format ends) ls_reply.brings
-        (ls_reply.Says format ends) (ls_reply_form.IsLsReplyIn format) (ls_reply.IsCanonicalReply ends) }
+    ensures ls_reply { (format : Format) (ends : Ends)
+        → ReadsBack (ls_reply.judge format ends) ls_reply.brings
+        (ls_reply.Says format ends) (ls_reply_form.IsLsReplyIn format)
+        (ls_reply.IsCanonicalReply ends) }
     ensures fetch_reply { (reading : fetch_reply.Reading) → reading.limit ≤ max_pack
-        → ReadsBack (fetch_reply.judge reading) (fetch_reply.brings reading) (fetch_reply.Says reading)
+        → ReadsBack (fetch_reply.judge reading) (fetch_reply.brings reading)
+        (fetch_reply.Says reading)
         (fetch_reply_form.IsReplyIn reading) (fetch_reply.IsCanonical reading.ends) }
 {
     ghello::laws::reads_back();

@@ -13,7 +13,8 @@
 //!
 //! - `ghello`: [`Hello`] and [`Advert`], [`read_hello`] and [`read_advert`], [`write_hello`] and
 //!   [`write_advert`], and what a client looks for in an advertisement.
-//! - `grequest`: [`Request`], [`LsRefsRequest`] and [`FetchRequest`], [`read_request`] and [`write_request`].
+//! - `grequest`: [`Request`], [`LsRefsRequest`] and [`FetchRequest`] with their flags, [`read_request`] and
+//!   [`write_request`].
 //! - `glsreply`: [`LsReply`], [`read_ls_reply`] and [`write_ls_reply`].
 //! - `gfetchreply`: [`FetchReply`], [`read_fetch_reply`], [`read_fetch_reply_into`] for a pack that goes to a
 //!   [`PackSink`], and [`write_fetch_reply`].
@@ -50,6 +51,6 @@ pub use glsreply::{
     write_ls_reply, write_ref, write_unborn,
 };
 pub use grequest::{
-    FetchRequest, LsRefsRequest, MAX_HAVES, MAX_PREFIXES, MAX_WANTS, Request, read_request,
-    read_request_in, write_request,
+    FetchFlag, FetchRequest, LsRefsFlag, LsRefsRequest, MAX_HAVES, MAX_PREFIXES, MAX_WANTS,
+    Request, read_request, read_request_in, write_request,
 };

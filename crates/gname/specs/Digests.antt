@@ -1,17 +1,17 @@
 -- How an object id is kept.
-use Rattle.std.specs.Prelude.{◌≡◌, ℕ, ◌==◌, if◌then◌else◌, List, length, refl}
+use Rattle.std.specs.Prelude.{◌≡◌, ◌==◌, if◌then◌else◌, length, refl}
 use Rattle.gname.specs.declared.formats.Format.TheVariants as format
 use Rattle.gname.specs.declared.ids.Digest.{Digest}
 use Rattle.gname.specs.declared.ids.Digest.TheVariants.{Sha1, Sha256}
 use Rattle.gname.specs.Formats.{id_length}
-use Rattle.gname.specs.Ids.{IsIdOf}
+use Rattle.gname.specs.Ids.{Id, IsIdOf}
 
 -- the bytes of a digest, and the digest of some bytes
-abbrev pub digest_bytes : Digest → List ℕ
+abbrev pub digest_bytes : Digest → Id
 digest_bytes (Sha1 bytes) = bytes
 digest_bytes (Sha256 bytes) = bytes
 
-abbrev pub digest_of : List ℕ → Digest
+abbrev pub digest_of : Id → Digest
 digest_of bytes = if length bytes == id_length format.Sha1 then Sha1 bytes else Sha256 bytes
 
 -- a digest has as many bytes as its format says

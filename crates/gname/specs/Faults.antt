@@ -10,6 +10,17 @@ use Rattle.gname.specs.declared.ids.OidFault.TheVariants as id
 abbrev pub FaultRow : Type 0
 FaultRow = ℕ × List ℕ
 
+-- what faults of several crates have in common: out of memory for a repository, an answer or a buffer; the text of
+-- each fault that means out of memory, whatever its number; and that the parent of an object to be added is not held
+abbrev pub out_of_memory : FaultRow
+out_of_memory = (64, codes "Memory")
+
+abbrev pub out_of_memory_text : List ℕ
+out_of_memory_text = codes "out of memory"
+
+abbrev pub missing_parent : FaultRow
+missing_parent = (72, codes "MissingParent")
+
 -- the faults of object ids
 abbrev pub id_fault_row : OidFault → FaultRow
 id_fault_row id.Length = (1, codes "Length")
@@ -42,4 +53,4 @@ name_fault_text (name.Component at) =
 name_fault_text (name.DoubleDot at) = codes "two dots in a row at byte " ++ decimal at
 name_fault_text (name.AtBrace at) = codes "@{ at byte " ++ decimal at
 name_fault_text name.End = codes "a ref name does not end with a dot"
-name_fault_text name.Memory = codes "out of memory"
+name_fault_text name.Memory = out_of_memory_text

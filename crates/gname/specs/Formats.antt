@@ -12,6 +12,10 @@ id_length Sha256 = 32
 abbrev pub id_text_length : Format → ℕ
 id_text_length format = 2 * id_length format
 
+-- the most of them
+abbrev pub max_id_text : ℕ
+max_id_text = id_text_length Sha256
+
 -- the name of a format
 abbrev pub format_name : Format → List ℕ
 format_name Sha1 = codes "sha1"

@@ -13,36 +13,40 @@ use Rattle.gname.specs.declared.formats.Format.TheVariants.{Sha1, Sha256}
 use Rattle.gname.specs.declared.ids.OidFault.{OidFault}
 use Rattle.gname.specs.declared.ids.OidFault.TheVariants.{Length, Digit}
 
+-- the bytes of an object id
+abbrev pub Id : Type 0
+Id = List ℕ
+
 -- an object id of a format: so many bytes
-pub record IsIdOf (format : Format) (id : List ℕ) : Type 0 where
+pub record IsIdOf (format : Format) (id : Id) : Type 0 where
   pub long : length id ≡ id_length format
   pub bytes : IsBytes id
 
 -- the format of an object id, which its length tells
-abbrev pub format_of : List ℕ → Format
+abbrev pub format_of : Id → Format
 format_of id = if length id == id_length Sha1 then Sha1 else Sha256
 
 -- an object id: one of its format
-abbrev pub IsId : List ℕ → Type 0
+abbrev pub IsId : Id → Type 0
 IsId id = IsIdOf (format_of id) id
 
 -- ids are ordered by their formats, the one with the shorter ids first, and then by their bytes
-abbrev pub id_cmp : List ℕ → List ℕ → Ordering
+abbrev pub id_cmp : Id → Id → Ordering
 id_cmp = then_cmp (on (λ id. id_length (format_of id)) nat_cmp) (slice_cmp nat_cmp)
 
 -- the text is two hexadecimal digits for each byte of the id, each in either case
-pub record IsIdTextOf (format : Format) (text id : List ℕ) : Type 0 where
+pub record IsIdTextOf (format : Format) (text : List ℕ) (id : Id) : Type 0 where
   pub long : length text ≡ id_text_length format
   pub spells : decode_of text ≡ Ok id
 
-abbrev pub IsIdText : List ℕ → List ℕ → Type 0
+abbrev pub IsIdText : List ℕ → Id → Type 0
 IsIdText text id = IsIdTextOf (format_of id) text id
 
 -- the text of an id, in lower case and in upper case
-abbrev pub id_text : List ℕ → List ℕ
+abbrev pub id_text : Id → List ℕ
 id_text id = encode_lower id
 
-abbrev pub upper_id_text : List ℕ → List ℕ
+abbrev pub upper_id_text : Id → List ℕ
 upper_id_text id = encode_upper id
 
 -- place `at` of the text holds its first byte that is no hexadecimal digit
@@ -53,7 +57,7 @@ pub record IsFirstBadDigit (text : List ℕ) (at : ℕ) : Type 0 where
 
 -- what reading a text as an object id of a format answers: an id that it spells; that its length is wrong; or, of
 -- a text of the right length, the first byte that is no digit
-abbrev pub ReadsId : Format → List ℕ → Result (List ℕ) OidFault → Type 0
+abbrev pub ReadsId : Format → List ℕ → Result Id OidFault → Type 0
 ReadsId format text (Ok id) = IsIdTextOf format text id × IsIdOf format id
 ReadsId format text (Err Length) = length text ≢ id_text_length format
 ReadsId format text (Err (Digit at)) = (length text ≡ id_text_length format) × IsFirstBadDigit text at

@@ -3,7 +3,7 @@ use Rattle.std.specs.Prelude.{◌≡◌, ◌≢◌, ℕ, ◌<◌, ◌≤◌, Boo
 use Rattle.std.specs.Prelude.{MatchOption, Result, Ok}
 use Rattle.std.specs.List.{AllPass, starts_with}
 use Rattle.hex.specs.Hex.{is_hex_digit}
-use Rattle.gname.specs.Ids.{IsId, IsIdOf, IsIdText, IsIdTextOf, ReadsId, format_of, id_text, upper_id_text}
+use Rattle.gname.specs.Ids.{Id, IsId, IsIdOf, IsIdText, IsIdTextOf, ReadsId, format_of, id_text, upper_id_text}
 use Rattle.gname.specs.declared.formats.Format.{Format}
 use Rattle.gname.specs.Names.{IsPrefix, IsRefName, first_place, head_name, is_bad_byte, max_name, name_fault, prefix_fault}
 use Rattle.gname.specs.declared.ids.OidFault.{OidFault}
@@ -11,34 +11,34 @@ use Rattle.gname.specs.declared.faults.NameFault.TheVariants.{Memory}
 
 -- the text of an id spells it, in lower case and in upper case
 abbrev pub IdsHaveTexts : Type 0
-IdsHaveTexts = (id : List ℕ) → IsId id → IsIdText (id_text id) id × IsIdText (upper_id_text id) id
+IdsHaveTexts = (id : Id) → IsId id → IsIdText (id_text id) id × IsIdText (upper_id_text id) id
 
 -- the bytes of a text are above the control characters and the space: no LF, for one
 abbrev pub IsClean : List ℕ → Type 0
 IsClean text = All (λ b. 32 < b) text
 
 -- the text of an id is clean and of digits alone, and what it spells is an id
-pub record IdTextFacts (text id : List ℕ) : Type 0 where
+pub record IdTextFacts (text : List ℕ) (id : Id) : Type 0 where
   pub spelt : IsId id
   pub digits : AllPass is_hex_digit text
   pub clean : IsClean text
 
 abbrev pub IdTextsAreDigits : Type 0
-IdTextsAreDigits = (text id : List ℕ) → IsIdText text id → IdTextFacts text id
+IdTextsAreDigits = (text : List ℕ) (id : Id) → IsIdText text id → IdTextFacts text id
 
 -- a text spells one id
 abbrev pub TextsSpellOneId : Type 0
-TextsSpellOneId = (text a b : List ℕ) → IsIdText text a → IsIdText text b → a ≡ b
+TextsSpellOneId = (text : List ℕ) (a b : Id) → IsIdText text a → IsIdText text b → a ≡ b
 
 -- in each format a text has one reading: the id that it spells, where it spells one
 abbrev pub TextsHaveOneReading : Type 0
 TextsHaveOneReading = (format : Format) (text : List ℕ) →
-    ((id : List ℕ) → IsIdTextOf format text id → ReadsId format text (Ok id))
-    × ((a b : Result (List ℕ) OidFault) → ReadsId format text a → ReadsId format text b → a ≡ b)
+    ((id : Id) → IsIdTextOf format text id → ReadsId format text (Ok id))
+    × ((a b : Result Id OidFault) → ReadsId format text a → ReadsId format text b → a ≡ b)
 
 -- an id of a format is an id, and has that format alone
 abbrev pub IdsHaveOneFormat : Type 0
-IdsHaveOneFormat = (format : Format) (id : List ℕ) → IsIdOf format id → IsId id × (format_of id ≡ format)
+IdsHaveOneFormat = (format : Format) (id : Id) → IsIdOf format id → IsId id × (format_of id ≡ format)
 
 -- a ref name has a byte, is within the limit and clean, and has no byte that no name has; it is HEAD or begins with
 -- refs/; it is a prefix, too

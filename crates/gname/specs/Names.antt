@@ -10,6 +10,10 @@ use Rattle.gname.specs.declared.faults.NameFault.{NameFault}
 use Rattle.gname.specs.declared.faults.NameFault.TheVariants.{Empty, TooLong, NotRef, BadByte, Component, DoubleDot}
 use Rattle.gname.specs.declared.faults.NameFault.TheVariants.{AtBrace, End, Memory}
 
+-- the bytes of a ref name
+abbrev pub Name : Type 0
+Name = List ℕ
+
 -- a rule judges a text: the fault that it finds there, if it finds one
 abbrev pub Rule : Type 0
 Rule = List ℕ → Option NameFault
@@ -49,7 +53,7 @@ unfoldable pub too_long : Rule
 too_long text = if nat_lt max_name (length text) then Some TooLong else None
 
 -- the one name outside refs/
-abbrev pub head_name : List ℕ
+abbrev pub head_name : Name
 head_name = codes "HEAD"
 
 -- it is HEAD or begins with refs/

@@ -1,4 +1,4 @@
-//! The faults of ref names and prefixes.
+//! The faults of ref names and prefixes, and what faults of several crates above have in common.
 #![tactic(auto)]
 
 ghost use Rattle.std.specs.Prelude.{◌≡◌, Some};
@@ -8,6 +8,17 @@ ghost use Rattle.gname.specs.declared.faults.NameFault.TheVariants.{Memory};
 use std::alloc::AllocError;
 use std::error::Error;
 use std::fmt;
+
+/// The number and the name of the faults of several crates that mean out of memory for a repository, an answer
+/// or a buffer.
+pub const OUT_OF_MEMORY: (u32, &str) = (64, "Memory");
+
+/// The text of each fault that means out of memory, whatever its number.
+pub const OUT_OF_MEMORY_TEXT: &str = "out of memory";
+
+/// The number and the name of the faults of several crates that mean that the parent of an object, which is to be
+/// added, is not held.
+pub const MISSING_PARENT: (u32, &str) = (72, "MissingParent");
 
 /// Why a text is no ref name, or no prefix. A text may have several faults: the first in this order
 /// is reported, with its first position in the text.
@@ -48,8 +59,8 @@ impl NameFault {
         self.row().1
     }
 
-    // The table: the number and the name of each fault.
-    fn row(&self) -> (u32, &'static str)
+    /// The table: the number and the name of each fault.
+    pub fn row(&self) -> (u32, &'static str)
         ensures { (result.0, result.1.now) ≡ name_fault_row self.now }
     {
         match self {
@@ -82,7 +93,7 @@ impl fmt::Display for NameFault {
             NameFault::DoubleDot { at } => write!(f, "two dots in a row at byte {at}"),
             NameFault::AtBrace { at } => write!(f, "@{{ at byte {at}"),
             NameFault::End => f.write_str("a ref name does not end with a dot"),
-            NameFault::Memory => f.write_str("out of memory"),
+            NameFault::Memory => f.write_str(OUT_OF_MEMORY_TEXT),
         }
     }
 }

@@ -1,7 +1,7 @@
 //! Object ids.
 #![tactic(auto)]
 
-ghost use Rattle.std.specs.Prelude.{◌≡◌, ℕ, [], ◌∷◌, List, Some, take, drop, nat_eq};
+ghost use Rattle.std.specs.Prelude.{◌≡◌, ℕ, [], ◌∷◌, ◌++◌, List, OnOk, Some, take, drop, nat_eq};
 ghost use Rattle.std.proofs.Common.{rules};
 ghost use Rattle.std.specs.Ordering.{as_partial_cmp};
 ghost use Rattle.std.specs.Cmp as Cmp;
@@ -16,6 +16,7 @@ ghost use Rattle.gname.specs.Faults.{id_fault_row, id_fault_text};
 use crate::digits::{from_digits, write_digits};
 use crate::formats::Format;
 use hex::FromHexError;
+use std::alloc::{AllocError, Allocator};
 use std::cmp::Ordering;
 use std::error::Error;
 use std::fmt;
@@ -89,6 +90,15 @@ impl Oid {
         let len = 2 * bytes.len();
         write_digits(bytes, &mut out[..len]);
         len
+    }
+
+    /// Adds the digits of the id, in lower case, to a text. It fails only out of memory.
+    pub fn push_hex<A: Allocator + Copy>(&self, text: &mut Vec<u8, A>) -> Result<(), AllocError>
+        ensures { OnOk result (text.new.items ≡ text.old.items ++ id_text self.now) }
+    {
+        let mut digits = [0; MAX_ID_TEXT];
+        let count = self.to_hex(&mut digits);
+        text.extend_from_slice(&digits[..count])
     }
 
     /// The format of the id.

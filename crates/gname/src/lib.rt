@@ -5,8 +5,8 @@
 //!
 //! - [`Oid::from_hex_in`] reads exactly the texts of forty hexadecimal digits, or sixty-four in
 //!   SHA-256, in either case, and reports of each other text what is wrong with it and where.
-//!   [`Oid::to_hex`] writes the one text in lower case, which reads back as the id. An id has one
-//!   [`Format`].
+//!   [`Oid::to_hex`] writes the one text in lower case, which reads back as the id, and [`Oid::push_hex`]
+//!   adds it to a text. An id has one [`Format`].
 //! - [`RefName::new`], [`RefName::check`] and [`Prefix::new`] accept exactly the names and prefixes that
 //!   the rules of git-check-ref-format(1) allow, and report of each other text the first fault in one
 //!   fixed order, with its first position. Out of memory is reported of a well-formed text alone, and
@@ -19,7 +19,8 @@
 //!   be keys of a map.
 //! - A name or a prefix has at most [`MAX_NAME`] bytes, and no control character or space. [`MAX_NAME`],
 //!   [`MAX_ID_TEXT`] and [`MAX_PACK`] are the limits that the definitions name.
-//! - Each fault has the number, the name and the text of its row.
+//! - Each fault has the number, the name and the text of its row. [`OUT_OF_MEMORY`], [`OUT_OF_MEMORY_TEXT`] and
+//!   [`MISSING_PARENT`] are what faults of the crates above have in common.
 //! - No call panics, overflows or reads out of bounds, and each returns.
 //!
 //! [`laws`] say more of ids, names and prefixes, for the proofs of other crates.
@@ -51,7 +52,7 @@ mod names;
 mod prefixes;
 mod rules;
 
-pub use crate::faults::NameFault;
+pub use crate::faults::{MISSING_PARENT, NameFault, OUT_OF_MEMORY, OUT_OF_MEMORY_TEXT};
 pub use crate::formats::Format;
 pub use crate::ids::{MAX_ID_TEXT, Oid, OidFault};
 pub use crate::limits::MAX_PACK;

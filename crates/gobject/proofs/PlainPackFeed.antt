@@ -9,8 +9,10 @@ use Rattle.gname.specs.Laws.{IdTextsAreDigits}
 use Rattle.gobject.specs.PlainPackText.{IsPack, IsBadLine, IndexRefuses}
 use Rattle.gobject.specs.declared.plain_pack.read.Separator.{Separator}
 use Rattle.gobject.specs.declared.plain_pack.read.Next.TheVariants.{Header}
-use Rattle.gobject.specs.PlainPackReading.{IsPart, separator_byte, line_number, HasRead, Reads, Finishes}
-use Rattle.gobject.specs.PlainPackFeed.{Fed, Feeds}
+use Rattle.gobject.specs.PlainPackReading.{IsPart, HasRead}
+use Rattle.gobject.specs.steps.PlainPackReading.{separator_byte, line_number, Reads, Finishes}
+use Rattle.gobject.specs.PlainPackFeed.{Fed}
+use Rattle.gobject.specs.steps.PlainPackFeed.{Feeds}
 use Rattle.gobject.proofs.PlainPackLines.{IsPart-nil, IsPart-append}
 use Rattle.gobject.proofs.PlainPackReading.{IsBadLine-long}
 

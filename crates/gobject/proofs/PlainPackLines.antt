@@ -18,7 +18,8 @@ use Rattle.gobject.specs.declared.node.Kind.TheVariants.{Commit, Tag}
 use Rattle.gobject.specs.declared.plain_pack.read.Separator.{Separator}
 use Rattle.gobject.specs.declared.plain_pack.read.Separator.TheVariants.{Space, LineFeed}
 use Rattle.gobject.specs.PlainPackText.{line, text_of, header, letter, IsInLine, IsIdsText}
-use Rattle.gobject.specs.PlainPackReading.{IsPart, NoId, format_of_digits, separator_byte}
+use Rattle.gobject.specs.PlainPackReading.{IsPart}
+use Rattle.gobject.specs.steps.PlainPackReading.{NoId, format_of_digits, separator_byte}
 
 -- ---- parts
 

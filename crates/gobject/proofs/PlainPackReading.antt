@@ -11,7 +11,9 @@ use Rattle.gobject.specs.declared.plain_pack.read.Next.{Next}
 use Rattle.gobject.specs.declared.plain_pack.read.Next.TheVariants.{Header, Word, Id, Parent, Count, Nothing}
 use Rattle.gobject.specs.Objects.{entry_of, node_of}
 use Rattle.gobject.specs.PlainPackText.{line, text_of, header, letter, ids_of, end_text, IsNodeText, AreNodeTexts, ArePackLines, IsPack, BeginsPack, IsWrongLine, EndsEarly, IsBadLine, TakesMemory}
-use Rattle.gobject.specs.PlainPackReading.{IsPart, separator_byte, with_parent, EndsId, IsKept, Leads, NeverLeads, line_number, HasRead}
+use Rattle.gobject.specs.PlainPackReading.{IsPart, HasRead}
+use Rattle.gobject.specs.steps.PlainPackReading.{separator_byte, with_parent, EndsId, IsKept, Leads, NeverLeads}
+use Rattle.gobject.specs.steps.PlainPackReading.{line_number}
 use Rattle.gobject.proofs.PlainPackFronts.{AreNodeTexts-length, IsFront, MayCome, BeginsPack-front, IsFront-pack, comes_next, whole_no_front}
 use Rattle.gobject.proofs.PlainPackLines.{IsPart-id, IsPart-letter, letter_no_end, IsPart-end, IsPart-decimal, IsPart-header, length-decimal-most, length-id-most, part_one, part_long, part_none, first_line, text_of-push, id_follows, ids_rest, IsIdsText-push}
 

@@ -6,7 +6,7 @@ use Rattle.std.proofs.lemmas.List.Concat.{flat_map-append}
 use Rattle.gname.specs.Ids.{id_text}
 use Rattle.gobject.specs.declared.node.Entry.{Entry}
 use Rattle.gobject.specs.PlainPackText.{line, text_of, ids_text, ids_of, header, node_text, end_text, pack_text}
-use Rattle.gobject.specs.PlainPackWriting.{nodes_text}
+use Rattle.gobject.specs.steps.PlainPackWriting.{nodes_text}
 use Rattle.gobject.proofs.PlainPackLines.{text_of-push}
 
 -- the pieces of a list up to a position, and the piece at that position

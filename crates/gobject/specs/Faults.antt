@@ -1,7 +1,7 @@
 -- The table of faults: the number, the name and the text of each.
 use Rattle.std.specs.Prelude.{ℕ, List, ◌++◌, codes}
 use Rattle.std.specs.Fmt.{decimal}
-use Rattle.gname.specs.Faults.{FaultRow}
+use Rattle.gname.specs.Faults.{FaultRow, out_of_memory_text}
 use Rattle.gobject.specs.declared.fault.PackFault.{PackFault}
 use Rattle.gobject.specs.declared.fault.PackFault.TheVariants as pack
 use Rattle.gobject.specs.declared.fault.IndexFault.{IndexFault}
@@ -9,23 +9,19 @@ use Rattle.gobject.specs.declared.fault.IndexFault.TheVariants as index
 
 -- why entries were not packed: one number for all causes
 abbrev pub pack_fault_row : PackFault → FaultRow
-pack_fault_row pack.Memory = (65, codes "Pack")
-pack_fault_row pack.TooLarge = (65, codes "Pack")
-pack_fault_row pack.Other = (65, codes "Pack")
+pack_fault_row _ = (65, codes "Pack")
 
 -- why bytes were not read as a pack: one number for all causes
 abbrev pub index_fault_row : IndexFault → FaultRow
-index_fault_row index.Memory = (66, codes "Index")
-index_fault_row (index.Bad line) = (66, codes "Index")
-index_fault_row index.Other = (66, codes "Index")
+index_fault_row _ = (66, codes "Index")
 
 -- their texts
 abbrev pub pack_fault_text : PackFault → List ℕ
-pack_fault_text pack.Memory = codes "out of memory"
+pack_fault_text pack.Memory = out_of_memory_text
 pack_fault_text pack.TooLarge = codes "the pack is too large"
 pack_fault_text pack.Other = codes "the packer failed"
 
 abbrev pub index_fault_text : IndexFault → List ℕ
-index_fault_text index.Memory = codes "out of memory"
+index_fault_text index.Memory = out_of_memory_text
 index_fault_text (index.Bad line) = codes "line " ++ decimal line ++ codes " of the pack is wrong"
 index_fault_text index.Other = codes "the indexer failed"

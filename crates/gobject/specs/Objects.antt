@@ -2,30 +2,30 @@
 use Rattle.std.specs.Prelude.{◌≡◌, ℕ, ◌≤◌, ⊤, Bool, List, [], ◌∷◌, length, find, position, All, Option, None}
 use Rattle.std.specs.Str.{bytes_eq}
 use Rattle.std.specs.Option.{option_map}
-use Rattle.gname.specs.Ids.{IsId}
+use Rattle.gname.specs.Ids.{Id, IsId}
 use Rattle.gobject.specs.declared.node.Kind.{Kind}
 use Rattle.gobject.specs.declared.node.Kind.TheVariants.{Tag}
 use Rattle.gobject.specs.declared.node.Node.{Node}
 use Rattle.gobject.specs.declared.node.Entry.{Entry}
 
 -- a kind with its parents
-abbrev pub node_of : {A : Type 0} → Kind → List (List ℕ) → Node A
+abbrev pub node_of : {A : Type 0} → Kind → List Id → Node A
 node_of kind parents = record { kind = kind; parents = parents }
 
 -- an id with its node
-abbrev pub entry_of : {A : Type 0} → List ℕ → Node A → Entry A
+abbrev pub entry_of : {A : Type 0} → Id → Node A → Entry A
 entry_of a node = record { id = a; node = node }
 
 -- whether an entry has the id
-abbrev pub has_id : {A : Type 0} → List ℕ → Entry A → Bool
+abbrev pub has_id : {A : Type 0} → Id → Entry A → Bool
 has_id a entry = bytes_eq entry.id a
 
 -- the node of the first entry with the id; where ids differ, of the only one
-abbrev pub node_at : {A : Type 0} → List (Entry A) → List ℕ → Option (Node A)
+abbrev pub node_at : {A : Type 0} → List (Entry A) → Id → Option (Node A)
 node_at g a = option_map (λ entry. entry.node) (find (has_id a) g)
 
 -- the position of that entry
-abbrev pub place_of : {A : Type 0} → List (Entry A) → List ℕ → Option ℕ
+abbrev pub place_of : {A : Type 0} → List (Entry A) → Id → Option ℕ
 place_of g a = position (has_id a) g
 
 -- the id of an entry and those of its parents are object ids

@@ -1,88 +1,15 @@
--- Reading a plain pack part by part: what comes next, what may come, and what was read.
-use Rattle.std.specs.Prelude.{◌≡◌, ◌≢◌, ◌==◌, if◌then◌else◌, ℕ, ◌+◌, List, [], ◌∷◌, ◌++◌, length, slice_index}
-use Rattle.std.specs.Prelude.{codes, decimal, Result, MatchResult, Vec}
-use Rattle.gname.specs.declared.formats.Format.{Format}
-use Rattle.gname.specs.declared.formats.Format.TheVariants.{Sha1, Sha256}
-use Rattle.gname.specs.Formats.{id_text_length}
-use Rattle.gname.specs.Ids.{IsIdText}
+-- What was read of a plain pack, part by part.
+use Rattle.std.specs.Prelude.{◌≡◌, ◌≢◌, ℕ, List, [], ◌∷◌, ◌++◌, slice_index, codes}
 use Rattle.gobject.specs.declared.node.Entry.{Entry}
-use Rattle.gobject.specs.declared.fault.IndexFault.{IndexFault}
-use Rattle.gobject.specs.declared.plain_pack.read.Separator.{Separator}
-use Rattle.gobject.specs.declared.plain_pack.read.Separator.TheVariants.{Space, LineFeed}
 use Rattle.gobject.specs.declared.plain_pack.read.Next.{Next}
-use Rattle.gobject.specs.declared.plain_pack.read.Next.TheVariants.{Header, Word, Id, Parent, Count, Nothing}
-use Rattle.gobject.specs.declared.plain_pack.read.Lines.{Lines}
-use Rattle.gobject.specs.Objects.{entry_of, node_of}
-use Rattle.gobject.specs.PlainPackText.{text_of, header, letter, IsNodeText, AreNodeTexts, ArePackLines, IsPack}
-use Rattle.gobject.specs.PlainPackText.{IndexRefuses}
+use Rattle.gobject.specs.declared.plain_pack.read.Next.TheVariants.{Header, Id, Parent, Count, Nothing}
+use Rattle.gobject.specs.PlainPackText.{text_of, header, letter, IsNodeText, AreNodeTexts, ArePackLines}
 
 -- neither a space nor a line feed is in the text
 abbrev pub IsPart : List ℕ → Type 0
 IsPart text = (at : ℕ) → (slice_index text at ≢ 32) × (slice_index text at ≢ 10)
 
--- the byte that ends a part
-abbrev pub separator_byte : Separator → ℕ
-separator_byte Space = 32
-separator_byte LineFeed = 10
-
--- a text begins with this part, which this ends, and this follows
-pub record SplitsPart (text part : List ℕ) (separator : Separator) (rest : List ℕ) : Type 0 where
-  pub whole : text ≡ part ++ separator_byte separator ∷ rest
-  pub unbroken : IsPart part
-
--- the format of an id with so many digits
-abbrev pub format_of_digits : ℕ → Format
-format_of_digits n = if n == id_text_length Sha256 then Sha256 else Sha1
-
--- a text is that of no id
-abbrev pub NoId : List ℕ → Type 0
-NoId text = (id : List ℕ) → IsIdText text id → ⊥
-
--- ---- what may come, and what comes after it
-
--- the entry with one more parent
-abbrev pub with_parent : {A : Type 0} → Entry A → List ℕ → Entry A
-with_parent entry id = entry_of entry.id (node_of entry.node.kind (entry.node.parents ++ id ∷ []))
-
--- the word that a line begins with, and what comes after it
-abbrev pub IsWord : {A : Type 0} → List ℕ → Next A → Type 0
-IsWord part (Id kind) = part ≡ letter kind ∷ []
-IsWord part Count = part ≡ codes "end"
-IsWord part _ = ⊥
-
--- after an id of the entry a space announces one more parent, and a line feed ends its line
-abbrev pub EndsId : {A : Type 0} → List (Entry A) → Entry A → Separator → Next A → List (Entry A) → Type 0
-EndsId old entry Space next new = (next ≡ Parent entry) × (new ≡ old)
-EndsId old entry LineFeed next new = (next ≡ Word) × (new ≡ old ++ entry ∷ [])
-
--- this part may come next, where these entries are read; what comes after it, and the entries then
-abbrev pub Leads : {A : Type 0} → Next A → List (Entry A) → List ℕ → Separator → Next A → List (Entry A) → Type 0
-Leads Header old part LineFeed next new = (part ≡ header) × (next ≡ Word) × (new ≡ old)
-Leads Word old part Space next new = IsWord part next × (new ≡ old)
-Leads (Id kind) old part end next new =
-    (id : List ℕ) × IsIdText part id × EndsId old (entry_of id (node_of kind [])) end next new
-Leads (Parent entry) old part end next new =
-    (id : List ℕ) × IsIdText part id × EndsId old (with_parent entry id) end next new
-Leads Count old part LineFeed next new = (part ≡ decimal (length old)) × (next ≡ Nothing) × (new ≡ old)
-Leads _ old part end next new = ⊥
-
--- this part may not come next
-abbrev pub NeverLeads : {A : Type 0} → Next A → List (Entry A) → List ℕ → Separator → Type 0
-NeverLeads {A} next list part end = (after : Next A) (new : List (Entry A)) → Leads next list part end after new → ⊥
-
--- something is kept at the part: a parent, or an entry at the end of its line
-abbrev pub IsKept : {A : Type 0} → Next A → List ℕ → Separator → Type 0
-IsKept (Id kind) part LineFeed = (id : List ℕ) × IsIdText part id
-IsKept (Parent entry) part end = (id : List ℕ) × IsIdText part id
-IsKept _ part end = ⊥
-
 -- ---- what was read
-
--- which line, counted from 1, the next part stands in, after so many entries
-abbrev pub line_number : {A : Type 0} → Next A → ℕ → ℕ
-line_number Header n = 1
-line_number Nothing n = n + 3
-line_number _ n = n + 2
 
 -- the lines before the one that the next part stands in
 abbrev pub AreLines : {A : Type 0} → Next A → List (Entry A) → List (List ℕ) → Type 0
@@ -104,21 +31,3 @@ pub record HasRead {A : Type 0} (next : Next A) (list : List (Entry A)) (bytes :
   pub parts : bytes ≡ text_of front ++ opening
   pub lines : AreLines next list front
   pub opens : IsOpening next opening
-
--- the part and what ends it are read after the bytes before them, or refused whatever follows
-abbrev pub Reads : {A : Type 0} → Lines A → Lines A → Result (Unit {0}) IndexFault → List ℕ → Separator → Type 0
-Reads {A} old new result part end =
-    MatchResult result
-    (λ _. (before : List ℕ) → IsPart part → HasRead old.next old.entries.items before →
-    HasRead new.next new.entries.items (before ++ (part ++ separator_byte end ∷ [])))
-    (λ fault. (before more : List ℕ) → IsPart part → HasRead old.next old.entries.items before →
-    IndexRefuses A ((before ++ (part ++ separator_byte end ∷ [])) ++ more) fault)
-
--- the input ends with a part that has not ended: it is a pack of the entries, or refused
-abbrev pub Finishes : {A : Type 0} → Lines A → Result (Vec (Entry A) A) IndexFault → List ℕ → Type 0
-Finishes {A} lines result part =
-    MatchResult result
-    (λ entries. (before : List ℕ) → IsPart part → HasRead lines.next lines.entries.items before →
-    IsPack (before ++ part) entries.items)
-    (λ fault. (before : List ℕ) → IsPart part → HasRead lines.next lines.entries.items before →
-    IndexRefuses A (before ++ part) fault)

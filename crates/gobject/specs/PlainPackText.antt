@@ -4,7 +4,7 @@
 use Rattle.std.specs.Prelude.{◌≡◌, ◌≢◌, ◌⊎◌, ⊤, ℕ, ◌+◌, ◌<◌, ◌≤◌, List, [], ◌∷◌, ◌++◌, length, map, slice_index, codes}
 use Rattle.std.specs.Prelude.{decimal}
 use Rattle.std.specs.List.{flat_map}
-use Rattle.gname.specs.Ids.{IsIdText, id_text}
+use Rattle.gname.specs.Ids.{Id, IsIdText, id_text}
 use Rattle.gname.specs.Limits.{max_pack}
 use Rattle.gobject.specs.declared.node.Kind.{Kind}
 use Rattle.gobject.specs.declared.node.Kind.TheVariants.{Commit, Tag}
@@ -35,11 +35,11 @@ letter Commit = 99
 letter Tag = 116
 
 -- the ids of an entry's line: its own, and its parents'
-abbrev pub ids_of : {A : Type 0} → Entry A → List (List ℕ)
+abbrev pub ids_of : {A : Type 0} → Entry A → List Id
 ids_of entry = entry.id ∷ entry.node.parents
 
 -- some ids, each after a space
-abbrev pub ids_text : List (List ℕ) → List ℕ
+abbrev pub ids_text : List Id → List ℕ
 ids_text ids = flat_map (λ id. 32 ∷ id_text id) ids
 
 -- the line of an entry
@@ -67,7 +67,7 @@ PackRefuses text pack_faults.Other = ⊥
 -- ---- what is read: the same, with the digits of ids in either case
 
 -- a space and a text of the id, for each of the ids
-abbrev pub IsIdsText : List ℕ → List (List ℕ) → Type 0
+abbrev pub IsIdsText : List ℕ → List Id → Type 0
 IsIdsText text [] = text ≡ []
 IsIdsText text (id ∷ ids) =
     (digits more : List ℕ) × (text ≡ 32 ∷ digits ++ more) × IsIdText digits id × IsIdsText more ids

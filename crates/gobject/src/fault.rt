@@ -6,6 +6,7 @@ ghost use Rattle.gobject.specs.Faults.{index_fault_row, index_fault_text, pack_f
 ghost use Rattle.gobject.specs.declared.fault.PackFault.TheVariants as pack_faults;
 ghost use Rattle.gobject.specs.declared.fault.IndexFault.TheVariants as index_faults;
 
+use gname::OUT_OF_MEMORY_TEXT;
 use std::alloc::{AllocError, AllocFailed};
 use std::error::Error;
 use std::fmt;
@@ -36,13 +37,11 @@ impl PackFault {
         self.row().1
     }
 
-    // The table: the number and the name of each fault.
+    // The number and the name, which are one for all causes.
     fn row(&self) -> (u32, &'static str)
         ensures { (result.0, result.1.now) ≡ pack_fault_row self.now }
     {
-        match self {
-            PackFault::Memory | PackFault::TooLarge | PackFault::Other => (65, "Pack"),
-        }
+        (65, "Pack")
     }
 }
 
@@ -51,7 +50,7 @@ impl fmt::Display for PackFault {
 
     fn fmt<W: fmt::Write>(&self, f: &mut fmt::Formatter<W>) -> fmt::Result {
         match self {
-            PackFault::Memory => f.write_str("out of memory"),
+            PackFault::Memory => f.write_str(OUT_OF_MEMORY_TEXT),
             PackFault::TooLarge => f.write_str("the pack is too large"),
             PackFault::Other => f.write_str("the packer failed"),
         }
@@ -86,13 +85,11 @@ impl IndexFault {
         self.row().1
     }
 
-    // The table: the number and the name of each fault.
-    fn row(&self) -> (u32, &'static str)
+    /// The number and the name, which are one for all causes.
+    pub fn row(&self) -> (u32, &'static str)
         ensures { (result.0, result.1.now) ≡ index_fault_row self.now }
     {
-        match self {
-            IndexFault::Memory | IndexFault::Bad { .. } | IndexFault::Other => (66, "Index"),
-        }
+        (66, "Index")
     }
 }
 
@@ -101,7 +98,7 @@ impl fmt::Display for IndexFault {
 
     fn fmt<W: fmt::Write>(&self, f: &mut fmt::Formatter<W>) -> fmt::Result {
         match self {
-            IndexFault::Memory => f.write_str("out of memory"),
+            IndexFault::Memory => f.write_str(OUT_OF_MEMORY_TEXT),
             IndexFault::Bad { line } => write!(f, "line {line} of the pack is wrong"),
             IndexFault::Other => f.write_str("the indexer failed"),
         }

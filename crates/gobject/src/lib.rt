@@ -6,6 +6,7 @@
 //! - A copy of a node or an entry equals it. [`Node::is_same`] compares kind and
 //!   parents, in order; [`Node::is_shaped`] holds exactly of nodes with at most [`MAX_PARENTS`]
 //!   parents, and exactly one where it is a tag.
+//! - [`Node::push_line`] adds the one line of an object to a text.
 //! - [`PlainPack`] writes the one text of a list, of at most `gname::MAX_PACK` bytes, and refuses as
 //!   too large exactly the lists whose text is longer. It reads exactly such texts, with ids in either
 //!   case, and reports of any other bytes the first line that is wrong; in pieces, cut anywhere, as whole.
@@ -39,6 +40,7 @@
 
 mod fault;
 pub mod laws;
+mod line;
 mod node;
 mod pack;
 mod plain_pack;

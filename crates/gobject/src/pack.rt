@@ -50,15 +50,18 @@ pub trait Indexer<A: Allocator + Copy> {
     /// the pieces fed, this one included. The feed is of no use after a fault: drop it.
     fn feed(&self, feed: &mut Self::Feed, piece: &[u8]) -> Result<(), IndexFault>
         ensures { MatchResult result
-            (λ _. ((given : List ℕ) → fed self.now feed.old given → fed self.now feed.new (given ++ piece.now)))
+            (λ _. ((given : List ℕ) → fed self.now feed.old given
+            → fed self.now feed.new (given ++ piece.now)))
             (λ fault. ((given more : List ℕ) → fed self.now feed.old given
             → index_fails self.now ((given ++ piece.now) ++ more) fault)) };
 
     /// The entries of the pack whose pieces were fed, in order. A fault here is of these pieces.
     fn finish(&self, feed: Self::Feed) -> Result<Vec<Entry<A>, A>, IndexFault>
         ensures { MatchResult result
-            (λ entries. ((given : List ℕ) → fed self.now feed given → indexes self.now given entries.items))
-            (λ fault. ((given : List ℕ) → fed self.now feed given → index_fails self.now given fault)) };
+            (λ entries. ((given : List ℕ) → fed self.now feed given
+            → indexes self.now given entries.items))
+            (λ fault. ((given : List ℕ) → fed self.now feed given
+            → index_fails self.now given fault)) };
 
     /// The entries of a pack that is given whole, in its order. It fails as the calls on a feed do.
     fn index(&self, alloc: A, bytes: &[u8]) -> Result<Vec<Entry<A>, A>, IndexFault>

@@ -7,7 +7,7 @@ use Rattle.gpkt.specs.declared.fault.LineFault.TheVariants.{BadDigits, Reserved,
 use Rattle.gpkt.specs.Change.{Change}
 use Rattle.gpkt.specs.Packets.{Data, Spells, max_packet, max_payload, number_of}
 use Rattle.gpkt.specs.LineReading.{Gives, Reads, IsPartialLine}
-use Rattle.gpkt.specs.Heads.{ReadsHead, ReadsPayload}
+use Rattle.gpkt.specs.steps.Heads.{ReadsHead, ReadsPayload}
 
 abbrev pub change : Option (List ℕ) → Option (List ℕ) → Change
 change old new = record { old = old; new = new }

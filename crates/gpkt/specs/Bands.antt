@@ -1,17 +1,17 @@
 -- Side bands (gitprotocol-pack(5), "Packfile Data"; gitprotocol-v2(5), "fetch", "packfile"): the first byte
 -- of a payload says what the others are.
-use Rattle.std.specs.Prelude.{◌≡◌, ℕ, ◌-◌, ◌≤◌, ◌↔◌, List, [], ◌∷◌, length, if◌then◌else◌, ◌==◌, Result, Ok, Err}
+use Rattle.std.specs.Prelude.{◌≡◌, ℕ, ◌-◌, ◌≤◌, ◌↔◌, [], ◌∷◌, length, if◌then◌else◌, ◌==◌, Result, Ok, Err}
 use Rattle.gpkt.specs.declared.fault.BandFault.{BandFault}
 use Rattle.gpkt.specs.declared.fault.BandFault.TheVariants.{NoBand, BadBand}
-use Rattle.gpkt.specs.Packets.{max_payload}
+use Rattle.gpkt.specs.Packets.{Bytes, max_payload}
 use Rattle.gpkt.specs.declared.band.Band.{Band}
 use Rattle.gpkt.specs.declared.band.Band.TheVariants as lent
 
 -- what a payload says: bytes of the pack, progress to be shown, or why the sender gives up
 pub data BandPacket : Type 0 where
-  Data : (bytes : List ℕ) → BandPacket
-  Progress : (bytes : List ℕ) → BandPacket
-  Fatal : (bytes : List ℕ) → BandPacket
+  Data : (bytes : Bytes) → BandPacket
+  Progress : (bytes : Bytes) → BandPacket
+  Fatal : (bytes : Bytes) → BandPacket
 
 -- the byte of each band
 abbrev pub data_band : ℕ
@@ -28,26 +28,26 @@ abbrev pub max_band : ℕ
 max_band = max_payload - 1
 
 -- the bytes of a packet on a band
-abbrev pub band_bytes : BandPacket → List ℕ
+abbrev pub band_bytes : BandPacket → Bytes
 band_bytes (Data bytes) = bytes
 band_bytes (Progress bytes) = bytes
 band_bytes (Fatal bytes) = bytes
 
 -- the payload of a packet on a band
-abbrev pub band_payload : BandPacket → List ℕ
+abbrev pub band_payload : BandPacket → Bytes
 band_payload (Data bytes) = data_band ∷ bytes
 band_payload (Progress bytes) = progress_band ∷ bytes
 band_payload (Fatal bytes) = fatal_band ∷ bytes
 
 -- what a payload says by its first byte
-abbrev pub band_at : ℕ → List ℕ → Result BandPacket BandFault
+abbrev pub band_at : ℕ → Bytes → Result BandPacket BandFault
 band_at first bytes =
     if first == data_band then Ok (Data bytes)
     else if first == progress_band then Ok (Progress bytes)
     else if first == fatal_band then Ok (Fatal bytes)
     else Err BadBand
 
-unfoldable pub band_form : List ℕ → Result BandPacket BandFault
+unfoldable pub band_form : Bytes → Result BandPacket BandFault
 band_form [] = Err NoBand
 band_form (first ∷ bytes) = band_at first bytes
 
@@ -66,7 +66,7 @@ abbrev pub BandIsRead : Type 0
 BandIsRead = (band : BandPacket) → band_form (band_payload band) ≡ Ok band
 
 abbrev pub BandIsPayload : Type 0
-BandIsPayload = (payload : List ℕ) (band : BandPacket) → band_form payload ≡ Ok band → payload ≡ band_payload band
+BandIsPayload = (payload : Bytes) (band : BandPacket) → band_form payload ≡ Ok band → payload ≡ band_payload band
 
 -- a packet can carry the payload exactly where its bytes are few enough for a band
 abbrev pub BandFits : Type 0

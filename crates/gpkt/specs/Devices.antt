@@ -1,10 +1,10 @@
 -- Devices, and what their calls say beside the bytes that they read or wrote.
-use Rattle.std.specs.Prelude.{◌≡◌, ℕ, ◌<◌, Bool, List, ◌++◌, length, Option, Result, IfOk, IsErr, IsSome, IsTrue, refl}
-use Rattle.std.specs.Coded.{Coded, code_by, coded×, coded_bool, coded_list, coded_ℕ}
+use Rattle.std.specs.Prelude.{◌≡◌, ℕ, ◌<◌, Bool, ◌++◌, length, Option, Result, IfOk, IsErr, IsSome, IsTrue}
 use Rattle.gpkt.specs.Change.{Change, WhereKnown}
+use Rattle.gpkt.specs.Packets.{Bytes}
 
 -- a write of some bytes took some
-abbrev pub TakesSome : {E : Type 0} → Result ℕ E → List ℕ → Type 0
+abbrev pub TakesSome : {E : Type 0} → Result ℕ E → Bytes → Type 0
 TakesSome result bytes = 0 < length bytes → IfOk result (λ count. 0 < count)
 
 -- a device that is down answers so
@@ -12,38 +12,21 @@ abbrev pub AnswersDown : {A E : Type 0} → Bool → Result A E → Type 0
 AnswersDown was_down result = IsTrue was_down → IsErr result
 
 -- where it was known which bytes were passed on, all that were written now are
-abbrev pub PassesAll : Option (List ℕ) → Change → Type 0
+abbrev pub PassesAll : Option Bytes → Change → Type 0
 PassesAll written passed_on = IsSome passed_on.old → passed_on.new ≡ written
 
 -- where it was known which bytes were passed on, these are still passed on, and perhaps more
 abbrev pub KeepsPassed : Change → Type 0
-KeepsPassed passed_on = WhereKnown passed_on (λ old new. (more : List ℕ) × (new ≡ old ++ more))
+KeepsPassed passed_on = WhereKnown passed_on (λ old new. (more : Bytes) × (new ≡ old ++ more))
 
 -- a device: what it reads from or writes to, and whether it has failed
 pub record Device (X : Type 0) : Type 0 where
   pub inner : X
   pub down : Bool
 
--- a device is its two parts, which the checker of clauses asks for
-abbrev pub device_code : {X : Type 0} → Coded X → Coded (Device X)
-device_code {X} code =
-    code_by (X × Bool) (coded× code coded_bool) (λ d. (d.inner, d.down))
-    (λ p. record { inner = p.0; down = p.1 }) (λ _. refl)
-
 -- a sink in memory: what was written, what of it was passed on, how often it was flushed, and whether it has failed
 pub record Written : Type 0 where
-  pub bytes : List ℕ
-  pub passed_on : List ℕ
+  pub bytes : Bytes
+  pub passed_on : Bytes
   pub flushes : ℕ
   pub down : Bool
-
--- bytes are a list of numbers
-abbrev pub bytes_code : Coded (List ℕ)
-bytes_code = coded_list coded_ℕ
-
--- a sink in memory is its four parts
-abbrev pub written_code : Coded Written
-written_code =
-    code_by (List ℕ × (List ℕ × (ℕ × Bool))) (coded× bytes_code (coded× bytes_code (coded× coded_ℕ coded_bool)))
-    (λ w. (w.bytes, (w.passed_on, (w.flushes, w.down))))
-    (λ p. record { bytes = p.0; passed_on = p.1.0; flushes = p.1.1.0; down = p.1.1.1 }) (λ _. refl)

@@ -1,5 +1,5 @@
 -- The tables of faults: the number, the name and the text of each.
-use Rattle.std.specs.Prelude.{ℕ, List, codes}
+use Rattle.std.specs.Prelude.{ℕ, codes}
 use Rattle.gpkt.specs.declared.device.Down.{Down}
 use Rattle.gpkt.specs.declared.fault.LineFault.{LineFault}
 use Rattle.gpkt.specs.declared.fault.LineFault.TheVariants as line
@@ -7,10 +7,11 @@ use Rattle.gpkt.specs.declared.fault.WriteFault.{WriteFault}
 use Rattle.gpkt.specs.declared.fault.WriteFault.TheVariants as write
 use Rattle.gpkt.specs.declared.fault.BandFault.{BandFault}
 use Rattle.gpkt.specs.declared.fault.BandFault.TheVariants as band
+use Rattle.gpkt.specs.Packets.{Bytes}
 
 -- a number and a name
 abbrev pub FaultRow : Type 0
-FaultRow = ℕ × List ℕ
+FaultRow = ℕ × Bytes
 
 -- why a packet was not read
 abbrev pub line_fault_row : LineFault → FaultRow
@@ -24,7 +25,7 @@ line_fault_row line.Memory = (28, codes "Memory")
 
 -- why a packet was not written
 abbrev pub write_fault_row : WriteFault → FaultRow
-write_fault_row write.Failed = (25, codes "Failed")
+write_fault_row write.Failed = line_fault_row line.Failed
 write_fault_row write.Payload = (26, codes "Payload")
 write_fault_row write.Io = (27, codes "Io")
 
@@ -34,7 +35,7 @@ band_fault_row band.NoBand = (29, codes "NoBand")
 band_fault_row band.BadBand = (30, codes "BadBand")
 
 -- their texts
-abbrev pub line_fault_text : LineFault → List ℕ
+abbrev pub line_fault_text : LineFault → Bytes
 line_fault_text line.BadDigits = codes "bad packet length"
 line_fault_text line.Reserved = codes "reserved packet length"
 line_fault_text line.TooLong = codes "packet too long"
@@ -43,14 +44,14 @@ line_fault_text line.Io = codes "the source failed"
 line_fault_text line.Failed = codes "an earlier read had failed"
 line_fault_text line.Memory = codes "out of memory"
 
-abbrev pub write_fault_text : WriteFault → List ℕ
+abbrev pub write_fault_text : WriteFault → Bytes
 write_fault_text write.Failed = codes "an earlier write had failed"
 write_fault_text write.Payload = codes "payload too long"
 write_fault_text write.Io = codes "the sink failed"
 
-abbrev pub band_fault_text : BandFault → List ℕ
+abbrev pub band_fault_text : BandFault → Bytes
 band_fault_text band.NoBand = codes "no band"
 band_fault_text band.BadBand = codes "bad band"
 
-abbrev pub down_text : Down → List ℕ
+abbrev pub down_text : Down → Bytes
 down_text fault = codes "the device failed"

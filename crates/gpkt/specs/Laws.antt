@@ -8,7 +8,7 @@ use Rattle.gpkt.specs.declared.fault.WriteFault.{WriteFault}
 use Rattle.gpkt.specs.declared.fault.WriteFault.TheVariants as write_fault
 use Rattle.gpkt.specs.Change.{change_of}
 use Rattle.gpkt.specs.Devices.{PassesAll}
-use Rattle.gpkt.specs.Packets.{Packet, Spells, SpellsAll, canonical, canonical_all, payload_of, text}
+use Rattle.gpkt.specs.Packets.{Bytes, Packet, Spells, SpellsAll, canonical, canonical_all, payload_of, text}
 use Rattle.gpkt.specs.Packets.{digit_count, line_feed, max_payload}
 use Rattle.gpkt.specs.LineReading.{NoLine, Gives, Reads, ReadsLines}
 use Rattle.gpkt.specs.LineWriting.{Writer, HasWritten, HasPushed}
@@ -16,19 +16,19 @@ use Rattle.gpkt.specs.LineWriting.{Writer, HasWritten, HasPushed}
 -- at most one packet is spelt at the front of the bytes, in one way
 abbrev pub OneReading : Type 0
 OneReading =
-    (line other : Packet) (front next rest after : List ℕ) → Spells line front → Spells other next
+    (line other : Packet) (front next rest after : Bytes) → Spells line front → Spells other next
     → front ++ rest ≡ next ++ after
     → (line ≡ other) × (front ≡ next) × (rest ≡ after)
 
 -- where reading is refused, no packet is spelt at the front
 abbrev pub RefusedIsNoLine : Type 0
 RefusedIsNoLine =
-    (fault : LineFault) (line : Packet) (bytes front rest : List ℕ) → NoLine fault bytes
+    (fault : LineFault) (line : Packet) (bytes front rest : Bytes) → NoLine fault bytes
     → front ++ rest ≡ bytes → ¬ Spells line front
 
 -- and it is refused for one reason
 abbrev pub OneFault : Type 0
-OneFault = (fault other : LineFault) (bytes : List ℕ) → NoLine fault bytes → NoLine other bytes → fault ≡ other
+OneFault = (fault other : LineFault) (bytes : Bytes) → NoLine fault bytes → NoLine other bytes → fault ≡ other
 
 -- no fault, or one that comes of the bytes
 abbrev pub IsOfBytes : Result (Option Packet) LineFault → Type 0
@@ -37,22 +37,22 @@ IsOfBytes result = (result ≢ Err line_fault.Io) × (result ≢ Err line_fault.
 -- the bytes say what is read of them, and what is left
 abbrev pub OneOutcome : Type 0
 OneOutcome =
-    (old new after : List ℕ) (result other : Result (Option Packet) LineFault) → Gives old new result
+    (old new after : Bytes) (result other : Result (Option Packet) LineFault) → Gives old new result
     → Gives old after other → IsOfBytes result → IsOfBytes other
     → (result ≡ other) × (new ≡ after)
 
 -- a packet is spelt at the front of the bytes
-abbrev pub SpellsAtFront : List ℕ → Type 0
-SpellsAtFront bytes = (line : Packet) × (front : List ℕ) × (rest : List ℕ) × (bytes ≡ front ++ rest) × Spells line front
+abbrev pub SpellsAtFront : Bytes → Type 0
+SpellsAtFront bytes = (line : Packet) × (front : Bytes) × (rest : Bytes) × (bytes ≡ front ++ rest) × Spells line front
 
 -- bytes are empty, or spell a packet at their front, or there is a reason why they do not
 abbrev pub EveryFront : Type 0
 EveryFront =
-    (bytes : List ℕ) → (bytes ≡ []) ⊎ (SpellsAtFront bytes ⊎ ((fault : LineFault) × NoLine fault bytes))
+    (bytes : Bytes) → (bytes ≡ []) ⊎ (SpellsAtFront bytes ⊎ ((fault : LineFault) × NoLine fault bytes))
 
 -- a spelling has at least four bytes
 abbrev pub HasFourBytes : Type 0
-HasFourBytes = (line : Packet) (bytes : List ℕ) → Spells line bytes → digit_count ≤ length bytes
+HasFourBytes = (line : Packet) (bytes : Bytes) → Spells line bytes → digit_count ≤ length bytes
 
 -- a packet can carry it
 abbrev pub Fits : Packet → Type 0
@@ -71,75 +71,75 @@ CanonicalJoins = (lines more : List Packet) → canonical_all (lines ++ more) �
 -- lists of packets are spelt one after the other
 abbrev pub SpellingsJoin : Type 0
 SpellingsJoin =
-    (lines more : List Packet) (front rest : List ℕ) → SpellsAll lines front → SpellsAll more rest
+    (lines more : List Packet) (front rest : Bytes) → SpellsAll lines front → SpellsAll more rest
     → SpellsAll (lines ++ more) (front ++ rest)
 
 abbrev pub SpellingsSplit : Type 0
-SpellingsSplit = (lines more : List Packet) (bytes : List ℕ) → SpellsAll (lines ++ more) bytes
-    → (front : List ℕ) × (rest : List ℕ) × (bytes ≡ front ++ rest) × SpellsAll lines front × SpellsAll more rest
+SpellingsSplit = (lines more : List Packet) (bytes : Bytes) → SpellsAll (lines ++ more) bytes
+    → (front : Bytes) × (rest : Bytes) × (bytes ≡ front ++ rest) × SpellsAll lines front × SpellsAll more rest
 
 -- the packets begin the longer list, whose other packets are spelt at the front of `rest`, before `after`
-abbrev pub BeginsWith : List Packet → List Packet → List ℕ → List ℕ → Type 0
+abbrev pub BeginsWith : List Packet → List Packet → Bytes → Bytes → Type 0
 BeginsWith lines longer rest after =
-    (more : List Packet) × (bytes : List ℕ) × (longer ≡ lines ++ more) × SpellsAll more bytes
+    (more : List Packet) × (bytes : Bytes) × (longer ≡ lines ++ more) × SpellsAll more bytes
     × (rest ≡ bytes ++ after)
 
 -- of two lists of packets at the front of the same bytes one begins the other
 abbrev pub OneBegins : Type 0
 OneBegins =
-    (lines others : List Packet) (front next rest after : List ℕ) → SpellsAll lines front
+    (lines others : List Packet) (front next rest after : Bytes) → SpellsAll lines front
     → SpellsAll others next → front ++ rest ≡ next ++ after
     → BeginsWith lines others rest after ⊎ BeginsWith others lines after rest
 
 -- a line feed at the end is taken off
 abbrev pub TextOfLine : Type 0
-TextOfLine = (words : List ℕ) → text (words ++ line_feed ∷ []) ≡ words
+TextOfLine = (words : Bytes) → text (words ++ line_feed ∷ []) ≡ words
 
 -- and nothing else is
 abbrev pub TextOrLine : Type 0
-TextOrLine = (payload : List ℕ) → (payload ≡ text payload) ⊎ (payload ≡ text payload ++ line_feed ∷ [])
+TextOrLine = (payload : Bytes) → (payload ≡ text payload) ⊎ (payload ≡ text payload ++ line_feed ∷ [])
 
 -- before a packet is read no packet was read
 abbrev pub ReadsNone : Type 0
-ReadsNone = (bytes : Option (List ℕ)) → ReadsLines (record { old = bytes; new = bytes }) []
+ReadsNone = (bytes : Option Bytes) → ReadsLines (record { old = bytes; new = bytes }) []
 
 -- a packet that is read after some packets
 abbrev pub ReadsNext : Type 0
 ReadsNext =
-    (old mid new : Option (List ℕ)) (lines : List Packet) (line : Packet)
+    (old mid new : Option Bytes) (lines : List Packet) (line : Packet)
     → ReadsLines (record { old = old; new = mid }) lines → Reads (record { old = mid; new = new }) (Ok (Some line))
     → ReadsLines (record { old = old; new = new }) (lines ++ line ∷ [])
 
 -- packets that are read one after the other are a list of packets that is read
 abbrev pub ReadsJoin : Type 0
 ReadsJoin =
-    (old mid new : Option (List ℕ)) (lines more : List Packet) → ReadsLines (record { old = old; new = mid }) lines
+    (old mid new : Option Bytes) (lines more : List Packet) → ReadsLines (record { old = old; new = mid }) lines
     → ReadsLines (record { old = mid; new = new }) more → ReadsLines (record { old = old; new = new }) (lines ++ more)
 
 module _
-    {W : Type 0} (contents_of passed_on_of : W → Option (List ℕ)) (is_down : W → Bool)
+    {W : Type 0} (contents_of passed_on_of : W → Option Bytes) (is_down : W → Bool)
     (loans_of : W → List ℕ)
   where
     -- one call of a writer that was to write the bytes
-    abbrev pub Writes : Writer W → Writer W → Result Unit WriteFault → List ℕ → Type 0
+    abbrev pub Writes : Writer W → Writer W → Result Unit WriteFault → Bytes → Type 0
     Writes old new result bytes = HasWritten contents_of passed_on_of is_down loans_of old new result bytes
 
     -- after a write that succeeded, a write is one of all the bytes
     abbrev pub WritesJoin : Type 0
     WritesJoin =
-        (old mid new : Writer W) (bytes more : List ℕ) (result : Result Unit WriteFault) → Writes old mid (Ok tt) bytes
+        (old mid new : Writer W) (bytes more : Bytes) (result : Result Unit WriteFault) → Writes old mid (Ok tt) bytes
         → Writes mid new result more → result ≢ Err write_fault.Payload → Writes old new result (bytes ++ more)
 
     -- a write that failed was one of more bytes, too
     abbrev pub FailsOfMore : Type 0
     FailsOfMore =
-        (old new : Writer W) (bytes more : List ℕ) (fault : WriteFault) → Writes old new (Err fault) bytes
+        (old new : Writer W) (bytes more : Bytes) (fault : WriteFault) → Writes old new (Err fault) bytes
         → fault ≢ write_fault.Payload → Writes old new (Err fault) (bytes ++ more)
 
     -- what is written stays written when it is pushed, and a push that succeeds passes all of it on
     abbrev pub PushesWritten : Type 0
     PushesWritten =
-        (old mid new : Writer W) (bytes : List ℕ) (result : Result Unit WriteFault) → Writes old mid (Ok tt) bytes
+        (old mid new : Writer W) (bytes : Bytes) (result : Result Unit WriteFault) → Writes old mid (Ok tt) bytes
         → HasPushed contents_of passed_on_of is_down loans_of mid new result
         → Appends (contents_of old.sink) (contents_of new.sink) bytes
         × OnOk result (PassesAll (contents_of new.sink) (change_of passed_on_of old.sink new.sink))

@@ -7,9 +7,10 @@ use Rattle.std.specs.declared.alloc.Allocator.{Ghosts}
 use Rattle.gpkt.specs.declared.fault.LineFault.{LineFault}
 use Rattle.gpkt.specs.contracts.reading.LineReader.{the_row}
 use Rattle.gpkt.specs.LineReading.{Reader, HasRead, read_of}
+use Rattle.gpkt.specs.Packets.{Bytes}
 
 module _
-    (S A : RattleType) (alloc : Ghosts A.Denot) (remaining_of : S.Denot → Option (List ℕ)) (is_down : S.Denot → Bool)
+    (S A : RattleType) (alloc : Ghosts A.Denot) (remaining_of : S.Denot → Option Bytes) (is_down : S.Denot → Bool)
     (loans_of : S.Denot → List ℕ)
   where
     abbrev pub LendsLine : MutBor (Reader S.Denot) → Result (Option Line) LineFault → Fml

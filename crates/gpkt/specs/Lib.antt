@@ -4,8 +4,8 @@ pub mod Devices
 pub mod Faults
 pub mod Bands
 pub mod LineReading
-pub mod Heads
 pub mod Lending
 pub mod LineWriting
 pub mod Sending
 pub mod Laws
+pub mod steps

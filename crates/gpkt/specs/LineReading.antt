@@ -1,11 +1,11 @@
 -- What a packet reader's call gives, and what it takes from its source.
-use Rattle.std.specs.Prelude.{◌≡◌, ℕ, ◌<◌, ◌≤◌, ◌⊎◌, Bool, true, false, List, [], ◌++◌, length, take, drop}
-use Rattle.std.specs.Prelude.{Option, Some, None, option_map, Result, Ok, Err, refl}
-use Rattle.std.specs.Coded.{Coded, code_by, coded×, coded_bool}
+use Rattle.std.specs.Prelude.{◌≡◌, ℕ, ◌<◌, ◌≤◌, ◌⊎◌, Bool, true, false, List, [], ◌++◌, length, take, drop, Option}
+use Rattle.std.specs.Prelude.{Some, None, option_map, Result, Ok, Err}
 use Rattle.gpkt.specs.declared.line.Line.{Line}
 use Rattle.gpkt.specs.declared.fault.LineFault.{LineFault}
 use Rattle.gpkt.specs.declared.fault.LineFault.TheVariants.{BadDigits, Reserved, TooLong, Truncated, Io, Failed, Memory}
 use Rattle.gpkt.specs.Change.{Change, WhereKnown, change_of}
+use Rattle.gpkt.specs.Packets.{Bytes}
 use Rattle.gpkt.specs.Packets.{Packet, Spells, SpellsAll, digit_count, max_packet, number_of, packet_of, reserved_len}
 
 -- a reader: its source, and whether a call of it has failed
@@ -13,24 +13,18 @@ pub record Reader (S : Type 0) : Type 0 where
   pub source : S
   pub failed : Bool
 
--- a reader is its two parts, which the checker of clauses asks for
-abbrev pub reader_code : {S : Type 0} → Coded S → Coded (Reader S)
-reader_code {S} code =
-    code_by (S × Bool) (coded× code coded_bool) (λ r. (r.source, r.failed))
-    (λ p. record { source = p.0; failed = p.1 }) (λ _. refl)
-
 -- the four digits at the front announce this number
-abbrev pub AnnouncesAtFront : List ℕ → ℕ → Type 0
+abbrev pub AnnouncesAtFront : Bytes → ℕ → Type 0
 AnnouncesAtFront bytes announced = (digit_count ≤ length bytes) × (number_of (take digit_count bytes) ≡ Some announced)
 
 -- a beginning of a packet that is no whole one: not all the digits, or fewer bytes than they announce
-abbrev pub IsPartialLine : List ℕ → Type 0
+abbrev pub IsPartialLine : Bytes → Type 0
 IsPartialLine bytes =
     (length bytes < digit_count)
     ⊎ ((announced : ℕ) × AnnouncesAtFront bytes announced × (announced ≤ max_packet) × (length bytes < announced))
 
 -- no packet is spelt at the front of the bytes, which are all that is left, for this reason
-abbrev pub NoLine : LineFault → List ℕ → Type 0
+abbrev pub NoLine : LineFault → Bytes → Type 0
 NoLine BadDigits bytes = (digit_count ≤ length bytes) × (number_of (take digit_count bytes) ≡ None)
 NoLine Reserved bytes = AnnouncesAtFront bytes reserved_len
 NoLine TooLong bytes = (announced : ℕ) × AnnouncesAtFront bytes announced × (max_packet < announced)
@@ -40,14 +34,14 @@ NoLine Failed bytes = ⊥
 NoLine Memory bytes = ⊥
 
 -- what is read where the bytes still to come are known
-abbrev pub Gives : List ℕ → List ℕ → Result (Option Packet) LineFault → Type 0
-Gives old new (Ok (Some line)) = (front : List ℕ) × (old ≡ front ++ new) × Spells line front
+abbrev pub Gives : Bytes → Bytes → Result (Option Packet) LineFault → Type 0
+Gives old new (Ok (Some line)) = (front : Bytes) × (old ≡ front ++ new) × Spells line front
 Gives old new (Ok None) = (old ≡ []) × (new ≡ [])
 Gives old new (Err BadDigits) = NoLine BadDigits old × (new ≡ drop digit_count old)
 Gives old new (Err Reserved) = NoLine Reserved old × (new ≡ drop digit_count old)
 Gives old new (Err TooLong) = NoLine TooLong old × (new ≡ drop digit_count old)
 Gives old new (Err Truncated) = NoLine Truncated old × (new ≡ [])
-Gives old new (Err Io) = (front : List ℕ) × (old ≡ front ++ new) × IsPartialLine front
+Gives old new (Err Io) = (front : Bytes) × (old ≡ front ++ new) × IsPartialLine front
 Gives old new (Err Failed) = new ≡ old
 Gives old new (Err Memory) = ⊥
 
@@ -57,7 +51,7 @@ Reads bytes result = WhereKnown bytes (λ old new. Gives old new result)
 
 -- the bytes that are read spell these packets, one after the other, where the bytes still to come are known
 abbrev pub ReadsLines : Change → List Packet → Type 0
-ReadsLines bytes lines = WhereKnown bytes (λ old new. (front : List ℕ) × (old ≡ front ++ new) × SpellsAll lines front)
+ReadsLines bytes lines = WhereKnown bytes (λ old new. (front : Bytes) × (old ≡ front ++ new) × SpellsAll lines front)
 
 -- a result without where the payload lies in memory
 abbrev pub read_of : Result (Option Line) LineFault → Result (Option Packet) LineFault
@@ -69,7 +63,7 @@ abbrev pub IsReadFault : LineFault → Type 0
 IsReadFault Memory = ⊥
 IsReadFault _ = Unit {0}
 
-module _ {S : Type 0} (remaining_of : S → Option (List ℕ)) (is_down : S → Bool) (loans_of : S → List ℕ) where
+module _ {S : Type 0} (remaining_of : S → Option Bytes) (is_down : S → Bool) (loans_of : S → List ℕ) where
   -- the reader had not failed; whether it has failed now, and whether its source is down
   abbrev pub SetsReader : Reader S → Reader S → Bool → Bool → Type 0
   SetsReader old new failed down = (old.failed ≡ false) × (new.failed ≡ failed) × (is_down new.source ≡ down)

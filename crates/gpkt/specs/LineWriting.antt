@@ -1,31 +1,25 @@
 -- What a packet writer's call writes, and what it leaves.
-use Rattle.std.specs.Prelude.{◌≡◌, ℕ, ◌<◌, Bool, true, false, List, ◌++◌, length, Option, Result, Ok, Err, refl}
-use Rattle.std.specs.Coded.{Coded, code_by, coded×, coded_bool}
+use Rattle.std.specs.Prelude.{◌≡◌, ℕ, ◌<◌, Bool, true, false, List, ◌++◌, length, Option, Result, Ok, Err}
 use Rattle.std.specs.Io.KnownBytes.{Appends, Keeps}
 use Rattle.gpkt.specs.Change.{Change, change_of}
 use Rattle.gpkt.specs.Devices.{KeepsPassed, PassesAll}
 use Rattle.gpkt.specs.declared.fault.WriteFault.{WriteFault}
 use Rattle.gpkt.specs.declared.fault.WriteFault.TheVariants.{Failed, Payload, Io}
+use Rattle.gpkt.specs.Packets.{Bytes}
 
 -- a writer: its sink, and whether a call of it has failed
 pub record Writer (W : Type 0) : Type 0 where
   pub sink : W
   pub failed : Bool
 
--- a writer is its two parts, which the checker of clauses asks for
-abbrev pub writer_code : {W : Type 0} → Coded W → Coded (Writer W)
-writer_code {W} code =
-    code_by (W × Bool) (coded× code coded_bool) (λ w. (w.sink, w.failed))
-    (λ p. record { sink = p.0; failed = p.1 }) (λ _. refl)
-
 -- known bytes grow by a beginning of the bytes, and not by all of them
-abbrev pub AppendsFront : Change → List ℕ → Type 0
+abbrev pub AppendsFront : Change → Bytes → Type 0
 AppendsFront written bytes =
-    (front : List ℕ) × (rest : List ℕ) × (bytes ≡ front ++ rest) × (0 < length rest)
+    (front : Bytes) × (rest : Bytes) × (bytes ≡ front ++ rest) × (0 < length rest)
     × Appends written.old written.new front
 
 module _
-    {W : Type 0} (contents_of passed_on_of : W → Option (List ℕ)) (is_down : W → Bool)
+    {W : Type 0} (contents_of passed_on_of : W → Option Bytes) (is_down : W → Bool)
     (loans_of : W → List ℕ)
   where
     -- the writer had not failed; whether it has failed now, and its sink is then down
@@ -41,7 +35,7 @@ module _
     passed_on_by old new = change_of passed_on_of old.sink new.sink
 
     -- what a call that was to write the bytes did, by its result
-    abbrev pub Wrote : Writer W → Writer W → Result Unit WriteFault → List ℕ → Type 0
+    abbrev pub Wrote : Writer W → Writer W → Result Unit WriteFault → Bytes → Type 0
     Wrote old new (Ok done) bytes =
         SetsWriter old new false × Appends (contents_of old.sink) (contents_of new.sink) bytes
     Wrote old new (Err Io) bytes = SetsWriter old new true × AppendsFront (written_by old new) bytes
@@ -49,7 +43,7 @@ module _
     Wrote old new (Err Failed) bytes = (old.failed ≡ true) × (new ≡ old)
 
     -- one call of a writer that was to write the bytes; nothing more was passed on
-    pub record HasWritten (old new : Writer W) (result : Result Unit WriteFault) (bytes : List ℕ) : Type 0 where
+    pub record HasWritten (old new : Writer W) (result : Result Unit WriteFault) (bytes : Bytes) : Type 0 where
       pub outcome : Wrote old new result bytes
       pub passed_on : Keeps (passed_on_of old.sink) (passed_on_of new.sink)
       pub loans : loans_of new.sink ≡ loans_of old.sink

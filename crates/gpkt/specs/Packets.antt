@@ -8,9 +8,13 @@ use Rattle.hex.specs.declared.error.FromHexError.{FromHexError}
 use Rattle.gpkt.specs.declared.line.Line.{Line}
 use Rattle.gpkt.specs.declared.line.Line.TheVariants as lent
 
+-- bytes of any kind: a payload, a text, a pack
+abbrev pub Bytes : Type 0
+Bytes = List ℕ
+
 -- what a packet says
 pub data Packet : Type 0 where
-  Data : (payload : List ℕ) → Packet
+  Data : (payload : Bytes) → Packet
   Flush : Packet
   Delim : Packet
   ResponseEnd : Packet
@@ -50,43 +54,43 @@ abbrev pub line_feed : ℕ
 line_feed = 10
 
 -- the number of two bytes, the high one first
-abbrev pub number_in : Result (List ℕ) FromHexError → Option ℕ
+abbrev pub number_in : Result Bytes FromHexError → Option ℕ
 number_in (Ok (high ∷ low ∷ [])) = Some (high * byte_values + low)
 number_in (Ok _) = None
 number_in (Err e) = None
 
 -- the number that four hexadecimal digits of either case stand for
-unfoldable pub number_of : List ℕ → Option ℕ
+unfoldable pub number_of : Bytes → Option ℕ
 number_of digits = number_in (decode_of digits)
 
 -- the bytes spell the packet: four digits, and what they announce
-abbrev pub Spells : Packet → List ℕ → Type 0
+abbrev pub Spells : Packet → Bytes → Type 0
 Spells (Data payload) bytes =
-    (digits : List ℕ) × (bytes ≡ digits ++ payload) × (number_of digits ≡ Some (length payload + digit_count))
+    (digits : Bytes) × (bytes ≡ digits ++ payload) × (number_of digits ≡ Some (length payload + digit_count))
     × (length payload ≤ max_payload)
 Spells Flush bytes = number_of bytes ≡ Some flush_len
 Spells Delim bytes = number_of bytes ≡ Some delim_len
 Spells ResponseEnd bytes = number_of bytes ≡ Some response_end_len
 
 -- the bytes are the spellings of the packets, one after the other
-abbrev pub SpellsAll : List Packet → List ℕ → Type 0
+abbrev pub SpellsAll : List Packet → Bytes → Type 0
 SpellsAll [] bytes = bytes ≡ []
 SpellsAll (line ∷ lines) bytes =
-    (front : List ℕ) × (rest : List ℕ) × (bytes ≡ front ++ rest) × Spells line front × SpellsAll lines rest
+    (front : Bytes) × (rest : Bytes) × (bytes ≡ front ++ rest) × Spells line front × SpellsAll lines rest
 
 -- a number below 65,536 as four digits, with lower-case letters
-unfoldable pub digits_of : ℕ → List ℕ
+unfoldable pub digits_of : ℕ → Bytes
 digits_of n = encode_lower (to_be_bytes w16 n)
 
 -- the spelling with lower-case digits
-abbrev pub canonical : Packet → List ℕ
+abbrev pub canonical : Packet → Bytes
 canonical (Data payload) = digits_of (length payload + digit_count) ++ payload
 canonical Flush = codes "0000"
 canonical Delim = codes "0001"
 canonical ResponseEnd = codes "0002"
 
 -- the canonical spellings of the packets, one after the other
-abbrev pub canonical_all : List Packet → List ℕ
+abbrev pub canonical_all : List Packet → Bytes
 canonical_all [] = []
 canonical_all (line ∷ lines) = canonical line ++ canonical_all lines
 
@@ -98,12 +102,12 @@ packet_of lent.Delim = Delim
 packet_of lent.ResponseEnd = ResponseEnd
 
 -- what the packet carries, which is nothing but for a data packet
-abbrev pub payload_of : Packet → List ℕ
+abbrev pub payload_of : Packet → Bytes
 payload_of (Data payload) = payload
 payload_of Flush = []
 payload_of Delim = []
 payload_of ResponseEnd = []
 
 -- the payload without one line feed at its very end, if there is one
-abbrev pub text : List ℕ → List ℕ
+abbrev pub text : Bytes → Bytes
 text payload = strip_last line_feed payload

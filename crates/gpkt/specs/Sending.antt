@@ -1,9 +1,9 @@
 -- What is read from a source and written to a sink, before a call and after it.
-use Rattle.std.specs.Prelude.{◌≡◌, ℕ, Bool, true, false, List, ◌++◌, Option, Some, IsSome, Result, Ok, Err}
-use Rattle.std.specs.Io.KnownBytes.{Appends, Keeps}
+use Rattle.std.specs.Prelude.{◌≡◌, Bool, true, false, ◌++◌, Option, Some, IsSome}
+use Rattle.std.specs.Io.KnownBytes.{Appends}
 use Rattle.gpkt.specs.Change.{Change, change_of}
 use Rattle.gpkt.specs.Devices.{PassesAll}
-use Rattle.gpkt.specs.declared.device.Down.{Down}
+use Rattle.gpkt.specs.Packets.{Bytes}
 
 -- a source before a call and after it: the bytes still to come, where they are known, and whether it is down
 pub record Input : Type 0 where
@@ -11,7 +11,7 @@ pub record Input : Type 0 where
   pub was_down : Bool
   pub is_down : Bool
 
-abbrev pub input_of : {S : Type 0} → (S → Option (List ℕ)) → (S → Bool) → S → S → Input
+abbrev pub input_of : {S : Type 0} → (S → Option Bytes) → (S → Bool) → S → S → Input
 input_of remaining is_down old new =
     record { read = change_of remaining old new; was_down = is_down old; is_down = is_down new }
 
@@ -23,7 +23,7 @@ pub record Output : Type 0 where
   pub was_down : Bool
   pub is_down : Bool
 
-abbrev pub output_of : {W : Type 0} → (W → Option (List ℕ)) → (W → Option (List ℕ)) → (W → Bool) → W → W → Output
+abbrev pub output_of : {W : Type 0} → (W → Option Bytes) → (W → Option Bytes) → (W → Bool) → W → W → Output
 output_of contents passed_on is_down old new = record {
   written = change_of contents old new;
   passed_on = change_of passed_on old new;
@@ -47,48 +47,37 @@ pub record IsUnwritten (output : Output) : Type 0 where
   pub down : output.is_down ≡ output.was_down
 
 -- these bytes were written, and all that was written is passed on
-pub record Sends (output : Output) (bytes : List ℕ) : Type 0 where
+pub record Sends (output : Output) (bytes : Bytes) : Type 0 where
   pub written : Appends output.written.old output.written.new bytes
   pub passed_on : PassesAll output.written.new output.passed_on
   pub up : output.is_down ≡ false
 
 -- these bytes were written, and were passed on with all that was written before them
-abbrev pub PassesAfter : Output → List ℕ → Type 0
+abbrev pub PassesAfter : Output → Bytes → Type 0
 PassesAfter output bytes =
-    (old : List ℕ) → output.written.old ≡ Some old → IsSome output.passed_on.old
-    → (more : List ℕ) × (output.passed_on.new ≡ Some (old ++ bytes ++ more))
+    (old : Bytes) → output.written.old ≡ Some old → IsSome output.passed_on.old
+    → (more : Bytes) × (output.passed_on.new ≡ Some (old ++ bytes ++ more))
 
 -- a beginning of these bytes was written, perhaps all of them, and the sink is down
-pub record SendsSome (output : Output) (bytes : List ℕ) : Type 0 where
-  pub front : List ℕ
-  pub rest : List ℕ
+pub record SendsSome (output : Output) (bytes : Bytes) : Type 0 where
+  pub front : Bytes
+  pub rest : Bytes
   pub parts : bytes ≡ front ++ rest
   pub written : Appends output.written.old output.written.new front
   pub down : output.is_down ≡ true
 
 -- these bytes were written, and where it is known what was written and what was passed on, all of it was passed on
-pub record Passes (output : Output) (bytes : List ℕ) : Type 0 where
+pub record Passes (output : Output) (bytes : Bytes) : Type 0 where
   pub written : Appends output.written.old output.written.new bytes
   pub passed_on : IsSome output.written.old → PassesAll output.written.new output.passed_on
   pub up : output.is_down ≡ false
 
 -- Some bytes were written and passed on; then a beginning of others was written, perhaps all of them, and the sink is
 -- down.
-pub record SendsAndFails (output : Output) (sent due : List ℕ) : Type 0 where
-  pub front : List ℕ
-  pub rest : List ℕ
+pub record SendsAndFails (output : Output) (sent due : Bytes) : Type 0 where
+  pub front : Bytes
+  pub rest : Bytes
   pub parts : due ≡ front ++ rest
   pub written : Appends output.written.old output.written.new (sent ++ front)
   pub passed_on : PassesAfter output sent
   pub down : output.is_down ≡ true
-
--- what a call did that was to write these bytes and to pass them on
-abbrev pub HasSent : {E : Type 0} → Output → Result (Unit {0}) E → List ℕ → Type 0
-HasSent output (Ok done) bytes = Sends output bytes
-HasSent output (Err fault) bytes = SendsSome output bytes
-
--- what a call did that was to write these bytes, and to pass nothing on
-abbrev pub HasPut : Output → Result (Unit {0}) Down → List ℕ → Type 0
-HasPut output (Ok done) bytes =
-    Appends output.written.old output.written.new bytes × Keeps output.passed_on.old output.passed_on.new
-HasPut output (Err fault) bytes = SendsSome output bytes

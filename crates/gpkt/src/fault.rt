@@ -41,8 +41,8 @@ impl LineFault {
         self.row().1
     }
 
-    // The table: the number and the name of each fault.
-    fn row(&self) -> (u32, &'static str)
+    /// The table: the number and the name of each fault.
+    pub fn row(&self) -> (u32, &'static str)
         ensures { (result.0, result.1.now) ≡ line_fault_row self.now }
     {
         match self {
@@ -102,12 +102,12 @@ impl WriteFault {
         self.row().1
     }
 
-    // The table: the number and the name of each fault.
-    fn row(&self) -> (u32, &'static str)
+    /// The table: the number and the name of each fault.
+    pub fn row(&self) -> (u32, &'static str)
         ensures { (result.0, result.1.now) ≡ write_fault_row self.now }
     {
         match self {
-            WriteFault::Failed => (25, "Failed"),
+            WriteFault::Failed => LineFault::Failed.row(),
             WriteFault::Payload => (26, "Payload"),
             WriteFault::Io => (27, "Io"),
         }

@@ -5,7 +5,7 @@ ghost use Rattle.std.specs.Io.KnownBytes.{Consumes, IsAtEnd};
 ghost use Rattle.gpkt.specs.Change.{change_of};
 ghost use Rattle.gpkt.specs.Packets.{digit_count, max_payload, number_of, packet_of};
 ghost use Rattle.gpkt.specs.LineReading.{Reads};
-ghost use Rattle.gpkt.specs.Heads.{Classifies, ConsumesBelow, IsNewFault, ReadsHead, ReadsPayload, is_io, packet_in, payload_len, read_in};
+ghost use Rattle.gpkt.specs.steps.Heads.{Classifies, ConsumesBelow, IsNewFault, ReadsHead, ReadsPayload, is_io, packet_in, payload_len, read_in};
 
 use crate::device::{Down, Source};
 use crate::fault::LineFault;

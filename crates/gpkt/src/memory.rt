@@ -76,7 +76,8 @@ pub struct VecSink<A: Allocator + Copy = Global> {
 
 impl<A: Allocator + Copy> Model for VecSink<A> {
     ghost use Rattle.std.specs.Prelude.{◌≤◌, length, take};
-    ghost use Rattle.gpkt.specs.Devices.{Written, written_code};
+    ghost use Rattle.gpkt.specs.Devices.{Written};
+    ghost use Rattle.gpkt.specs.steps.Devices.{written_code};
 
     ghost Value = { Written };
 
@@ -182,7 +183,8 @@ pub struct Limited<D> {
 }
 
 impl<D> Model for Limited<D> {
-    ghost use Rattle.gpkt.specs.Devices.{Device, device_code};
+    ghost use Rattle.gpkt.specs.Devices.{Device};
+    ghost use Rattle.gpkt.specs.steps.Devices.{device_code};
 
     ghost Value = { Device D };
 

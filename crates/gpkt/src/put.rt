@@ -43,9 +43,11 @@ pub(crate) fn put_line<W: Sink>(
 ) -> Result<(), Down>
     requires { 0 < length digits.now }
     ensures ok { OnOk result
-        (Appends (W.contents sink.old) (W.contents sink.new) (digits.now ++ (first.now ++ second.now ++ end.now))) }
+        (Appends (W.contents sink.old) (W.contents sink.new)
+        (digits.now ++ (first.now ++ second.now ++ end.now))) }
     ensures err { OnErr result
-        (AppendsFront (change_of W.contents sink.old sink.new) (digits.now ++ (first.now ++ second.now ++ end.now))) }
+        (AppendsFront (change_of W.contents sink.old sink.new)
+        (digits.now ++ (first.now ++ second.now ++ end.now))) }
     ensures passed_on { Keeps (W.passed_on sink.old) (W.passed_on sink.new) }
     ensures down { W.is_down sink.new ≡ is_err result }
     ensures loans { W.loans sink.new ≡ W.loans sink.old }

@@ -23,7 +23,8 @@ pub struct LineReader<S, A: Allocator + Copy = Global> {
 }
 
 impl<S, A: Allocator + Copy> Model for LineReader<S, A> {
-    ghost use Rattle.gpkt.specs.LineReading.{Reader, reader_code};
+    ghost use Rattle.gpkt.specs.LineReading.{Reader};
+    ghost use Rattle.gpkt.specs.steps.LineReading.{reader_code};
 
     ghost Value = { Reader S };
 

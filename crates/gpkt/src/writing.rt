@@ -26,7 +26,8 @@ pub struct LineWriter<W> {
 }
 
 impl<W> Model for LineWriter<W> {
-    ghost use Rattle.gpkt.specs.LineWriting.{Writer, writer_code};
+    ghost use Rattle.gpkt.specs.LineWriting.{Writer};
+    ghost use Rattle.gpkt.specs.steps.LineWriting.{writer_code};
 
     ghost Value = { Writer W };
 
@@ -49,8 +50,8 @@ impl<W: Sink> LineWriter<W> {
 
     /// Writes one data packet. An empty payload is written as `0004`, which is no flush.
     pub fn put(&mut self, payload: &[u8]) -> Result<(), WriteFault>
-        ensures written { HasWritten W.contents W.passed_on W.is_down W.loans self.old self.new result
-            (canonical (packets.Data payload.now)) }
+        ensures written { HasWritten W.contents W.passed_on W.is_down W.loans self.old self.new
+            result (canonical (packets.Data payload.now)) }
         ensures too_long { IsErrOf result WriteFault.Payload
             ↔ ((self.old.failed ≡ false) × (max_payload < length payload.now)) }
     {
@@ -59,8 +60,8 @@ impl<W: Sink> LineWriter<W> {
 
     /// Writes one data packet of both pieces.
     pub fn put2(&mut self, first: &[u8], second: &[u8]) -> Result<(), WriteFault>
-        ensures written { HasWritten W.contents W.passed_on W.is_down W.loans self.old self.new result
-            (canonical (packets.Data (first.now ++ second.now))) }
+        ensures written { HasWritten W.contents W.passed_on W.is_down W.loans self.old self.new
+            result (canonical (packets.Data (first.now ++ second.now))) }
         ensures too_long { IsErrOf result WriteFault.Payload
             ↔ ((self.old.failed ≡ false) × (max_payload < length (first.now ++ second.now))) }
     {
@@ -69,8 +70,8 @@ impl<W: Sink> LineWriter<W> {
 
     /// Writes one text packet: the text and a line feed.
     pub fn text(&mut self, text: &[u8]) -> Result<(), WriteFault>
-        ensures written { HasWritten W.contents W.passed_on W.is_down W.loans self.old self.new result
-            (canonical (packets.Data (text.now ++ line_feed ∷ []))) }
+        ensures written { HasWritten W.contents W.passed_on W.is_down W.loans self.old self.new
+            result (canonical (packets.Data (text.now ++ line_feed ∷ []))) }
         ensures too_long { IsErrOf result WriteFault.Payload
             ↔ ((self.old.failed ≡ false) × (max_payload < length (text.now ++ line_feed ∷ []))) }
     {
@@ -79,10 +80,11 @@ impl<W: Sink> LineWriter<W> {
 
     /// Writes one text packet: both pieces and a line feed.
     pub fn text2(&mut self, first: &[u8], second: &[u8]) -> Result<(), WriteFault>
-        ensures written { HasWritten W.contents W.passed_on W.is_down W.loans self.old self.new result
-            (canonical (packets.Data (first.now ++ second.now ++ line_feed ∷ []))) }
+        ensures written { HasWritten W.contents W.passed_on W.is_down W.loans self.old self.new
+            result (canonical (packets.Data (first.now ++ second.now ++ line_feed ∷ []))) }
         ensures too_long { IsErrOf result WriteFault.Payload
-            ↔ ((self.old.failed ≡ false) × (max_payload < length (first.now ++ second.now ++ line_feed ∷ []))) }
+            ↔ ((self.old.failed ≡ false)
+            × (max_payload < length (first.now ++ second.now ++ line_feed ∷ []))) }
     {
         self.put_parts(first, second, b"\n")
     }
@@ -90,10 +92,11 @@ impl<W: Sink> LineWriter<W> {
     /// Writes one data packet of the band's byte and its bytes, which are at most
     /// [`MAX_BAND`](crate::MAX_BAND).
     pub fn put_band(&mut self, band: &Band<'_>) -> Result<(), WriteFault>
-        ensures written { HasWritten W.contents W.passed_on W.is_down W.loans self.old self.new result
-            (canonical (packets.Data (band_payload (band_packet band.now)))) }
+        ensures written { HasWritten W.contents W.passed_on W.is_down W.loans self.old self.new
+            result (canonical (packets.Data (band_payload (band_packet band.now)))) }
         ensures too_long { IsErrOf result WriteFault.Payload
-            ↔ ((self.old.failed ≡ false) × (max_band < length (band_bytes (band_packet band.now)))) }
+            ↔ ((self.old.failed ≡ false)
+            × (max_band < length (band_bytes (band_packet band.now)))) }
     {
         let (first, bytes) = band.parts();
         self.put_parts(&[first], bytes, b"")
@@ -101,8 +104,8 @@ impl<W: Sink> LineWriter<W> {
 
     /// Writes a flush, `0000`, which ends a message. It is never [`Payload`](WriteFault::Payload).
     pub fn flush_pkt(&mut self) -> Result<(), WriteFault>
-        ensures written { HasWritten W.contents W.passed_on W.is_down W.loans self.old self.new result
-            (canonical packets.Flush) }
+        ensures written { HasWritten W.contents W.passed_on W.is_down W.loans self.old self.new
+            result (canonical packets.Flush) }
         ensures fits { IfErr result (λ fault. fault ≢ WriteFault.Payload) }
     {
         self.put_pieces(b"0000", b"", b"", b"")
@@ -110,8 +113,8 @@ impl<W: Sink> LineWriter<W> {
 
     /// Writes a delimiter, `0001`, which separates the sections of a message.
     pub fn delim(&mut self) -> Result<(), WriteFault>
-        ensures written { HasWritten W.contents W.passed_on W.is_down W.loans self.old self.new result
-            (canonical packets.Delim) }
+        ensures written { HasWritten W.contents W.passed_on W.is_down W.loans self.old self.new
+            result (canonical packets.Delim) }
         ensures fits { IfErr result (λ fault. fault ≢ WriteFault.Payload) }
     {
         self.put_pieces(b"0001", b"", b"", b"")
@@ -119,8 +122,8 @@ impl<W: Sink> LineWriter<W> {
 
     /// Writes a response-end, `0002`, which ends a response on a stateless connection.
     pub fn response_end(&mut self) -> Result<(), WriteFault>
-        ensures written { HasWritten W.contents W.passed_on W.is_down W.loans self.old self.new result
-            (canonical packets.ResponseEnd) }
+        ensures written { HasWritten W.contents W.passed_on W.is_down W.loans self.old self.new
+            result (canonical packets.ResponseEnd) }
         ensures fits { IfErr result (λ fault. fault ≢ WriteFault.Payload) }
     {
         self.put_pieces(b"0002", b"", b"", b"")
@@ -153,10 +156,11 @@ impl<W: Sink> LineWriter<W> {
 
     // Writes one data packet whose payload is the three pieces.
     fn put_parts(&mut self, first: &[u8], second: &[u8], end: &[u8]) -> Result<(), WriteFault>
-        ensures written { HasWritten W.contents W.passed_on W.is_down W.loans self.old self.new result
-            (canonical (packets.Data (first.now ++ second.now ++ end.now))) }
+        ensures written { HasWritten W.contents W.passed_on W.is_down W.loans self.old self.new
+            result (canonical (packets.Data (first.now ++ second.now ++ end.now))) }
         ensures too_long { IsErrOf result WriteFault.Payload
-            ↔ ((self.old.failed ≡ false) × (max_payload < length (first.now ++ second.now ++ end.now))) }
+            ↔ ((self.old.failed ≡ false)
+            × (max_payload < length (first.now ++ second.now ++ end.now))) }
     {
         if self.failed {
             return Err(WriteFault::Failed);
@@ -176,8 +180,8 @@ impl<W: Sink> LineWriter<W> {
         end: &[u8],
     ) -> Result<(), WriteFault>
         requires { 0 < length digits.now }
-        ensures written { HasWritten W.contents W.passed_on W.is_down W.loans self.old self.new result
-            (digits.now ++ (first.now ++ second.now ++ end.now)) }
+        ensures written { HasWritten W.contents W.passed_on W.is_down W.loans self.old self.new
+            result (digits.now ++ (first.now ++ second.now ++ end.now)) }
         ensures fits { IfErr result (λ fault. fault ≢ WriteFault.Payload) }
     {
         if self.failed {

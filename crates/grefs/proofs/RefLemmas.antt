@@ -20,7 +20,7 @@ use Rattle.std.proofs.lemmas.List.Edits.{length-insert}
 use Rattle.std.proofs.lemmas.List.{length-set, length-append}
 use Rattle.gname.specs.Names.{head_name}
 use Rattle.grefs.specs.RefLists.{RefList, has_name, ref_at, AreBelow, IsBelowRefs, IsRefs, SetsRef, max_refs}
-use Rattle.grefs.specs.RefPlaces.{IsFound, IsGap}
+use Rattle.grefs.specs.steps.RefPlaces.{IsFound, IsGap}
 
 abbrev pub order : List ℕ → List ℕ → Ordering
 order = slice_cmp nat_cmp

@@ -1,4 +1,4 @@
 pub mod Faults
 pub mod Laws
 pub mod RefLists
-pub mod RefPlaces
+pub mod steps

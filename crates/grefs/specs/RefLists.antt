@@ -10,32 +10,28 @@ use Rattle.std.specs.Map.{keys_of}
 use Rattle.std.specs.Ordering.{nat_cmp}
 use Rattle.std.specs.Cmp.Lexicographic.{slice_cmp}
 use Rattle.std.specs.Option.{option_map}
-use Rattle.gname.specs.Ids.{IsId}
-use Rattle.gname.specs.Names.{IsRefName, head_name}
+use Rattle.gname.specs.Names.{Name, IsRefName, head_name}
+use Rattle.gname.specs.Ids.{Id}
 
 -- each ref is a name and an id
 abbrev pub RefList : Type 0
-RefList = List (List ℕ × List ℕ)
+RefList = List (Name × Id)
 
 -- whether a ref has the name
-abbrev pub has_name : List ℕ → List ℕ × List ℕ → Bool
+abbrev pub has_name : Name → Name × Id → Bool
 has_name name ref = bytes_eq ref.0 name
 
 -- the id at which the name stands
-abbrev pub ref_at : RefList → List ℕ → Option (List ℕ)
+abbrev pub ref_at : RefList → Name → Option Id
 ref_at refs name = option_map (λ ref. ref.1) (find (has_name name) refs)
 
 -- a ref name below refs/, which is any but HEAD
-pub record IsBelowRefs (name : List ℕ) : Type 0 where
+pub record IsBelowRefs (name : Name) : Type 0 where
   pub well_formed : IsRefName name
   pub below : starts_with nat_eq name (codes "refs/") ≡ true
 
--- the ref stands at an object id
-abbrev pub StandsAtId : List ℕ × List ℕ → Type 0
-StandsAtId ref = IsId ref.1
-
 -- every name of the refs is below the name
-abbrev pub AreBelow : RefList → List ℕ → Type 0
+abbrev pub AreBelow : RefList → Name → Type 0
 AreBelow refs name = AllByRecursion (λ other. slice_cmp nat_cmp other name ≡ Less) (keys_of refs)
 
 -- the most refs, HEAD not counted
@@ -50,13 +46,13 @@ pub record IsRefs (refs : RefList) : Type 0 where
 
 -- the name stands at the id, and every other name where it stood; no other ref comes, and one more where the name
 -- is new
-pub record SetsRef (old new : RefList) (name id : List ℕ) : Type 0 where
+pub record SetsRef (old new : RefList) (name : Name) (id : Id) : Type 0 where
   pub this_name : ref_at new name ≡ Some id
-  pub others : (other : List ℕ) → other ≢ name → ref_at new other ≡ ref_at old other
+  pub others : (other : Name) → other ≢ name → ref_at new other ≡ ref_at old other
   pub each : All (λ ref. (ref ≡ (name, id)) ⊎ Contains old ref) new
   pub one_more : ref_at old name ≡ None → length new ≡ length old + 1
   pub as_many : ref_at old name ≢ None → length new ≡ length old
 
 -- a ref can't be set: the name is HEAD, or it is new where there are as many as can be
-abbrev pub CannotSet : RefList → List ℕ → Type 0
+abbrev pub CannotSet : RefList → Name → Type 0
 CannotSet refs name = (name ≡ head_name) ⊎ ((ref_at refs name ≡ None) × (length refs ≡ max_refs))

@@ -5,6 +5,7 @@ ghost use Rattle.std.specs.Prelude.{◌≡◌, Some};
 ghost use Rattle.grefs.specs.Faults.{refs_fault_row, refs_fault_text};
 ghost use Rattle.grefs.specs.declared.fault.RefsFault.TheVariants.{Memory};
 
+use gname::{OUT_OF_MEMORY, OUT_OF_MEMORY_TEXT};
 use std::alloc::{AllocError, AllocFailed};
 use std::error::Error;
 use std::fmt;
@@ -33,13 +34,13 @@ impl RefsFault {
         self.row().1
     }
 
-    // The table: the number and the name of each fault.
-    fn row(&self) -> (u32, &'static str)
+    /// The table: the number and the name of each fault.
+    pub fn row(&self) -> (u32, &'static str)
         ensures { (result.0, result.1.now) ≡ refs_fault_row self.now }
     {
         match self {
             RefsFault::Refs => (69, "Refs"),
-            RefsFault::Memory => (64, "Memory"),
+            RefsFault::Memory => OUT_OF_MEMORY,
         }
     }
 }
@@ -50,7 +51,7 @@ impl fmt::Display for RefsFault {
     fn fmt<W: fmt::Write>(&self, f: &mut fmt::Formatter<W>) -> fmt::Result {
         match self {
             RefsFault::Refs => f.write_str("the ref can't be set"),
-            RefsFault::Memory => f.write_str("out of memory"),
+            RefsFault::Memory => f.write_str(OUT_OF_MEMORY_TEXT),
         }
     }
 }

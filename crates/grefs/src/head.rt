@@ -30,7 +30,8 @@ impl<A: Allocator + Copy> Model for Target<A> {
 impl<A: Allocator + Copy> Target<A> {
     /// The name as a target, or `None` where it is HEAD itself.
     pub fn new(name: RefName<A>) -> Option<Target<A>>
-        ensures { MatchOption result (name ≡ head_name) (λ target. (target ≡ name) × (name ≢ head_name)) }
+        ensures { MatchOption result (name ≡ head_name)
+            (λ target. (target ≡ name) × (name ≢ head_name)) }
     {
         names_are_clean();
         if name.is_head() {

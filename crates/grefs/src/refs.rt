@@ -4,7 +4,7 @@
 ghost use Rattle.std.specs.Prelude.{◌≡◌, ◌≤◌, ◌↔◌, [], length, IsTrue, IsErrOf, OnOk, OnErr, IfOk, IfErr, ◌⊎◌, ◌≢◌, None, is_ok, MatchOption, MatchResult, slice_get, ◌<◌, ◌++◌, ◌∷◌};
 ghost use Rattle.std.specs.Map.{values_of};
 ghost use Rattle.grefs.specs.RefLists.{AreBelow, CannotSet, IsBelowRefs, IsRefs, SetsRef, max_refs, ref_at};
-ghost use Rattle.grefs.specs.RefPlaces.{IsFound, IsGap};
+ghost use Rattle.grefs.specs.steps.RefPlaces.{IsFound, IsGap};
 
 use crate::fault::RefsFault;
 use gname::laws::names_are_clean;
@@ -133,7 +133,8 @@ impl<A: Allocator + Copy> Refs<A> {
         ensures ok { OnOk result (SetsRef self.old self.new name id) }
         ensures held { ref_at self.old name ≢ None → IsTrue (is_ok result) }
         ensures refused { IsErrOf result RefsFault.Refs ↔ CannotSet self.old name }
-        ensures faults { IfErr result (λ fault. (fault ≡ RefsFault.Refs) ⊎ (fault ≡ RefsFault.Memory)) }
+        ensures faults { IfErr result (λ fault. (fault ≡ RefsFault.Refs)
+            ⊎ (fault ≡ RefsFault.Memory)) }
         ensures err { OnErr result (self.new ≡ self.old) }
         ensures refs { IsRefs self.new }
     {

@@ -1,6 +1,8 @@
 -- What is written of a request asks it, and each payload fits a packet.
 use Rattle.std.proofs.Common.{◌≡◌, ℕ, ◌+◌, ◌≤◌, Bool, true, false, List, [], ◌∷◌, ◌++◌, length, map, codes, inl, inr, Option, Some, None, refl, sym, ap, subst, ◌∙◌, append_assoc, arith}
-use Rattle.std.specs.Prelude.{All}
+use Rattle.std.specs.Prelude.{All, nat_le}
+use Rattle.std.specs.List.{list_all}
+use Rattle.std.proofs.lemmas.Bool.{leb-true}
 use Rattle.std.proofs.lemmas.List.{length-append, length-map}
 use Rattle.std.proofs.lemmas.List.Elements.{All-nil, All-cons, All-append, All-map}
 use Rattle.gpkt.specs.Packets.{Packet, Data, Flush, Delim, text}
@@ -19,9 +21,11 @@ use Rattle.grequest.proofs.FetchAskedLemmas.{same_fetch}
 use Rattle.grequest.proofs.Sections.{at_most_one}
 use Rattle.grequest.specs.declared.command.Command.{Command}
 use Rattle.grequest.specs.declared.command.Command.TheVariants.{LsRefs, Fetch}
-use Rattle.grequest.specs.Arguments.{command_name, capability_form}
-use Rattle.grequest.specs.Asked.{LsRefsAsked, FetchAsked, Asked, Empty, Ls, Fetches, max_prefixes, max_wants, max_haves, max_arguments}
-use Rattle.grequest.specs.RequestLines.{agents, is_thin_pack, is_no_progress, is_include_tag, is_ofs_delta, first_of, asked_by_command}
+use Rattle.grequest.specs.declared.flag.FetchFlag.TheVariants.{Done}
+use Rattle.grequest.specs.Flags.{Table, FlagsOf}
+use Rattle.grequest.specs.Arguments.{command_name, capability_form, ls_flags, fetch_flags}
+use Rattle.grequest.specs.Asked.{LsRefsAsked, FetchAsked, Asked, Empty, Ls, Fetches, fetch_has, fetch_with, max_prefixes, max_wants, max_haves, max_arguments}
+use Rattle.grequest.specs.RequestLines.{agents, first_of, asked_by_command}
 use Rattle.grequest.specs.RequestWriting.{agent_packets, format_packets, ls_argument_packets, fetch_argument_packets, command_packets, canonical_request, IsCanonicalRequest}
 use Rattle.grequest.specs.WellFormed.{IsAgent, IsLsRefsAsked, IsFetchAsked, IsAsked}
 use Rattle.grequest.specs.Manual.{IsCapability, IsArgument, NamesFormat, AreFew, IsCommandRequest, IsRequest}
@@ -29,10 +33,11 @@ use Rattle.grequest.specs.Requests.{Says}
 use Rattle.grequest.proofs.StateLemmas.{list_of}
 use Rattle.grequest.proofs.Texts.{text_of_line}
 use Rattle.grequest.proofs.ManualRequests.{judge_from_manual}
-use Rattle.grequest.proofs.WrittenLists.{flag_texts, line_of, lines_are_packets, texts_of_lines, All-flag, All-imply}
+use Rattle.grequest.proofs.WrittenLists.{flag_texts, flag_count, line_of, lines_are_packets, texts_of_lines, All-flag, All-imply}
+use Rattle.grequest.proofs.WrittenFlags.{flags_texts, flags_are, flags_count}
 use Rattle.grequest.proofs.WrittenTexts.{agent_text, agent_texts, format_texts, capability_words, prefix_text, want_text, have_text, ls_texts, fetch_texts, capability_lines, ls_lines, fetch_lines}
 use Rattle.grequest.proofs.WrittenCapabilities.{word_value_is_short, Capable, capable, AreSpelt, id_text_is_short}
-use Rattle.grequest.proofs.WrittenArguments.{says_ls, flags_texts, then_ids, done_said, thin_said, quiet_said, tags_said, delta_said, wants_said, haves_said, are_fetch}
+use Rattle.grequest.proofs.WrittenArguments.{says_ls, fetch_flags_said, wants_said, haves_said, are_fetch}
 
 -- ---- the whole request
 
@@ -75,10 +80,6 @@ command_request format command agent packets texts asked e able are few room ask
       asks = asks ∙ sym (λ i. asked_by_command format command (read i) (back i));
     }
 
-flag_count : (word : List ℕ) (is_set : Bool) → length (flag_texts word is_set) ≤ 1
-flag_count word false = omega arith
-flag_count word true = omega arith
-
 -- counts of lists one after the other
 count_both : (xs ys : List (List ℕ)) (m n : ℕ) → length xs ≤ m → length ys ≤ n → length (xs ++ ys) ≤ m + n
 count_both xs ys m n a b = omega (arith, length-append xs ys)
@@ -86,34 +87,21 @@ count_both xs ys m n a b = omega (arith, length-append xs ys)
 count_values : (give : List ℕ → List ℕ) (values : List (List ℕ)) (n : ℕ) → length values ≤ n → length (map give values) ≤ n
 count_values give values n h = omega (arith, length-map values give)
 
-ls_count : (asked : LsRefsAsked) → length asked.prefixes ≤ max_prefixes → length (ls_texts asked) ≤ 1 + 1 + 1 + max_prefixes
+ls_count : (asked : LsRefsAsked) → length asked.prefixes ≤ max_prefixes → length (ls_texts asked) ≤ length ls_flags + max_prefixes
 ls_count asked few =
-    count_both (flag_texts (codes "peel") asked.peel ++ flag_texts (codes "symrefs") asked.symrefs ++ flag_texts (codes "unborn") asked.unborn) (map prefix_text asked.prefixes) (1 + 1 + 1) max_prefixes
-    (count_both (flag_texts (codes "peel") asked.peel ++ flag_texts (codes "symrefs") asked.symrefs) (flag_texts (codes "unborn") asked.unborn) (1 + 1) 1
-    (count_both (flag_texts (codes "peel") asked.peel) (flag_texts (codes "symrefs") asked.symrefs) 1 1 (flag_count (codes "peel") asked.peel) (flag_count (codes "symrefs") asked.symrefs))
-    (flag_count (codes "unborn") asked.unborn))
-    (count_values prefix_text asked.prefixes max_prefixes few)
+    count_both (flags_texts ls_flags asked.flags) (map prefix_text asked.prefixes) (length ls_flags) max_prefixes (flags_count ls_flags asked.flags) (count_values prefix_text asked.prefixes max_prefixes few)
 
-flags_count : (asked : FetchAsked) → length (flags_texts asked) ≤ 1 + 1 + 1 + 1
-flags_count asked =
-    let thin = flag_texts (codes "thin-pack") asked.thin_pack in
-    let quiet = flag_texts (codes "no-progress") asked.no_progress in
-    let tags = flag_texts (codes "include-tag") asked.include_tag in
-    count_both (thin ++ quiet ++ tags) (flag_texts (codes "ofs-delta") asked.ofs_delta) (1 + 1 + 1) 1
-    (count_both (thin ++ quiet) tags (1 + 1) 1
-    (count_both thin quiet 1 1 (flag_count (codes "thin-pack") asked.thin_pack) (flag_count (codes "no-progress") asked.no_progress))
-    (flag_count (codes "include-tag") asked.include_tag))
-    (flag_count (codes "ofs-delta") asked.ofs_delta)
-
-fetch_count : (asked : FetchAsked) → length asked.wants ≤ max_wants → length asked.haves ≤ max_haves → length (fetch_texts asked) ≤ 1 + 1 + 1 + 1 + max_wants + max_haves + 1
+fetch_count : (asked : FetchAsked) → length asked.wants ≤ max_wants → length asked.haves ≤ max_haves → length (fetch_texts asked) ≤ length fetch_flags + max_wants + max_haves + 1
 fetch_count asked few many =
+    let early = (fetch_with asked Done false).flags in
+    let flags = flags_texts fetch_flags early in
     let want = map want_text asked.wants in
     let have = map have_text asked.haves in
-    count_both (flags_texts asked ++ want ++ have) (flag_texts (codes "done") asked.done) (1 + 1 + 1 + 1 + max_wants + max_haves) 1
-    (count_both (flags_texts asked ++ want) have (1 + 1 + 1 + 1 + max_wants) max_haves
-    (count_both (flags_texts asked) want (1 + 1 + 1 + 1) max_wants (flags_count asked) (count_values want_text asked.wants max_wants few))
+    count_both (flags ++ want ++ have) (flag_texts (codes "done") (fetch_has asked Done)) (length fetch_flags + max_wants + max_haves) 1
+    (count_both (flags ++ want) have (length fetch_flags + max_wants) max_haves
+    (count_both flags want (length fetch_flags) max_wants (flags_count fetch_flags early) (count_values want_text asked.wants max_wants few))
     (count_values have_text asked.haves max_haves many))
-    (flag_count (codes "done") asked.done)
+    (flag_count (codes "done") (fetch_has asked Done))
 
 ls_request : (format : Format) (asked : LsRefsAsked) → IsLsRefsAsked asked → IsCommandRequest format (command_packets format LsRefs asked.agent (ls_argument_packets asked)) (Ls asked)
 ls_request format asked h =
@@ -122,7 +110,7 @@ ls_request format asked h =
     command_request format LsRefs asked.agent (ls_argument_packets asked) (ls_texts asked) (Ls asked) (ls_lines asked) able says.are
     (omega (arith, ap length says.prefixes, h.few))
     (omega (arith, ls_count asked h.few))
-    (ap Ls (same_ls (sym (ap first_of able.named ∙ first_of_list asked.agent)) (sym says.symrefs) (sym says.peel) (sym says.unborn) (sym says.prefixes)))
+    (ap Ls (same_ls (sym (ap first_of able.named ∙ first_of_list asked.agent)) (sym says.flags) (sym says.prefixes)))
 
 fetch_request : AreSpelt → (format : Format) (asked : FetchAsked) → IsFetchAsked format asked → IsCommandRequest format (command_packets format Fetch asked.agent (fetch_argument_packets asked)) (Fetches asked)
 fetch_request spelt format asked h =
@@ -132,11 +120,7 @@ fetch_request spelt format asked h =
     command_request format Fetch asked.agent (fetch_argument_packets asked) (fetch_texts asked) (Fetches asked) (fetch_lines asked) able (are_fetch spelt format asked h)
     (omega (arith, ap length want, h.few_wants), omega (arith, ap length have, h.few_haves))
     (omega (arith, fetch_count asked h.few_wants h.few_haves))
-    (ap Fetches (same_fetch (sym (ap first_of able.named ∙ first_of_list asked.agent)) (sym want) (sym have) (sym (done_said asked))
-    (sym (then_ids is_thin_pack asked asked.thin_pack (λ id. refl) (λ id. refl) refl (thin_said asked)))
-    (sym (then_ids is_no_progress asked asked.no_progress (λ id. refl) (λ id. refl) refl (quiet_said asked)))
-    (sym (then_ids is_include_tag asked asked.include_tag (λ id. refl) (λ id. refl) refl (tags_said asked)))
-    (sym (then_ids is_ofs_delta asked asked.ofs_delta (λ id. refl) (λ id. refl) refl (delta_said asked)))))
+    (ap Fetches (same_fetch (sym (ap first_of able.named ∙ first_of_list asked.agent)) (sym want) (sym have) (sym (fetch_flags_said asked))))
 
 canonical_is_request : AreSpelt → (format : Format) (asked : Asked) → IsAsked format asked → IsRequest format (canonical_request format asked) asked
 unfolding canonical_request
@@ -183,36 +167,39 @@ request_fits format command agent packets texts e able short =
     (All-cons Fits Delim (packets ++ Flush ∷ []) (omega arith)
     (All-append Fits packets (Flush ∷ []) (fit_texts packets texts e short) (All-cons Fits Flush [] (omega arith) (All-nil Fits)))))
 
+-- so are the flags
+is_short_row : {F : Type 0} → F × List ℕ → Bool
+is_short_row row = nat_le (length row.1) longest
+
+short_flags : {F : Type 0} (table : Table F) (flags : FlagsOf table) → list_all is_short_row table ≡ true → All IsShort (flags_texts table flags)
+unfolding is_short_row
+short_flags table flags h = flags_are is_short_row IsShort (λ row is. leb-true (length row.1) longest is) table flags h
+
+short_ls_rows : list_all is_short_row ls_flags ≡ true
+unfolding is_short_row
+short_ls_rows = refl
+
+short_fetch_rows : list_all is_short_row fetch_flags ≡ true
+unfolding is_short_row
+short_fetch_rows = refl
+
 short_ls : PrefixesAreClean → (asked : LsRefsAsked) → IsLsRefsAsked asked → All IsShort (ls_texts asked)
 short_ls clean asked h =
-    let peel = flag_texts (codes "peel") asked.peel in
-    let symrefs = flag_texts (codes "symrefs") asked.symrefs in
-    let unborn = flag_texts (codes "unborn") asked.unborn in
-    All-append IsShort (peel ++ symrefs ++ unborn) (map prefix_text asked.prefixes)
-    (All-append IsShort (peel ++ symrefs) unborn
-    (All-append IsShort peel symrefs (All-flag IsShort (codes "peel") asked.peel (omega arith)) (All-flag IsShort (codes "symrefs") asked.symrefs (omega arith)))
-    (All-flag IsShort (codes "unborn") asked.unborn (omega arith)))
+    All-append IsShort (flags_texts ls_flags asked.flags) (map prefix_text asked.prefixes) (short_flags ls_flags asked.flags short_ls_rows)
     (All-map IsShort prefix_text asked.prefixes (All-imply IsPrefix (λ prefix. IsShort (prefix_text prefix)) (λ prefix well. omega (arith, length-append (codes "ref-prefix ") prefix, (clean prefix well).within)) asked.prefixes h.prefixes))
 
 short_fetch : AreSpelt → (format : Format) (asked : FetchAsked) → IsFetchAsked format asked → All IsShort (fetch_texts asked)
 short_fetch spelt format asked h =
-    let thin = flag_texts (codes "thin-pack") asked.thin_pack in
-    let quiet = flag_texts (codes "no-progress") asked.no_progress in
-    let tags = flag_texts (codes "include-tag") asked.include_tag in
-    let delta = flag_texts (codes "ofs-delta") asked.ofs_delta in
+    let early = (fetch_with asked Done false).flags in
+    let flags = flags_texts fetch_flags early in
     let want = map want_text asked.wants in
     let have = map have_text asked.haves in
-    All-append IsShort (flags_texts asked ++ want ++ have) (flag_texts (codes "done") asked.done)
-    (All-append IsShort (flags_texts asked ++ want) have
-    (All-append IsShort (flags_texts asked) want
-    (All-append IsShort (thin ++ quiet ++ tags) delta
-    (All-append IsShort (thin ++ quiet) tags
-    (All-append IsShort thin quiet (All-flag IsShort (codes "thin-pack") asked.thin_pack (omega arith)) (All-flag IsShort (codes "no-progress") asked.no_progress (omega arith)))
-    (All-flag IsShort (codes "include-tag") asked.include_tag (omega arith)))
-    (All-flag IsShort (codes "ofs-delta") asked.ofs_delta (omega arith)))
+    All-append IsShort (flags ++ want ++ have) (flag_texts (codes "done") (fetch_has asked Done))
+    (All-append IsShort (flags ++ want) have
+    (All-append IsShort flags want (short_flags fetch_flags early short_fetch_rows)
     (All-map IsShort want_text asked.wants (All-imply (IsIdOf format) (λ id. IsShort (want_text id)) (λ id is. omega (arith, length-append (codes "want ") (id_text id), id_text_is_short spelt format id is)) asked.wants h.wants)))
     (All-map IsShort have_text asked.haves (All-imply (IsIdOf format) (λ id. IsShort (have_text id)) (λ id is. omega (arith, length-append (codes "have ") (id_text id), id_text_is_short spelt format id is)) asked.haves h.haves)))
-    (All-flag IsShort (codes "done") asked.done (omega arith))
+    (All-flag IsShort (codes "done") (fetch_has asked Done) (omega arith))
 
 pub canonical_fits : AreSpelt → PrefixesAreClean → (format : Format) (asked : Asked) → IsAsked format asked → All Fits (canonical_request format asked)
 unfolding canonical_request

@@ -12,7 +12,7 @@ use Rattle.grequest.specs.declared.command.Command.{Command}
 use Rattle.grequest.specs.Arguments.{ObjectFormat, capability_form}
 use Rattle.grequest.specs.RequestLines.{InCapabilities, formats}
 use Rattle.grequest.specs.Requests.{State, state_of, judge_capability, judge_at, judge, once}
-use Rattle.grequest.specs.RequestState.{with_capability, with_packet}
+use Rattle.grequest.specs.steps.RequestState.{with_capability, with_packet}
 use Rattle.grequest.proofs.StateLemmas.{state_at, state_of-open}
 use Rattle.grequest.proofs.Verdicts.{open-text, judge-flush, named-taken, unless-named}
 use Rattle.grequest.proofs.Shape.{IsListed, Shape, shape_of_open, listed_state, argued_state, open_is_bounded}

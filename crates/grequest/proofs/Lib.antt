@@ -1,4 +1,5 @@
 pub mod LineLemmas
+pub mod FlagLemmas
 pub mod SameAsked
 pub mod AskedLemmas
 pub mod FetchAskedLemmas
@@ -12,6 +13,7 @@ pub mod Shape
 pub mod Endings
 pub mod ManualRequests
 pub mod WrittenLists
+pub mod WrittenFlags
 pub mod WrittenTexts
 pub mod WrittenCapabilities
 pub mod WrittenArguments

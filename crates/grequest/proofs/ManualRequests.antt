@@ -8,7 +8,7 @@ use Rattle.ggrammar.specs.Grammar.{Judge, Whole, IsOpen, LawsOf}
 use Rattle.grequest.specs.Asked.{Asked}
 use Rattle.grequest.specs.RequestLines.{InCapabilities, InArguments, formats, asked_by_command, asked_by_lines}
 use Rattle.grequest.specs.Requests.{State, state_of, judge, Says}
-use Rattle.grequest.specs.RequestState.{with_packet}
+use Rattle.grequest.specs.steps.RequestState.{with_packet}
 use Rattle.grequest.specs.Manual.{NamesFormat, IsCommandRequest, IsRequest}
 use Rattle.grequest.proofs.StateLemmas.{state_at, state_of-whole}
 use Rattle.grequest.proofs.Texts.{command_line, command_form-line}

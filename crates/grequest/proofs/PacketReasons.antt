@@ -15,7 +15,7 @@ use Rattle.ggrammar.proofs.VerdictLemmas.{of_test, of_room, past_error}
 use Rattle.grequest.specs.declared.command.Command.TheVariants.{LsRefs, Fetch}
 use Rattle.grequest.specs.declared.command.CommandForm.{CommandForm}
 use Rattle.grequest.specs.declared.command.CommandForm.TheVariants.{Known, Unknown as UnknownCommand, Bad as BadCommand}
-use Rattle.grequest.specs.Arguments.{is_word, command_form, CapabilityForm, Agent, ObjectFormat, UnknownCapability, BadCapability, capability_form, LsArgument, Symrefs, Peel, Unborn, RefPrefix, UnknownLsArgument, ls_argument, FetchArgument, ThinPack, NoProgress, IncludeTag, OfsDelta, Done, Want, Have, UnknownFetchArgument, fetch_argument}
+use Rattle.grequest.specs.Arguments.{is_word, command_form, CapabilityForm, Agent, ObjectFormat, UnknownCapability, BadCapability, capability_form, LsArgument, KnownLsFlag, RefPrefix, UnknownLsArgument, ls_argument, FetchArgument, KnownFetchFlag, Want, Have, UnknownFetchArgument, fetch_argument}
 use Rattle.grequest.specs.Asked.{max_prefixes, max_wants, max_haves}
 use Rattle.grequest.specs.RequestLines.{Place, First, InCapabilities, InArguments}
 use Rattle.grequest.specs.Requests.{State, agent_of, has_room, of_few, prefixes_of, wants_of, haves_of, judge, judge_command, judge_capability, judge_ls_argument, judge_fetch_argument, judge_text, judge_delim, judge_flush, judge_at, state_of, unless_unnamed}
@@ -41,20 +41,14 @@ of_few_fits test arguments before limit verdict h =
     of_test test (of_few arguments before limit) verdict (of_room (has_room arguments && nat_lt (length before) limit)) h
 
 of_ls_argument : (arguments : ℕ) (prefixes : List (List ℕ)) (argument : LsArgument) → IsForPacket (judge_ls_argument arguments prefixes argument)
-of_ls_argument arguments prefixes Symrefs = of_room (has_room arguments)
-of_ls_argument arguments prefixes Peel = of_room (has_room arguments)
-of_ls_argument arguments prefixes Unborn = of_room (has_room arguments)
+of_ls_argument arguments prefixes (KnownLsFlag flag) = of_room (has_room arguments)
 of_ls_argument arguments prefixes (RefPrefix prefix) =
     of_few_fits (is_none (prefix_fault prefix)) arguments prefixes max_prefixes (Refused BadName) tt
 of_ls_argument arguments prefixes UnknownLsArgument = tt
 
 of_fetch_argument : (format : Format) (arguments : ℕ) (wants haves : List (List ℕ)) (argument : FetchArgument)
     → IsForPacket (judge_fetch_argument format arguments wants haves argument)
-of_fetch_argument format arguments wants haves ThinPack = of_room (has_room arguments)
-of_fetch_argument format arguments wants haves NoProgress = of_room (has_room arguments)
-of_fetch_argument format arguments wants haves IncludeTag = of_room (has_room arguments)
-of_fetch_argument format arguments wants haves OfsDelta = of_room (has_room arguments)
-of_fetch_argument format arguments wants haves Done = of_room (has_room arguments)
+of_fetch_argument format arguments wants haves (KnownFetchFlag flag) = of_room (has_room arguments)
 of_fetch_argument format arguments wants haves (Want id) =
     of_few_fits (is_some (id_of_text format id)) arguments wants max_wants (Refused BadId) tt
 of_fetch_argument format arguments wants haves (Have id) =

@@ -9,8 +9,8 @@ use Rattle.ggrammar.specs.declared.message.Step.{Step}
 use Rattle.ggrammar.specs.declared.message.Step.TheVariants as step
 use Rattle.grequest.specs.RequestLines.{place_of, asked_by_lines}
 use Rattle.grequest.specs.Requests.{State, state_of, judge, judge_at, brings}
-use Rattle.grequest.specs.RequestState.{with_packet}
-use Rattle.grequest.specs.RequestReading.{RequestSoFar, packet_brings, HoldsPackets, LeavesNothing}
+use Rattle.grequest.specs.steps.RequestState.{with_packet}
+use Rattle.grequest.specs.steps.RequestReading.{RequestSoFar, packet_brings, HoldsPackets, LeavesNothing}
 use Rattle.grequest.proofs.StateLemmas.{state_of-push}
 use Rattle.grequest.proofs.FormatOfJudge.{format_of_judge}
 

@@ -16,7 +16,7 @@ use Rattle.ggrammar.proofs.VerdictLemmas.{room_left}
 use Rattle.gname.proofs.ListLemmas.{All-parts}
 use Rattle.grequest.specs.declared.command.Command.{Command}
 use Rattle.grequest.specs.declared.command.Command.TheVariants.{LsRefs, Fetch}
-use Rattle.grequest.specs.Arguments.{is_word, CapabilityForm, Agent, ObjectFormat, UnknownCapability, BadCapability, capability_form, LsArgument, Symrefs, Peel, Unborn, RefPrefix, UnknownLsArgument, ls_argument, FetchArgument, ThinPack, NoProgress, IncludeTag, OfsDelta, Done, Want, Have, UnknownFetchArgument, fetch_argument}
+use Rattle.grequest.specs.Arguments.{is_word, CapabilityForm, Agent, ObjectFormat, UnknownCapability, BadCapability, capability_form, LsArgument, KnownLsFlag, RefPrefix, UnknownLsArgument, ls_argument, FetchArgument, KnownFetchFlag, Want, Have, UnknownFetchArgument, fetch_argument}
 use Rattle.grequest.specs.Asked.{max_prefixes, max_wants, max_haves, max_arguments}
 use Rattle.grequest.specs.RequestLines.{InCapabilities, InArguments, agents, formats, prefix_value, prefixes, want_value, wants, have_value, haves, first_of, asked_by_command}
 use Rattle.grequest.specs.Requests.{agent_of, judge_capability, judge_ls_argument, judge_fetch_argument, judge_argument}
@@ -231,9 +231,7 @@ record Found (kind : Type 0) (is : Type 0) (lines : List (List ℕ)) : Type 0 wh
 ls_found : (lines : List (List ℕ)) (form : LsArgument) → length (prefixes lines) ≤ max_prefixes
     → judge_ls_argument (length lines) (prefixes lines) form ≡ Open
     → Found (length (prefixes lines) + length (list_of (prefix_value form)) ≤ max_prefixes) (IsLsArgument form) lines
-ls_found lines Symrefs few e = record { form = tt; room = ltb-true (length lines) max_arguments (room_left _ e); few = omega (arith, few) }
-ls_found lines Peel few e = record { form = tt; room = ltb-true (length lines) max_arguments (room_left _ e); few = omega (arith, few) }
-ls_found lines Unborn few e = record { form = tt; room = ltb-true (length lines) max_arguments (room_left _ e); few = omega (arith, few) }
+ls_found lines (KnownLsFlag flag) few e = record { form = tt; room = ltb-true (length lines) max_arguments (room_left _ e); few = omega (arith, few) }
 ls_found lines (RefPrefix prefix) few e =
     let h = if_opens (is_none (prefix_fault prefix)) (if_room (nat_lt (length lines) max_arguments && nat_lt (length (prefixes lines)) max_prefixes)) BadName e in
     let rooms = and_parts (nat_lt (length lines) max_arguments) (nat_lt (length (prefixes lines)) max_prefixes) (room_left _ h.1) in
@@ -243,9 +241,7 @@ ls_found lines UnknownLsArgument few e = absurd cc
 ls_taken : (lines : List (List ℕ)) (form : LsArgument) → IsLsArgument form → length lines < max_arguments
     → length (prefixes lines) + length (list_of (prefix_value form)) ≤ max_prefixes
     → judge_ls_argument (length lines) (prefixes lines) form ≡ Open
-ls_taken lines Symrefs h room few = room_for (nat_lt (length lines) max_arguments) (lt-ltb (length lines) max_arguments room)
-ls_taken lines Peel h room few = room_for (nat_lt (length lines) max_arguments) (lt-ltb (length lines) max_arguments room)
-ls_taken lines Unborn h room few = room_for (nat_lt (length lines) max_arguments) (lt-ltb (length lines) max_arguments room)
+ls_taken lines (KnownLsFlag flag) h room few = room_for (nat_lt (length lines) max_arguments) (lt-ltb (length lines) max_arguments room)
 ls_taken lines (RefPrefix prefix) h room few =
     opens_if (is_none (prefix_fault prefix)) (if_room (nat_lt (length lines) max_arguments && nat_lt (length (prefixes lines)) max_prefixes)) BadName (ap is_none h)
     (room_for _ (and_from (nat_lt (length lines) max_arguments) (nat_lt (length (prefixes lines)) max_prefixes) (lt-ltb (length lines) max_arguments room) (lt-ltb (length (prefixes lines)) max_prefixes (omega (arith, few)))))
@@ -260,11 +256,7 @@ FewIds format lines form =
 fetch_found : (format : Format) (lines : List (List ℕ)) (form : FetchArgument) → length (wants format lines) ≤ max_wants → length (haves format lines) ≤ max_haves
     → judge_fetch_argument format (length lines) (wants format lines) (haves format lines) form ≡ Open
     → Found (FewIds format lines form) (IsFetchArgument format form) lines
-fetch_found format lines ThinPack few many e = record { form = tt; room = ltb-true (length lines) max_arguments (room_left _ e); few = (omega (arith, few), omega (arith, many)) }
-fetch_found format lines NoProgress few many e = record { form = tt; room = ltb-true (length lines) max_arguments (room_left _ e); few = (omega (arith, few), omega (arith, many)) }
-fetch_found format lines IncludeTag few many e = record { form = tt; room = ltb-true (length lines) max_arguments (room_left _ e); few = (omega (arith, few), omega (arith, many)) }
-fetch_found format lines OfsDelta few many e = record { form = tt; room = ltb-true (length lines) max_arguments (room_left _ e); few = (omega (arith, few), omega (arith, many)) }
-fetch_found format lines Done few many e = record { form = tt; room = ltb-true (length lines) max_arguments (room_left _ e); few = (omega (arith, few), omega (arith, many)) }
+fetch_found format lines (KnownFetchFlag flag) few many e = record { form = tt; room = ltb-true (length lines) max_arguments (room_left _ e); few = (omega (arith, few), omega (arith, many)) }
 fetch_found format lines (Want id) few many e =
     let h = if_opens (is_some (id_of_text format id)) (if_room (nat_lt (length lines) max_arguments && nat_lt (length (wants format lines)) max_wants)) BadId e in
     let rooms = and_parts (nat_lt (length lines) max_arguments) (nat_lt (length (wants format lines)) max_wants) (room_left _ h.1) in
@@ -285,11 +277,7 @@ fetch_found format lines UnknownFetchArgument few many e = absurd cc
 
 fetch_taken : (format : Format) (lines : List (List ℕ)) (form : FetchArgument) → IsFetchArgument format form → length lines < max_arguments → FewIds format lines form
     → judge_fetch_argument format (length lines) (wants format lines) (haves format lines) form ≡ Open
-fetch_taken format lines ThinPack h room few = room_for (nat_lt (length lines) max_arguments) (lt-ltb (length lines) max_arguments room)
-fetch_taken format lines NoProgress h room few = room_for (nat_lt (length lines) max_arguments) (lt-ltb (length lines) max_arguments room)
-fetch_taken format lines IncludeTag h room few = room_for (nat_lt (length lines) max_arguments) (lt-ltb (length lines) max_arguments room)
-fetch_taken format lines OfsDelta h room few = room_for (nat_lt (length lines) max_arguments) (lt-ltb (length lines) max_arguments room)
-fetch_taken format lines Done h room few = room_for (nat_lt (length lines) max_arguments) (lt-ltb (length lines) max_arguments room)
+fetch_taken format lines (KnownFetchFlag flag) h room few = room_for (nat_lt (length lines) max_arguments) (lt-ltb (length lines) max_arguments room)
 fetch_taken format lines (Want id) h room few =
     opens_if (is_some (id_of_text format id)) (if_room (nat_lt (length lines) max_arguments && nat_lt (length (wants format lines)) max_wants)) BadId h
     (room_for _ (and_from (nat_lt (length lines) max_arguments) (nat_lt (length (wants format lines)) max_wants) (lt-ltb (length lines) max_arguments room) (lt-ltb (length (wants format lines)) max_wants (omega (arith, few.0, one_of (id_of_text format id) h)))))

@@ -18,7 +18,8 @@ use Rattle.grequest.specs.Arguments.{command_form, CapabilityForm, Agent, Object
 use Rattle.grequest.specs.Asked.{Asked, Ls, Fetches}
 use Rattle.grequest.specs.RequestLines.{Place, First, InCapabilities, InArguments, place_of_command, next_place, place_of, capability_there, argument_there, capability_texts, argument_texts, agent_value, format_value, agents, formats, first_of, ls_refs_asked, fetch_asked, asked_by_command, asked_by_texts}
 use Rattle.grequest.specs.Requests.{State, state_of, agent_of, once, judge_capability, judge_text, judge_at, judge}
-use Rattle.grequest.specs.RequestState.{with_command, with_agent, with_capability, with_argument, with_text, with_packet}
+use Rattle.grequest.specs.steps.RequestState.{with_command, with_agent, with_capability, with_argument, with_text}
+use Rattle.grequest.specs.steps.RequestState.{with_packet}
 use Rattle.grequest.proofs.LineLemmas.{place_of-push, capability_texts-push, argument_texts-push}
 use Rattle.grequest.proofs.AskedLemmas.{ls_refs_asked-push}
 use Rattle.grequest.proofs.FetchAskedLemmas.{fetch_asked-push}

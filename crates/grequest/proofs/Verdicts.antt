@@ -17,7 +17,7 @@ use Rattle.grequest.specs.declared.command.Command.{Command}
 use Rattle.grequest.specs.declared.command.Command.TheVariants.{LsRefs, Fetch}
 use Rattle.grequest.specs.declared.command.CommandForm.{CommandForm}
 use Rattle.grequest.specs.declared.command.CommandForm.TheVariants.{Known, Unknown as UnknownCommand, Bad as BadCommand}
-use Rattle.grequest.specs.Arguments.{is_word, command_form, CapabilityForm, Agent, ObjectFormat, UnknownCapability, BadCapability, capability_form, LsArgument, Symrefs, Peel, Unborn, RefPrefix, UnknownLsArgument, ls_argument, FetchArgument, ThinPack, NoProgress, IncludeTag, OfsDelta, Done, Want, Have, UnknownFetchArgument, fetch_argument}
+use Rattle.grequest.specs.Arguments.{is_word, command_form, CapabilityForm, Agent, ObjectFormat, UnknownCapability, BadCapability, capability_form, LsArgument, KnownLsFlag, RefPrefix, UnknownLsArgument, ls_argument, FetchArgument, KnownFetchFlag, Want, Have, UnknownFetchArgument, fetch_argument}
 use Rattle.grequest.specs.Asked.{max_prefixes, max_wants, max_haves}
 use Rattle.grequest.specs.RequestLines.{Place, First, InCapabilities, InArguments, formats}
 use Rattle.grequest.specs.Requests.{State, has_room, prefixes_of, wants_of, haves_of, judge_command, judge_capability, judge_ls_argument, judge_fetch_argument, judge_text, judge_delim, judge_flush, judge_at, unless_unnamed}
@@ -123,18 +123,12 @@ capability_never format state UnknownCapability e = cc
 capability_never format state BadCapability e = cc
 
 ls_never : (arguments : ℕ) (prefixes : List (List ℕ)) (form : LsArgument) → judge_ls_argument arguments prefixes form ≡ Whole → ⊥
-ls_never arguments prefixes Symrefs e = both_never _ Open _ Open-Whole (Refused-Whole _) e
-ls_never arguments prefixes Peel e = both_never _ Open _ Open-Whole (Refused-Whole _) e
-ls_never arguments prefixes Unborn e = both_never _ Open _ Open-Whole (Refused-Whole _) e
+ls_never arguments prefixes (KnownLsFlag flag) e = both_never _ Open _ Open-Whole (Refused-Whole _) e
 ls_never arguments prefixes (RefPrefix prefix) e = two_never (is_none (prefix_fault prefix)) (has_room arguments && nat_lt (length prefixes) max_prefixes) Limit BadName e
 ls_never arguments prefixes UnknownLsArgument e = cc
 
 fetch_never : (format : Format) (arguments : ℕ) (wants haves : List (List ℕ)) (form : FetchArgument) → judge_fetch_argument format arguments wants haves form ≡ Whole → ⊥
-fetch_never format arguments wants haves ThinPack e = both_never _ Open _ Open-Whole (Refused-Whole _) e
-fetch_never format arguments wants haves NoProgress e = both_never _ Open _ Open-Whole (Refused-Whole _) e
-fetch_never format arguments wants haves IncludeTag e = both_never _ Open _ Open-Whole (Refused-Whole _) e
-fetch_never format arguments wants haves OfsDelta e = both_never _ Open _ Open-Whole (Refused-Whole _) e
-fetch_never format arguments wants haves Done e = both_never _ Open _ Open-Whole (Refused-Whole _) e
+fetch_never format arguments wants haves (KnownFetchFlag flag) e = both_never _ Open _ Open-Whole (Refused-Whole _) e
 fetch_never format arguments wants haves (Want id) e = two_never (is_some (id_of_text format id)) (has_room arguments && nat_lt (length wants) max_wants) Limit BadId e
 fetch_never format arguments wants haves (Have id) e = two_never (is_some (id_of_text format id)) (has_room arguments && nat_lt (length haves) max_haves) Limit BadId e
 fetch_never format arguments wants haves UnknownFetchArgument e = cc

@@ -1,35 +1,55 @@
 -- What the arguments say that are written of a request.
-use Rattle.std.proofs.Common.{◌≡◌, ℕ, Bool, false, List, [], ◌++◌, map, codes, Option, None, refl, sym, ap, subst, ◌∙◌}
+use Rattle.std.proofs.Common.{◌≡◌, ℕ, ◌&&◌, ◌||◌, Bool, true, false, cond, List, [], ◌++◌, map, codes, refl, sym, ap, subst, ◌∙◌}
 use Rattle.std.specs.Prelude.{All, is_some}
-use Rattle.std.specs.List.{filter_map}
+use Rattle.std.specs.List.{list_all, list_any}
+use Rattle.std.proofs.Math.Bool.{and-true, and-false, or-false}
 use Rattle.std.proofs.lemmas.List.Elements.{All-append, All-map}
+use Rattle.std.proofs.lemmas.List.Folds.{list_any-append}
 use Rattle.gname.specs.Ids.{IsIdOf, id_text}
 use Rattle.gname.specs.Names.{IsPrefix}
 use Rattle.gname.specs.declared.formats.Format.{Format}
 use Rattle.ggrammar.specs.PeerErrors.{after_word}
 use Rattle.grequest.specs.declared.command.Command.TheVariants.{LsRefs, Fetch}
-use Rattle.grequest.specs.Arguments.{Symrefs, Peel, Unborn, RefPrefix, ls_argument, FetchArgument, ThinPack, NoProgress, IncludeTag, OfsDelta, Done, Want, Have, fetch_argument}
-use Rattle.grequest.specs.Asked.{LsRefsAsked, FetchAsked}
-use Rattle.grequest.specs.RequestLines.{prefix_value, prefixes, want_value, wants, have_value, haves, is_symrefs, is_peel, is_unborn, is_thin_pack, is_no_progress, is_include_tag, is_ofs_delta, is_done, has_ls_argument, has_fetch_argument}
+use Rattle.grequest.specs.declared.flag.LsRefsFlag.{LsRefsFlag}
+use Rattle.grequest.specs.declared.flag.LsRefsFlag.TheVariants.{Peel}
+use Rattle.grequest.specs.declared.flag.FetchFlag.{FetchFlag}
+use Rattle.grequest.specs.declared.flag.FetchFlag.TheVariants.{ThinPack, Done}
+use Rattle.grequest.specs.Flags.{flags_where}
+use Rattle.grequest.specs.Arguments.{ls_flags, LsArgument, KnownLsFlag, RefPrefix, UnknownLsArgument, ls_argument}
+use Rattle.grequest.specs.Arguments.{fetch_flags, FetchArgument, KnownFetchFlag, Want, Have, UnknownFetchArgument, fetch_argument}
+use Rattle.grequest.specs.Asked.{LsRefsAsked, FetchAsked, same_ls_flag, same_fetch_flag, ls_has, fetch_has, fetch_with}
+use Rattle.grequest.specs.RequestLines.{prefix_value, prefixes, want_value, wants, have_value, haves, is_ls_flag, is_fetch_flag, ls_flags_among, fetch_flags_among, has_ls_argument, has_fetch_argument}
 use Rattle.grequest.specs.WellFormed.{IsLsRefsAsked, IsFetchAsked}
 use Rattle.grequest.specs.Manual.{IsLsArgument, IsFetchArgument, IsArgument}
-use Rattle.grequest.proofs.WrittenLists.{flag_texts, none_then, then_none, own_flag, other_flag, no_value, nothing_then, then_nothing, flag_gives_none, values_give_none, values_come_back, All-flag, All-imply}
+use Rattle.grequest.proofs.FlagLemmas.{one_ls_flag, one_fetch_flag, where_same_as}
+use Rattle.grequest.proofs.WrittenLists.{flag_texts, flag_among, then_none, no_value, nothing_then, then_nothing, flag_gives_none, values_give_none, values_come_back, All-flag, All-imply}
+use Rattle.grequest.proofs.WrittenFlags.{flags_texts, flags_are, flags_give_none, flags_said}
 use Rattle.grequest.proofs.WrittenTexts.{prefix_text, want_text, have_text, ls_texts, fetch_texts}
 use Rattle.grequest.proofs.WrittenCapabilities.{AreSpelt, id_of_text-id_text}
 
 -- ---- the arguments of ls-refs
 
-pub peel_form : ls_argument (codes "peel") ≡ Peel
-unfolding ls_argument after_word
-peel_form = refl
+known_ls : (flag : LsRefsFlag) (form : LsArgument) → is_ls_flag flag form ≡ true → form ≡ KnownLsFlag flag
+known_ls flag (KnownLsFlag other) h = ap KnownLsFlag (sym (one_ls_flag flag other h))
+known_ls flag (RefPrefix prefix) h = cc
+known_ls flag UnknownLsArgument h = cc
 
-pub symrefs_form : ls_argument (codes "symrefs") ≡ Symrefs
-unfolding ls_argument after_word
-symrefs_form = refl
+-- the text of each row is read as its flag
+is_ls_row : LsRefsFlag × List ℕ → Bool
+is_ls_row row = is_ls_flag row.0 (ls_argument row.1)
 
-pub unborn_form : ls_argument (codes "unborn") ≡ Unborn
-unfolding ls_argument after_word
-unborn_form = refl
+ls_rows : list_all is_ls_row ls_flags ≡ true
+unfolding is_ls_row ls_argument after_word
+ls_rows = refl
+
+ls_form : (row : LsRefsFlag × List ℕ) → is_ls_row row ≡ true → ls_argument row.1 ≡ KnownLsFlag row.0
+unfolding is_ls_row
+ls_form row h = known_ls row.0 (ls_argument row.1) h
+
+-- each flag has a row
+ls_listed : (flag : LsRefsFlag) → list_any (λ row. same_ls_flag flag row.0) ls_flags ≡ true
+ls_listed Peel = refl
+ls_listed _ = refl
 
 pub prefix_form : (prefix : List ℕ) → ls_argument (prefix_text prefix) ≡ RefPrefix prefix
 unfolding ls_argument after_word
@@ -38,72 +58,57 @@ prefix_form prefix = refl
 -- what the arguments say
 pub record SaysLs (format : Format) (asked : LsRefsAsked) : Type 0 where
   pub are : All (IsArgument format LsRefs) (ls_texts asked)
-  pub symrefs : has_ls_argument is_symrefs (ls_texts asked) ≡ asked.symrefs
-  pub peel : has_ls_argument is_peel (ls_texts asked) ≡ asked.peel
-  pub unborn : has_ls_argument is_unborn (ls_texts asked) ≡ asked.unborn
+  pub flags : ls_flags_among (ls_texts asked) ≡ asked.flags
   pub prefixes : prefixes (ls_texts asked) ≡ asked.prefixes
 
 pub says_ls : (format : Format) (asked : LsRefsAsked) → IsLsRefsAsked asked → SaysLs format asked
 says_ls format asked h =
-    let peel = flag_texts (codes "peel") asked.peel in
-    let symrefs = flag_texts (codes "symrefs") asked.symrefs in
-    let unborn = flag_texts (codes "unborn") asked.unborn in
+    let flags = flags_texts ls_flags asked.flags in
     let values = map prefix_text asked.prefixes in
     let P : List ℕ → Type 0 = IsArgument format LsRefs in
-    let S = λ (line : List ℕ). is_symrefs (ls_argument line) in
-    let L = λ (line : List ℕ). is_peel (ls_argument line) in
-    let U = λ (line : List ℕ). is_unborn (ls_argument line) in
     let V = λ (line : List ℕ). prefix_value (ls_argument line) in
-    let isPeel = peel_form in
-    let isSymrefs = symrefs_form in
-    let isUnborn = unborn_form in
     record {
-      are = All-append P (peel ++ symrefs ++ unborn) values
-          (All-append P (peel ++ symrefs) unborn
-          (All-append P peel symrefs (All-flag P (codes "peel") asked.peel (subst IsLsArgument (sym peel_form) tt)) (All-flag P (codes "symrefs") asked.symrefs (subst IsLsArgument (sym symrefs_form) tt)))
-          (All-flag P (codes "unborn") asked.unborn (subst IsLsArgument (sym unborn_form) tt)))
+      are = All-append P flags values
+          (flags_are is_ls_row P (λ row is. subst IsLsArgument (sym (ls_form row is)) tt) ls_flags asked.flags ls_rows)
           (All-map P prefix_text asked.prefixes (All-imply IsPrefix (λ prefix. P (prefix_text prefix)) (λ prefix well. subst IsLsArgument (sym (prefix_form prefix)) well) asked.prefixes h.prefixes));
-      symrefs = then_none S (peel ++ symrefs ++ unborn) values asked.symrefs
-          (then_none S (peel ++ symrefs) unborn asked.symrefs
-          (none_then S peel symrefs asked.symrefs (other_flag S (codes "peel") asked.peel (ap is_symrefs peel_form)) (own_flag S (codes "symrefs") asked.symrefs (ap is_symrefs symrefs_form)))
-          (other_flag S (codes "unborn") asked.unborn (ap is_symrefs unborn_form)))
-          (no_value S prefix_text (λ prefix. ap is_symrefs (prefix_form prefix)) asked.prefixes);
-      peel = then_none L (peel ++ symrefs ++ unborn) values asked.peel
-          (then_none L (peel ++ symrefs) unborn asked.peel
-          (then_none L peel symrefs asked.peel (own_flag L (codes "peel") asked.peel (ap is_peel peel_form)) (other_flag L (codes "symrefs") asked.symrefs (ap is_peel symrefs_form)))
-          (other_flag L (codes "unborn") asked.unborn (ap is_peel unborn_form)))
-          (no_value L prefix_text (λ prefix. ap is_peel (prefix_form prefix)) asked.prefixes);
-      unborn = then_none U (peel ++ symrefs ++ unborn) values asked.unborn
-          (none_then U (peel ++ symrefs) unborn asked.unborn
-          (none_then U peel symrefs false (other_flag U (codes "peel") asked.peel (ap is_unborn peel_form)) (other_flag U (codes "symrefs") asked.symrefs (ap is_unborn symrefs_form)))
-          (own_flag U (codes "unborn") asked.unborn (ap is_unborn unborn_form)))
-          (no_value U prefix_text (λ prefix. ap is_unborn (prefix_form prefix)) asked.prefixes);
-      prefixes = nothing_then V (peel ++ symrefs ++ unborn) values asked.prefixes
-          (nothing_then V (peel ++ symrefs) unborn []
-          (nothing_then V peel symrefs [] (flag_gives_none V (codes "peel") asked.peel (ap prefix_value peel_form)) (flag_gives_none V (codes "symrefs") asked.symrefs (ap prefix_value symrefs_form)))
-          (flag_gives_none V (codes "unborn") asked.unborn (ap prefix_value unborn_form)))
+      flags = where_same_as same_ls_flag ls_flags _ _ (ls_flag_said asked);
+      prefixes = nothing_then V flags values asked.prefixes
+          (flags_give_none is_ls_row V (λ row is. ap prefix_value (ls_form row is)) ls_flags asked.flags ls_rows)
           (values_come_back V prefix_text asked.prefixes (λ k d lt. ap prefix_value (prefix_form _)));
     }
+  where
+    ls_flag_said : (asked : LsRefsAsked) (flag : LsRefsFlag) → has_ls_argument (is_ls_flag flag) (ls_texts asked) ≡ ls_has asked flag
+    ls_flag_said asked flag =
+        let says = λ (flag : LsRefsFlag) (line : List ℕ). is_ls_flag flag (ls_argument line) in
+        then_none (says flag) (flags_texts ls_flags asked.flags) (map prefix_text asked.prefixes) (ls_has asked flag)
+        (flags_said is_ls_row same_ls_flag one_ls_flag says (λ row other is. ap (is_ls_flag other) (ls_form row is)) ls_flags (ls_has asked) flag ls_rows
+        ∙ ap (λ (b : Bool). ls_has asked flag && b) (ls_listed flag) ∙ and-true (ls_has asked flag))
+        (no_value (says flag) prefix_text (λ prefix. ap (is_ls_flag flag) (prefix_form prefix)) asked.prefixes)
 
 -- ---- the arguments of fetch
 
-pub thin_form : fetch_argument (codes "thin-pack") ≡ ThinPack
-unfolding fetch_argument after_word
-thin_form = refl
+known_fetch : (flag : FetchFlag) (form : FetchArgument) → is_fetch_flag flag form ≡ true → form ≡ KnownFetchFlag flag
+known_fetch flag (KnownFetchFlag other) h = ap KnownFetchFlag (sym (one_fetch_flag flag other h))
+known_fetch flag (Want id) h = cc
+known_fetch flag (Have id) h = cc
+known_fetch flag UnknownFetchArgument h = cc
 
-pub quiet_form : fetch_argument (codes "no-progress") ≡ NoProgress
-unfolding fetch_argument after_word
-quiet_form = refl
+is_fetch_row : FetchFlag × List ℕ → Bool
+is_fetch_row row = is_fetch_flag row.0 (fetch_argument row.1)
 
-pub tags_form : fetch_argument (codes "include-tag") ≡ IncludeTag
-unfolding fetch_argument after_word
-tags_form = refl
+fetch_rows : list_all is_fetch_row fetch_flags ≡ true
+unfolding is_fetch_row fetch_argument after_word
+fetch_rows = refl
 
-pub delta_form : fetch_argument (codes "ofs-delta") ≡ OfsDelta
-unfolding fetch_argument after_word
-delta_form = refl
+fetch_form : (row : FetchFlag × List ℕ) → is_fetch_row row ≡ true → fetch_argument row.1 ≡ KnownFetchFlag row.0
+unfolding is_fetch_row
+fetch_form row h = known_fetch row.0 (fetch_argument row.1) h
 
-pub done_form : fetch_argument (codes "done") ≡ Done
+fetch_listed : (flag : FetchFlag) → list_any (λ row. same_fetch_flag flag row.0) fetch_flags ≡ true
+fetch_listed ThinPack = refl
+fetch_listed _ = refl
+
+done_form : fetch_argument (codes "done") ≡ KnownFetchFlag Done
 unfolding fetch_argument after_word
 done_form = refl
 
@@ -115,156 +120,71 @@ pub have_form : (id : List ℕ) → fetch_argument (have_text id) ≡ Have (id_t
 unfolding fetch_argument after_word
 have_form id = refl
 
--- the flags before the ids
-abbrev pub flags_texts : FetchAsked → List (List ℕ)
-flags_texts asked =
-    flag_texts (codes "thin-pack") asked.thin_pack
-    ++ flag_texts (codes "no-progress") asked.no_progress
-    ++ flag_texts (codes "include-tag") asked.include_tag
-    ++ flag_texts (codes "ofs-delta") asked.ofs_delta
+-- the flags but done, and done, are the flags
+with_done : (asked : FetchAsked) (flag : FetchFlag) (is : Bool) → same_fetch_flag flag Done ≡ is
+    → (cond is false (fetch_has asked flag) || (fetch_has asked Done && is)) ≡ fetch_has asked flag
+with_done asked flag true is = and-true (fetch_has asked Done) ∙ ap (fetch_has asked) (sym (one_fetch_flag flag Done is))
+with_done asked flag false is = ap (λ (b : Bool). fetch_has asked flag || b) (and-false (fetch_has asked Done)) ∙ or-false (fetch_has asked flag)
 
--- a test that no flag before the ids passes
-pub no_early_flag : (p : FetchArgument → Bool) (asked : FetchAsked) → p ThinPack ≡ false → p NoProgress ≡ false → p IncludeTag ≡ false → p OfsDelta ≡ false
-    → has_fetch_argument p (flags_texts asked) ≡ false
-no_early_flag p asked t n i o =
-    let F = λ (line : List ℕ). p (fetch_argument line) in
-    let thin = flag_texts (codes "thin-pack") asked.thin_pack in
-    let quiet = flag_texts (codes "no-progress") asked.no_progress in
-    let tags = flag_texts (codes "include-tag") asked.include_tag in
-    let delta = flag_texts (codes "ofs-delta") asked.ofs_delta in
-    none_then F (thin ++ quiet ++ tags) delta false
-    (none_then F (thin ++ quiet) tags false
-    (none_then F thin quiet false (other_flag F (codes "thin-pack") asked.thin_pack (ap p thin_form ∙ t)) (other_flag F (codes "no-progress") asked.no_progress (ap p quiet_form ∙ n)))
-    (other_flag F (codes "include-tag") asked.include_tag (ap p tags_form ∙ i)))
-    (other_flag F (codes "ofs-delta") asked.ofs_delta (ap p delta_form ∙ o))
-
--- what follows the flags has none of them
-pub then_ids : (p : FetchArgument → Bool) (asked : FetchAsked) (b : Bool) → ((id : List ℕ) → p (Want id) ≡ false) → ((id : List ℕ) → p (Have id) ≡ false) → p Done ≡ false
-    → has_fetch_argument p (flags_texts asked) ≡ b → has_fetch_argument p (fetch_texts asked) ≡ b
-then_ids p asked b w v d e =
-    let F = λ (line : List ℕ). p (fetch_argument line) in
+fetch_flag_said : (asked : FetchAsked) (flag : FetchFlag) → has_fetch_argument (is_fetch_flag flag) (fetch_texts asked) ≡ fetch_has asked flag
+fetch_flag_said asked flag =
+    let says = λ (flag : FetchFlag) (line : List ℕ). is_fetch_flag flag (fetch_argument line) in
+    let early = λ (other : FetchFlag). cond (same_fetch_flag other Done) false (fetch_has asked other) in
+    let flags = flags_texts fetch_flags (flags_where fetch_flags early) in
     let want = map want_text asked.wants in
     let have = map have_text asked.haves in
-    then_none F (flags_texts asked ++ want ++ have) (flag_texts (codes "done") asked.done) b
-    (then_none F (flags_texts asked ++ want) have b
-    (then_none F (flags_texts asked) want b e (no_value F want_text (λ id. ap p (want_form id) ∙ w (id_text id)) asked.wants))
-    (no_value F have_text (λ id. ap p (have_form id) ∙ v (id_text id)) asked.haves))
-    (other_flag F (codes "done") asked.done (ap p done_form ∙ d))
+    let done = flag_texts (codes "done") (fetch_has asked Done) in
+    list_any-append (says flag) (flags ++ want ++ have) done
+    ∙ (λ i. then_none (says flag) (flags ++ want) have (early flag)
+    (then_none (says flag) flags want (early flag)
+    (flags_said is_fetch_row same_fetch_flag one_fetch_flag says (λ row other is. ap (is_fetch_flag other) (fetch_form row is)) fetch_flags early flag fetch_rows
+    ∙ ap (λ (b : Bool). early flag && b) (fetch_listed flag) ∙ and-true (early flag))
+    (no_value (says flag) want_text (λ id. ap (is_fetch_flag flag) (want_form id)) asked.wants))
+    (no_value (says flag) have_text (λ id. ap (is_fetch_flag flag) (have_form id)) asked.haves) i
+    || flag_among (says flag) (codes "done") (fetch_has asked Done) (same_fetch_flag flag Done) (ap (is_fetch_flag flag) done_form) i)
+    ∙ with_done asked flag (same_fetch_flag flag Done) refl
 
-pub done_said : (asked : FetchAsked) → has_fetch_argument is_done (fetch_texts asked) ≡ asked.done
-done_said asked =
-    let F = λ (line : List ℕ). is_done (fetch_argument line) in
-    let want = map want_text asked.wants in
-    let have = map have_text asked.haves in
-    none_then F (flags_texts asked ++ want ++ have) (flag_texts (codes "done") asked.done) asked.done
-    (none_then F (flags_texts asked ++ want) have false
-    (none_then F (flags_texts asked) want false (no_early_flag is_done asked refl refl refl refl) (no_value F want_text (λ id. ap is_done (want_form id)) asked.wants))
-    (no_value F have_text (λ id. ap is_done (have_form id)) asked.haves))
-    (own_flag F (codes "done") asked.done (ap is_done done_form))
-
-pub thin_said : (asked : FetchAsked) → has_fetch_argument is_thin_pack (flags_texts asked) ≡ asked.thin_pack
-thin_said asked =
-    let F = λ (line : List ℕ). is_thin_pack (fetch_argument line) in
-    let thin = flag_texts (codes "thin-pack") asked.thin_pack in
-    let quiet = flag_texts (codes "no-progress") asked.no_progress in
-    let tags = flag_texts (codes "include-tag") asked.include_tag in
-    then_none F (thin ++ quiet ++ tags) (flag_texts (codes "ofs-delta") asked.ofs_delta) asked.thin_pack
-    (then_none F (thin ++ quiet) tags asked.thin_pack
-    (then_none F thin quiet asked.thin_pack (own_flag F (codes "thin-pack") asked.thin_pack (ap is_thin_pack thin_form)) (other_flag F (codes "no-progress") asked.no_progress (ap is_thin_pack quiet_form)))
-    (other_flag F (codes "include-tag") asked.include_tag (ap is_thin_pack tags_form)))
-    (other_flag F (codes "ofs-delta") asked.ofs_delta (ap is_thin_pack delta_form))
-
-pub quiet_said : (asked : FetchAsked) → has_fetch_argument is_no_progress (flags_texts asked) ≡ asked.no_progress
-quiet_said asked =
-    let F = λ (line : List ℕ). is_no_progress (fetch_argument line) in
-    let thin = flag_texts (codes "thin-pack") asked.thin_pack in
-    let quiet = flag_texts (codes "no-progress") asked.no_progress in
-    let tags = flag_texts (codes "include-tag") asked.include_tag in
-    then_none F (thin ++ quiet ++ tags) (flag_texts (codes "ofs-delta") asked.ofs_delta) asked.no_progress
-    (then_none F (thin ++ quiet) tags asked.no_progress
-    (none_then F thin quiet asked.no_progress (other_flag F (codes "thin-pack") asked.thin_pack (ap is_no_progress thin_form)) (own_flag F (codes "no-progress") asked.no_progress (ap is_no_progress quiet_form)))
-    (other_flag F (codes "include-tag") asked.include_tag (ap is_no_progress tags_form)))
-    (other_flag F (codes "ofs-delta") asked.ofs_delta (ap is_no_progress delta_form))
-
-pub tags_said : (asked : FetchAsked) → has_fetch_argument is_include_tag (flags_texts asked) ≡ asked.include_tag
-tags_said asked =
-    let F = λ (line : List ℕ). is_include_tag (fetch_argument line) in
-    let thin = flag_texts (codes "thin-pack") asked.thin_pack in
-    let quiet = flag_texts (codes "no-progress") asked.no_progress in
-    let tags = flag_texts (codes "include-tag") asked.include_tag in
-    then_none F (thin ++ quiet ++ tags) (flag_texts (codes "ofs-delta") asked.ofs_delta) asked.include_tag
-    (none_then F (thin ++ quiet) tags asked.include_tag
-    (none_then F thin quiet false (other_flag F (codes "thin-pack") asked.thin_pack (ap is_include_tag thin_form)) (other_flag F (codes "no-progress") asked.no_progress (ap is_include_tag quiet_form)))
-    (own_flag F (codes "include-tag") asked.include_tag (ap is_include_tag tags_form)))
-    (other_flag F (codes "ofs-delta") asked.ofs_delta (ap is_include_tag delta_form))
-
-pub delta_said : (asked : FetchAsked) → has_fetch_argument is_ofs_delta (flags_texts asked) ≡ asked.ofs_delta
-delta_said asked =
-    let F = λ (line : List ℕ). is_ofs_delta (fetch_argument line) in
-    let thin = flag_texts (codes "thin-pack") asked.thin_pack in
-    let quiet = flag_texts (codes "no-progress") asked.no_progress in
-    let tags = flag_texts (codes "include-tag") asked.include_tag in
-    none_then F (thin ++ quiet ++ tags) (flag_texts (codes "ofs-delta") asked.ofs_delta) asked.ofs_delta
-    (none_then F (thin ++ quiet) tags false
-    (none_then F thin quiet false (other_flag F (codes "thin-pack") asked.thin_pack (ap is_ofs_delta thin_form)) (other_flag F (codes "no-progress") asked.no_progress (ap is_ofs_delta quiet_form)))
-    (other_flag F (codes "include-tag") asked.include_tag (ap is_ofs_delta tags_form)))
-    (own_flag F (codes "ofs-delta") asked.ofs_delta (ap is_ofs_delta delta_form))
-
--- the flags give no id
-pub flags_give_none : (h : FetchArgument → Option (List ℕ)) (asked : FetchAsked) → h ThinPack ≡ None → h NoProgress ≡ None → h IncludeTag ≡ None → h OfsDelta ≡ None
-    → filter_map (λ line. h (fetch_argument line)) (flags_texts asked) ≡ []
-flags_give_none h asked t n i o =
-    let F = λ (line : List ℕ). h (fetch_argument line) in
-    let thin = flag_texts (codes "thin-pack") asked.thin_pack in
-    let quiet = flag_texts (codes "no-progress") asked.no_progress in
-    let tags = flag_texts (codes "include-tag") asked.include_tag in
-    nothing_then F (thin ++ quiet ++ tags) (flag_texts (codes "ofs-delta") asked.ofs_delta) []
-    (nothing_then F (thin ++ quiet) tags []
-    (nothing_then F thin quiet [] (flag_gives_none F (codes "thin-pack") asked.thin_pack (ap h thin_form ∙ t)) (flag_gives_none F (codes "no-progress") asked.no_progress (ap h quiet_form ∙ n)))
-    (flag_gives_none F (codes "include-tag") asked.include_tag (ap h tags_form ∙ i)))
-    (flag_gives_none F (codes "ofs-delta") asked.ofs_delta (ap h delta_form ∙ o))
+pub fetch_flags_said : (asked : FetchAsked) → fetch_flags_among (fetch_texts asked) ≡ asked.flags
+fetch_flags_said asked = where_same_as same_fetch_flag fetch_flags _ _ (fetch_flag_said asked)
 
 pub wants_said : AreSpelt → (format : Format) (asked : FetchAsked) → All (IsIdOf format) asked.wants → wants format (fetch_texts asked) ≡ asked.wants
 wants_said spelt format asked ids =
     let F = λ (line : List ℕ). want_value format (fetch_argument line) in
+    let early = (fetch_with asked Done false).flags in
+    let flags = flags_texts fetch_flags early in
     let want = map want_text asked.wants in
     let have = map have_text asked.haves in
-    then_nothing F (flags_texts asked ++ want ++ have) (flag_texts (codes "done") asked.done) asked.wants
-    (then_nothing F (flags_texts asked ++ want) have asked.wants
-    (nothing_then F (flags_texts asked) want asked.wants (flags_give_none (want_value format) asked refl refl refl refl)
+    then_nothing F (flags ++ want ++ have) (flag_texts (codes "done") (fetch_has asked Done)) asked.wants
+    (then_nothing F (flags ++ want) have asked.wants
+    (nothing_then F flags want asked.wants (flags_give_none is_fetch_row F (λ row is. ap (want_value format) (fetch_form row is)) fetch_flags early fetch_rows)
     (values_come_back F want_text asked.wants (λ k d lt. ap (want_value format) (want_form _) ∙ id_of_text-id_text spelt format _ (ids k d lt))))
     (values_give_none F have_text (λ id. ap (want_value format) (have_form id)) asked.haves))
-    (flag_gives_none F (codes "done") asked.done (ap (want_value format) done_form))
+    (flag_gives_none F (codes "done") (fetch_has asked Done) (ap (want_value format) done_form))
 
 pub haves_said : AreSpelt → (format : Format) (asked : FetchAsked) → All (IsIdOf format) asked.haves → haves format (fetch_texts asked) ≡ asked.haves
 haves_said spelt format asked ids =
     let F = λ (line : List ℕ). have_value format (fetch_argument line) in
+    let early = (fetch_with asked Done false).flags in
+    let flags = flags_texts fetch_flags early in
     let want = map want_text asked.wants in
     let have = map have_text asked.haves in
-    then_nothing F (flags_texts asked ++ want ++ have) (flag_texts (codes "done") asked.done) asked.haves
-    (nothing_then F (flags_texts asked ++ want) have asked.haves
-    (nothing_then F (flags_texts asked) want [] (flags_give_none (have_value format) asked refl refl refl refl)
+    then_nothing F (flags ++ want ++ have) (flag_texts (codes "done") (fetch_has asked Done)) asked.haves
+    (nothing_then F (flags ++ want) have asked.haves
+    (nothing_then F flags want [] (flags_give_none is_fetch_row F (λ row is. ap (have_value format) (fetch_form row is)) fetch_flags early fetch_rows)
     (values_give_none F want_text (λ id. ap (have_value format) (want_form id)) asked.wants))
     (values_come_back F have_text asked.haves (λ k d lt. ap (have_value format) (have_form _) ∙ id_of_text-id_text spelt format _ (ids k d lt))))
-    (flag_gives_none F (codes "done") asked.done (ap (have_value format) done_form))
+    (flag_gives_none F (codes "done") (fetch_has asked Done) (ap (have_value format) done_form))
 
 pub are_fetch : AreSpelt → (format : Format) (asked : FetchAsked) → IsFetchAsked format asked → All (IsArgument format Fetch) (fetch_texts asked)
 are_fetch spelt format asked h =
     let P : List ℕ → Type 0 = IsArgument format Fetch in
-    let thin = flag_texts (codes "thin-pack") asked.thin_pack in
-    let quiet = flag_texts (codes "no-progress") asked.no_progress in
-    let tags = flag_texts (codes "include-tag") asked.include_tag in
-    let delta = flag_texts (codes "ofs-delta") asked.ofs_delta in
+    let early = (fetch_with asked Done false).flags in
+    let flags = flags_texts fetch_flags early in
     let want = map want_text asked.wants in
     let have = map have_text asked.haves in
-    All-append P (flags_texts asked ++ want ++ have) (flag_texts (codes "done") asked.done)
-    (All-append P (flags_texts asked ++ want) have
-    (All-append P (flags_texts asked) want
-    (All-append P (thin ++ quiet ++ tags) delta
-    (All-append P (thin ++ quiet) tags
-    (All-append P thin quiet (All-flag P (codes "thin-pack") asked.thin_pack (subst (IsFetchArgument format) (sym thin_form) tt)) (All-flag P (codes "no-progress") asked.no_progress (subst (IsFetchArgument format) (sym quiet_form) tt)))
-    (All-flag P (codes "include-tag") asked.include_tag (subst (IsFetchArgument format) (sym tags_form) tt)))
-    (All-flag P (codes "ofs-delta") asked.ofs_delta (subst (IsFetchArgument format) (sym delta_form) tt)))
+    All-append P (flags ++ want ++ have) (flag_texts (codes "done") (fetch_has asked Done))
+    (All-append P (flags ++ want) have
+    (All-append P flags want (flags_are is_fetch_row P (λ row is. subst (IsFetchArgument format) (sym (fetch_form row is)) tt) fetch_flags early fetch_rows)
     (All-map P want_text asked.wants (All-imply (IsIdOf format) (λ id. P (want_text id)) (λ id is. subst (IsFetchArgument format) (sym (want_form id)) (ap is_some (id_of_text-id_text spelt format id is))) asked.wants h.wants)))
     (All-map P have_text asked.haves (All-imply (IsIdOf format) (λ id. P (have_text id)) (λ id is. subst (IsFetchArgument format) (sym (have_form id)) (ap is_some (id_of_text-id_text spelt format id is))) asked.haves h.haves)))
-    (All-flag P (codes "done") asked.done (subst (IsFetchArgument format) (sym done_form) tt))
+    (All-flag P (codes "done") (fetch_has asked Done) (subst (IsFetchArgument format) (sym done_form) tt))

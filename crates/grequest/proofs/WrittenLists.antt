@@ -1,12 +1,14 @@
 -- Facts on the lists of texts that a request is written from: flags that are set or not, and values.
-use Rattle.std.proofs.Common.{◌≡◌, ℕ, ◌||◌, Bool, true, false, List, [], ◌∷◌, ◌++◌, map, Option, Some, None, refl, ap, ◌∙◌, append-nil}
+use Rattle.std.proofs.Common.{◌≡◌, ℕ, ◌≤◌, ◌&&◌, ◌||◌, Bool, true, false, List, [], ◌∷◌, ◌++◌, length, map, Option, Some, None, refl, sym, ap, ◌∙◌, append-nil, arith}
 use Rattle.std.specs.Prelude.{All}
 use Rattle.std.specs.List.{filter_map, list_any}
 use Rattle.std.proofs.Math.Bool.{or-false}
+use Rattle.std.proofs.lemmas.List.{map-append}
 use Rattle.std.proofs.lemmas.List.Elements.{All-nil, All-cons, All-head, All-tail, filter_map-append}
 use Rattle.std.proofs.lemmas.List.Folds.{list_any-append}
 use Rattle.gpkt.specs.Packets.{Packet, Data, text}
 use Rattle.ggrammar.specs.Texts.{text_packet}
+use Rattle.grequest.specs.RequestWriting.{flag_packets}
 use Rattle.grequest.proofs.Texts.{text_of_line}
 
 -- ---- texts and their packets
@@ -29,19 +31,25 @@ abbrev pub flag_texts : List ℕ → Bool → List (List ℕ)
 flag_texts word false = []
 flag_texts word true = word ∷ []
 
-pub none_then : (p : List ℕ → Bool) (xs ys : List (List ℕ)) (b : Bool) → list_any p xs ≡ false → list_any p ys ≡ b → list_any p (xs ++ ys) ≡ b
-none_then p xs ys b none e = list_any-append p xs ys ∙ ap (λ (c : Bool). c || list_any p ys) none ∙ e
+pub flag_lines : (word : List ℕ) (is_set : Bool) → flag_packets word is_set ≡ map text_packet (flag_texts word is_set)
+flag_lines word false = refl
+flag_lines word true = refl
+
+-- lists of packets one after the other, and their texts
+pub joined : {front back : List Packet} (texts more : List (List ℕ)) → front ≡ map text_packet texts → back ≡ map text_packet more → front ++ back ≡ map text_packet (texts ++ more)
+joined texts more e f = (λ i. e i ++ f i) ∙ sym (map-append text_packet texts more)
+
+pub flag_count : (word : List ℕ) (is_set : Bool) → length (flag_texts word is_set) ≤ 1
+flag_count word false = omega arith
+flag_count word true = omega arith
+
+-- a flag's text passes a test where it is set
+pub flag_among : (p : List ℕ → Bool) (word : List ℕ) (is_set passes : Bool) → p word ≡ passes → list_any p (flag_texts word is_set) ≡ (is_set && passes)
+flag_among p word false passes is = refl
+flag_among p word true passes is = or-false (p word) ∙ is
 
 pub then_none : (p : List ℕ → Bool) (xs ys : List (List ℕ)) (b : Bool) → list_any p xs ≡ b → list_any p ys ≡ false → list_any p (xs ++ ys) ≡ b
 then_none p xs ys b e none = list_any-append p xs ys ∙ ap (λ (c : Bool). list_any p xs || c) none ∙ or-false (list_any p xs) ∙ e
-
-pub own_flag : (p : List ℕ → Bool) (word : List ℕ) (is_set : Bool) → p word ≡ true → list_any p (flag_texts word is_set) ≡ is_set
-own_flag p word false own = refl
-own_flag p word true own = ap (λ (b : Bool). b || false) own
-
-pub other_flag : (p : List ℕ → Bool) (word : List ℕ) (is_set : Bool) → p word ≡ false → list_any p (flag_texts word is_set) ≡ false
-other_flag p word false other = refl
-other_flag p word true other = ap (λ (b : Bool). b || false) other
 
 pub no_value : (p : List ℕ → Bool) (give : List ℕ → List ℕ) → ((value : List ℕ) → p (give value) ≡ false) → (values : List (List ℕ)) → list_any p (map give values) ≡ false
 no_value p give none [] = refl

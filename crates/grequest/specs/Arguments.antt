@@ -1,54 +1,60 @@
 -- The texts of a request's packets (gitprotocol-v2(5), "Command Request", "ls-refs", "fetch"): what each says, with
 -- the value that it carries. A table each for commands, capabilities and the arguments of a command.
-use Rattle.std.specs.Prelude.{ℕ, Bool, List, codes, if◌then◌else◌, Option, Some, None}
+use Rattle.std.specs.Prelude.{Bool, [], ◌∷◌, codes, if◌then◌else◌, Option, Some, None}
 use Rattle.std.specs.Str.{bytes_eq}
+use Rattle.gpkt.specs.Packets.{Bytes}
 use Rattle.ggrammar.specs.PeerErrors.{after_word}
 use Rattle.ggrammar.specs.Capabilities.{Capability, capability_of, is_key, is_word_value}
 use Rattle.grequest.specs.declared.command.Command.{Command}
 use Rattle.grequest.specs.declared.command.Command.TheVariants.{LsRefs, Fetch}
 use Rattle.grequest.specs.declared.command.CommandForm.{CommandForm}
 use Rattle.grequest.specs.declared.command.CommandForm.TheVariants.{Known, Unknown as UnknownCommand, Bad as BadCommand}
+use Rattle.grequest.specs.declared.flag.LsRefsFlag.{LsRefsFlag}
+use Rattle.grequest.specs.declared.flag.LsRefsFlag.TheVariants as ls
+use Rattle.grequest.specs.declared.flag.FetchFlag.{FetchFlag}
+use Rattle.grequest.specs.declared.flag.FetchFlag.TheVariants as fetch
+use Rattle.grequest.specs.Flags.{Table, flag_in}
 
 -- the text is this word
-abbrev pub is_word : List ℕ → List ℕ → Bool
+abbrev pub is_word : Bytes → Bytes → Bool
 is_word word text = bytes_eq text word
 
 -- ---- the command
 
 -- the words of the commands
-abbrev pub command_name : Command → List ℕ
+abbrev pub command_name : Command → Bytes
 command_name LsRefs = codes "ls-refs"
 command_name Fetch = codes "fetch"
 
 -- the command with a key
-abbrev pub command_of_key : List ℕ → CommandForm
+abbrev pub command_of_key : Bytes → CommandForm
 command_of_key key =
     if is_word (command_name LsRefs) key then Known LsRefs
     else if is_word (command_name Fetch) key then Known Fetch
     else if is_key key then UnknownCommand
     else BadCommand
 
-abbrev pub command_after : Option (List ℕ) → CommandForm
+abbrev pub command_after : Option Bytes → CommandForm
 command_after None = BadCommand
 command_after (Some key) = command_of_key key
 
 -- the first text: `command=` and a key
-unfoldable pub command_form : List ℕ → CommandForm
+unfoldable pub command_form : Bytes → CommandForm
 command_form text = command_after (after_word (codes "command=") text)
 
 -- ---- capabilities
 
 pub data CapabilityForm : Type 0 where
-  Agent : (value : List ℕ) → CapabilityForm
-  ObjectFormat : (value : List ℕ) → CapabilityForm
+  Agent : (value : Bytes) → CapabilityForm
+  ObjectFormat : (value : Bytes) → CapabilityForm
   UnknownCapability BadCapability : CapabilityForm
 
 -- `agent=` has a value without a space
-abbrev pub agent_with : Option (List ℕ) → CapabilityForm
+abbrev pub agent_with : Option Bytes → CapabilityForm
 agent_with None = BadCapability
 agent_with (Some value) = if is_word_value value then Agent value else BadCapability
 
-abbrev pub format_with : Option (List ℕ) → CapabilityForm
+abbrev pub format_with : Option Bytes → CapabilityForm
 format_with None = BadCapability
 format_with (Some value) = ObjectFormat value
 
@@ -63,48 +69,69 @@ capability_with None = BadCapability
 capability_with (Some capability) = known_capability capability
 
 -- a text of the capability list
-unfoldable pub capability_form : List ℕ → CapabilityForm
+unfoldable pub capability_form : Bytes → CapabilityForm
 capability_form text = capability_with (capability_of text)
+
+-- ---- flags
+
+-- the flags of ls-refs, in the order in which they are written
+abbrev pub ls_flags : Table LsRefsFlag
+ls_flags =
+    (ls.Peel, codes "peel")
+    ∷ (ls.Symrefs, codes "symrefs")
+    ∷ (ls.Unborn, codes "unborn")
+    ∷ []
+
+-- the flags of fetch, in the order in which they are written, but that `done` follows the ids
+abbrev pub fetch_flags : Table FetchFlag
+fetch_flags =
+    (fetch.ThinPack, codes "thin-pack")
+    ∷ (fetch.NoProgress, codes "no-progress")
+    ∷ (fetch.IncludeTag, codes "include-tag")
+    ∷ (fetch.OfsDelta, codes "ofs-delta")
+    ∷ (fetch.Done, codes "done")
+    ∷ []
 
 -- ---- arguments
 
 pub data LsArgument : Type 0 where
-  Symrefs Peel Unborn : LsArgument
-  RefPrefix : (prefix : List ℕ) → LsArgument
+  KnownLsFlag : (flag : LsRefsFlag) → LsArgument
+  RefPrefix : (prefix : Bytes) → LsArgument
   UnknownLsArgument : LsArgument
 
-abbrev pub ref_prefix_or_unknown : Option (List ℕ) → LsArgument
+abbrev pub ls_flag_or_else : Option LsRefsFlag → LsArgument → LsArgument
+ls_flag_or_else None other = other
+ls_flag_or_else (Some flag) other = KnownLsFlag flag
+
+abbrev pub ref_prefix_or_unknown : Option Bytes → LsArgument
 ref_prefix_or_unknown None = UnknownLsArgument
 ref_prefix_or_unknown (Some prefix) = RefPrefix prefix
 
 -- an argument of ls-refs; `ref-prefix ` has that form whatever follows
-unfoldable pub ls_argument : List ℕ → LsArgument
+unfoldable pub ls_argument : Bytes → LsArgument
 ls_argument text =
-    if is_word (codes "symrefs") text then Symrefs
-    else if is_word (codes "peel") text then Peel
-    else if is_word (codes "unborn") text then Unborn
-    else ref_prefix_or_unknown (after_word (codes "ref-prefix ") text)
+    ls_flag_or_else (flag_in ls_flags text) (ref_prefix_or_unknown (after_word (codes "ref-prefix ") text))
 
 pub data FetchArgument : Type 0 where
-  ThinPack NoProgress IncludeTag OfsDelta Done : FetchArgument
-  Want : (id : List ℕ) → FetchArgument
-  Have : (id : List ℕ) → FetchArgument
+  KnownFetchFlag : (flag : FetchFlag) → FetchArgument
+  Want : (id : Bytes) → FetchArgument
+  Have : (id : Bytes) → FetchArgument
   UnknownFetchArgument : FetchArgument
 
-abbrev pub have_or_unknown : Option (List ℕ) → FetchArgument
+abbrev pub fetch_flag_or_else : Option FetchFlag → FetchArgument → FetchArgument
+fetch_flag_or_else None other = other
+fetch_flag_or_else (Some flag) other = KnownFetchFlag flag
+
+abbrev pub have_or_unknown : Option Bytes → FetchArgument
 have_or_unknown None = UnknownFetchArgument
 have_or_unknown (Some id) = Have id
 
-abbrev pub want_or_else : Option (List ℕ) → FetchArgument → FetchArgument
+abbrev pub want_or_else : Option Bytes → FetchArgument → FetchArgument
 want_or_else None other = other
 want_or_else (Some id) other = Want id
 
 -- an argument of fetch; `want ` and `have ` have that form whatever follows
-unfoldable pub fetch_argument : List ℕ → FetchArgument
+unfoldable pub fetch_argument : Bytes → FetchArgument
 fetch_argument text =
-    if is_word (codes "thin-pack") text then ThinPack
-    else if is_word (codes "no-progress") text then NoProgress
-    else if is_word (codes "include-tag") text then IncludeTag
-    else if is_word (codes "ofs-delta") text then OfsDelta
-    else if is_word (codes "done") text then Done
-    else want_or_else (after_word (codes "want ") text) (have_or_unknown (after_word (codes "have ") text))
+    fetch_flag_or_else (flag_in fetch_flags text)
+    (want_or_else (after_word (codes "want ") text) (have_or_unknown (after_word (codes "have ") text)))

@@ -1,33 +1,70 @@
 -- What a request asks for.
 use Rattle.std.specs.Prelude.{ℕ, Bool, ◌==◌, ◌||◌, List, length, Option}
+use denote.Enum.Bare.{sameb}
+use denote.Enum.Declared.{tag_of}
+use Rattle.gname.specs.Ids.{Id}
+use Rattle.gpkt.specs.Packets.{Bytes}
+use Rattle.grequest.specs.declared.flag.LsRefsFlag.{LsRefsFlag}
+use Rattle.grequest.specs.declared.flag.FetchFlag.{FetchFlag}
+use Rattle.grequest.specs.declared.flag.FetchFlag.TheVariants.{Done}
+use Rattle.grequest.specs.contracts.flag.LsRefsFlag.{the_type as the_ls_flags}
+use Rattle.grequest.specs.contracts.flag.FetchFlag.{the_type as the_fetch_flags}
+use Rattle.grequest.specs.Flags.{FlagsOf, has_flag, with_flag}
+use Rattle.grequest.specs.Arguments.{ls_flags, fetch_flags}
+
+-- ---- flags
+
+-- `==` on flags
+abbrev pub same_ls_flag : LsRefsFlag → LsRefsFlag → Bool
+same_ls_flag = sameb the_ls_flags
+
+abbrev pub same_fetch_flag : FetchFlag → FetchFlag → Bool
+same_fetch_flag = sameb the_fetch_flags
+
+-- the number of a flag, as `as` gives it
+abbrev pub ls_number : LsRefsFlag → ℕ
+ls_number = tag_of the_ls_flags
+
+abbrev pub fetch_number : FetchFlag → ℕ
+fetch_number = tag_of the_fetch_flags
+
+-- ---- requests
 
 -- a request for ls-refs
 pub record LsRefsAsked : Type 0 where
-  pub agent : Option (List ℕ)
-  pub symrefs : Bool
-  pub peel : Bool
-  pub unborn : Bool
-  pub prefixes : List (List ℕ)
+  pub agent : Option Bytes
+  pub flags : FlagsOf ls_flags
+  pub prefixes : List Bytes
 
 -- a request for fetch
 pub record FetchAsked : Type 0 where
-  pub agent : Option (List ℕ)
-  pub wants : List (List ℕ)
-  pub haves : List (List ℕ)
-  pub done : Bool
-  pub thin_pack : Bool
-  pub no_progress : Bool
-  pub include_tag : Bool
-  pub ofs_delta : Bool
+  pub agent : Option Bytes
+  pub wants : List Id
+  pub haves : List Id
+  pub flags : FlagsOf fetch_flags
 
 pub data Asked : Type 0 where
   Empty : Asked
   Ls : (asked : LsRefsAsked) → Asked
   Fetches : (asked : FetchAsked) → Asked
 
+-- a request has a flag
+abbrev pub ls_has : LsRefsAsked → LsRefsFlag → Bool
+ls_has asked flag = has_flag same_ls_flag ls_flags asked.flags flag
+
+abbrev pub fetch_has : FetchAsked → FetchFlag → Bool
+fetch_has asked flag = has_flag same_fetch_flag fetch_flags asked.flags flag
+
+-- the request with a flag, or without it
+abbrev pub ls_with : LsRefsAsked → LsRefsFlag → Bool → LsRefsAsked
+ls_with asked flag is_set = record asked { flags = with_flag same_ls_flag ls_flags asked.flags flag is_set }
+
+abbrev pub fetch_with : FetchAsked → FetchFlag → Bool → FetchAsked
+fetch_with asked flag is_set = record asked { flags = with_flag same_fetch_flag fetch_flags asked.flags flag is_set }
+
 -- The reply is to have the pack at once: the client says that it is done, or names no have.
 abbrev pub is_direct : FetchAsked → Bool
-is_direct asked = asked.done || length asked.haves == 0
+is_direct asked = fetch_has asked Done || length asked.haves == 0
 
 -- the most prefixes, wants, haves and arguments of a request
 abbrev pub max_prefixes : ℕ

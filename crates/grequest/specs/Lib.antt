@@ -1,15 +1,14 @@
+pub mod Flags
 pub mod Arguments
 pub mod Asked
-pub mod Views
 pub mod RequestLines
 pub mod Manual
 pub mod Requests
-pub mod RequestState
 pub mod RequestWriting
 pub mod WellFormed
 pub mod Building
 pub mod RequestReading
 pub mod RequestValues
-pub mod Sections
+pub mod steps
 pub use Rattle.ggrammar.specs.Grammar
 pub use Rattle.ggrammar.specs.MessageReading

@@ -6,8 +6,8 @@
 --
 -- The delimiter may be left out where there are no arguments. Each part is a list of payloads, and a payload's
 -- text is the payload without one line feed at its end. The format is that of the repository's objects.
-use Rattle.std.specs.Prelude.{◌≡◌, ℕ, ◌≤◌, ◌⊎◌, List, [], ◌∷◌, ◌++◌, length, map, codes, All}
-use Rattle.gpkt.specs.Packets.{Packet, Data, Flush, Delim, text}
+use Rattle.std.specs.Prelude.{◌≡◌, ◌≤◌, ◌⊎◌, List, [], ◌∷◌, ◌++◌, length, map, codes, All}
+use Rattle.gpkt.specs.Packets.{Bytes, Packet, Data, Flush, Delim, text}
 use Rattle.gname.specs.Names.{IsPrefix}
 use Rattle.gname.specs.Formats.{format_name}
 use Rattle.gname.specs.declared.formats.Format.{Format}
@@ -30,7 +30,7 @@ IsCapability format (ObjectFormat value) = value ≡ format_name format
 IsCapability format UnknownCapability = ⊥
 IsCapability format BadCapability = ⊥
 
-abbrev pub NamesFormat : Format → List (List ℕ) → Type 0
+abbrev pub NamesFormat : Format → List Bytes → Type 0
 NamesFormat Sha1 capabilities = length (formats capabilities) ≤ 1
 NamesFormat Sha256 capabilities = length (formats capabilities) ≡ 1
 
@@ -47,26 +47,26 @@ IsFetchArgument format (Have id) = IsSome (id_of_text format id)
 IsFetchArgument format UnknownFetchArgument = ⊥
 IsFetchArgument format _ = Unit {0}
 
-abbrev pub IsArgument : Format → Command → List ℕ → Type 0
+abbrev pub IsArgument : Format → Command → Bytes → Type 0
 IsArgument format LsRefs line = IsLsArgument (ls_argument line)
 IsArgument format Fetch line = IsFetchArgument format (fetch_argument line)
 
 -- so many prefixes, wants and haves at most
-abbrev pub AreFew : Format → Command → List (List ℕ) → Type 0
+abbrev pub AreFew : Format → Command → List Bytes → Type 0
 AreFew format LsRefs arguments = length (prefixes arguments) ≤ max_prefixes
 AreFew format Fetch arguments =
     (length (wants format arguments) ≤ max_wants) × (length (haves format arguments) ≤ max_haves)
 
 -- the arguments' section, which may be left out where there are none
-abbrev pub IsSection : List (List ℕ) → List Packet → Type 0
+abbrev pub IsSection : List Bytes → List Packet → Type 0
 IsSection arguments packets = (packets ≡ Delim ∷ map Data arguments) ⊎ ((arguments ≡ []) × (packets ≡ []))
 
 -- the packets are a command with its capabilities and arguments, and ask this
 pub record IsCommandRequest (format : Format) (lines : List Packet) (asked : Asked) : Type 0 where
   pub command : Command
-  pub first : List ℕ
-  pub capabilities : List (List ℕ)
-  pub arguments : List (List ℕ)
+  pub first : Bytes
+  pub capabilities : List Bytes
+  pub arguments : List Bytes
   pub section : List Packet
   pub parts : lines ≡ Data first ∷ (map Data capabilities ++ section ++ Flush ∷ [])
   pub separated : IsSection arguments section

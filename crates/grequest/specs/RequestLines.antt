@@ -1,8 +1,9 @@
 -- What the packets of a request say: where each stands, and what all of a kind say together.
-use Rattle.std.specs.Prelude.{true, false}
-use Rattle.std.specs.Prelude.{ℕ, Bool, List, [], ◌∷◌, Option, Some, None}
+use Rattle.std.specs.Prelude.{false}
+use Rattle.std.specs.Prelude.{Bool, List, [], ◌∷◌, Option, Some, None}
 use Rattle.std.specs.List.{filter_map, list_any}
-use Rattle.gpkt.specs.Packets.{Packet, Data, Flush, Delim, ResponseEnd, text}
+use Rattle.gname.specs.Ids.{Id}
+use Rattle.gpkt.specs.Packets.{Bytes, Packet, Data, Flush, Delim, ResponseEnd, text}
 use Rattle.gname.specs.declared.formats.Format.{Format}
 use Rattle.ggrammar.specs.Ids.{id_of_text}
 use Rattle.ggrammar.specs.Places.{place_after, collected}
@@ -11,10 +12,12 @@ use Rattle.grequest.specs.declared.command.Command.TheVariants.{LsRefs, Fetch}
 use Rattle.grequest.specs.declared.command.CommandForm.{CommandForm}
 use Rattle.grequest.specs.declared.command.CommandForm.TheVariants.{Known, Unknown as UnknownCommand, Bad as BadCommand}
 use Rattle.grequest.specs.Arguments.{command_form, CapabilityForm, Agent, ObjectFormat, capability_form}
-use Rattle.grequest.specs.Arguments.{LsArgument, Symrefs, Peel, Unborn, RefPrefix, ls_argument}
-use Rattle.grequest.specs.Arguments.{FetchArgument, ThinPack, NoProgress, IncludeTag, OfsDelta, Done, Want, Have}
-use Rattle.grequest.specs.Arguments.{fetch_argument}
-use Rattle.grequest.specs.Asked.{LsRefsAsked, FetchAsked, Asked, Empty, Ls, Fetches}
+use Rattle.grequest.specs.Arguments.{ls_flags, LsArgument, KnownLsFlag, RefPrefix, ls_argument}
+use Rattle.grequest.specs.Arguments.{fetch_flags, FetchArgument, KnownFetchFlag, Want, Have, fetch_argument}
+use Rattle.grequest.specs.declared.flag.LsRefsFlag.{LsRefsFlag}
+use Rattle.grequest.specs.declared.flag.FetchFlag.{FetchFlag}
+use Rattle.grequest.specs.Flags.{FlagsOf, flags_where}
+use Rattle.grequest.specs.Asked.{LsRefsAsked, FetchAsked, Asked, Empty, Ls, Fetches, same_ls_flag, same_fetch_flag}
 
 -- ---- where a packet stands
 
@@ -47,131 +50,108 @@ place_of lines = place_after next_place First lines
 
 -- ---- the texts of the capability list, and of the arguments
 
-abbrev pub capability_there : Place → Packet → List (List ℕ)
+abbrev pub capability_there : Place → Packet → List Bytes
 capability_there (InCapabilities command) (Data payload) = text payload ∷ []
 capability_there place packet = []
 
-unfoldable pub capability_texts : List Packet → List (List ℕ)
+unfoldable pub capability_texts : List Packet → List Bytes
 capability_texts lines = collected next_place capability_there First lines
 
-abbrev pub argument_there : Place → Packet → List (List ℕ)
+abbrev pub argument_there : Place → Packet → List Bytes
 argument_there (InArguments command) (Data payload) = text payload ∷ []
 argument_there place packet = []
 
-unfoldable pub argument_texts : List Packet → List (List ℕ)
+unfoldable pub argument_texts : List Packet → List Bytes
 argument_texts lines = collected next_place argument_there First lines
 
 -- ---- what the texts say, each kind in order
 
-abbrev pub agent_value : CapabilityForm → Option (List ℕ)
+abbrev pub agent_value : CapabilityForm → Option Bytes
 agent_value (Agent value) = Some value
 agent_value _ = None
 
-abbrev pub format_value : CapabilityForm → Option (List ℕ)
+abbrev pub format_value : CapabilityForm → Option Bytes
 format_value (ObjectFormat value) = Some value
 format_value _ = None
 
-abbrev pub agents : List (List ℕ) → List (List ℕ)
+abbrev pub agents : List Bytes → List Bytes
 agents texts = filter_map (λ line. agent_value (capability_form line)) texts
 
-abbrev pub formats : List (List ℕ) → List (List ℕ)
+abbrev pub formats : List Bytes → List Bytes
 formats texts = filter_map (λ line. format_value (capability_form line)) texts
 
-abbrev pub prefix_value : LsArgument → Option (List ℕ)
+abbrev pub prefix_value : LsArgument → Option Bytes
 prefix_value (RefPrefix prefix) = Some prefix
 prefix_value _ = None
 
-abbrev pub prefixes : List (List ℕ) → List (List ℕ)
+abbrev pub prefixes : List Bytes → List Bytes
 prefixes texts = filter_map (λ line. prefix_value (ls_argument line)) texts
 
-abbrev pub want_value : Format → FetchArgument → Option (List ℕ)
+abbrev pub want_value : Format → FetchArgument → Option Id
 want_value format (Want id) = id_of_text format id
 want_value format _ = None
 
-abbrev pub have_value : Format → FetchArgument → Option (List ℕ)
+abbrev pub have_value : Format → FetchArgument → Option Id
 have_value format (Have id) = id_of_text format id
 have_value format _ = None
 
-abbrev pub wants : Format → List (List ℕ) → List (List ℕ)
+abbrev pub wants : Format → List Bytes → List Id
 wants format texts = filter_map (λ line. want_value format (fetch_argument line)) texts
 
-abbrev pub haves : Format → List (List ℕ) → List (List ℕ)
+abbrev pub haves : Format → List Bytes → List Id
 haves format texts = filter_map (λ line. have_value format (fetch_argument line)) texts
 
 -- ---- flags
 
-abbrev pub is_symrefs : LsArgument → Bool
-is_symrefs Symrefs = true
-is_symrefs _ = false
+abbrev pub is_ls_flag : LsRefsFlag → LsArgument → Bool
+is_ls_flag flag (KnownLsFlag other) = same_ls_flag flag other
+is_ls_flag flag _ = false
 
-abbrev pub is_peel : LsArgument → Bool
-is_peel Peel = true
-is_peel _ = false
-
-abbrev pub is_unborn : LsArgument → Bool
-is_unborn Unborn = true
-is_unborn _ = false
-
-abbrev pub is_thin_pack : FetchArgument → Bool
-is_thin_pack ThinPack = true
-is_thin_pack _ = false
-
-abbrev pub is_no_progress : FetchArgument → Bool
-is_no_progress NoProgress = true
-is_no_progress _ = false
-
-abbrev pub is_include_tag : FetchArgument → Bool
-is_include_tag IncludeTag = true
-is_include_tag _ = false
-
-abbrev pub is_ofs_delta : FetchArgument → Bool
-is_ofs_delta OfsDelta = true
-is_ofs_delta _ = false
-
-abbrev pub is_done : FetchArgument → Bool
-is_done Done = true
-is_done _ = false
+abbrev pub is_fetch_flag : FetchFlag → FetchArgument → Bool
+is_fetch_flag flag (KnownFetchFlag other) = same_fetch_flag flag other
+is_fetch_flag flag _ = false
 
 -- an argument of ls-refs, and one of fetch, is among the texts
-abbrev pub has_ls_argument : (LsArgument → Bool) → List (List ℕ) → Bool
+abbrev pub has_ls_argument : (LsArgument → Bool) → List Bytes → Bool
 has_ls_argument is_it texts = list_any (λ line. is_it (ls_argument line)) texts
 
-abbrev pub has_fetch_argument : (FetchArgument → Bool) → List (List ℕ) → Bool
+abbrev pub has_fetch_argument : (FetchArgument → Bool) → List Bytes → Bool
 has_fetch_argument is_it texts = list_any (λ line. is_it (fetch_argument line)) texts
 
-abbrev pub first_of : List (List ℕ) → Option (List ℕ)
+-- the flags that are among the texts
+abbrev pub ls_flags_among : List Bytes → FlagsOf ls_flags
+ls_flags_among texts = flags_where ls_flags (λ flag. has_ls_argument (is_ls_flag flag) texts)
+
+abbrev pub fetch_flags_among : List Bytes → FlagsOf fetch_flags
+fetch_flags_among texts = flags_where fetch_flags (λ flag. has_fetch_argument (is_fetch_flag flag) texts)
+
+abbrev pub first_of : List Bytes → Option Bytes
 first_of [] = None
 first_of (x ∷ xs) = Some x
 
 -- ---- what a request asks: by its command and texts, by the place it has come to, and by its packets
 
-abbrev pub ls_refs_asked : List (List ℕ) → List (List ℕ) → LsRefsAsked
+abbrev pub ls_refs_asked : List Bytes → List Bytes → LsRefsAsked
 ls_refs_asked capabilities arguments = record {
   agent = first_of (agents capabilities);
-  symrefs = has_ls_argument is_symrefs arguments;
-  peel = has_ls_argument is_peel arguments;
-  unborn = has_ls_argument is_unborn arguments;
+  flags = ls_flags_among arguments;
   prefixes = prefixes arguments;
 }
 
-abbrev pub fetch_asked : Format → List (List ℕ) → List (List ℕ) → FetchAsked
+abbrev pub fetch_asked : Format → List Bytes → List Bytes → FetchAsked
 fetch_asked format capabilities arguments = record {
   agent = first_of (agents capabilities);
   wants = wants format arguments;
   haves = haves format arguments;
-  done = has_fetch_argument is_done arguments;
-  thin_pack = has_fetch_argument is_thin_pack arguments;
-  no_progress = has_fetch_argument is_no_progress arguments;
-  include_tag = has_fetch_argument is_include_tag arguments;
-  ofs_delta = has_fetch_argument is_ofs_delta arguments;
+  flags = fetch_flags_among arguments;
 }
 
-abbrev pub asked_by_command : Format → Command → List (List ℕ) → List (List ℕ) → Asked
+abbrev pub asked_by_command : Format → Command → List Bytes → List Bytes → Asked
 asked_by_command format LsRefs capabilities arguments = Ls (ls_refs_asked capabilities arguments)
 asked_by_command format Fetch capabilities arguments = Fetches (fetch_asked format capabilities arguments)
 
 -- a request without a command is empty
-abbrev pub asked_by_texts : Format → Place → List (List ℕ) → List (List ℕ) → Asked
+abbrev pub asked_by_texts : Format → Place → List Bytes → List Bytes → Asked
 asked_by_texts format First capabilities arguments = Empty
 asked_by_texts format (InCapabilities command) capabilities arguments =
     asked_by_command format command capabilities arguments

@@ -1,20 +1,22 @@
 -- The packets that are written of a request: each argument that is set, in one order.
-use Rattle.std.specs.Prelude.{◌≡◌, ℕ, Bool, true, false, List, [], ◌∷◌, ◌++◌, map, codes, Option, Some, None}
-use Rattle.gpkt.specs.Packets.{Packet, Flush, Delim}
-use Rattle.gname.specs.Ids.{id_text}
+use Rattle.std.specs.Prelude.{◌≡◌, Bool, true, false, List, [], ◌∷◌, ◌++◌, map, codes, Option, Some, None}
+use Rattle.gpkt.specs.Packets.{Bytes, Packet, Flush, Delim}
+use Rattle.gname.specs.Ids.{Id, id_text}
 use Rattle.gname.specs.Formats.{format_name}
 use Rattle.gname.specs.declared.formats.Format.{Format}
 use Rattle.gname.specs.declared.formats.Format.TheVariants.{Sha1, Sha256}
 use Rattle.grequest.specs.declared.command.Command.{Command}
 use Rattle.grequest.specs.declared.command.Command.TheVariants.{LsRefs, Fetch}
-use Rattle.grequest.specs.Arguments.{command_name}
+use Rattle.grequest.specs.declared.flag.FetchFlag.TheVariants.{Done}
+use Rattle.grequest.specs.Flags.{Table, FlagsOf}
+use Rattle.grequest.specs.Arguments.{command_name, ls_flags, fetch_flags}
 use Rattle.ggrammar.specs.Texts.{text_packet}
-use Rattle.grequest.specs.Asked.{LsRefsAsked, FetchAsked, Asked, Empty, Ls, Fetches}
+use Rattle.grequest.specs.Asked.{LsRefsAsked, FetchAsked, Asked, Empty, Ls, Fetches, fetch_has, fetch_with}
 
 abbrev pub command_packet : Command → Packet
 command_packet command = text_packet (codes "command=" ++ command_name command)
 
-abbrev pub agent_packets : Option (List ℕ) → List Packet
+abbrev pub agent_packets : Option Bytes → List Packet
 agent_packets None = []
 agent_packets (Some value) = text_packet (codes "agent=" ++ value) ∷ []
 
@@ -23,40 +25,36 @@ abbrev pub format_packets : Format → List Packet
 format_packets Sha1 = []
 format_packets Sha256 = text_packet (codes "object-format=" ++ format_name Sha256) ∷ []
 
-abbrev pub flag_packets : List ℕ → Bool → List Packet
+abbrev pub flag_packets : Bytes → Bool → List Packet
 flag_packets word false = []
 flag_packets word true = text_packet word ∷ []
 
-abbrev pub prefix_packet : List ℕ → Packet
+-- a packet for each flag of a table that is set, in its order
+abbrev pub flags_packets : {F : Type 0} (table : Table F) → FlagsOf table → List Packet
+flags_packets [] flags = []
+flags_packets (row ∷ rows) flags = flag_packets row.1 flags.0 ++ flags_packets rows flags.1
+
+abbrev pub prefix_packet : Bytes → Packet
 prefix_packet prefix = text_packet (codes "ref-prefix " ++ prefix)
 
 -- an id after a word
-abbrev pub id_packet : List ℕ → List ℕ → Packet
+abbrev pub id_packet : Bytes → Id → Packet
 id_packet word id = text_packet (word ++ id_text id)
-
--- the most bytes of a word before a value
-abbrev pub max_word : ℕ
-max_word = 16
 
 abbrev pub ls_argument_packets : LsRefsAsked → List Packet
 ls_argument_packets asked =
-    flag_packets (codes "peel") asked.peel
-    ++ flag_packets (codes "symrefs") asked.symrefs
-    ++ flag_packets (codes "unborn") asked.unborn
-    ++ map prefix_packet asked.prefixes
+    flags_packets ls_flags asked.flags ++ map prefix_packet asked.prefixes
 
+-- `done` comes after the ids
 abbrev pub fetch_argument_packets : FetchAsked → List Packet
 fetch_argument_packets asked =
-    flag_packets (codes "thin-pack") asked.thin_pack
-    ++ flag_packets (codes "no-progress") asked.no_progress
-    ++ flag_packets (codes "include-tag") asked.include_tag
-    ++ flag_packets (codes "ofs-delta") asked.ofs_delta
+    flags_packets fetch_flags (fetch_with asked Done false).flags
     ++ map (id_packet (codes "want ")) asked.wants
     ++ map (id_packet (codes "have ")) asked.haves
-    ++ flag_packets (codes "done") asked.done
+    ++ flag_packets (codes "done") (fetch_has asked Done)
 
 -- a command, its capabilities, a delimiter, its arguments and a flush
-abbrev pub command_packets : Format → Command → Option (List ℕ) → List Packet → List Packet
+abbrev pub command_packets : Format → Command → Option Bytes → List Packet → List Packet
 command_packets format command agent arguments =
     command_packet command ∷ (agent_packets agent ++ format_packets format ++ Delim ∷ (arguments ++ Flush ∷ []))
 

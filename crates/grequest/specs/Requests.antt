@@ -2,7 +2,8 @@
 -- only by what is in `State`.
 use Rattle.std.specs.Prelude.{◌≡◌, ℕ, Bool, true, false, ◌&&◌, List, [], length, if◌then◌else◌, nat_lt, ◌==◌, Option}
 use Rattle.std.specs.Prelude.{None, is_none, is_some}
-use Rattle.gpkt.specs.Packets.{Packet, Data, Flush, Delim, ResponseEnd, text}
+use Rattle.gname.specs.Ids.{Id}
+use Rattle.gpkt.specs.Packets.{Bytes, Packet, Data, Flush, Delim, ResponseEnd, text}
 use Rattle.gname.specs.Names.{prefix_fault}
 use Rattle.gname.specs.Formats.{format_name}
 use Rattle.gname.specs.declared.formats.Format.{Format}
@@ -39,20 +40,20 @@ state_of format lines = record {
   asked = asked_by_lines format lines;
 }
 
-abbrev pub agent_of : Asked → Option (List ℕ)
+abbrev pub agent_of : Asked → Option Bytes
 agent_of Empty = None
 agent_of (Ls asked) = asked.agent
 agent_of (Fetches asked) = asked.agent
 
-abbrev pub prefixes_of : Asked → List (List ℕ)
+abbrev pub prefixes_of : Asked → List Bytes
 prefixes_of (Ls asked) = asked.prefixes
 prefixes_of _ = []
 
-abbrev pub wants_of : Asked → List (List ℕ)
+abbrev pub wants_of : Asked → List Id
 wants_of (Fetches asked) = asked.wants
 wants_of _ = []
 
-abbrev pub haves_of : Asked → List (List ℕ)
+abbrev pub haves_of : Asked → List Id
 haves_of (Fetches asked) = asked.haves
 haves_of _ = []
 
@@ -83,14 +84,14 @@ abbrev pub of_few : ℕ → List (List ℕ) → ℕ → Verdict
 of_few arguments before limit = if_room (has_room arguments && nat_lt (length before) limit)
 
 -- an argument of ls-refs after so many, and after these prefixes
-abbrev pub judge_ls_argument : ℕ → List (List ℕ) → LsArgument → Verdict
+abbrev pub judge_ls_argument : ℕ → List Bytes → LsArgument → Verdict
 judge_ls_argument arguments prefixes (RefPrefix prefix) =
     if is_none (prefix_fault prefix) then of_few arguments prefixes max_prefixes else Refused why.BadName
 judge_ls_argument arguments prefixes UnknownLsArgument = Refused why.UnknownArgument
 judge_ls_argument arguments prefixes _ = if_room (has_room arguments)
 
 -- an argument of fetch after so many, and after these wants and haves
-abbrev pub judge_fetch_argument : Format → ℕ → List (List ℕ) → List (List ℕ) → FetchArgument → Verdict
+abbrev pub judge_fetch_argument : Format → ℕ → List Id → List Id → FetchArgument → Verdict
 judge_fetch_argument format arguments wants haves (Want id) =
     if is_some (id_of_text format id) then of_few arguments wants max_wants else Refused why.BadId
 judge_fetch_argument format arguments wants haves (Have id) =
@@ -98,13 +99,13 @@ judge_fetch_argument format arguments wants haves (Have id) =
 judge_fetch_argument format arguments wants haves UnknownFetchArgument = Refused why.UnknownArgument
 judge_fetch_argument format arguments wants haves _ = if_room (has_room arguments)
 
-abbrev pub judge_argument : Format → Command → State → List ℕ → Verdict
+abbrev pub judge_argument : Format → Command → State → Bytes → Verdict
 judge_argument format LsRefs state line =
     judge_ls_argument state.argument_lines (prefixes_of state.asked) (ls_argument line)
 judge_argument format Fetch state line =
     judge_fetch_argument format state.argument_lines (wants_of state.asked) (haves_of state.asked) (fetch_argument line)
 
-abbrev pub judge_text : Format → Place → State → List ℕ → Verdict
+abbrev pub judge_text : Format → Place → State → Bytes → Verdict
 judge_text format First state line = judge_command (command_form line)
 judge_text format (InCapabilities command) state line = judge_capability format state (capability_form line)
 judge_text format (InArguments command) state line = judge_argument format command state line
@@ -150,7 +151,7 @@ fetch_argument_brings (Want id) = true
 fetch_argument_brings (Have id) = true
 fetch_argument_brings _ = false
 
-abbrev pub text_brings : Place → List ℕ → Bool
+abbrev pub text_brings : Place → Bytes → Bool
 text_brings First line = false
 text_brings (InCapabilities command) line = capability_brings (capability_form line)
 text_brings (InArguments LsRefs) line = ls_argument_brings (ls_argument line)

@@ -1,12 +1,13 @@
 -- The requests that can be written.
-use Rattle.std.specs.Prelude.{ℕ, ◌≤◌, List, length, All, Option, IfSome, IsTrue}
+use Rattle.std.specs.Prelude.{◌≤◌, length, All, Option, IfSome, IsTrue}
 use Rattle.gname.specs.Ids.{IsIdOf}
 use Rattle.gname.specs.Names.{IsPrefix}
 use Rattle.gname.specs.declared.formats.Format.{Format}
+use Rattle.gpkt.specs.Packets.{Bytes}
 use Rattle.ggrammar.specs.Capabilities.{is_word_value}
 use Rattle.grequest.specs.Asked.{LsRefsAsked, FetchAsked, Asked, Empty, Ls, Fetches, max_prefixes, max_wants, max_haves}
 
-abbrev pub IsAgent : Option (List ℕ) → Type 0
+abbrev pub IsAgent : Option Bytes → Type 0
 IsAgent agent = IfSome agent (λ value. IsTrue (is_word_value value))
 
 pub record IsLsRefsAsked (asked : LsRefsAsked) : Type 0 where

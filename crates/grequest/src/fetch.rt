@@ -1,19 +1,23 @@
 //! What a request for fetch asks (gitprotocol-v2(5), "fetch").
 
-ghost use Rattle.std.specs.Prelude.{◌≡◌, ◌↔◌, ◌≤◌, ◌<◌, ◌++◌, ◌∷◌, [], true, length, nat_lt, IfOk, IfSome, IsTrue, OnOk, OnErr, Some};
+ghost use Rattle.std.specs.Prelude.{ℕ, All, ◌≡◌, ◌↔◌, ◌≤◌, ◌<◌, ◌++◌, ◌∷◌, [], true, false, length, nat_lt, IfOk, IfSome, IsTrue, OnOk, OnErr, Some};
 ghost use Rattle.std.specs.Option.{option_copied};
 ghost use Rattle.gname.specs.Ids.{IsIdOf};
 ghost use Rattle.ggrammar.specs.Building.{Builds};
 ghost use Rattle.ggrammar.specs.Capabilities.{is_word_value};
 ghost use Rattle.ggrammar.specs.Ids.{id_of_text};
 ghost use Rattle.ggrammar.specs.MessageReading.{AddsAs};
-ghost use Rattle.grequest.specs.Arguments.{Have, Want, fetch_argument};
-ghost use Rattle.grequest.specs.Asked.{is_direct, max_wants, max_haves, max_arguments};
-ghost use Rattle.grequest.specs.Building.{HaveSameFlags, HaveSameIds, KeepsAs, has_format, no_fetch};
+ghost use Rattle.grequest.specs.declared.flag.FetchFlag.TheVariants.{ThinPack, NoProgress, IncludeTag, OfsDelta, Done};
+ghost use Rattle.grequest.specs.Flags.{flags_at};
+ghost use Rattle.grequest.specs.Arguments.{Have, Want, fetch_argument, fetch_flags};
+ghost use Rattle.grequest.specs.Asked.{fetch_has, fetch_number, fetch_with, is_direct, max_wants, max_haves, max_arguments};
+ghost use Rattle.grequest.specs.steps.Building.{HaveSameIds, KeepsAs};
+ghost use Rattle.grequest.specs.Building.{has_format, no_fetch};
 ghost use Rattle.grequest.specs.Requests.{judge_fetch_argument, fetch_argument_brings};
-ghost use Rattle.grequest.specs.RequestState.{with_fetch_argument};
+ghost use Rattle.grequest.specs.steps.RequestState.{with_fetch_argument};
 ghost use Rattle.grequest.specs.WellFormed.{IsFetchAsked};
 
+use crate::flag::{FETCH_FLAGS, FetchFlag, Flag, MAX_FLAGS, are_same_flags};
 use crate::kept::NotKept;
 use crate::line::{FetchArgument, fetch_argument};
 use crate::parts::{are_same_ids, copy_agent, is_same_agent};
@@ -37,15 +41,14 @@ pub struct FetchRequest<A: Allocator + Copy = Global> {
     agent: Option<Vec<u8, A>>,
     wants: Vec<Oid, A>,
     haves: Vec<Oid, A>,
-    done: bool,
-    thin_pack: bool,
-    no_progress: bool,
-    include_tag: bool,
-    ofs_delta: bool,
+    flags: [bool; MAX_FLAGS],
 }
 
 impl<A: Allocator + Copy> Model for FetchRequest<A> {
     ghost use Rattle.std.specs.Prelude.{option_map};
+    ghost use Rattle.grequest.specs.Flags.{flags_at};
+    ghost use Rattle.grequest.specs.Arguments.{fetch_flags};
+    ghost use Rattle.grequest.specs.Asked.{fetch_number};
     ghost use Rattle.grequest.specs.Building.{FormattedFetch};
     ghost use Rattle.grequest.specs.WellFormed.{IsFetchAsked};
 
@@ -57,11 +60,7 @@ impl<A: Allocator + Copy> Model for FetchRequest<A> {
         agent = option_map (λ value. value.items) r.agent;
         wants = r.wants.items;
         haves = r.haves.items;
-        done = r.done;
-        thin_pack = r.thin_pack;
-        no_progress = r.no_progress;
-        include_tag = r.include_tag;
-        ofs_delta = r.ofs_delta;
+        flags = flags_at fetch_number fetch_flags r.flags;
       };
     } };
 
@@ -69,11 +68,7 @@ impl<A: Allocator + Copy> Model for FetchRequest<A> {
       agent = option_map (λ value. value.items) r.agent;
       wants = r.wants.items;
       haves = r.haves.items;
-      done = r.done;
-      thin_pack = r.thin_pack;
-      no_progress = r.no_progress;
-      include_tag = r.include_tag;
-      ofs_delta = r.ofs_delta;
+      flags = flags_at fetch_number fetch_flags r.flags;
     }) };
 }
 
@@ -87,11 +82,7 @@ impl<A: Allocator + Copy> FetchRequest<A> {
             agent: None,
             wants: Vec::new(alloc),
             haves: Vec::new(alloc),
-            done: false,
-            thin_pack: false,
-            no_progress: false,
-            include_tag: false,
-            ofs_delta: false,
+            flags: [false; MAX_FLAGS],
         }
     }
 
@@ -126,39 +117,56 @@ impl<A: Allocator + Copy> FetchRequest<A> {
         self.haves.as_slice()
     }
 
+    /// Whether the request has a flag.
+    pub fn has(&self, flag: FetchFlag) -> bool
+        ensures { result ≡ fetch_has self.now.asked flag }
+    {
+        self.flags[flag.number()]
+    }
+
+    /// The flags that are written before the ids, each at its number.
+    pub(crate) fn early_flags(&self) -> [bool; MAX_FLAGS]
+        ensures { flags_at fetch_number fetch_flags result
+            ≡ (fetch_with self.now.asked Done false).flags }
+    {
+        let mut flags = self.flags;
+        flags[FetchFlag::Done.number()] = false;
+        flags
+    }
+
     /// Whether the negotiation is over, so that the reply has a pack at once.
     pub fn done(&self) -> bool
-        ensures { result ≡ self.now.asked.done }
+        ensures { result ≡ fetch_has self.now.asked Done }
     {
-        self.done
+        self.has(FetchFlag::Done)
     }
 
     /// Whether the pack may leave out objects on which others are based.
     pub fn thin_pack(&self) -> bool
-        ensures { result ≡ self.now.asked.thin_pack }
+        ensures { result ≡ fetch_has self.now.asked ThinPack }
     {
-        self.thin_pack
+        self.has(FetchFlag::ThinPack)
     }
 
     /// Whether the reply is to report no progress.
     pub fn no_progress(&self) -> bool
-        ensures { result ≡ self.now.asked.no_progress }
+        ensures { result ≡ fetch_has self.now.asked NoProgress }
     {
-        self.no_progress
+        self.has(FetchFlag::NoProgress)
     }
 
     /// Whether the tags are asked for that lead to objects which are sent.
     pub fn include_tag(&self) -> bool
-        ensures { result ≡ self.now.asked.include_tag }
+        ensures { result ≡ fetch_has self.now.asked IncludeTag }
     {
-        self.include_tag
+        self.has(FetchFlag::IncludeTag)
     }
 
     /// Whether the client reads bases that are given by their offset in the pack.
     pub fn ofs_delta(&self) -> bool
-        ensures { result ≡ self.now.asked.ofs_delta }
+        ensures { result ≡ fetch_has self.now.asked OfsDelta }
     {
-        self.ofs_delta
+        self.has(FetchFlag::OfsDelta)
     }
 
     /// Whether the reply has the pack at once, without acknowledgments: the client says that it is done, or
@@ -166,7 +174,7 @@ impl<A: Allocator + Copy> FetchRequest<A> {
     pub fn is_direct(&self) -> bool
         ensures { result ≡ is_direct self.now.asked }
     {
-        self.done || self.haves.is_empty()
+        self.done() || self.haves.is_empty()
     }
 
     /// The same request, kept by another allocator. It fails only out of memory.
@@ -181,11 +189,7 @@ impl<A: Allocator + Copy> FetchRequest<A> {
             agent,
             wants,
             haves,
-            done: self.done,
-            thin_pack: self.thin_pack,
-            no_progress: self.no_progress,
-            include_tag: self.include_tag,
-            ofs_delta: self.ofs_delta,
+            flags: self.flags,
         })
     }
 
@@ -209,48 +213,63 @@ impl<A: Allocator + Copy> FetchRequest<A> {
 
     // Whether the flags are the same.
     fn has_flags_of<B: Allocator + Copy>(&self, other: &FetchRequest<B>) -> bool
-        ensures { IsTrue result ↔ HaveSameFlags self.now.asked other.now.asked }
+        ensures { IsTrue result ↔ (self.now.asked.flags ≡ other.now.asked.flags) }
     {
-        self.done == other.done
-            && self.thin_pack == other.thin_pack
-            && self.no_progress == other.no_progress
-            && self.include_tag == other.include_tag
-            && self.ofs_delta == other.ofs_delta
+        are_same_flags(FETCH_FLAGS, &self.flags, &other.flags)
+    }
+
+    /// Gives the request a flag, or takes it away.
+    pub fn set(&mut self, flag: FetchFlag, is_set: bool)
+        ensures { self.new ≡ record self.old { asked = fetch_with self.old.asked flag is_set } }
+    {
+        self.flags[flag.number()] = is_set;
     }
 
     /// Ends the negotiation, so that the reply has a pack at once, or not.
     pub fn set_done(&mut self, done: bool)
-        ensures { self.new ≡ record self.old { asked = record self.old.asked { done = done } } }
+        ensures { self.new ≡ record self.old { asked = fetch_with self.old.asked Done done } }
     {
-        self.done = done;
+        self.set(FetchFlag::Done, done);
     }
 
     /// Allows the pack to leave out objects on which others are based, or not.
     pub fn set_thin_pack(&mut self, thin_pack: bool)
-        ensures { self.new ≡ record self.old { asked = record self.old.asked { thin_pack = thin_pack } } }
+        ensures { self.new ≡ record self.old {
+          asked = fetch_with self.old.asked ThinPack
+              thin_pack;
+        } }
     {
-        self.thin_pack = thin_pack;
+        self.set(FetchFlag::ThinPack, thin_pack);
     }
 
     /// Asks for no progress, or not.
     pub fn set_no_progress(&mut self, no_progress: bool)
-        ensures { self.new ≡ record self.old { asked = record self.old.asked { no_progress = no_progress } } }
+        ensures { self.new ≡ record self.old {
+          asked = fetch_with self.old.asked NoProgress
+              no_progress;
+        } }
     {
-        self.no_progress = no_progress;
+        self.set(FetchFlag::NoProgress, no_progress);
     }
 
     /// Asks for the tags that lead to objects which are sent, or not.
     pub fn set_include_tag(&mut self, include_tag: bool)
-        ensures { self.new ≡ record self.old { asked = record self.old.asked { include_tag = include_tag } } }
+        ensures { self.new ≡ record self.old {
+          asked = fetch_with self.old.asked IncludeTag
+              include_tag;
+        } }
     {
-        self.include_tag = include_tag;
+        self.set(FetchFlag::IncludeTag, include_tag);
     }
 
     /// Allows bases that are given by their offset in the pack, or not.
     pub fn set_ofs_delta(&mut self, ofs_delta: bool)
-        ensures { self.new ≡ record self.old { asked = record self.old.asked { ofs_delta = ofs_delta } } }
+        ensures { self.new ≡ record self.old {
+          asked = fetch_with self.old.asked OfsDelta
+              ofs_delta;
+        } }
     {
-        self.ofs_delta = ofs_delta;
+        self.set(FetchFlag::OfsDelta, ofs_delta);
     }
 
     /// Sets the client's name for itself, instead of the one before.
@@ -275,11 +294,15 @@ impl<A: Allocator + Copy> FetchRequest<A> {
     /// It fails with `BadText` where the id has another format than the request, with `Limit` where there
     /// are 1,024 wants, and with `Memory`, all at packet 0. Nothing changes then.
     pub fn push_want(&mut self, id: Oid) -> Result<(), MessageFault>
-        ensures { Builds (has_format self.old.format id) (nat_lt (length self.old.asked.wants) max_wants)
-            self.old self.new (record self.old { asked = record self.old.asked { wants = self.old.asked.wants ++ id ∷ [] } }) result }
+        ensures { Builds (has_format self.old.format id)
+            (nat_lt (length self.old.asked.wants) max_wants)
+            self.old self.new (record self.old {
+              asked = record self.old.asked
+                  { wants = self.old.asked.wants ++ id ∷ [] };
+            }) result }
     {
         let has_room = self.wants.len() < MAX_WANTS;
-        match self.keep_want(has_room, id) {
+        match keep_id(self.format, &mut self.wants, has_room, id) {
             Ok(()) => Ok(()),
             Err(NotKept::WrongForm) => Err(MessageFault::of_value(Why::BadText)),
             Err(NotKept::NoRoom) => Err(MessageFault::of_value(Why::Limit)),
@@ -292,11 +315,15 @@ impl<A: Allocator + Copy> FetchRequest<A> {
     /// It fails with `BadText` where the id has another format than the request, with `Limit` where there
     /// are 4,096 haves, and with `Memory`, all at packet 0. Nothing changes then.
     pub fn push_have(&mut self, id: Oid) -> Result<(), MessageFault>
-        ensures { Builds (has_format self.old.format id) (nat_lt (length self.old.asked.haves) max_haves)
-            self.old self.new (record self.old { asked = record self.old.asked { haves = self.old.asked.haves ++ id ∷ [] } }) result }
+        ensures { Builds (has_format self.old.format id)
+            (nat_lt (length self.old.asked.haves) max_haves)
+            self.old self.new (record self.old {
+              asked = record self.old.asked
+                  { haves = self.old.asked.haves ++ id ∷ [] };
+            }) result }
     {
         let has_room = self.haves.len() < MAX_HAVES;
-        match self.keep_have(has_room, id) {
+        match keep_id(self.format, &mut self.haves, has_room, id) {
             Ok(()) => Ok(()),
             Err(NotKept::WrongForm) => Err(MessageFault::of_value(Why::BadText)),
             Err(NotKept::NoRoom) => Err(MessageFault::of_value(Why::Limit)),
@@ -307,7 +334,8 @@ impl<A: Allocator + Copy> FetchRequest<A> {
     // Keeps the client's name for itself.
     pub(crate) fn keep_agent(&mut self, agent: &[u8]) -> Result<(), AllocError>
         requires { is_word_value agent.now ≡ true }
-        ensures ok { OnOk result (self.new ≡ record self.old { asked = record self.old.asked { agent = Some agent.now } }) }
+        ensures ok { OnOk result (self.new
+            ≡ record self.old { asked = record self.old.asked { agent = Some agent.now } }) }
         ensures err { OnErr result (self.new ≡ self.old) }
     {
         let agent = Vec::from_slice(*self.wants.allocator(), agent)?;
@@ -315,47 +343,15 @@ impl<A: Allocator + Copy> FetchRequest<A> {
         Ok(())
     }
 
-    // Keeps a want where there is room for it.
-    fn keep_want(&mut self, has_room: bool, id: Oid) -> Result<(), NotKept>
-        requires { has_room ≡ true → length self.old.asked.wants < max_wants }
-        ensures { KeepsAs (has_format self.old.format id) has_room
-            self.old self.new (record self.old { asked = record self.old.asked { wants = self.old.asked.wants ++ id ∷ [] } }) result }
-    {
-        if !is_of(self.format, &id) {
-            return Err(NotKept::WrongForm);
-        }
-        if !has_room {
-            return Err(NotKept::NoRoom);
-        }
-        match self.wants.push(id) {
-            Ok(()) => Ok(()),
-            Err(_) => Err(NotKept::NoMemory),
-        }
-    }
-
-    // Keeps a have where there is room for it.
-    fn keep_have(&mut self, has_room: bool, id: Oid) -> Result<(), NotKept>
-        requires { has_room ≡ true → length self.old.asked.haves < max_haves }
-        ensures { KeepsAs (has_format self.old.format id) has_room
-            self.old self.new (record self.old { asked = record self.old.asked { haves = self.old.asked.haves ++ id ∷ [] } }) result }
-    {
-        if !is_of(self.format, &id) {
-            return Err(NotKept::WrongForm);
-        }
-        if !has_room {
-            return Err(NotKept::NoRoom);
-        }
-        match self.haves.push(id) {
-            Ok(()) => Ok(()),
-            Err(_) => Err(NotKept::NoMemory),
-        }
-    }
-
     // Takes an argument after so many others.
     pub(crate) fn take_argument(&mut self, arguments: u32, text: &[u8]) -> Result<(), Why>
-        ensures adds { AddsAs (judge_fetch_argument self.old.format arguments self.old.asked.wants self.old.asked.haves (fetch_argument text.now))
+        ensures adds { AddsAs (judge_fetch_argument self.old.format arguments self.old.asked.wants
+            self.old.asked.haves (fetch_argument text.now))
             (fetch_argument_brings (fetch_argument text.now))
-            (self.new ≡ record self.old { asked = with_fetch_argument self.old.format self.old.asked (fetch_argument text.now) }) result }
+            (self.new ≡ record self.old {
+              asked = with_fetch_argument self.old.format
+                  self.old.asked (fetch_argument text.now);
+            }) result }
         ensures room { OnOk result (arguments < max_arguments) }
         ensures format { self.new.format ≡ self.old.format }
     {
@@ -363,40 +359,28 @@ impl<A: Allocator + Copy> FetchRequest<A> {
             FetchArgument::Want(id) => self.take_want(arguments, id),
             FetchArgument::Have(id) => self.take_have(arguments, id),
             FetchArgument::Unknown => Err(Why::UnknownArgument),
-            _ if arguments >= MAX_ARGUMENTS => Err(Why::Limit),
-            FetchArgument::ThinPack => {
-                self.thin_pack = true;
-                Ok(())
-            }
-            FetchArgument::NoProgress => {
-                self.no_progress = true;
-                Ok(())
-            }
-            FetchArgument::IncludeTag => {
-                self.include_tag = true;
-                Ok(())
-            }
-            FetchArgument::OfsDelta => {
-                self.ofs_delta = true;
-                Ok(())
-            }
-            FetchArgument::Done => {
-                self.done = true;
+            FetchArgument::Flag(_) if arguments >= MAX_ARGUMENTS => Err(Why::Limit),
+            FetchArgument::Flag(flag) => {
+                self.set(flag, true);
                 Ok(())
             }
         }
     }
 
     fn take_want(&mut self, arguments: u32, text: &[u8]) -> Result<(), Why>
-        ensures adds { AddsAs (judge_fetch_argument self.old.format arguments self.old.asked.wants self.old.asked.haves (Want text.now)) true
-            (self.new ≡ record self.old { asked = with_fetch_argument self.old.format self.old.asked (Want text.now) }) result }
+        ensures adds { AddsAs (judge_fetch_argument self.old.format arguments self.old.asked.wants
+            self.old.asked.haves (Want text.now)) true
+            (self.new ≡ record self.old {
+              asked = with_fetch_argument self.old.format
+                  self.old.asked (Want text.now);
+            }) result }
         ensures room { OnOk result (arguments < max_arguments) }
         ensures format { self.new.format ≡ self.old.format }
     {
         let has_room = arguments < MAX_ARGUMENTS && self.wants.len() < MAX_WANTS;
         match id_in(self.format, text) {
             None => Err(Why::BadId),
-            Some(id) => match self.keep_want(has_room, id) {
+            Some(id) => match keep_id(self.format, &mut self.wants, has_room, id) {
                 Ok(()) => Ok(()),
                 Err(NotKept::WrongForm) => Err(Why::BadId),
                 Err(NotKept::NoRoom) => Err(Why::Limit),
@@ -406,21 +390,50 @@ impl<A: Allocator + Copy> FetchRequest<A> {
     }
 
     fn take_have(&mut self, arguments: u32, text: &[u8]) -> Result<(), Why>
-        ensures adds { AddsAs (judge_fetch_argument self.old.format arguments self.old.asked.wants self.old.asked.haves (Have text.now)) true
-            (self.new ≡ record self.old { asked = with_fetch_argument self.old.format self.old.asked (Have text.now) }) result }
+        ensures adds { AddsAs (judge_fetch_argument self.old.format arguments self.old.asked.wants
+            self.old.asked.haves (Have text.now)) true
+            (self.new ≡ record self.old {
+              asked = with_fetch_argument self.old.format
+                  self.old.asked (Have text.now);
+            }) result }
         ensures room { OnOk result (arguments < max_arguments) }
         ensures format { self.new.format ≡ self.old.format }
     {
         let has_room = arguments < MAX_ARGUMENTS && self.haves.len() < MAX_HAVES;
         match id_in(self.format, text) {
             None => Err(Why::BadId),
-            Some(id) => match self.keep_have(has_room, id) {
+            Some(id) => match keep_id(self.format, &mut self.haves, has_room, id) {
                 Ok(()) => Ok(()),
                 Err(NotKept::WrongForm) => Err(Why::BadId),
                 Err(NotKept::NoRoom) => Err(Why::Limit),
                 Err(NotKept::NoMemory) => Err(Why::Memory),
             },
         }
+    }
+}
+
+// Keeps an id after the others where there is room for it.
+fn keep_id<A: Allocator + Copy>(
+    format: Format,
+    ids: &mut Vec<Oid, A>,
+    has_room: bool,
+    id: Oid,
+) -> Result<(), NotKept>
+    ensures kept { KeepsAs (has_format format id) has_room
+        ids.old.items ids.new.items (ids.old.items ++ id ∷ []) result }
+    ensures format { All (IsIdOf format) ids.old.items → All (IsIdOf format) ids.new.items }
+    ensures few { (limit : ℕ) → length ids.old.items ≤ limit
+        → (has_room ≡ true → length ids.old.items < limit) → length ids.new.items ≤ limit }
+{
+    if !is_of(format, &id) {
+        return Err(NotKept::WrongForm);
+    }
+    if !has_room {
+        return Err(NotKept::NoRoom);
+    }
+    match ids.push(id) {
+        Ok(()) => Ok(()),
+        Err(_) => Err(NotKept::NoMemory),
     }
 }
 

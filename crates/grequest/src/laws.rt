@@ -67,7 +67,8 @@ pub fn every_input()
 
 /// What is written of a request asks it, and each payload fits a packet.
 pub fn canonical_says()
-    ensures { (format : Format) → CanonicalSays (Says format) (IsAsked format) (IsCanonicalRequest format) }
+    ensures { (format : Format)
+        → CanonicalSays (Says format) (IsAsked format) (IsCanonicalRequest format) }
 {
     grammars_are_exact();
     ids_have_one_format();
@@ -89,7 +90,9 @@ pub fn reads_exactly()
 
 /// What is written of a request reads back, whatever follows.
 pub fn reads_back()
-    ensures { (format : Format) → ReadsBackIfAny (judge format) brings (Says format) (IsAsked format) (IsCanonicalRequest format) }
+    ensures { (format : Format)
+        → ReadsBackIfAny (judge format) brings (Says format) (IsAsked format)
+        (IsCanonicalRequest format) }
 {
     one_meaning();
     canonical_says();

@@ -45,6 +45,7 @@
 
 mod command;
 mod fetch;
+mod flag;
 mod kept;
 pub mod laws;
 mod line;
@@ -57,6 +58,7 @@ mod section;
 mod write;
 
 pub use crate::fetch::{FetchRequest, MAX_HAVES, MAX_WANTS};
+pub use crate::flag::{FetchFlag, LsRefsFlag};
 pub use crate::ls_refs::{LsRefsRequest, MAX_PREFIXES};
 pub use crate::read::{read_request, read_request_in};
 pub use crate::request::Request;

@@ -5,9 +5,10 @@ ghost use Rattle.ggrammar.specs.PeerErrors.{after_word};
 ghost use Rattle.std.specs.Option.{option_copied, option_map};
 ghost use Rattle.ggrammar.specs.CapabilityView.{capability_view};
 ghost use Rattle.grequest.specs.Arguments.{agent_with, format_with, known_capability, capability_form, ls_argument, fetch_argument, ref_prefix_or_unknown, want_or_else, have_or_unknown};
-ghost use Rattle.grequest.specs.RequestReading.{CarriesWord};
-ghost use Rattle.grequest.specs.Views.{capability_in, ls_argument_in, fetch_argument_in};
+ghost use Rattle.grequest.specs.steps.RequestReading.{CarriesWord};
+ghost use Rattle.grequest.specs.steps.Views.{capability_in, ls_argument_in, fetch_argument_in};
 
+use crate::flag::{FETCH_FLAGS, FetchFlag, LS_REFS_FLAGS, LsRefsFlag, flag_in};
 use ggrammar::{Capability, after_word, capability_of, is_word_value};
 
 /// A text of a request's capability list (gitprotocol-v2(5), "agent", "object-format").
@@ -23,9 +24,7 @@ pub(crate) enum CapabilityForm<'a> {
 /// An argument of ls-refs.
 #[derive(Clone, Copy, Debug, PartialEq, Eq)]
 pub(crate) enum LsArgument<'a> {
-    Symrefs,
-    Peel,
-    Unborn,
+    Flag(LsRefsFlag),
     RefPrefix(&'a [u8]),
     Unknown,
 }
@@ -33,11 +32,7 @@ pub(crate) enum LsArgument<'a> {
 /// An argument of fetch.
 #[derive(Clone, Copy, Debug, PartialEq, Eq)]
 pub(crate) enum FetchArgument<'a> {
-    ThinPack,
-    NoProgress,
-    IncludeTag,
-    OfsDelta,
-    Done,
+    Flag(FetchFlag),
     Want(&'a [u8]),
     Have(&'a [u8]),
     Unknown,
@@ -93,20 +88,15 @@ fn format_with(value: Option<&[u8]>) -> CapabilityForm<'_>
 pub(crate) fn ls_argument(text: &[u8]) -> LsArgument<'_>
     ensures { ls_argument_in result ≡ ls_argument text.now }
 {
-    if text == b"symrefs".as_slice() {
-        return LsArgument::Symrefs;
+    match flag_in(LS_REFS_FLAGS, text) {
+        Some(flag) => LsArgument::Flag(flag),
+        None => ref_prefix(text),
     }
-    if text == b"peel".as_slice() {
-        return LsArgument::Peel;
-    }
-    if text == b"unborn".as_slice() {
-        return LsArgument::Unborn;
-    }
-    ref_prefix(text)
 }
 
 fn ref_prefix(text: &[u8]) -> LsArgument<'_>
-    ensures { ls_argument_in result ≡ ref_prefix_or_unknown (after_word (codes "ref-prefix ") text.now) }
+    ensures { ls_argument_in result
+        ≡ ref_prefix_or_unknown (after_word (codes "ref-prefix ") text.now) }
 {
     match after_word(b"ref-prefix ", text) {
         Some(prefix) => LsArgument::RefPrefix(prefix),
@@ -119,26 +109,16 @@ fn ref_prefix(text: &[u8]) -> LsArgument<'_>
 pub(crate) fn fetch_argument(text: &[u8]) -> FetchArgument<'_>
     ensures { fetch_argument_in result ≡ fetch_argument text.now }
 {
-    if text == b"thin-pack".as_slice() {
-        return FetchArgument::ThinPack;
+    match flag_in(FETCH_FLAGS, text) {
+        Some(flag) => FetchArgument::Flag(flag),
+        None => want_or_have(text),
     }
-    if text == b"no-progress".as_slice() {
-        return FetchArgument::NoProgress;
-    }
-    if text == b"include-tag".as_slice() {
-        return FetchArgument::IncludeTag;
-    }
-    if text == b"ofs-delta".as_slice() {
-        return FetchArgument::OfsDelta;
-    }
-    if text == b"done".as_slice() {
-        return FetchArgument::Done;
-    }
-    want_or_have(text)
 }
 
 fn want_or_have(text: &[u8]) -> FetchArgument<'_>
-    ensures { fetch_argument_in result ≡ want_or_else (after_word (codes "want ") text.now) (have_or_unknown (after_word (codes "have ") text.now)) }
+    ensures { fetch_argument_in result
+        ≡ want_or_else (after_word (codes "want ") text.now)
+        (have_or_unknown (after_word (codes "have ") text.now)) }
 {
     if let Some(id) = after_word(b"want ", text) {
         return FetchArgument::Want(id);

@@ -6,13 +6,17 @@ ghost use Rattle.gname.specs.Names.{prefix_fault};
 ghost use Rattle.ggrammar.specs.Building.{Builds};
 ghost use Rattle.ggrammar.specs.Capabilities.{is_word_value};
 ghost use Rattle.ggrammar.specs.MessageReading.{AddsAs};
-ghost use Rattle.grequest.specs.Arguments.{RefPrefix, ls_argument};
-ghost use Rattle.grequest.specs.Asked.{max_prefixes, max_arguments};
-ghost use Rattle.grequest.specs.Building.{KeepsAs, no_ls_refs};
+ghost use Rattle.grequest.specs.declared.flag.LsRefsFlag.TheVariants.{Peel, Symrefs, Unborn};
+ghost use Rattle.grequest.specs.Flags.{flags_at};
+ghost use Rattle.grequest.specs.Arguments.{RefPrefix, ls_argument, ls_flags};
+ghost use Rattle.grequest.specs.Asked.{ls_has, ls_number, ls_with, max_prefixes, max_arguments};
+ghost use Rattle.grequest.specs.steps.Building.{KeepsAs};
+ghost use Rattle.grequest.specs.Building.{no_ls_refs};
 ghost use Rattle.grequest.specs.Requests.{judge_ls_argument, ls_argument_brings};
-ghost use Rattle.grequest.specs.RequestState.{with_ls_argument};
+ghost use Rattle.grequest.specs.steps.RequestState.{with_ls_argument};
 ghost use Rattle.grequest.specs.WellFormed.{IsLsRefsAsked};
 
+use crate::flag::{Flag, LS_REFS_FLAGS, LsRefsFlag, MAX_FLAGS, are_same_flags};
 use crate::kept::NotKept;
 use crate::line::{LsArgument, ls_argument};
 use crate::parts::{are_same_prefixes, copy_agent, copy_prefixes, is_same_agent};
@@ -30,32 +34,28 @@ pub const MAX_PREFIXES: usize = 64;
 #[derive(Debug, Drop)]
 pub struct LsRefsRequest<A: Allocator + Copy = Global> {
     agent: Option<Vec<u8, A>>,
-    symrefs: bool,
-    peel: bool,
-    unborn: bool,
+    flags: [bool; MAX_FLAGS],
     prefixes: Vec<Prefix<A>, A>,
 }
 
 impl<A: Allocator + Copy> Model for LsRefsRequest<A> {
     ghost use Rattle.std.specs.Prelude.{option_map};
-    ghost use Rattle.grequest.specs.Asked.{LsRefsAsked};
+    ghost use Rattle.grequest.specs.Flags.{flags_at};
+    ghost use Rattle.grequest.specs.Arguments.{ls_flags};
+    ghost use Rattle.grequest.specs.Asked.{LsRefsAsked, ls_number};
     ghost use Rattle.grequest.specs.WellFormed.{IsLsRefsAsked};
 
     ghost Value = { LsRefsAsked };
 
     ghost view = { λ r. record {
       agent = option_map (λ value. value.items) r.agent;
-      symrefs = r.symrefs;
-      peel = r.peel;
-      unborn = r.unborn;
+      flags = flags_at ls_number ls_flags r.flags;
       prefixes = r.prefixes.items;
     } };
 
     ghost invariant = { λ r. IsLsRefsAsked (record {
       agent = option_map (λ value. value.items) r.agent;
-      symrefs = r.symrefs;
-      peel = r.peel;
-      unborn = r.unborn;
+      flags = flags_at ls_number ls_flags r.flags;
       prefixes = r.prefixes.items;
     }) };
 }
@@ -67,9 +67,7 @@ impl<A: Allocator + Copy> LsRefsRequest<A> {
     {
         LsRefsRequest {
             agent: None,
-            symrefs: false,
-            peel: false,
-            unborn: false,
+            flags: [false; MAX_FLAGS],
             prefixes: Vec::new(alloc),
         }
     }
@@ -82,25 +80,39 @@ impl<A: Allocator + Copy> LsRefsRequest<A> {
         self.agent.as_ref().map(|value| value.as_slice())
     }
 
+    /// Whether the request has a flag.
+    pub fn has(&self, flag: LsRefsFlag) -> bool
+        ensures { result ≡ ls_has self.now flag }
+    {
+        self.flags[flag.number()]
+    }
+
+    /// The flags that are set, each at its number.
+    pub(crate) fn flags(&self) -> &[bool; MAX_FLAGS]
+        ensures { flags_at ls_number ls_flags result.now ≡ self.now.flags }
+    {
+        &self.flags
+    }
+
     /// Whether the targets of symbolic refs are asked for.
     pub fn symrefs(&self) -> bool
-        ensures { result ≡ self.now.symrefs }
+        ensures { result ≡ ls_has self.now Symrefs }
     {
-        self.symrefs
+        self.has(LsRefsFlag::Symrefs)
     }
 
     /// Whether the objects that tags lead to are asked for.
     pub fn peel(&self) -> bool
-        ensures { result ≡ self.now.peel }
+        ensures { result ≡ ls_has self.now Peel }
     {
-        self.peel
+        self.has(LsRefsFlag::Peel)
     }
 
     /// Whether the target of an unborn `HEAD` is asked for.
     pub fn unborn(&self) -> bool
-        ensures { result ≡ self.now.unborn }
+        ensures { result ≡ ls_has self.now Unborn }
     {
-        self.unborn
+        self.has(LsRefsFlag::Unborn)
     }
 
     /// What the names may begin with, at most 64 prefixes in their order. Without a prefix every name is
@@ -120,9 +132,7 @@ impl<A: Allocator + Copy> LsRefsRequest<A> {
         let prefixes = copy_prefixes(alloc, self.prefixes())?;
         Ok(LsRefsRequest {
             agent,
-            symrefs: self.symrefs,
-            peel: self.peel,
-            unborn: self.unborn,
+            flags: self.flags,
             prefixes,
         })
     }
@@ -133,31 +143,43 @@ impl<A: Allocator + Copy> LsRefsRequest<A> {
         ensures { IsTrue result ↔ (self.now ≡ other.now) }
     {
         is_same_agent(self.agent(), other.agent())
-            && self.symrefs == other.symrefs
-            && self.peel == other.peel
-            && self.unborn == other.unborn
+            && self.has_flags_of(other)
             && are_same_prefixes(self.prefixes(), other.prefixes())
+    }
+
+    // Whether the flags are the same.
+    fn has_flags_of<B: Allocator + Copy>(&self, other: &LsRefsRequest<B>) -> bool
+        ensures { IsTrue result ↔ (self.now.flags ≡ other.now.flags) }
+    {
+        are_same_flags(LS_REFS_FLAGS, &self.flags, &other.flags)
+    }
+
+    /// Gives the request a flag, or takes it away.
+    pub fn set(&mut self, flag: LsRefsFlag, is_set: bool)
+        ensures { self.new ≡ ls_with self.old flag is_set }
+    {
+        self.flags[flag.number()] = is_set;
     }
 
     /// Asks for the targets of symbolic refs, or not.
     pub fn set_symrefs(&mut self, symrefs: bool)
-        ensures { self.new ≡ record self.old { symrefs = symrefs } }
+        ensures { self.new ≡ ls_with self.old Symrefs symrefs }
     {
-        self.symrefs = symrefs;
+        self.set(LsRefsFlag::Symrefs, symrefs);
     }
 
     /// Asks for the objects that tags lead to, or not.
     pub fn set_peel(&mut self, peel: bool)
-        ensures { self.new ≡ record self.old { peel = peel } }
+        ensures { self.new ≡ ls_with self.old Peel peel }
     {
-        self.peel = peel;
+        self.set(LsRefsFlag::Peel, peel);
     }
 
     /// Asks for the target of an unborn `HEAD`, or not.
     pub fn set_unborn(&mut self, unborn: bool)
-        ensures { self.new ≡ record self.old { unborn = unborn } }
+        ensures { self.new ≡ ls_with self.old Unborn unborn }
     {
-        self.unborn = unborn;
+        self.set(LsRefsFlag::Unborn, unborn);
     }
 
     /// Sets the client's name for itself, instead of the one before.
@@ -165,7 +187,8 @@ impl<A: Allocator + Copy> LsRefsRequest<A> {
     /// It fails with `BadText` where the name does not have 1 to 1,000 bytes from `!` to `~`, and with
     /// `Memory`, both at packet 0. Nothing changes then.
     pub fn set_agent(&mut self, agent: &[u8]) -> Result<(), MessageFault>
-        ensures { Builds (is_word_value agent.now) true self.old self.new (record self.old { agent = Some agent.now }) result }
+        ensures { Builds (is_word_value agent.now) true self.old self.new
+            (record self.old { agent = Some agent.now }) result }
     {
         if !is_word_value(agent) {
             return Err(MessageFault::of_value(Why::BadText));
@@ -181,8 +204,10 @@ impl<A: Allocator + Copy> LsRefsRequest<A> {
     /// It fails with `BadText` where the text is no prefix of names, with `Limit` where there are 64
     /// prefixes, and with `Memory`, all at packet 0. Nothing changes then.
     pub fn push_prefix(&mut self, prefix: &[u8]) -> Result<(), MessageFault>
-        ensures { Builds (is_none (prefix_fault prefix.now)) (nat_lt (length self.old.prefixes) max_prefixes)
-            self.old self.new (record self.old { prefixes = self.old.prefixes ++ prefix.now ∷ [] }) result }
+        ensures { Builds (is_none (prefix_fault prefix.now))
+            (nat_lt (length self.old.prefixes) max_prefixes)
+            self.old self.new (record self.old { prefixes = self.old.prefixes ++ prefix.now ∷ [] })
+            result }
     {
         let has_room = self.prefixes.len() < MAX_PREFIXES;
         match self.keep_prefix(has_room, prefix) {
@@ -208,7 +233,8 @@ impl<A: Allocator + Copy> LsRefsRequest<A> {
     fn keep_prefix(&mut self, has_room: bool, prefix: &[u8]) -> Result<(), NotKept>
         requires { has_room ≡ true → length self.old.prefixes < max_prefixes }
         ensures { KeepsAs (is_none (prefix_fault prefix.now)) has_room
-            self.old self.new (record self.old { prefixes = self.old.prefixes ++ prefix.now ∷ [] }) result }
+            self.old self.new (record self.old { prefixes = self.old.prefixes ++ prefix.now ∷ [] })
+            result }
     {
         rules_never_report_memory();
         match Prefix::new(*self.prefixes.allocator(), prefix) {
@@ -224,32 +250,25 @@ impl<A: Allocator + Copy> LsRefsRequest<A> {
 
     // Takes an argument after so many others.
     pub(crate) fn take_argument(&mut self, arguments: u32, text: &[u8]) -> Result<(), Why>
-        ensures adds { AddsAs (judge_ls_argument arguments self.old.prefixes (ls_argument text.now))
-            (ls_argument_brings (ls_argument text.now))
+        ensures adds { AddsAs (judge_ls_argument arguments self.old.prefixes
+            (ls_argument text.now)) (ls_argument_brings (ls_argument text.now))
             (self.new ≡ with_ls_argument self.old (ls_argument text.now)) result }
         ensures room { OnOk result (arguments < max_arguments) }
     {
         match ls_argument(text) {
-            LsArgument::Symrefs if arguments < MAX_ARGUMENTS => {
-                self.symrefs = true;
+            LsArgument::Flag(_) if arguments >= MAX_ARGUMENTS => Err(Why::Limit),
+            LsArgument::Flag(flag) => {
+                self.set(flag, true);
                 Ok(())
             }
-            LsArgument::Peel if arguments < MAX_ARGUMENTS => {
-                self.peel = true;
-                Ok(())
-            }
-            LsArgument::Unborn if arguments < MAX_ARGUMENTS => {
-                self.unborn = true;
-                Ok(())
-            }
-            LsArgument::Symrefs | LsArgument::Peel | LsArgument::Unborn => Err(Why::Limit),
             LsArgument::RefPrefix(prefix) => self.take_prefix(arguments, prefix),
             LsArgument::Unknown => Err(Why::UnknownArgument),
         }
     }
 
     fn take_prefix(&mut self, arguments: u32, prefix: &[u8]) -> Result<(), Why>
-        ensures adds { AddsAs (judge_ls_argument arguments self.old.prefixes (RefPrefix prefix.now)) true
+        ensures adds { AddsAs (judge_ls_argument arguments self.old.prefixes
+            (RefPrefix prefix.now)) true
             (self.new ≡ with_ls_argument self.old (RefPrefix prefix.now)) result }
         ensures room { OnOk result (arguments < max_arguments) }
     {

@@ -11,7 +11,8 @@ pub(crate) fn copy_agent<A: Allocator + Copy>(
     alloc: A,
     agent: Option<&[u8]>,
 ) -> Result<Option<Vec<u8, A>>, AllocError>
-    ensures { IfOk result (λ copy. option_map (λ value. value.items) copy ≡ option_copied agent.entry) }
+    ensures { IfOk result (λ copy. option_map (λ value. value.items) copy
+        ≡ option_copied agent.entry) }
 {
     match agent {
         Some(agent) => {

@@ -20,7 +20,8 @@ pub fn read_request<S: Source, A: Allocator + Copy, B: Allocator + Copy>(
     reader: &mut LineReader<S, A>,
     alloc: B,
 ) -> Result<Option<Request<B>>, MessageFault>
-    ensures read { ReadsIfAny (judge Sha1) brings (Says Sha1) (change_of S.remaining reader.old.source reader.new.source) (asked_result result) }
+    ensures read { ReadsIfAny (judge Sha1) brings (Says Sha1)
+        (change_of S.remaining reader.old.source reader.new.source) (asked_result result) }
     ensures format { IfOk result (λ read. IfSome read (IsOfFormat Sha1)) }
     ensures loans { S.loans reader.new.source ≡ S.loans reader.old.source }
     ensures reader { LeavesReader S.is_down reader.old reader.new result }
@@ -43,7 +44,8 @@ pub fn read_request_in<S: Source, A: Allocator + Copy, B: Allocator + Copy>(
     format: Format,
     alloc: B,
 ) -> Result<Option<Request<B>>, MessageFault>
-    ensures read { ReadsIfAny (judge format) brings (Says format) (change_of S.remaining reader.old.source reader.new.source) (asked_result result) }
+    ensures read { ReadsIfAny (judge format) brings (Says format)
+        (change_of S.remaining reader.old.source reader.new.source) (asked_result result) }
     ensures format { IfOk result (λ read. IfSome read (IsOfFormat format)) }
     ensures loans { S.loans reader.new.source ≡ S.loans reader.old.source }
     ensures reader { LeavesReader S.is_down reader.old reader.new result }

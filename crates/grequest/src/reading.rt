@@ -9,8 +9,8 @@ ghost use Rattle.ggrammar.specs.Grammar.{Verdict, Refused};
 ghost use Rattle.ggrammar.specs.declared.fault.Why.TheVariants as why;
 ghost use Rattle.grequest.specs.Arguments.{Agent, ObjectFormat, capability_form, command_form};
 ghost use Rattle.grequest.specs.Requests.{brings, capability_brings, judge, judge_at, judge_capability, judge_command, judge_delim, judge_flush, judge_text, state_of, text_brings, unless_unnamed};
-ghost use Rattle.grequest.specs.RequestReading.{HoldsPackets, LeavesNothing, packet_brings};
-ghost use Rattle.grequest.specs.RequestState.{with_capability, with_command, with_delim, with_packet, with_text};
+ghost use Rattle.grequest.specs.steps.RequestReading.{HoldsPackets, LeavesNothing, packet_brings};
+ghost use Rattle.grequest.specs.steps.RequestState.{with_capability, with_command, with_delim, with_packet, with_text};
 
 use crate::command::{Command, CommandForm, command_form};
 use crate::fetch::FetchRequest;
@@ -40,9 +40,9 @@ pub(crate) struct RequestReader<A: Allocator + Copy> {
 }
 
 impl<A: Allocator + Copy> Model for RequestReader<A> {
-    ghost use Rattle.grequest.specs.RequestReading.{RequestSoFar, one};
+    ghost use Rattle.grequest.specs.steps.RequestReading.{RequestSoFar, one};
     ghost use Rattle.grequest.specs.RequestValues.{asked_by_request, IsOfFormat};
-    ghost use Rattle.grequest.specs.Sections.{place_in};
+    ghost use Rattle.grequest.specs.steps.Sections.{place_in};
 
     ghost Value = { RequestSoFar };
 
@@ -86,10 +86,12 @@ impl<A: Allocator + Copy> RequestReader<A> {
         request
     }
 
-    #[tactic(auto, unfolding(crate::specs::Requests::judge_at, crate::specs::RequestState::with_packet))]
+    #[tactic(auto, unfolding(crate::specs::Requests::judge_at, crate::specs::steps::RequestState::with_packet))]
     fn take_packet(&mut self, line: Line<'_>) -> Result<Step, Why>
-        ensures takes { TakesAs (judge_at self.old.format self.old.state (packet_of line.entry)) (packet_brings self.old.state.place (packet_of line.entry))
-            (self.new.state ≡ with_packet self.old.format self.old.state (packet_of line.entry)) result }
+        ensures takes { TakesAs (judge_at self.old.format self.old.state (packet_of line.entry))
+            (packet_brings self.old.state.place (packet_of line.entry))
+            (self.new.state ≡ with_packet self.old.format self.old.state (packet_of line.entry))
+            result }
         ensures format { self.new.format ≡ self.old.format }
     {
         match line {
@@ -102,7 +104,8 @@ impl<A: Allocator + Copy> RequestReader<A> {
 
     // Takes the flush that ends a request.
     fn take_flush(&mut self) -> Result<Step, Why>
-        ensures takes { TakesAs (judge_flush self.old.format self.old.state.place self.old.state) false (self.new.state ≡ self.old.state) result }
+        ensures takes { TakesAs (judge_flush self.old.format self.old.state.place self.old.state)
+            false (self.new.state ≡ self.old.state) result }
         ensures format { self.new.format ≡ self.old.format }
     {
         match (&self.request, self.section) {
@@ -115,8 +118,8 @@ impl<A: Allocator + Copy> RequestReader<A> {
 
     // Takes the delimiter between the capabilities and the arguments.
     fn take_delim(&mut self) -> Result<Step, Why>
-        ensures takes { TakesAs (judge_delim self.old.format self.old.state.place self.old.state) false
-            (self.new.state ≡ with_delim self.old.state.place self.old.state) result }
+        ensures takes { TakesAs (judge_delim self.old.format self.old.state.place self.old.state)
+            false (self.new.state ≡ with_delim self.old.state.place self.old.state) result }
         ensures format { self.new.format ≡ self.old.format }
     {
         match (&self.request, self.section) {
@@ -133,7 +136,9 @@ impl<A: Allocator + Copy> RequestReader<A> {
 
     // Whether the object format must be named and was not.
     fn is_unnamed(&self) -> bool
-        ensures { (verdict : Verdict) → unless_unnamed self.now.format self.now.state verdict ≡ (if result then Refused why.Format else verdict) }
+        ensures { (verdict : Verdict)
+            → unless_unnamed self.now.format self.now.state verdict
+            ≡ (if result then Refused why.Format else verdict) }
     {
         match self.format {
             Format::Sha1 => false,
@@ -142,9 +147,11 @@ impl<A: Allocator + Copy> RequestReader<A> {
     }
 
     fn take_data(&mut self, payload: &[u8]) -> Result<Step, Why>
-        ensures takes { TakesAs (judge_unless_error (λ bytes. judge_text self.old.format self.old.state.place self.old.state (text bytes)) payload.now)
-            (text_brings self.old.state.place (text payload.now))
-            (self.new.state ≡ with_text self.old.format self.old.state.place self.old.state (text payload.now)) result }
+        ensures takes { TakesAs (judge_unless_error
+            (λ bytes. judge_text self.old.format self.old.state.place self.old.state (text bytes))
+            payload.now) (text_brings self.old.state.place (text payload.now))
+            (self.new.state ≡ with_text self.old.format self.old.state.place self.old.state
+            (text payload.now)) result }
         ensures format { self.new.format ≡ self.old.format }
     {
         match peer_error(payload) {
@@ -154,8 +161,10 @@ impl<A: Allocator + Copy> RequestReader<A> {
     }
 
     fn take_text(&mut self, text: &[u8]) -> Result<Step, Why>
-        ensures takes { TakesAs (judge_text self.old.format self.old.state.place self.old.state text.now) (text_brings self.old.state.place text.now)
-            (self.new.state ≡ with_text self.old.format self.old.state.place self.old.state text.now) result }
+        ensures takes { TakesAs (judge_text self.old.format self.old.state.place self.old.state
+            text.now) (text_brings self.old.state.place text.now)
+            (self.new.state ≡ with_text self.old.format self.old.state.place self.old.state
+            text.now) result }
         ensures format { self.new.format ≡ self.old.format }
     {
         match (&mut self.request, self.section) {
@@ -188,7 +197,8 @@ impl<A: Allocator + Copy> RequestReader<A> {
 
     fn take_command(&mut self, text: &[u8]) -> Result<Step, Why>
         ensures takes { TakesAs (judge_command (command_form text.now)) false
-            (self.new.state ≡ with_command self.old.format self.old.state (command_form text.now)) result }
+            (self.new.state ≡ with_command self.old.format self.old.state (command_form text.now))
+            result }
         ensures format { self.new.format ≡ self.old.format }
     {
         self.request = match command_form(text) {
@@ -205,7 +215,8 @@ impl<A: Allocator + Copy> RequestReader<A> {
     }
 
     fn take_capability(&mut self, text: &[u8]) -> Result<Step, Why>
-        ensures takes { TakesAs (judge_capability self.old.format self.old.state (capability_form text.now)) (capability_brings (capability_form text.now))
+        ensures takes { TakesAs (judge_capability self.old.format self.old.state
+            (capability_form text.now)) (capability_brings (capability_form text.now))
             (self.new.state ≡ with_capability self.old.state (capability_form text.now)) result }
         ensures format { self.new.format ≡ self.old.format }
     {
@@ -219,8 +230,8 @@ impl<A: Allocator + Copy> RequestReader<A> {
 
     fn take_agent(&mut self, agent: &[u8]) -> Result<Step, Why>
         requires { is_word_value agent.now ≡ true }
-        ensures takes { TakesAs (judge_capability self.old.format self.old.state (Agent agent.now)) true
-            (self.new.state ≡ with_capability self.old.state (Agent agent.now)) result }
+        ensures takes { TakesAs (judge_capability self.old.format self.old.state (Agent agent.now))
+            true (self.new.state ≡ with_capability self.old.state (Agent agent.now)) result }
         ensures format { self.new.format ≡ self.old.format }
     {
         if self.request.agent().is_some() {
@@ -233,7 +244,8 @@ impl<A: Allocator + Copy> RequestReader<A> {
     }
 
     fn take_format(&mut self, name: &[u8]) -> Result<Step, Why>
-        ensures takes { TakesAs (judge_capability self.old.format self.old.state (ObjectFormat name.now)) false
+        ensures takes { TakesAs (judge_capability self.old.format self.old.state
+            (ObjectFormat name.now)) false
             (self.new.state ≡ with_capability self.old.state (ObjectFormat name.now)) result }
         ensures format { self.new.format ≡ self.old.format }
     {

@@ -21,7 +21,7 @@ pub enum Request<A: Allocator + Copy = Global> {
 
 impl<A: Allocator + Copy> Request<A> {
     ghost use Rattle.grequest.specs.Requests.{agent_of};
-    ghost use Rattle.grequest.specs.RequestState.{with_agent};
+    ghost use Rattle.grequest.specs.steps.RequestState.{with_agent};
     ghost use Rattle.grequest.specs.Building.{FormattedFetch};
     ghost use Rattle.grequest.specs.RequestValues.{asked_by_request, ids_format};
 
@@ -70,7 +70,8 @@ impl<A: Allocator + Copy> Request<A> {
     // Keeps the client's name for itself.
     pub(crate) fn keep_agent(&mut self, agent: &[u8]) -> Result<(), AllocError>
         requires { is_word_value agent.now ≡ true }
-        ensures ok { OnOk result (asked_by_request self.new ≡ with_agent agent.now (asked_by_request self.old)) }
+        ensures ok { OnOk result (asked_by_request self.new
+            ≡ with_agent agent.now (asked_by_request self.old)) }
         ensures format { ids_format self.new ≡ ids_format self.old }
     {
         match self {

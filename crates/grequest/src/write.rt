@@ -7,13 +7,17 @@ ghost use Rattle.gpkt.specs.Packets.{Delim};
 ghost use Rattle.ggrammar.specs.Capabilities.{max_capability};
 ghost use Rattle.ggrammar.specs.Texts.{text_packet};
 ghost use Rattle.ggrammar.specs.Writing.{WritesLines, WritesPart};
+ghost use Rattle.grequest.specs.Flags.{flags_at};
+ghost use Rattle.grequest.specs.steps.Flags.{table_in};
 ghost use Rattle.grequest.specs.Asked.{Ls, Fetches};
-ghost use Rattle.grequest.specs.RequestWriting.{agent_packets, canonical_request, command_packet, flag_packets, format_packets, id_packet, max_word, prefix_packet};
+ghost use Rattle.grequest.specs.steps.RequestWriting.{AreShort, max_word};
+ghost use Rattle.grequest.specs.RequestWriting.{agent_packets, canonical_request, command_packet, flag_packets, flags_packets, format_packets, id_packet, prefix_packet};
 ghost use Rattle.grequest.specs.RequestValues.{IsOfFormat, asked_by_request};
 ghost use Rattle.grequest.specs.WellFormed.{IsAgent, IsAsked};
 
 use crate::command::Command;
 use crate::fetch::FetchRequest;
+use crate::flag::{FETCH_FLAGS, Flag, LS_REFS_FLAGS, MAX_FLAGS};
 use crate::ls_refs::LsRefsRequest;
 use crate::request::Request;
 use ggrammar::laws::writes_lines;
@@ -34,8 +38,8 @@ pub fn write_request<A: Allocator + Copy, W: Sink>(
     writer: &mut LineWriter<W>,
 ) -> Result<(), WriteFault>
     requires { IsOfFormat format request.now }
-    ensures lines { WritesLines W.contents W.passed_on W.is_down W.loans writer.old writer.new result
-        (canonical_request format (asked_by_request request.now)) }
+    ensures lines { WritesLines W.contents W.passed_on W.is_down W.loans writer.old writer.new
+        result (canonical_request format (asked_by_request request.now)) }
     ensures form { IsAsked format (asked_by_request request.now) }
 {
     writes_lines::<W>();
@@ -49,7 +53,8 @@ pub fn write_request<A: Allocator + Copy, W: Sink>(
 
 // What the type of a request says of it; the call has no effect.
 fn keeps_forms<A: Allocator + Copy>(request: &Request<A>)
-    ensures { (format : Format) → IsOfFormat format request.now → IsAsked format (asked_by_request request.now) }
+    ensures { (format : Format) → IsOfFormat format request.now
+        → IsAsked format (asked_by_request request.now) }
 {
     match request {
         Request::Empty => {}
@@ -72,9 +77,7 @@ fn write_ls_refs<A: Allocator + Copy, W: Sink>(
 {
     writes_lines::<W>();
     write_head(Command::LsRefs, asked.agent(), format, writer)?;
-    write_flag(b"peel", asked.peel(), writer)?;
-    write_flag(b"symrefs", asked.symrefs(), writer)?;
-    write_flag(b"unborn", asked.unborn(), writer)?;
+    write_flags(LS_REFS_FLAGS, asked.flags(), writer)?;
     write_prefixes(asked.prefixes(), writer)?;
     writer.flush_pkt()
 }
@@ -89,10 +92,7 @@ fn write_fetch<A: Allocator + Copy, W: Sink>(
 {
     writes_lines::<W>();
     write_head(Command::Fetch, asked.agent(), format, writer)?;
-    write_flag(b"thin-pack", asked.thin_pack(), writer)?;
-    write_flag(b"no-progress", asked.no_progress(), writer)?;
-    write_flag(b"include-tag", asked.include_tag(), writer)?;
-    write_flag(b"ofs-delta", asked.ofs_delta(), writer)?;
+    write_flags(FETCH_FLAGS, &asked.early_flags(), writer)?;
     write_ids(b"want ", asked.wants(), writer)?;
     write_ids(b"have ", asked.haves(), writer)?;
     write_flag(b"done", asked.done(), writer)?;
@@ -108,7 +108,8 @@ fn write_head<W: Sink>(
 ) -> Result<(), WriteFault>
     requires { IsAgent (option_copied agent) }
     ensures { WritesLines W.contents W.passed_on W.is_down W.loans writer.old writer.new result
-        (command_packet command ∷ (agent_packets (option_copied agent.entry) ++ format_packets format ++ Delim ∷ [])) }
+        (command_packet command
+        ∷ (agent_packets (option_copied agent.entry) ++ format_packets format ++ Delim ∷ [])) }
 {
     writes_lines::<W>();
     write_text(b"command=", command.name().as_bytes(), writer)?;
@@ -119,7 +120,8 @@ fn write_head<W: Sink>(
 
 fn write_agent<W: Sink>(agent: Option<&[u8]>, writer: &mut LineWriter<W>) -> Result<(), WriteFault>
     requires { IsAgent (option_copied agent) }
-    ensures { WritesPart W.contents W.passed_on W.is_down W.loans writer.old writer.new result (agent_packets (option_copied agent.entry)) }
+    ensures { WritesPart W.contents W.passed_on W.is_down W.loans writer.old writer.new result
+        (agent_packets (option_copied agent.entry)) }
 {
     writes_lines::<W>();
     match agent {
@@ -129,7 +131,8 @@ fn write_agent<W: Sink>(agent: Option<&[u8]>, writer: &mut LineWriter<W>) -> Res
 }
 
 fn write_format<W: Sink>(format: Format, writer: &mut LineWriter<W>) -> Result<(), WriteFault>
-    ensures { WritesPart W.contents W.passed_on W.is_down W.loans writer.old writer.new result (format_packets format) }
+    ensures { WritesPart W.contents W.passed_on W.is_down W.loans writer.old writer.new result
+        (format_packets format) }
 {
     writes_lines::<W>();
     match format {
@@ -138,13 +141,31 @@ fn write_format<W: Sink>(format: Format, writer: &mut LineWriter<W>) -> Result<(
     }
 }
 
+// Writes the flags of a table that are set.
+fn write_flags<F: Flag, W: Sink>(
+    table: &[(F, &str)],
+    flags: &[bool; MAX_FLAGS],
+    writer: &mut LineWriter<W>,
+) -> Result<(), WriteFault>
+    requires { AreShort table.now }
+    ensures { WritesPart W.contents W.passed_on W.is_down W.loans writer.old writer.new result
+        (flags_packets (table_in table.now) (flags_at F.number (table_in table.now) flags.now)) }
+{
+    writes_lines::<W>();
+    for (flag, word) in table {
+        write_flag(word.as_bytes(), flags[flag.number()], writer)?;
+    }
+    Ok(())
+}
+
 fn write_flag<W: Sink>(
     word: &[u8],
     is_set: bool,
     writer: &mut LineWriter<W>,
 ) -> Result<(), WriteFault>
     requires { length word.now ≤ max_capability }
-    ensures { WritesPart W.contents W.passed_on W.is_down W.loans writer.old writer.new result (flag_packets word.now is_set) }
+    ensures { WritesPart W.contents W.passed_on W.is_down W.loans writer.old writer.new result
+        (flag_packets word.now is_set) }
 {
     writes_lines::<W>();
     if is_set {
@@ -158,7 +179,8 @@ fn write_prefixes<A: Allocator + Copy, W: Sink>(
     prefixes: &[Prefix<A>],
     writer: &mut LineWriter<W>,
 ) -> Result<(), WriteFault>
-    ensures { WritesPart W.contents W.passed_on W.is_down W.loans writer.old writer.new result (map prefix_packet prefixes.now) }
+    ensures { WritesPart W.contents W.passed_on W.is_down W.loans writer.old writer.new result
+        (map prefix_packet prefixes.now) }
 {
     writes_lines::<W>();
     for prefix in prefixes {
@@ -174,7 +196,8 @@ fn write_ids<W: Sink>(
     writer: &mut LineWriter<W>,
 ) -> Result<(), WriteFault>
     requires { length word.now ≤ max_word }
-    ensures { WritesPart W.contents W.passed_on W.is_down W.loans writer.old writer.new result (map (id_packet word.now) ids.now) }
+    ensures { WritesPart W.contents W.passed_on W.is_down W.loans writer.old writer.new result
+        (map (id_packet word.now) ids.now) }
 {
     writes_lines::<W>();
     for id in ids {
@@ -185,7 +208,8 @@ fn write_ids<W: Sink>(
 
 fn write_id<W: Sink>(word: &[u8], id: &Oid, writer: &mut LineWriter<W>) -> Result<(), WriteFault>
     requires { length word.now ≤ max_word }
-    ensures { WritesLines W.contents W.passed_on W.is_down W.loans writer.old writer.new result (id_packet word.now id.now ∷ []) }
+    ensures { WritesLines W.contents W.passed_on W.is_down W.loans writer.old writer.new result
+        (id_packet word.now id.now ∷ []) }
 {
     let mut text = [0u8; MAX_ID_TEXT];
     let len = id.to_hex(&mut text);
@@ -200,7 +224,8 @@ fn write_text<W: Sink>(
 ) -> Result<(), WriteFault>
     requires word { length word.now ≤ max_word }
     requires rest { length rest.now ≤ max_capability }
-    ensures { WritesLines W.contents W.passed_on W.is_down W.loans writer.old writer.new result (text_packet (word.now ++ rest.now) ∷ []) }
+    ensures { WritesLines W.contents W.passed_on W.is_down W.loans writer.old writer.new result
+        (text_packet (word.now ++ rest.now) ∷ []) }
 {
     writes_lines::<W>();
     writer.text2(word, rest)

@@ -8,12 +8,12 @@ use Rattle.gname.specs.Names.{IsRefName}
 use Rattle.gobject.specs.declared.node.Entry.{Entry}
 use Rattle.gobject.specs.declared.node.Kind.{Kind}
 use Rattle.gobject.specs.PlainPackText.{ids_of, letter}
-use Rattle.gspec.specs.Refspecs.{IsSpec, Reads, Refspec}
-use Rattle.gspec.specs.declared.fault.SpecFault.{SpecFault}
-use Rattle.gspec.specs.declared.fault.SpecFault.TheVariants.{BadSpec}
+use Rattle.grefspec.specs.Refspecs.{IsSpec, Reads, Refspec}
+use Rattle.grefspec.specs.declared.fault.SpecFault.{SpecFault}
+use Rattle.grefspec.specs.declared.fault.SpecFault.TheVariants.{BadSpec}
 use Rattle.gscenario.specs.ScenarioText.{AreBytes, AreNumberAndCount, AreOneBytes, AreSpecs, IsCount}
 use Rattle.gscenario.specs.ScenarioText.{IsEntry, IsNumber, IsOneNumber, IsRef}
-use Rattle.gscenario.specs.Reading.{NoArguments}
+use Rattle.gscenario.specs.steps.Reading.{NoArguments}
 use Rattle.gscenario.specs.declared.event.Event.TheVariants as event
 use Rattle.gscenario.specs.declared.command.Command.TheVariants as command
 

@@ -6,7 +6,7 @@ use Rattle.gobject.specs.PlainPackText.{IsInLine, line}
 use Rattle.gscenario.specs.ScenarioText.{AreArguments, BeginsWithCommand, BeginsWrong, IsLineOf, IsNoLine, IsScenario}
 use Rattle.gscenario.specs.ScenarioText.{IsWrongLine, Refuses}
 use Rattle.gscenario.specs.ScenarioText.{TakesMemory, command_of, command_text, words_of}
-use Rattle.gscenario.specs.Reading.{HasArguments, IsOf, NoArguments, ReadsArguments}
+use Rattle.gscenario.specs.steps.Reading.{HasArguments, IsOf, NoArguments, ReadsArguments}
 use Rattle.gscenario.specs.declared.fault.ScenarioFault.{ScenarioFault}
 use Rattle.gscenario.specs.declared.fault.ScenarioFault.TheVariants.{Memory}
 use Rattle.gscenario.specs.declared.event.Event.{Event}

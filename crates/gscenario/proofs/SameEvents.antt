@@ -14,11 +14,11 @@ use Rattle.gobject.specs.declared.node.Kind.{Kind}
 use Rattle.gobject.specs.declared.node.Kind.TheVariants.{Commit, Tag}
 use Rattle.gobject.specs.Objects.{entry_of, node_of}
 use Rattle.gobject.specs.PlainPackText.{ids_of, letter}
-use Rattle.gspec.specs.Refspecs.{IsSpec, OneReading, Refspec}
+use Rattle.grefspec.specs.Refspecs.{IsSpec, OneReading, Refspec}
 use Rattle.gscenario.specs.ScenarioText.{AreArguments, AreBytes, AreNumberAndCount, AreOneBytes, AreSpecs, IsCount}
 use Rattle.gscenario.specs.ScenarioText.{IsEntry, IsNumber, IsOneNumber, IsRef}
 use Rattle.gscenario.specs.ScenarioText.{IsLineOf, IsScenario, command_of, command_text}
-use Rattle.gscenario.specs.Reading.{IsOf}
+use Rattle.gscenario.specs.steps.Reading.{IsOf}
 use Rattle.gscenario.specs.Laws.{IsSame}
 use Rattle.gscenario.specs.declared.command.Command.{Command}
 use Rattle.gscenario.specs.declared.event.Event.{Event}

@@ -6,7 +6,7 @@ use Rattle.std.proofs.Math.Seq.{take-length}
 use Rattle.std.specs.Str.TwoWay.{Nowhere}
 use Rattle.memchr.specs.Find.{Passes, is_byte}
 use Rattle.gscenario.specs.ScenarioText.{with_byte, words_of}
-use Rattle.gscenario.specs.Reading.{words_after}
+use Rattle.gscenario.specs.steps.Reading.{words_after}
 
 off : (b : Bool) → ¬ (b ≡ true) → b ≡ false
 off true other = absurd (other refl)

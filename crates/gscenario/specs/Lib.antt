@@ -1,4 +1,4 @@
 pub mod ScenarioText
 pub mod Faults
 pub mod Laws
-pub mod Reading
+pub mod steps

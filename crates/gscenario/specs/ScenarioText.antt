@@ -4,11 +4,11 @@ use Rattle.std.specs.Prelude.{◌≡◌, ◌≢◌, ◌⊎◌, ℕ, ◌+◌, ◌
 use Rattle.std.specs.Prelude.{List, [], ◌∷◌, ◌++◌, length, codes, decimal, Ok}
 use Rattle.std.specs.List.{AllZip}
 use Rattle.hex.specs.Hex.{decode_of}
-use Rattle.gname.specs.Ids.{IsIdText}
-use Rattle.gname.specs.Names.{IsRefName}
+use Rattle.gname.specs.Ids.{Id, IsIdText}
+use Rattle.gname.specs.Names.{Name, IsRefName}
 use Rattle.gobject.specs.declared.node.Entry.{Entry}
 use Rattle.gobject.specs.PlainPackText.{IsInLine, ids_of, letter}
-use Rattle.gspec.specs.Refspecs.{IsSpec, Refspec}
+use Rattle.grefspec.specs.Refspecs.{IsSpec, Refspec}
 use Rattle.gscenario.specs.declared.fault.ScenarioFault.{ScenarioFault}
 use Rattle.gscenario.specs.declared.fault.ScenarioFault.TheVariants as fault
 use Rattle.gscenario.specs.declared.event.Event.{Event}
@@ -96,7 +96,7 @@ IsEntry words entry =
     (ids : List (List ℕ)) × (words ≡ (letter entry.node.kind ∷ []) ∷ ids) × AllZip IsIdText ids (ids_of entry)
 
 -- an id, with digits in either case, and the name of a ref
-abbrev pub IsRef : List (List ℕ) → List ℕ → List ℕ → Type 0
+abbrev pub IsRef : List (List ℕ) → Name → Id → Type 0
 IsRef words name id = (digits : List ℕ) × (words ≡ digits ∷ name ∷ []) × IsIdText digits id × IsRefName name
 
 -- the words after the first

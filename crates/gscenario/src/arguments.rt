@@ -2,13 +2,14 @@
 #![tactic(auto)]
 
 ghost use Rattle.std.specs.Prelude.{◌≡◌, ◌≢◌, ◌∷◌, [], ℕ, List, MatchOption, MatchResult, ⊤};
+ghost use Rattle.gname.specs.Names.{Name};
 ghost use Rattle.gobject.specs.PlainPackText.{ids_of};
 ghost use Rattle.gobject.specs.declared.node.Entry.{Entry};
-ghost use Rattle.gspec.specs.Refspecs.{Refspec};
+ghost use Rattle.grefspec.specs.Refspecs.{Refspec};
 ghost use Rattle.gscenario.specs.ScenarioText.{AreNumberAndCount, AreOneBytes, AreSpecs, IsEntry, IsOneNumber, IsRef};
-ghost use Rattle.gname.specs.Ids.{IsIdText};
+ghost use Rattle.gname.specs.Ids.{Id, IsIdText};
 ghost use Rattle.std.specs.List.{AllZip};
-ghost use Rattle.gscenario.specs.Reading.{HasArguments, NoArguments, ReadsArguments, words_after};
+ghost use Rattle.gscenario.specs.steps.Reading.{HasArguments, NoArguments, ReadsArguments, words_after};
 
 use crate::command::Command;
 use crate::event::Event;
@@ -17,7 +18,7 @@ use crate::words::{
 };
 use gname::{Oid, RefName};
 use gobject::{Entry, Kind, Node, Parents};
-use gspec::{Spec, SpecFault};
+use grefspec::{Spec, SpecFault};
 use std::alloc::{AllocError, Allocator};
 
 /// The event of a line with this command and these words after it.
@@ -47,7 +48,8 @@ pub(crate) fn event_of<A: Allocator + Copy>(
 
 // The event whose command has no words after it.
 fn alone<A: Allocator + Copy>(tail: &[u8], event: Event<A>) -> Option<Event<A>>
-    ensures { MatchOption result (words_after tail.now ≢ []) (λ found. (found ≡ event) × (words_after tail.now ≡ [])) }
+    ensures { MatchOption result (words_after tail.now ≢ [])
+        (λ found. (found ≡ event) × (words_after tail.now ≡ [])) }
 {
     if no_word(tail) { Some(event) } else { None }
 }
@@ -174,7 +176,8 @@ fn number_and_count(tail: &[u8]) -> Option<(usize, usize)>
 // The bytes that come, alone.
 fn bytes_alone<A: Allocator + Copy>(alloc: A, tail: &[u8]) -> Result<Option<Vec<u8, A>>, AllocError>
     ensures { MatchResult result
-        (λ found. MatchOption found (((bytes : List ℕ) → AreOneBytes (words_after tail.now) bytes → ⊥))
+        (λ found. MatchOption found (((bytes : List ℕ) → AreOneBytes (words_after tail.now) bytes
+        → ⊥))
         (λ bytes. AreOneBytes (words_after tail.now) bytes.items))
         (λ _. ⊤) }
 {
@@ -190,7 +193,8 @@ fn specs_of<A: Allocator + Copy>(
     tail: &[u8],
 ) -> Result<Option<Vec<Spec<A>, A>>, AllocError>
     ensures { MatchResult result
-        (λ found. MatchOption found (((specs : List Refspec) → AreSpecs (words_after tail.now) specs → ⊥))
+        (λ found. MatchOption found (((specs : List Refspec)
+        → AreSpecs (words_after tail.now) specs → ⊥))
         (λ specs. AreSpecs (words_after tail.now) specs.items))
         (λ _. ⊤) }
 {
@@ -213,7 +217,8 @@ fn specs_of<A: Allocator + Copy>(
 // The object that comes.
 fn entry_of<A: Allocator + Copy>(alloc: A, tail: &[u8]) -> Result<Option<Entry<A>>, AllocError>
     ensures { MatchResult result
-        (λ found. MatchOption found (((entry : Entry A) → IsEntry (words_after tail.now) entry → ⊥))
+        (λ found. MatchOption found (((entry : Entry A) → IsEntry (words_after tail.now) entry
+        → ⊥))
         (IsEntry (words_after tail.now)))
         (λ _. ⊤) }
 {
@@ -234,8 +239,9 @@ fn entry_of_kind<A: Allocator + Copy>(
 ) -> Result<Option<Entry<A>>, AllocError>
     ensures { MatchResult result
         (λ found. MatchOption found
-        (((id : List ℕ) (ids : List (List ℕ)) → AllZip IsIdText (words_after tail.now) (id ∷ ids) → ⊥))
-        (λ entry. (entry.node.kind ≡ kind) × AllZip IsIdText (words_after tail.now) (ids_of entry)))
+        (((id : Id) (ids : List Id) → AllZip IsIdText (words_after tail.now) (id ∷ ids) → ⊥))
+        (λ entry. (entry.node.kind ≡ kind)
+        × AllZip IsIdText (words_after tail.now) (ids_of entry)))
         (λ _. ⊤) }
 {
     match next_word(tail) {
@@ -256,7 +262,8 @@ fn entry_of_kind<A: Allocator + Copy>(
 // The ids that come.
 fn parents_of<A: Allocator + Copy>(alloc: A, tail: &[u8]) -> Result<Option<Parents<A>>, AllocError>
     ensures { MatchResult result
-        (λ found. MatchOption found (((ids : List (List ℕ)) → AllZip IsIdText (words_after tail.now) ids → ⊥))
+        (λ found. MatchOption found (((ids : List Id) → AllZip IsIdText (words_after tail.now) ids
+        → ⊥))
         (AllZip IsIdText (words_after tail.now)))
         (λ _. ⊤) }
 {
@@ -278,7 +285,8 @@ fn ref_of<A: Allocator + Copy>(
     tail: &[u8],
 ) -> Result<Option<(RefName<A>, Oid)>, AllocError>
     ensures { MatchResult result
-        (λ found. MatchOption found (((name id : List ℕ) → IsRef (words_after tail.now) name id → ⊥))
+        (λ found. MatchOption found (((name : Name) (id : Id)
+        → IsRef (words_after tail.now) name id → ⊥))
         (λ pair. IsRef (words_after tail.now) pair.0 pair.1))
         (λ _. ⊤) }
 {

@@ -25,7 +25,8 @@ pub(crate) enum Command {
 impl Command {
     /// The command that the word spells.
     pub(crate) fn of(word: &[u8]) -> Option<Command>
-        ensures { MatchOption result (((c : Command) → word.now ≢ command_text c)) (λ c. word.now ≡ command_text c) }
+        ensures { MatchOption result (((c : Command) → word.now ≢ command_text c))
+            (λ c. word.now ≡ command_text c) }
     {
         if word == b"begin".as_slice() {
             Some(Command::Begin)

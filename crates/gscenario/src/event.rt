@@ -3,7 +3,7 @@
 
 use gname::{Oid, RefName};
 use gobject::Entry;
-use gspec::Spec;
+use grefspec::Spec;
 use std::alloc::{Allocator, Global};
 
 /// What may happen to a server and a client that fetches from it.

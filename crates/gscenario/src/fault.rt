@@ -5,6 +5,7 @@ ghost use Rattle.std.specs.Prelude.{◌≡◌, Some};
 ghost use Rattle.gscenario.specs.Faults.{scenario_fault_row, scenario_fault_text};
 ghost use Rattle.gscenario.specs.declared.fault.ScenarioFault.TheVariants as faults;
 
+use gname::OUT_OF_MEMORY_TEXT;
 use std::alloc::AllocError;
 use std::error::Error;
 use std::fmt;
@@ -33,8 +34,8 @@ impl ScenarioFault {
         self.row().1
     }
 
-    // The table: the number and the name of each fault.
-    fn row(&self) -> (u32, &'static str)
+    /// The table: the number and the name of each fault.
+    pub fn row(&self) -> (u32, &'static str)
         ensures { (result.0, result.1.now) ≡ scenario_fault_row self.now }
     {
         match self {
@@ -53,7 +54,7 @@ impl fmt::Display for ScenarioFault {
                 f,
                 "line {line} of the scenario is that of no event, or does not end"
             ),
-            ScenarioFault::Memory => f.write_str("out of memory"),
+            ScenarioFault::Memory => f.write_str(OUT_OF_MEMORY_TEXT),
         }
     }
 }

@@ -4,7 +4,7 @@
 ghost use Rattle.gscenario.specs.Laws.{TextsHaveOneReading, WrongIsNone, WrongLinesHaveOnePlace};
 
 use gname::laws::texts_spell_one_id;
-use gspec::laws::one_reading;
+use grefspec::laws::one_reading;
 use std::alloc::Allocator;
 
 /// A text is that of one list of events: what it names is settled.

@@ -23,7 +23,7 @@
 //!
 //! # Stands on
 //!
-//! `gspec` for refspecs, `gname` for ids and ref names, `gobject` for objects, `hex` for bytes, `itoa` for numbers,
+//! `grefspec` for refspecs, `gname` for ids and ref names, `gobject` for objects, `hex` for bytes, `itoa` for numbers,
 //! `memchr` for where words and lines end.
 #![tactic(auto)]
 

@@ -39,7 +39,8 @@ impl Scenario {
         alloc: A,
         text: &[u8],
     ) -> Result<Vec<Event<A>, A>, ScenarioFault>
-        ensures { MatchResult result (λ events. IsScenario text.now events.items) (Refuses A text.now) }
+        ensures { MatchResult result (λ events. IsScenario text.now events.items)
+            (Refuses A text.now) }
     {
         let mut events = Vec::new(alloc);
         let mut rest = text;
@@ -73,8 +74,8 @@ fn keep<A: Allocator + Copy>(
 
 // The event of a line.
 fn read_line<A: Allocator + Copy>(alloc: A, line: &[u8]) -> Result<Option<Event<A>>, AllocError>
-    ensures { MatchResult result (λ found. MatchOption found (IsNoLine A line.now) (IsLineOf line.now))
-        (λ _. BeginsWithCommand line.now) }
+    ensures { MatchResult result (λ found. MatchOption found (IsNoLine A line.now)
+        (IsLineOf line.now)) (λ _. BeginsWithCommand line.now) }
 {
     let (word, tail) = first_word(line);
     match Command::of(word) {

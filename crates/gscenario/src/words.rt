@@ -5,11 +5,11 @@ ghost use Rattle.std.specs.Prelude.{◌≡◌, ◌≢◌, ◌∷◌, ◌<◌, �
 ghost use Rattle.std.specs.Prelude.{MatchBool, MatchOption, MatchResult};
 ghost use Rattle.gname.specs.Ids.{IsIdText};
 ghost use Rattle.gname.specs.Names.{IsRefName};
-ghost use Rattle.gobject.specs.PlainPackReading.{NoId};
+ghost use Rattle.gobject.specs.steps.PlainPackReading.{NoId};
 ghost use Rattle.gobject.specs.PlainPackText.{letter};
 ghost use Rattle.gobject.specs.declared.node.Kind.{Kind};
 ghost use Rattle.gscenario.specs.ScenarioText.{AreBytes, IsCount, IsNumber, words_of};
-ghost use Rattle.gscenario.specs.Reading.{words_after};
+ghost use Rattle.gscenario.specs.steps.Reading.{words_after};
 
 use gname::laws::{id_texts_are_digits, ids_have_one_format, rules_never_report_memory};
 use gname::{Format, NameFault, Oid, RefName};
@@ -64,7 +64,8 @@ pub(crate) fn one_word(tail: &[u8]) -> Option<&[u8]>
 
 /// The words that come, if they are two.
 pub(crate) fn two_words(tail: &[u8]) -> Option<(&[u8], &[u8])>
-    ensures { MatchOption result (((first second : List ℕ) → words_after tail.now ≡ first ∷ second ∷ [] → ⊥))
+    ensures { MatchOption result (((first second : List ℕ)
+        → words_after tail.now ≡ first ∷ second ∷ [] → ⊥))
         (λ pair. words_after tail.now ≡ pair.0.now ∷ pair.1.now ∷ []) }
 {
     match next_word(tail) {
@@ -78,7 +79,8 @@ pub(crate) fn two_words(tail: &[u8]) -> Option<(&[u8], &[u8])>
 
 /// The number of a word.
 pub(crate) fn number_of(text: &[u8]) -> Option<usize>
-    ensures { MatchOption result (((number : ℕ) → IsNumber text.now number → ⊥)) (IsNumber text.now) }
+    ensures { MatchOption result (((number : ℕ) → IsNumber text.now number → ⊥))
+        (IsNumber text.now) }
 {
     match parse(text) {
         Some(number) => {
@@ -164,8 +166,8 @@ pub(crate) fn name_of<A: Allocator + Copy>(
     text: &[u8],
 ) -> Result<Option<RefName<A>>, AllocError>
     ensures { MatchResult result
-        (λ found. MatchOption found (¬ (IsRefName text.now)) (λ name. (name ≡ text.now) × IsRefName text.now))
-        (λ _. ⊤) }
+        (λ found. MatchOption found (¬ (IsRefName text.now))
+        (λ name. (name ≡ text.now) × IsRefName text.now)) (λ _. ⊤) }
 {
     rules_never_report_memory();
     match RefName::new(alloc, text) {

@@ -22,7 +22,7 @@ use Rattle.ganswer.specs.declared.fault.ServeFault.TheVariants as serve
 use Rattle.gserve.specs.Refusals.{err_packets}
 use Rattle.gserve.specs.Exchanges.{Turn, Exchanges, IsDue, reply, refusal, IsRefused, IsTurn, ReadsEmpty, ReadsEnd, ReadsTurns, reply_packets}
 use Rattle.gserve.specs.Conversations.{advert_packets, talk, talk_bytes, CannotBegin, Converses, HasEnded, advert, refusal as refusal_first, Serves, max_requests, rest_of}
-use Rattle.gserve.specs.Steps.{Advertises, HasAnswered, PassesPackets, RefusesFirst, end_after}
+use Rattle.gserve.specs.steps.Connections.{Advertises, HasAnswered, PassesPackets, RefusesFirst, end_after}
 use Rattle.gserve.specs.declared.connection.End.{End}
 use Rattle.gserve.specs.declared.connection.End.TheVariants as end
 use Rattle.gserve.specs.declared.exchange.ExchangeEnd.{ExchangeEnd}

@@ -25,7 +25,8 @@ use Rattle.ganswer.specs.declared.fault.ServeFault.{ServeFault}
 use Rattle.ganswer.specs.declared.fault.ServeFault.TheVariants as serve
 use Rattle.gserve.specs.Refusals.{err_packets}
 use Rattle.gserve.specs.Exchanges.{Turn, Declines, Exchanges, LacksBuffer, RefusesAtOnce, IsDue, reply as due_reply, refusal as due_refusal, IsRefused, ReadsTurn, RefusesToAnswer, RefusesToRead, reply_packets}
-use Rattle.gserve.specs.Steps.{PassesPackets, IsDueFor, reply, refusal, Replies, ReportsRefusal, end_of_reply}
+use Rattle.gserve.specs.steps.Connections.{PassesPackets, IsDueFor, reply, refusal, Replies, ReportsRefusal}
+use Rattle.gserve.specs.steps.Connections.{end_of_reply}
 use Rattle.gserve.specs.declared.exchange.ExchangeEnd.{ExchangeEnd}
 use Rattle.gserve.specs.declared.exchange.ExchangeEnd.TheVariants as end
 

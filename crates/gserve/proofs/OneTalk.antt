@@ -7,7 +7,7 @@ use Rattle.gname.specs.declared.formats.Format.{Format}
 use Rattle.gobject.specs.declared.node.Entry.{Entry}
 use Rattle.gobject.specs.Objects.{node_at}
 use Rattle.gobject.specs.Packs.{PackFails, Packs}
-use Rattle.ghistory.specs.Graphs.{Holds, IsFirstAbsent}
+use Rattle.gdag.specs.Graphs.{Holds, IsFirstAbsent}
 use Rattle.gwalk.proofs.Tagging.{none_held}
 use Rattle.gpkt.specs.Laws.{SpellingsSplit}
 use Rattle.gpkt.specs.LineReading.{ReadsLines}

@@ -8,7 +8,7 @@ use Rattle.ganswer.specs.declared.fault.ServeFault.{ServeFault}
 use Rattle.ganswer.specs.declared.one_pack.Packing.{Packing}
 use Rattle.ganswer.specs.declared.one_pack.Packing.TheVariants.{Unasked}
 use Rattle.gserve.specs.Packings.{ReportsLastPacking, ReportsPacking}
-use Rattle.gserve.specs.Steps.{Advertises, RefusesFirst, ReportsRefusal, end_after, end_of_reply}
+use Rattle.gserve.specs.steps.Connections.{Advertises, RefusesFirst, ReportsRefusal, end_after, end_of_reply}
 use Rattle.gserve.specs.declared.connection.End.{End}
 use Rattle.gserve.specs.declared.connection.End.TheVariants as end
 use Rattle.gserve.specs.declared.exchange.ExchangeEnd.{ExchangeEnd}

@@ -8,7 +8,7 @@ use Rattle.ggrammar.specs.declared.fault.Why.TheVariants as why
 use Rattle.ganswer.specs.Faults.{serve_fault_row}
 use Rattle.ganswer.specs.declared.fault.ServeFault.{ServeFault}
 use Rattle.ganswer.specs.declared.fault.ServeFault.TheVariants as serve
-use Rattle.gserve.specs.Refusals.{max_phrase}
+use Rattle.gserve.specs.steps.Refusals.{max_phrase}
 
 line_is_short : (fault : LineFault) → length (line_phrase fault) ≤ max_phrase
 line_is_short line.BadDigits = omega arith

@@ -13,7 +13,7 @@ use Rattle.ggrammar.specs.Writing.{WritesLines}
 use Rattle.ganswer.specs.declared.fault.ServeFault.{ServeFault}
 use Rattle.ggrammar.proofs.PassingLemmas.{push_fails, pushed_passes, write_fails}
 use Rattle.gserve.specs.Refusals.{err_packets, err_text, max_err_text}
-use Rattle.gserve.specs.Steps.{PassesPackets}
+use Rattle.gserve.specs.steps.Connections.{PassesPackets}
 
 -- ---- the packet of a refusal
 

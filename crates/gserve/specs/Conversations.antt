@@ -3,7 +3,7 @@
 use Rattle.std.specs.Prelude.{◌≡◌, ◌<◌, ◌⊎◌, ℕ, List, ◌++◌, length, Option}
 use Rattle.std.specs.List.{flat_map}
 use Rattle.gname.specs.declared.formats.Format.{Format}
-use Rattle.gpkt.specs.Packets.{Packet, canonical_all}
+use Rattle.gpkt.specs.Packets.{Bytes, Packet, canonical_all}
 use Rattle.gpkt.specs.Sending.{Input, Output, IsUnread, IsUp, Passes, SendsAndFails, SendsSome}
 use Rattle.gpkt.specs.Devices.{KeepsPassed}
 use Rattle.ggrammar.specs.declared.ends.Ends.{Ends}
@@ -30,7 +30,7 @@ advert_packets format = canonical_advert (advertised format)
 unfoldable pub talk : Format → Ends → List Turn → List Packet
 talk format ends turns = advert_packets format ++ flat_map (λ turn. reply_packets ends turn.answer) turns
 
-abbrev pub talk_bytes : Format → Ends → List Turn → List ℕ
+abbrev pub talk_bytes : Format → Ends → List Turn → Bytes
 talk_bytes format ends turns = canonical_all (talk format ends turns)
 
 -- ---- before the first request
@@ -48,7 +48,7 @@ pub data IsDueFirst (format : Format) (input : Input) : List Packet → Type 0 w
 -- ---- the requests
 
 -- what is left of the input where so much of it is still to come
-abbrev pub rest_of : Input → Option (List ℕ) → Input
+abbrev pub rest_of : Input → Option Bytes → Input
 rest_of input between = record {
   read = record { old = between; new = input.read.new };
   was_down = input.was_down;
@@ -58,7 +58,7 @@ rest_of input between = record {
 -- so many requests are read, each of which is answered, and then this holds of the rest of the input
 pub record Converses {A : Type 0} (server : Server A) (packs : Packs A) (input : Input) (requests : ℕ)
     (turns : List Turn) (Last : Input → Type 0) : Type 0 where
-  pub between : Option (List ℕ)
+  pub between : Option Bytes
   pub read : ReadsTurns server packs (record { old = input.read.old; new = between }) turns
   pub count : requests ≡ length turns
   pub last : Last (rest_of input between)

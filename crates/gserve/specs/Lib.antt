@@ -4,8 +4,8 @@ pub mod Laws
 pub mod Packings
 pub mod Refusals
 pub mod Replies
-pub mod Steps
 pub mod Talks
+pub mod steps
 pub use Rattle.gpkt.specs.Sending
 pub use Rattle.ganswer.specs.Answers
 pub use Rattle.ganswer.specs.OnePack

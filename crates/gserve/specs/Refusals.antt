@@ -1,7 +1,7 @@
 -- What a client reads of a refusal (gitprotocol-pack(5), "error-line").
 use Rattle.std.specs.Prelude.{ℕ, List, [], ◌∷◌, ◌++◌, codes}
 use Rattle.gname.specs.Ids.{id_text}
-use Rattle.gpkt.specs.Packets.{Packet}
+use Rattle.gpkt.specs.Packets.{Bytes, Packet}
 use Rattle.ggrammar.specs.Texts.{text_packet}
 use Rattle.ganswer.specs.Faults.{serve_fault_row}
 use Rattle.ganswer.specs.declared.fault.ServeFault.{ServeFault}
@@ -11,23 +11,13 @@ use Rattle.ganswer.specs.declared.fault.ServeFault.TheVariants as serve
 abbrev pub max_err_text : ℕ
 max_err_text = 128
 
--- the most bytes of its parts
-abbrev pub max_phrase : ℕ
-max_phrase = 22
-
-abbrev pub max_id_text : ℕ
-max_id_text = 64
-
-abbrev pub max_detail : ℕ
-max_detail = 65
-
 -- a want that is not held is named by its id
-abbrev pub detail_of : ServeFault → List ℕ
+abbrev pub detail_of : ServeFault → Bytes
 detail_of (serve.NotOurs id) = codes " " ++ id_text id
 detail_of _ = []
 
 -- the text of a refusal
-unfoldable pub err_text : ServeFault → List ℕ
+unfoldable pub err_text : ServeFault → Bytes
 err_text fault = codes "upload-pack: " ++ (serve_fault_row fault).phrase ++ detail_of fault
 
 -- its packet

@@ -2,13 +2,14 @@
 use Rattle.std.specs.Prelude.{◌≡◌, ℕ, Bool, List, Option, Result, Ok}
 use Rattle.gpkt.specs.LineWriting.{Writer}
 use Rattle.gpkt.specs.declared.fault.WriteFault.{WriteFault}
+use Rattle.gpkt.specs.Packets.{Bytes}
 use Rattle.ggrammar.specs.Writing.{WritesLines}
 use Rattle.ggrammar.specs.declared.ends.Ends.{Ends}
 use Rattle.ganswer.specs.Answers.{Reply, Nothing}
 use Rattle.gserve.specs.Exchanges.{reply_packets}
 
 module _
-    {W : Type 0} (contents_of passed_on_of : W → Option (List ℕ)) (is_down : W → Bool)
+    {W : Type 0} (contents_of passed_on_of : W → Option Bytes) (is_down : W → Bool)
     (loans_of : W → List ℕ)
   where
     -- One call that was to write the packets of a reply. For a lone flush there are none, and the writer stays as it

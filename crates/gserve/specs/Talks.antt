@@ -1,7 +1,7 @@
 -- A conversation over bytes: what a server writes to a client that sends these bytes, and how it ends. No device plays
 -- a part (gitprotocol-v2(5), "Capability Advertisement" and "Command Request").
 use Rattle.std.specs.Prelude.{◌≡◌, ℕ, ◌<◌, ◌⊎◌, ⊤, false, List, [], ◌++◌, length}
-use Rattle.gpkt.specs.Packets.{Packet, canonical_all}
+use Rattle.gpkt.specs.Packets.{Bytes, Packet, canonical_all}
 use Rattle.gpkt.specs.Sending.{Input}
 use Rattle.ggrammar.specs.MessageBytes.{known}
 use Rattle.ggrammar.specs.declared.ends.Ends.{Ends}
@@ -17,7 +17,7 @@ use Rattle.gserve.specs.declared.connection.End.{End}
 use Rattle.gserve.specs.declared.connection.End.TheVariants as end
 
 -- a source that does not fail: it gives the front of these bytes, and the rest is still to come
-abbrev pub giving : List ℕ → List ℕ → Input
+abbrev pub giving : Bytes → Bytes → Input
 giving bytes rest = record { read = known bytes rest; was_down = false; is_down = false }
 
 -- what is written last: the packet of a refusal
@@ -28,16 +28,16 @@ last_packets _ = []
 module _ {A : Type 0} (server : Server A) (fails : PackFails A) where
   -- Why no more requests are answered after so many, where these bytes are left: a lone flush is next; there are no
   -- bytes, or there may be no more requests; or the next is refused.
-  abbrev pub Stops : ℕ → List ℕ → End → Type 0
+  abbrev pub Stops : ℕ → Bytes → End → Type 0
   Stops requests left end.Closed =
-      (requests < max_requests) × (rest : List ℕ) × ReadsEmpty server.graph.format (giving left rest)
+      (requests < max_requests) × (rest : Bytes) × ReadsEmpty server.graph.format (giving left rest)
   Stops requests left end.Ended = ((requests < max_requests) × (left ≡ [])) ⊎ (requests ≡ max_requests)
   Stops requests left (end.Refused fault) =
-      (requests < max_requests) × (rest : List ℕ) × IsRefused server fails (giving left rest) fault
+      (requests < max_requests) × (rest : Bytes) × IsRefused server fails (giving left rest) fault
   Stops requests left end.WriteFailed = ⊥
 
 -- it is out of memory at the start, and the packet that reports so is all that is written
-abbrev pub HoldsNone : List ℕ → List ℕ → End → Type 0
+abbrev pub HoldsNone : Bytes → Bytes → End → Type 0
 HoldsNone bytes written (end.Refused fault) =
     CannotBegin (giving bytes bytes) fault × (written ≡ canonical_all (err_packets fault))
 HoldsNone bytes written _ = ⊥
@@ -45,15 +45,15 @@ HoldsNone bytes written _ = ⊥
 module _ {A : Type 0} (server : Server A) (packs : Packs A) (fails : PackFails A) (ends : Ends) where
   -- These turns are held: the bytes begin with their requests, and what is left stops them. The advertisement is
   -- written, their replies, and the packet of a refusal where one ends it.
-  pub record HoldsTurns (bytes written : List ℕ) (ended : End) : Type 0 where
+  pub record HoldsTurns (bytes written : Bytes) (ended : End) : Type 0 where
     pub turns : List Turn
-    pub left : List ℕ
+    pub left : Bytes
     pub read : ReadsTurns server packs (known bytes left) turns
     pub stops : Stops server fails (length turns) left ended
     pub all : written ≡ talk_bytes server.graph.format ends turns ++ canonical_all (last_packets ended)
 
   -- the conversation with a client that sends these bytes: what is written, and how it ends
-  abbrev pub Talks : List ℕ → List ℕ → End → Type 0
+  abbrev pub Talks : Bytes → Bytes → End → Type 0
   Talks bytes written ended = HoldsTurns bytes written ended ⊎ HoldsNone bytes written ended
 
 -- ---- the server's own faults

@@ -6,7 +6,7 @@ ghost use Rattle.gpkt.specs.Sending.{input_of, output_of, Passes};
 ghost use Rattle.ganswer.specs.declared.one_pack.Packing.TheVariants.{Unasked};
 ghost use Rattle.gserve.specs.Conversations.{Serves, advert_packets};
 ghost use Rattle.gserve.specs.Packings.{ReportsLastPacking};
-ghost use Rattle.gserve.specs.Steps.{Advertises, RefusesFirst, end_after};
+ghost use Rattle.gserve.specs.steps.Connections.{Advertises, RefusesFirst, end_after};
 
 use crate::exchange::{ExchangeEnd, exchange};
 use crate::send::{send_advert, send_refusal};
@@ -77,8 +77,8 @@ pub fn serve_with<S: Source, W: Sink, A: Allocator + Copy, K: Packer<A>>(
     sink: &mut W,
 ) -> Served
     requires { packer.old.answered ≡ Unasked }
-    ensures serves { Serves server.now (K.packs packer.old.packer) (K.pack_fails packer.old.packer) ends
-        (input_of S.remaining S.is_down source.old source.new)
+    ensures serves { Serves server.now (K.packs packer.old.packer) (K.pack_fails packer.old.packer)
+        ends (input_of S.remaining S.is_down source.old source.new)
         (output_of W.contents W.passed_on W.is_down sink.old sink.new) result.requests result.end }
     ensures packing { ReportsLastPacking result.end packer.new.answered }
     ensures packer { packer.new.packer ≡ packer.old.packer }
@@ -100,9 +100,10 @@ fn serve_to<S: Source, W: Sink, A: Allocator + Copy, K: Packer<A>>(
 ) -> Served
     requires writer { writer.old.failed ≡ false }
     requires unasked { packer.old.answered ≡ Unasked }
-    ensures serves { Serves server.now (K.packs packer.old.packer) (K.pack_fails packer.old.packer) ends
-        (input_of S.remaining S.is_down source.old source.new)
-        (output_of W.contents W.passed_on W.is_down writer.old.sink writer.new.sink) result.requests result.end }
+    ensures serves { Serves server.now (K.packs packer.old.packer) (K.pack_fails packer.old.packer)
+        ends (input_of S.remaining S.is_down source.old source.new)
+        (output_of W.contents W.passed_on W.is_down writer.old.sink writer.new.sink)
+        result.requests result.end }
     ensures packing { ReportsLastPacking result.end packer.new.answered }
     ensures packer { packer.new.packer ≡ packer.old.packer }
     ensures source_loans { S.loans source.new ≡ S.loans source.old }
@@ -132,9 +133,10 @@ fn converse<S: Source, W: Sink, A: Allocator + Copy, K: Packer<A>>(
     requires reader { reader.old.failed ≡ false }
     requires writer { writer.old.failed ≡ false }
     requires unasked { packer.old.answered ≡ Unasked }
-    ensures serves { Serves server.now (K.packs packer.old.packer) (K.pack_fails packer.old.packer) ends
-        (input_of S.remaining S.is_down reader.old.source reader.new.source)
-        (output_of W.contents W.passed_on W.is_down writer.old.sink writer.new.sink) result.requests result.end }
+    ensures serves { Serves server.now (K.packs packer.old.packer) (K.pack_fails packer.old.packer)
+        ends (input_of S.remaining S.is_down reader.old.source reader.new.source)
+        (output_of W.contents W.passed_on W.is_down writer.old.sink writer.new.sink)
+        result.requests result.end }
     ensures packing { ReportsLastPacking result.end packer.new.answered }
     ensures packer { packer.new.packer ≡ packer.old.packer }
     ensures source_loans { S.loans reader.new.source ≡ S.loans reader.old.source }
@@ -159,10 +161,12 @@ fn answer_each<S: Source, W: Sink, A: Allocator + Copy, K: Packer<A>>(
     requires writer { writer.old.failed ≡ false }
     requires unasked { packer.old.answered ≡ Unasked }
     ensures serves { (start : W)
-        → Passes (output_of W.contents W.passed_on W.is_down start writer.old.sink) (canonical_all (advert_packets server.now.graph.format))
+        → Passes (output_of W.contents W.passed_on W.is_down start writer.old.sink)
+        (canonical_all (advert_packets server.now.graph.format))
         → Serves server.now (K.packs packer.old.packer) (K.pack_fails packer.old.packer) ends
         (input_of S.remaining S.is_down reader.old.source reader.new.source)
-        (output_of W.contents W.passed_on W.is_down start writer.new.sink) result.requests result.end }
+        (output_of W.contents W.passed_on W.is_down start writer.new.sink) result.requests
+        result.end }
     ensures packing { ReportsLastPacking result.end packer.new.answered }
     ensures packer { packer.new.packer ≡ packer.old.packer }
     ensures source_loans { S.loans reader.new.source ≡ S.loans reader.old.source }
@@ -219,7 +223,8 @@ fn advertise<W: Sink, A: Allocator + Copy>(
 // Reports that it is out of memory at the start.
 fn refuse_first<W: Sink>(fault: ServeFault, writer: &mut LineWriter<W>) -> End
     requires { writer.old.failed ≡ false }
-    ensures refused { RefusesFirst fault (output_of W.contents W.passed_on W.is_down writer.old.sink writer.new.sink) result }
+    ensures refused { RefusesFirst fault (output_of W.contents W.passed_on W.is_down
+        writer.old.sink writer.new.sink) result }
     ensures loans { W.loans writer.new.sink ≡ W.loans writer.old.sink }
 {
     match send_refusal(&fault, writer) {

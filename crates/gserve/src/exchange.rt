@@ -6,7 +6,7 @@ ghost use Rattle.grequest.specs.RequestValues.{asked_by_request};
 ghost use Rattle.ganswer.specs.declared.one_pack.Packing.TheVariants.{Unasked};
 ghost use Rattle.gserve.specs.Exchanges.{Exchanges, ServesOne};
 ghost use Rattle.gserve.specs.Packings.{ReportsPacking};
-ghost use Rattle.gserve.specs.Steps.{Replies, ReportsRefusal, end_of_reply};
+ghost use Rattle.gserve.specs.steps.Connections.{Replies, ReportsRefusal, end_of_reply};
 
 use crate::send::{send_fetch_reply, send_ls_answer, send_refusal};
 use ganswer::{OnePack, ServeFault, Server};
@@ -64,7 +64,8 @@ pub fn serve_one_with<S: Source, W: Sink, A: Allocator + Copy, K: Packer<A>>(
     sink: &mut W,
 ) -> ExchangeEnd
     requires { packer.old.answered ≡ Unasked }
-    ensures exchange { ServesOne server.now (K.packs packer.old.packer) (K.pack_fails packer.old.packer) ends
+    ensures exchange { ServesOne server.now (K.packs packer.old.packer)
+        (K.pack_fails packer.old.packer) ends
         (input_of S.remaining S.is_down source.old source.new)
         (output_of W.contents W.passed_on W.is_down sink.old sink.new) result }
     ensures packing { ReportsPacking result packer.new.answered }
@@ -87,7 +88,8 @@ fn serve_one_to<S: Source, W: Sink, A: Allocator + Copy, K: Packer<A>>(
 ) -> ExchangeEnd
     requires writer { writer.old.failed ≡ false }
     requires unasked { packer.old.answered ≡ Unasked }
-    ensures exchange { ServesOne server.now (K.packs packer.old.packer) (K.pack_fails packer.old.packer) ends
+    ensures exchange { ServesOne server.now (K.packs packer.old.packer)
+        (K.pack_fails packer.old.packer) ends
         (input_of S.remaining S.is_down source.old source.new)
         (output_of W.contents W.passed_on W.is_down writer.old.sink writer.new.sink) result }
     ensures packing { ReportsPacking result packer.new.answered }
@@ -116,10 +118,12 @@ pub(crate) fn exchange<S: Source, W: Sink, A: Allocator + Copy, K: Packer<A>>(
     requires reader { reader.old.failed ≡ false }
     requires writer { writer.old.failed ≡ false }
     requires unasked { packer.old.answered ≡ Unasked }
-    ensures exchange { Exchanges server.now (K.packs packer.old.packer) (K.pack_fails packer.old.packer) ends
+    ensures exchange { Exchanges server.now (K.packs packer.old.packer)
+        (K.pack_fails packer.old.packer) ends
         (input_of S.remaining S.is_down reader.old.source reader.new.source)
         (output_of W.contents W.passed_on W.is_down writer.old.sink writer.new.sink) result }
-    ensures goes_on { result ≡ ExchangeEnd.Answered → (reader.new.failed ≡ false) × (writer.new.failed ≡ false) }
+    ensures goes_on { result ≡ ExchangeEnd.Answered
+        → (reader.new.failed ≡ false) × (writer.new.failed ≡ false) }
     ensures packing { ReportsPacking result packer.new.answered }
     ensures packer { packer.new.packer ≡ packer.old.packer }
     ensures source_loans { S.loans reader.new.source ≡ S.loans reader.old.source }
@@ -143,7 +147,8 @@ fn reply<W: Sink, A: Allocator + Copy, K: Packer<A>>(
 ) -> ExchangeEnd
     requires writer { writer.old.failed ≡ false }
     requires unasked { packer.old.answered ≡ Unasked }
-    ensures replies { Replies server.now (K.packs packer.old.packer) (K.pack_fails packer.old.packer) ends (asked_by_request request.now)
+    ensures replies { Replies server.now (K.packs packer.old.packer)
+        (K.pack_fails packer.old.packer) ends (asked_by_request request.now)
         (output_of W.contents W.passed_on W.is_down writer.old.sink writer.new.sink) result }
     ensures goes_on { result ≡ ExchangeEnd.Answered → writer.new.failed ≡ false }
     ensures packing { ReportsPacking result packer.new.answered }
@@ -173,7 +178,8 @@ fn end_of(sent: Result<(), WriteFault>) -> ExchangeEnd
 /// Reports a refusal.
 pub(crate) fn refuse<W: Sink>(fault: ServeFault, writer: &mut LineWriter<W>) -> ExchangeEnd
     requires { writer.old.failed ≡ false }
-    ensures refused { ReportsRefusal fault (output_of W.contents W.passed_on W.is_down writer.old.sink writer.new.sink) result }
+    ensures refused { ReportsRefusal fault (output_of W.contents W.passed_on W.is_down
+        writer.old.sink writer.new.sink) result }
     ensures ended { result ≢ ExchangeEnd.Answered }
     ensures loans { W.loans writer.new.sink ≡ W.loans writer.old.sink }
 {

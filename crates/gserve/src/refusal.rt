@@ -1,15 +1,15 @@
 //! What a client reads of a refusal (gitprotocol-pack(5), "error-line").
 
 ghost use Rattle.std.specs.Prelude.{◌≡◌, ◌≤◌, ◌+◌, ◌++◌, drop, length, take};
-ghost use Rattle.gname.specs.Ids.{id_text};
 ghost use Rattle.ggrammar.specs.Writing.{WritesLines};
 ghost use Rattle.ganswer.specs.Faults.{serve_fault_row};
-ghost use Rattle.gserve.specs.Refusals.{detail_of, err_packets, err_text, max_detail, max_err_text, max_id_text, max_phrase};
+ghost use Rattle.gserve.specs.Refusals.{detail_of, err_packets, err_text, max_err_text};
+ghost use Rattle.gserve.specs.steps.Refusals.{max_detail, max_phrase};
 
 use arrayvec::ArrayVec;
 use ganswer::ServeFault;
+use ggrammar::compose::{add, add_id};
 use ggrammar::laws::writes_lines;
-use gname::{MAX_ID_TEXT, Oid};
 use gpkt::{LineWriter, Sink, WriteFault};
 
 /// The most bytes of a refusal's text.
@@ -63,31 +63,13 @@ fn add_detail(fault: &ServeFault, text: &mut ArrayVec<u8, MAX_ERR_TEXT>)
     }
 }
 
-fn add_id(id: &Oid, text: &mut ArrayVec<u8, MAX_ERR_TEXT>)
-    requires { length text.old.items + max_id_text ≤ max_err_text }
-    ensures text { text.new.items ≡ text.old.items ++ id_text id.now }
-    ensures long { length text.new.items ≤ length text.old.items + max_id_text }
-{
-    let mut digits = [0; MAX_ID_TEXT];
-    let count = id.to_hex(&mut digits);
-    add(&digits[..count], text);
-}
-
-// Adds a piece for which there is room.
-fn add(piece: &[u8], text: &mut ArrayVec<u8, MAX_ERR_TEXT>)
-    requires { length text.old.items + length piece.now ≤ max_err_text }
-    ensures text { text.new.items ≡ text.old.items ++ piece.now }
-    ensures long { length text.new.items ≡ length text.old.items + length piece.now }
-{
-    text.try_extend_from_slice(piece).unwrap()
-}
-
 /// Writes the packet of a refusal. It takes no memory.
 pub(crate) fn write_refusal<W: Sink>(
     fault: &ServeFault,
     writer: &mut LineWriter<W>,
 ) -> Result<(), WriteFault>
-    ensures { WritesLines W.contents W.passed_on W.is_down W.loans writer.old writer.new result (err_packets fault.now) }
+    ensures { WritesLines W.contents W.passed_on W.is_down W.loans writer.old writer.new result
+        (err_packets fault.now) }
 {
     writes_lines::<W>();
     let text = text_of(fault);

@@ -9,7 +9,7 @@ ghost use Rattle.gfetchreply.specs.Views.{reply_in};
 ghost use Rattle.ghello.specs.Adverts.{canonical_advert};
 ghost use Rattle.ganswer.specs.LsAnswers.{LsAnswer};
 ghost use Rattle.gserve.specs.Refusals.{err_packets};
-ghost use Rattle.gserve.specs.Steps.{PassesPackets};
+ghost use Rattle.gserve.specs.steps.Connections.{PassesPackets};
 
 use crate::refusal::write_refusal;
 use ganswer::laws::ls_requests_have_one_answer;
@@ -31,7 +31,8 @@ pub(crate) fn send_ls_answer<W: Sink, A: Allocator + Copy>(
 ) -> Result<(), WriteFault>
     requires { writer.old.failed ≡ false }
     ensures sent { (reply : LsReply) × LsAnswer server.now asked.now reply
-        × PassesPackets (output_of W.contents W.passed_on W.is_down writer.old.sink writer.new.sink) result (ls_packets ends reply) }
+        × PassesPackets (output_of W.contents W.passed_on W.is_down writer.old.sink
+        writer.new.sink) result (ls_packets ends reply) }
     ensures goes_on { OnOk result (writer.new.failed ≡ false) }
     ensures loans { W.loans writer.new.sink ≡ W.loans writer.old.sink }
 {
@@ -48,8 +49,8 @@ pub(crate) fn send_fetch_reply<W: Sink, A: Allocator + Copy>(
     writer: &mut LineWriter<W>,
 ) -> Result<(), WriteFault>
     requires { writer.old.failed ≡ false }
-    ensures sent { PassesPackets (output_of W.contents W.passed_on W.is_down writer.old.sink writer.new.sink) result
-        (fetch_packets ends (reply_in reply.now)) }
+    ensures sent { PassesPackets (output_of W.contents W.passed_on W.is_down writer.old.sink
+        writer.new.sink) result (fetch_packets ends (reply_in reply.now)) }
     ensures goes_on { OnOk result (writer.new.failed ≡ false) }
     ensures loans { W.loans writer.new.sink ≡ W.loans writer.old.sink }
 {
@@ -64,8 +65,8 @@ pub(crate) fn send_advert<W: Sink, A: Allocator + Copy>(
     writer: &mut LineWriter<W>,
 ) -> Result<(), WriteFault>
     requires { writer.old.failed ≡ false }
-    ensures sent { PassesPackets (output_of W.contents W.passed_on W.is_down writer.old.sink writer.new.sink) result
-        (canonical_advert advert.now) }
+    ensures sent { PassesPackets (output_of W.contents W.passed_on W.is_down writer.old.sink
+        writer.new.sink) result (canonical_advert advert.now) }
     ensures goes_on { OnOk result (writer.new.failed ≡ false) }
     ensures loans { W.loans writer.new.sink ≡ W.loans writer.old.sink }
 {
@@ -80,8 +81,8 @@ pub(crate) fn send_refusal<W: Sink>(
     writer: &mut LineWriter<W>,
 ) -> Result<(), WriteFault>
     requires { writer.old.failed ≡ false }
-    ensures sent { PassesPackets (output_of W.contents W.passed_on W.is_down writer.old.sink writer.new.sink) result
-        (err_packets fault.now) }
+    ensures sent { PassesPackets (output_of W.contents W.passed_on W.is_down writer.old.sink
+        writer.new.sink) result (err_packets fault.now) }
     ensures loans { W.loans writer.new.sink ≡ W.loans writer.old.sink }
 {
     writes_join::<W>();

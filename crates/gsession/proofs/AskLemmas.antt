@@ -15,11 +15,11 @@ use Rattle.gname.specs.declared.faults.NameFault.TheVariants.{Empty, TooLong, No
 use Rattle.gname.specs.declared.faults.NameFault.TheVariants.{AtBrace, End, Memory}
 use Rattle.glsreply.specs.RefTexts.{RefLine}
 use Rattle.glsreply.specs.WellFormed.{IsRefLine}
-use Rattle.gspec.specs.Refspecs.{Refspec, destination_of, matches}
-use Rattle.grepo.specs.declared.ask.Ask.{Ask}
-use Rattle.grepo.specs.Asks.{is_asked, with_ask}
+use Rattle.grefspec.specs.Refspecs.{Refspec, destination_of, matches}
+use Rattle.gclientrepo.specs.declared.ask.Ask.{Ask}
+use Rattle.gclientrepo.specs.Asks.{is_asked, with_ask}
 use Rattle.gsession.specs.Asking.{AreNamed, AreNamedTo, ask_of, asked_of, asks_by, asks_by_all, line_matches, with_asks}
-use Rattle.gsession.specs.Steps.{AddsAsks, FindsAsks}
+use Rattle.gsession.specs.steps.Calls.{AddsAsks, FindsAsks}
 use Rattle.gsession.proofs.ListLemmas.{all_left, all_right, split_at, with_asks-append}
 
 -- ---- asks of more lines, and of more refspecs

@@ -15,22 +15,22 @@ use Rattle.std.proofs.lemmas.Map.Keys.{IsDistinct-head, IsDistinct-push, IsDisti
 use Rattle.gname.specs.Ids.{IsIdOf}
 use Rattle.gname.specs.Laws.{IdsHaveOneFormat}
 use Rattle.gobject.specs.declared.node.Entry.{Entry}
-use Rattle.ghistory.specs.Graphs.{History, IsGraph}
-use Rattle.ghistory.specs.Laws.{DistinctAreOnce, OffersAreExact, PlacesAreNodes}
-use Rattle.ghistory.specs.Levels.{distinct_of}
-use Rattle.ghistory.specs.Offer.{IsOffer}
-use Rattle.ghistory.specs.Reach.{IsFull, here}
+use Rattle.gdag.specs.Graphs.{History, IsGraph}
+use Rattle.gdag.specs.Laws.{DistinctAreOnce, OffersAreExact, PlacesAreNodes}
+use Rattle.gdag.specs.Levels.{distinct_of}
+use Rattle.gdag.specs.Offer.{IsOffer}
+use Rattle.gdag.specs.Reach.{IsFull, here}
 use Rattle.grequest.specs.Asked.{max_haves}
 use Rattle.grequest.specs.RequestValues.{asked_by_request}
 use Rattle.grequest.specs.declared.request.Request.{Request}
 use Rattle.gsession.specs.Requesting.{MakesNext, Requests, batch_of, is_due}
 use Rattle.gsession.specs.Sessions.{SessionState, IsSession, after_fault, no_memory, over}
-use Rattle.gsession.specs.Steps.{FitsBatch}
+use Rattle.gsession.specs.steps.Calls.{FitsBatch}
 use Rattle.gsession.specs.declared.fault.ClientFault.{ClientFault}
 use Rattle.gsession.specs.declared.stage.Stage.{Stage}
 use Rattle.gsession.specs.declared.stage.Stage.TheVariants.{Listing, Fetching, Settling, Over}
-use Rattle.ghistory.proofs.IdLists.{contains_from_any}
-use Rattle.ghistory.proofs.Places.{held_id}
+use Rattle.gdag.proofs.IdLists.{contains_from_any}
+use Rattle.gdag.proofs.Places.{held_id}
 use Rattle.gsession.proofs.CommonLemmas.{all_distinct, batch_ids}
 
 -- ---- lists without repeats

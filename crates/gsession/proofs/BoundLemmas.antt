@@ -3,10 +3,10 @@ use Rattle.std.proofs.Common.{ℕ, ◌+◌, ◌≤◌, true, false, List, [], le
 use Rattle.std.proofs.Common.{subst, arith}
 use Rattle.std.proofs.lemmas.List.Elements.{All-append, All-contains, All-contains_itself, All-nil, All-weaker}
 use Rattle.gobject.specs.declared.node.Entry.{Entry}
-use Rattle.ghistory.specs.Graphs.{Holds}
-use Rattle.ghistory.specs.Laws.{FullStaysFull, GrowingKeeps, OffersAreExact, ReachedAreCounted}
-use Rattle.ghistory.specs.Offer.{IsOffer}
-use Rattle.ghistory.specs.Reach.{Grows, IsFull, Reaches, SomeReaches}
+use Rattle.gdag.specs.Graphs.{Holds}
+use Rattle.gdag.specs.Laws.{FullStaysFull, GrowingKeeps, OffersAreExact, ReachedAreCounted}
+use Rattle.gdag.specs.Offer.{IsOffer}
+use Rattle.gdag.specs.Reach.{Grows, IsFull, Reaches, SomeReaches}
 use Rattle.grequest.specs.Asked.{Asked, Empty, Ls, Fetches, max_haves}
 use Rattle.gsession.specs.Bounds.{BeganOn, BeganStays, RoundsAreFew}
 use Rattle.gsession.specs.Requesting.{IsNext, batch_of, batch_size, waiting_for}

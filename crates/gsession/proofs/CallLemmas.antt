@@ -10,12 +10,13 @@ use Rattle.ggrammar.specs.Capabilities.{Capability}
 use Rattle.gfetchreply.specs.FetchReplies.{FetchReply, Pack, Reading, reply_of}
 use Rattle.gobject.specs.declared.node.Entry.{Entry}
 use Rattle.gobject.specs.Packs.{Indexes, IndexFails}
-use Rattle.ghistory.specs.declared.fault.GraphFault.TheVariants as graph
-use Rattle.grepo.specs.declared.ask.Ask.{Ask}
-use Rattle.grepo.specs.declared.ask.RefUpdate.{RefUpdate}
-use Rattle.grepo.specs.declared.fault.RepoFault.TheVariants as repo
-use Rattle.grepo.specs.Repos.{RepoState}
-use Rattle.grequest.specs.Asked.{Asked, Empty, Ls, Fetches, FetchAsked, is_direct}
+use Rattle.gdag.specs.declared.fault.GraphFault.TheVariants as graph
+use Rattle.gclientrepo.specs.declared.ask.Ask.{Ask}
+use Rattle.gclientrepo.specs.declared.ask.RefUpdate.{RefUpdate}
+use Rattle.gclientrepo.specs.declared.fault.RepoFault.TheVariants as repo
+use Rattle.gclientrepo.specs.Repos.{RepoState}
+use Rattle.grequest.specs.declared.flag.FetchFlag.TheVariants.{Done}
+use Rattle.grequest.specs.Asked.{Asked, Empty, Ls, Fetches, FetchAsked, is_direct, fetch_has}
 use Rattle.gsession.specs.Calls.{HasCalled, heard, requested, took_refs, took_reply, settled, GoesOn}
 use Rattle.gsession.specs.Calls.{Does, does_nothing, does_end, does_hear, does_ask, does_list, does_take, does_settle}
 use Rattle.gsession.specs.Requesting.{Requests, is_due, waiting_for}
@@ -47,7 +48,7 @@ due_idle Over (Some asked) due = absurd (false≢true due)
 
 -- ---- a reply to a request with `done` has a pack
 
-pub done_direct : (asked : FetchAsked) → asked.done ≡ true → is_direct asked ≡ true
+pub done_direct : (asked : FetchAsked) → fetch_has asked Done ≡ true → is_direct asked ≡ true
 done_direct asked done = ap (λ (b : Bool). b || length asked.haves == 0) done
 
 direct_pack : (direct : Bool) (pack : List ℕ) (other reply : FetchReply) → direct ≡ true
@@ -103,7 +104,8 @@ module _ {A : Type 0} where
   module _ (indexes : Indexes A) (index_fails : IndexFails) where
     head_does : (g : List (Entry A)) (old : SessionState A) (r : RepoState A) (asked : FetchAsked) (reply : FetchReply)
         (new : SessionState A) (after : RepoState A) (taken : Taken)
-        → Awaits old asked → All (Contains asked.haves) (acknowledged_by reply) → (asked.done ≡ true → HasPack reply)
+        → Awaits old asked → All (Contains asked.haves) (acknowledged_by reply)
+        → (fetch_has asked Done ≡ true → HasPack reply)
         → TakesHead indexes index_fails old r reply new after taken → Does g old new
     head_does g old r asked reply new after (Round common) waits named has is =
         does_take asked Fetching (acknowledged_by reply) waits named (λ done. absurd (is.0 (has done))) is.1

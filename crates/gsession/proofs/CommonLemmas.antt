@@ -13,13 +13,13 @@ use Rattle.gname.specs.declared.formats.Format.{Format}
 use Rattle.gobject.specs.declared.node.Entry.{Entry}
 use Rattle.gobject.specs.declared.node.Node.{Node}
 use Rattle.gobject.specs.Objects.{entry_of}
-use Rattle.ghistory.specs.Graphs.{History, HasIdsOf, HasParent, IsGraph, IsNode}
-use Rattle.ghistory.specs.Laws.{DistinctAreOnce, OffersAreExact, PlacesAreNodes}
-use Rattle.ghistory.specs.Levels.{distinct_of}
-use Rattle.ghistory.specs.Offer.{IsOffer}
-use Rattle.ghistory.specs.Reach.{Reaches, here, onward}
-use Rattle.ghistory.proofs.Growing.{all_standing}
-use Rattle.ghistory.proofs.IdLists.{any_from_contains, contains_from_any}
+use Rattle.gdag.specs.Graphs.{History, HasIdsOf, HasParent, IsGraph, IsNode}
+use Rattle.gdag.specs.Laws.{DistinctAreOnce, OffersAreExact, PlacesAreNodes}
+use Rattle.gdag.specs.Levels.{distinct_of}
+use Rattle.gdag.specs.Offer.{IsOffer}
+use Rattle.gdag.specs.Reach.{Reaches, here, onward}
+use Rattle.gdag.proofs.Growing.{all_standing}
+use Rattle.gdag.proofs.IdLists.{any_from_contains, contains_from_any}
 
 -- ---- lists
 

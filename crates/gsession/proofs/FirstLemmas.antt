@@ -6,16 +6,16 @@ use Rattle.std.proofs.lemmas.Bool.{false≢true}
 use Rattle.std.proofs.lemmas.List.Elements.{All-append, All-cons, All-contains, All-head, All-nil, All-push, All-tail}
 use Rattle.std.proofs.lemmas.List.Elements.{Contains-append_left, Contains-append_right}
 use Rattle.std.proofs.lemmas.Slice.Eq.{bytes_eq-Decides}
-use Rattle.ghistory.proofs.IdLists.{contains_head, contains_tail}
+use Rattle.gdag.proofs.IdLists.{contains_head, contains_tail}
 use Rattle.glsreply.specs.RefTexts.{RefLine}
-use Rattle.gspec.specs.Refspecs.{Refspec, destination_of, matches}
-use Rattle.grepo.specs.declared.ask.Ask.{Ask}
-use Rattle.grepo.specs.Asks.{NamesDiffer, is_asked, with_ask}
-use Rattle.grepo.proofs.AskLemmas.{differ_push, with_ask_new}
+use Rattle.grefspec.specs.Refspecs.{Refspec, destination_of, matches}
+use Rattle.gclientrepo.specs.declared.ask.Ask.{Ask}
+use Rattle.gclientrepo.specs.Asks.{NamesDiffer, is_asked, with_ask}
+use Rattle.gclientrepo.proofs.AskLemmas.{differ_push, with_ask_new}
 use Rattle.gsession.specs.Asking.{ask_of, asked_of, asks_by, asks_by_all, with_asks}
 use Rattle.gsession.specs.Laws.{FirstIsAsked, IsFirstFor, LeadsElsewhere}
 use Rattle.gsession.proofs.AskLemmas.{asks_by-append, asks_by_all-append, asks_none, asks_one}
-use Rattle.ghistory.proofs.Growing.{at_front}
+use Rattle.gdag.proofs.Growing.{at_front}
 
 module _ {A : Type 0} where
   -- something is asked of the ref

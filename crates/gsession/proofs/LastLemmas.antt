@@ -7,10 +7,11 @@ use Rattle.std.proofs.lemmas.List.Elements.{All-contains, All-contains_itself, A
 use Rattle.std.proofs.lemmas.Option.{none-some}
 use Rattle.gobject.specs.declared.node.Entry.{Entry}
 use Rattle.gobject.specs.Packs.{Indexes, IndexFails}
-use Rattle.ghistory.specs.declared.fault.GraphFault.TheVariants as graph
-use Rattle.ghistory.specs.Laws.{OffersAreExact, ReachedAreCounted}
-use Rattle.grepo.specs.declared.fault.RepoFault.TheVariants as repo
-use Rattle.grequest.specs.Asked.{Asked, Empty, Ls, Fetches, FetchAsked, LsRefsAsked, max_haves}
+use Rattle.gdag.specs.declared.fault.GraphFault.TheVariants as graph
+use Rattle.gdag.specs.Laws.{OffersAreExact, ReachedAreCounted}
+use Rattle.gclientrepo.specs.declared.fault.RepoFault.TheVariants as repo
+use Rattle.grequest.specs.declared.flag.FetchFlag.TheVariants.{Done}
+use Rattle.grequest.specs.Asked.{Asked, Empty, Ls, Fetches, FetchAsked, LsRefsAsked, max_haves, fetch_has}
 use Rattle.gsession.specs.Bounds.{BeginsCounted, CountedAreFew, CountedStays, DoneAsksLast, HasAskedLast, IsCounted}
 use Rattle.gsession.specs.Bounds.{LastStays, NoneFollows}
 use Rattle.gsession.specs.Requesting.{IsBatch, IsNext, MakesNext, batch_of, batch_size, is_due, waiting_for}
@@ -95,9 +96,9 @@ module _ {A : Type 0} where
   ]
 
   settles_last : (s : SessionState A) (asked : FetchAsked) (stage : Stage) → HasAskedLast s → Awaits s asked
-      → (asked.done ≡ true → stage ≡ Settling) → stage ≡ Settling
+      → (fetch_has asked Done ≡ true → stage ≡ Settling) → stage ≡ Settling
   settles_last s asked stage (inl (also, awaits, done)) waits settles =
-      settles (subst (λ (a : FetchAsked). a.done ≡ true) (same_fetch also asked (sym awaits ∙ waits)) done)
+      settles (subst (λ (a : FetchAsked). fetch_has a Done ≡ true) (same_fetch also asked (sym awaits ∙ waits)) done)
   settles_last s asked stage (inr past) waits settles = absurd (none-some (Fetches asked) (sym past.0 ∙ waits))
 
   last_does : (g : List (Entry A)) (old new : SessionState A) → HasAskedLast old → Does g old new → HasAskedLast new
@@ -166,7 +167,7 @@ module _ {A : Type 0} where
       }
 
   counted_due : (asked : FetchAsked) (old : SessionState A) (batch : List (List ℕ)) → old.rounds ≤ length old.sent
-      → (length batch ≡ 0 → asked.done ≡ true)
+      → (length batch ≡ 0 → fetch_has asked Done ≡ true)
       → HasAskedLast (waiting_for old (Fetches asked) batch) ⊎ (old.rounds + 1 ≤ length (old.sent ++ batch))
   counted_due asked old [] few last = inl (inl (asked, refl, last refl))
   counted_due asked old (a ∷ more) few last = inr (omega (arith, few, length-append old.sent (a ∷ more)))
@@ -181,7 +182,7 @@ module _ {A : Type 0} where
             (λ a there. All-contains (IsUnsent old) batch a (batch_unsent exact g old batch next.2) there);
         few = more;
         due = counted_due asked old batch few
-            (λ none. ap (λ (r : FetchAsked). r.done) next.1 ∙ ap (λ (n : ℕ). n == 0) none);
+            (λ none. ap (λ (r : FetchAsked). fetch_has r Done) next.1 ∙ ap (λ (n : ℕ). n == 0) none);
       }
 
   few_before : (g : List (Entry A)) (old new : SessionState A) (asked : Asked) → IsCounted old → old.pending ≡ None

@@ -18,17 +18,17 @@ use Rattle.gobject.specs.declared.node.Entry.{Entry}
 use Rattle.gobject.specs.declared.node.Node.{Node}
 use Rattle.gobject.specs.Objects.{node_at}
 use Rattle.gobject.specs.Packs.{Indexes, IndexFails}
-use Rattle.ghistory.specs.Laws.{DistinctAreOnce, OffersAreExact, ReachingGoesOn}
-use Rattle.ghistory.proofs.Choosing.{chosen_all, one_choice}
-use Rattle.ghistory.proofs.IdLists.{contains_head}
-use Rattle.ghistory.specs.Levels.{distinct_of}
-use Rattle.ghistory.specs.Reach.{IsFull, SomeReaches}
-use Rattle.ghistory.specs.Selecting.{Selects, none, keep, skip}
-use Rattle.gspec.specs.Refspecs.{Refspec}
-use Rattle.grepo.specs.declared.ask.Ask.{Ask}
-use Rattle.grepo.specs.Asks.{asked_ids, is_asked, with_ask}
-use Rattle.grepo.specs.Repos.{RepoState}
-use Rattle.grepo.specs.declared.fault.RepoFault.TheVariants as repo
+use Rattle.gdag.specs.Laws.{DistinctAreOnce, OffersAreExact, ReachingGoesOn}
+use Rattle.gdag.proofs.Choosing.{chosen_all, one_choice}
+use Rattle.gdag.proofs.IdLists.{contains_head}
+use Rattle.gdag.specs.Levels.{distinct_of}
+use Rattle.gdag.specs.Reach.{IsFull, SomeReaches}
+use Rattle.gdag.specs.Selecting.{Selects, none, keep, skip}
+use Rattle.grefspec.specs.Refspecs.{Refspec}
+use Rattle.gclientrepo.specs.declared.ask.Ask.{Ask}
+use Rattle.gclientrepo.specs.Asks.{asked_ids, is_asked, with_ask}
+use Rattle.gclientrepo.specs.Repos.{RepoState}
+use Rattle.gclientrepo.specs.declared.fault.RepoFault.TheVariants as repo
 use Rattle.grequest.specs.Asked.{Asked, Ls, Fetches, FetchAsked}
 use Rattle.gsession.specs.Asking.{ask_of, asked_of, asks_by, asks_by_all, line_matches, with_asks}
 use Rattle.gsession.specs.Calls.{IsOver}
@@ -48,7 +48,7 @@ use Rattle.gsession.specs.declared.taken.Taken.TheVariants.{Round, PackTaken}
 use Rattle.gsession.proofs.BoundLemmas.{in_batch}
 use Rattle.gsession.proofs.CommonLemmas.{all_distinct}
 use Rattle.gsession.proofs.LastLemmas.{IsUnsent, batch_unsent, none_follows, over_lists}
-use Rattle.ghistory.proofs.Growing.{grows_none, inserts_grows}
+use Rattle.gdag.proofs.Growing.{grows_none, inserts_grows}
 
 -- ---- choosing
 

@@ -5,12 +5,12 @@ use Rattle.std.proofs.Common.{append_assoc}
 use Rattle.std.proofs.lemmas.List.{append-nil, map-append, take-append-drop, take_more}
 use Rattle.std.proofs.lemmas.List.Elements.{All-contains, All-contains_itself, All-weaker, Contains-append_left}
 use Rattle.std.proofs.lemmas.List.Elements.{Contains-append_right}
-use Rattle.ghistory.specs.Levels.{distinct_of, is_in, new_ids}
-use Rattle.gspec.specs.Refspecs.{Refspec}
-use Rattle.grepo.specs.declared.ask.Ask.{Ask}
-use Rattle.grepo.specs.Asks.{with_ask}
+use Rattle.gdag.specs.Levels.{distinct_of, is_in, new_ids}
+use Rattle.grefspec.specs.Refspecs.{Refspec}
+use Rattle.gclientrepo.specs.declared.ask.Ask.{Ask}
+use Rattle.gclientrepo.specs.Asks.{with_ask}
 use Rattle.gsession.specs.Asking.{with_asks}
-use Rattle.gsession.specs.Steps.{with_prefix}
+use Rattle.gsession.specs.steps.Calls.{with_prefix}
 
 -- ---- parts of lists
 

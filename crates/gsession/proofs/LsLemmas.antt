@@ -13,10 +13,10 @@ use Rattle.glsreply.specs.RefTexts.{RefLine}
 use Rattle.gname.specs.declared.faults.NameFault.{NameFault}
 use Rattle.gname.specs.declared.faults.NameFault.TheVariants.{Memory}
 use Rattle.gobject.specs.declared.node.Entry.{Entry}
-use Rattle.gspec.specs.Refspecs.{Refspec}
+use Rattle.grefspec.specs.Refspecs.{Refspec}
 use Rattle.gsession.specs.Asking.{AreNamed, asks_by_all}
 use Rattle.gsession.specs.Sessions.{SessionState, LeavesReplies, after_fault}
-use Rattle.gsession.specs.Steps.{AnswersLs, AnswersRefs, FindsAsks}
+use Rattle.gsession.specs.steps.Calls.{AnswersLs, AnswersRefs, FindsAsks}
 use Rattle.gsession.specs.TakingRefs.{AwaitsRefs, IsLsFault, IsRefsFault, ReadsRefs, TakesLs}
 use Rattle.gsession.specs.declared.fault.ClientFault.{ClientFault}
 use Rattle.gsession.specs.declared.fault.ClientFault.TheVariants.{Index, Message, NoOpenRequest, Repo, StrangeAck}

@@ -7,10 +7,10 @@ use Rattle.std.proofs.lemmas.Option.{none-some}
 use Rattle.gfetchreply.specs.FetchReplies.{FetchReply}
 use Rattle.gobject.specs.declared.node.Entry.{Entry}
 use Rattle.gobject.specs.Packs.{Indexes, IndexFails}
-use Rattle.ghistory.specs.Laws.{DistinctAreOnce}
-use Rattle.ghistory.specs.Levels.{distinct_of}
-use Rattle.ghistory.specs.Reach.{Grows}
-use Rattle.grepo.specs.Repos.{RepoState}
+use Rattle.gdag.specs.Laws.{DistinctAreOnce}
+use Rattle.gdag.specs.Levels.{distinct_of}
+use Rattle.gdag.specs.Reach.{Grows}
+use Rattle.gclientrepo.specs.Repos.{RepoState}
 use Rattle.grequest.specs.Asked.{Asked, Empty, Ls, Fetches, FetchAsked}
 use Rattle.gsession.specs.Bounds.{AreOffered, BeganOn, BeganStays, BeganStaysOn, BeginsOffered, OfferedStays}
 use Rattle.gsession.specs.Calls.{IsOpenHave}

@@ -8,12 +8,13 @@ use Rattle.std.proofs.lemmas.List.Elements.{Contains-append_left, Contains-appen
 use Rattle.gfetchreply.specs.FetchReplies.{FetchReply}
 use Rattle.gobject.specs.declared.node.Entry.{Entry}
 use Rattle.gobject.specs.Packs.{Indexes, IndexFails}
-use Rattle.ghistory.specs.Graphs.{Holds}
-use Rattle.ghistory.specs.Laws.{DistinctAreOnce, OffersAreExact}
-use Rattle.ghistory.specs.Levels.{distinct_of}
-use Rattle.ghistory.specs.Reach.{IsFull, SomeReaches}
-use Rattle.grepo.specs.Repos.{RepoState, IsWhole}
-use Rattle.grequest.specs.Asked.{Asked, Empty, Ls, Fetches, FetchAsked, is_direct}
+use Rattle.gdag.specs.Graphs.{Holds}
+use Rattle.gdag.specs.Laws.{DistinctAreOnce, OffersAreExact}
+use Rattle.gdag.specs.Levels.{distinct_of}
+use Rattle.gdag.specs.Reach.{IsFull, SomeReaches}
+use Rattle.gclientrepo.specs.Repos.{RepoState, IsWhole}
+use Rattle.grequest.specs.declared.flag.FetchFlag.TheVariants.{Done}
+use Rattle.grequest.specs.Asked.{Asked, Empty, Ls, Fetches, FetchAsked, is_direct, fetch_has}
 use Rattle.gsession.specs.Bounds.{BeganBegins, BeganOn, OffersAreNew}
 use Rattle.gsession.specs.Laws.{OneNext}
 use Rattle.gsession.specs.Requesting.{IsBatch, IsNext, batch_of, batch_size, fetch_request, waiting_for}
@@ -40,10 +41,11 @@ module _ {A : Type 0} where
       is.offer (All-contains_itself is.offer)))
 
   new_id : (s : SessionState A) (asked : FetchAsked) (batch : List (List ℕ))
-      → asked ≡ fetch_request s.wants s.commons batch → All (λ a. ¬ (Contains s.sent a)) batch → asked.done ≡ false
+      → asked ≡ fetch_request s.wants s.commons batch → All (λ a. ¬ (Contains s.sent a)) batch
+      → fetch_has asked Done ≡ false
       → ((a : List ℕ) × Contains asked.haves a × ¬ (Contains s.sent a))
   new_id s asked [] is fresh goes_on =
-      absurd (false≢true (sym goes_on ∙ ap (λ (r : FetchAsked). r.done) is))
+      absurd (false≢true (sym goes_on ∙ ap (λ (r : FetchAsked). fetch_has r Done) is))
   new_id s asked (b ∷ rest) is fresh goes_on =
       let among : Contains (s.commons ++ b ∷ rest) b =
       Contains-append_right s.commons (b ∷ rest) b (Contains-append_left (b ∷ []) rest b (Contains-push [] b)) in (

@@ -5,11 +5,11 @@ use Rattle.std.specs.List.{IsDistinct}
 use Rattle.std.proofs.lemmas.List.Elements.{All-append, All-contains_itself, All-nil, All-weaker, Contains-append_left}
 use Rattle.std.proofs.lemmas.Bool.{ne_eqb}
 use Rattle.gname.specs.Ids.{IsIdOf}
-use Rattle.grepo.specs.declared.ask.Ask.{Ask}
+use Rattle.gclientrepo.specs.declared.ask.Ask.{Ask}
 use Rattle.grequest.specs.Asked.{Asked, Ls, Fetches, FetchAsked, LsRefsAsked, is_direct, max_wants}
 use Rattle.gsession.specs.Requesting.{fetch_request}
 use Rattle.gsession.specs.Sessions.{SessionState, AreCommons, FitsStage, IsOpenFetch, IsSession, max_specs, over}
-use Rattle.gsession.specs.Steps.{FitsBatch}
+use Rattle.gsession.specs.steps.Calls.{FitsBatch}
 use Rattle.gsession.specs.TakingRefs.{AwaitsRefs, stage_for}
 use Rattle.gsession.specs.declared.stage.Stage.{Stage}
 use Rattle.gsession.specs.declared.stage.Stage.TheVariants.{Listing, Fetching, Settling, Over}

@@ -4,7 +4,7 @@ use Rattle.ggrammar.specs.Kinds.{ReadsExactly, SaysAtFront}
 use Rattle.ggrammar.specs.MessageBytes.{known}
 use Rattle.gfetchreply.specs.FetchReplies.{FetchReply, Reading, Says, brings, judge}
 use Rattle.gobject.specs.Packs.{Indexes, IndexFails}
-use Rattle.grepo.specs.Repos.{RepoState}
+use Rattle.gclientrepo.specs.Repos.{RepoState}
 use Rattle.grequest.specs.Asked.{Fetches, FetchAsked}
 use Rattle.gsession.specs.Sessions.{SessionState}
 use Rattle.gsession.specs.TakingReplies.{Awaits, ReadsFetch, TakesHead, TakingIsDecided}

@@ -10,18 +10,18 @@ use Rattle.gname.specs.Ids.{IsIdOf}
 use Rattle.gname.specs.declared.formats.Format.{Format}
 use Rattle.gobject.specs.declared.node.Entry.{Entry}
 use Rattle.gobject.specs.Objects.{IdsDiffer, entry_of, place_of}
-use Rattle.ghistory.specs.Graphs.{Holds}
-use Rattle.ghistory.specs.Laws.{DistinctAreOnce, PlacesAreNodes}
-use Rattle.ghistory.specs.Reach.{IsFull, Reaches, here}
-use Rattle.ghistory.specs.Walks.{Misses}
+use Rattle.gdag.specs.Graphs.{Holds}
+use Rattle.gdag.specs.Laws.{DistinctAreOnce, PlacesAreNodes}
+use Rattle.gdag.specs.Reach.{IsFull, Reaches, here}
+use Rattle.gdag.specs.Walks.{Misses}
 use Rattle.gwalk.specs.Marks.{AreFull}
-use Rattle.grepo.specs.declared.ask.Ask.{Ask}
-use Rattle.grepo.specs.Asks.{asked_ids}
+use Rattle.gclientrepo.specs.declared.ask.Ask.{Ask}
+use Rattle.gclientrepo.specs.Asks.{asked_ids}
 use Rattle.gsession.specs.Asking.{AreWants}
-use Rattle.ghistory.proofs.Choosing.{chosen_all}
-use Rattle.ghistory.proofs.IdLists.{only_one}
+use Rattle.gdag.proofs.Choosing.{chosen_all}
+use Rattle.gdag.proofs.IdLists.{only_one}
 use Rattle.gsession.proofs.CommonLemmas.{all_distinct}
-use Rattle.ghistory.specs.Levels.{distinct_of}
+use Rattle.gdag.specs.Levels.{distinct_of}
 
 -- what `is_none` answers
 pub none_by : {X : Type 0} (found : Option X) (answer : Bool) → is_some found ≡ not answer → is_none found ≡ answer

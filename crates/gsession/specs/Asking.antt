@@ -1,18 +1,19 @@
 -- What a session asks for: which refs here are to stand at which ids, and which objects are wanted for that. The refs
 -- of a reply are matched refspec by refspec, and of each in the order of the reply; the first ask for a ref counts.
 -- Both are our own rules.
-use Rattle.std.specs.Prelude.{◌≡◌, ℕ, Bool, List, [], ◌∷◌, ◌++◌, map, filter, All, if◌then◌else◌, Option, None}
+use Rattle.std.specs.Prelude.{◌≡◌, Bool, List, [], ◌∷◌, ◌++◌, map, filter, All, if◌then◌else◌, Option, None}
 use Rattle.std.specs.List.{flat_map, list_any}
 use Rattle.std.specs.Str.{bytes_eq}
-use Rattle.gname.specs.Names.{IsRefName, head_name}
+use Rattle.gname.specs.Names.{Name, IsRefName, head_name}
+use Rattle.gname.specs.Ids.{Id}
 use Rattle.glsreply.specs.RefTexts.{RefLine}
 use Rattle.gobject.specs.declared.node.Entry.{Entry}
-use Rattle.ghistory.specs.Levels.{distinct_of}
-use Rattle.ghistory.specs.Reach.{IsFull}
-use Rattle.ghistory.specs.Selecting.{Selects}
-use Rattle.gspec.specs.Refspecs.{Refspec, destination_of, matches}
-use Rattle.grepo.specs.declared.ask.Ask.{Ask}
-use Rattle.grepo.specs.Asks.{asked_ids, with_ask}
+use Rattle.gdag.specs.Levels.{distinct_of}
+use Rattle.gdag.specs.Reach.{IsFull}
+use Rattle.gdag.specs.Selecting.{Selects}
+use Rattle.grefspec.specs.Refspecs.{Refspec, destination_of, matches}
+use Rattle.gclientrepo.specs.declared.ask.Ask.{Ask}
+use Rattle.gclientrepo.specs.Asks.{asked_ids, with_ask}
 
 -- the ref to which a refspec takes the name is to stand at the line's id
 abbrev pub ask_of : {A : Type 0} → Refspec → RefLine → Ask A
@@ -52,7 +53,7 @@ pub record AreNamedTo {A : Type 0} (asks : List (Ask A)) : Type 0 where
   pub named : AreNamed (front ++ ask ∷ [])
 
 -- the wants: the distinct asked ids that are not connected, in order
-abbrev pub AreWants : {A : Type 0} → List (Entry A) → List (Ask A) → List (List ℕ) → Type 0
+abbrev pub AreWants : {A : Type 0} → List (Entry A) → List (Ask A) → List Id → Type 0
 AreWants g asks wants = Selects (λ a. ¬ (IsFull g a)) (distinct_of (asked_ids asks)) wants
 
 -- whether a refspec fetches HEAD
@@ -60,5 +61,5 @@ abbrev pub takes_head : List Refspec → Bool
 takes_head specs = list_any (λ spec. bytes_eq spec.source head_name) specs
 
 -- the target of an unborn HEAD is reported where a refspec fetches HEAD
-abbrev pub unborn_told : List Refspec → Option (List ℕ) → Option (List ℕ)
+abbrev pub unborn_told : List Refspec → Option Name → Option Name
 unborn_told specs target = if takes_head specs then target else None

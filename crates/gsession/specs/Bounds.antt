@@ -3,15 +3,17 @@
 use Rattle.std.specs.Prelude.{◌≡◌, ◌⊎◌, ℕ, ◌+◌, ◌≤◌, true, false, List, length, All, Contains, None, Result, Ok}
 use Rattle.std.specs.List.{IsDistinct}
 use Rattle.std.specs.Str.{bytes_eq}
+use Rattle.gname.specs.Ids.{Id}
 use Rattle.ggrammar.specs.declared.ends.Ends.{Ends}
 use Rattle.gobject.specs.declared.node.Entry.{Entry}
 use Rattle.gobject.specs.Packs.{Indexes, IndexFails}
-use Rattle.ghistory.specs.Graphs.{Holds}
-use Rattle.ghistory.specs.Reach.{Grows, IsFull, SomeReaches}
-use Rattle.ghistory.specs.Walks.{CountsReached}
-use Rattle.gspec.specs.Refspecs.{Refspec}
-use Rattle.grepo.specs.Repos.{IsWhole, RepoState}
-use Rattle.grequest.specs.Asked.{Asked, Fetches, FetchAsked}
+use Rattle.gdag.specs.Graphs.{Holds}
+use Rattle.gdag.specs.Reach.{Grows, IsFull, SomeReaches}
+use Rattle.gdag.specs.Walks.{CountsReached}
+use Rattle.grefspec.specs.Refspecs.{Refspec}
+use Rattle.gclientrepo.specs.Repos.{IsWhole, RepoState}
+use Rattle.grequest.specs.declared.flag.FetchFlag.TheVariants.{Done}
+use Rattle.grequest.specs.Asked.{Asked, Fetches, FetchAsked, fetch_has}
 use Rattle.gsession.specs.Calls.{HasCalled, IsOutOfTurn}
 use Rattle.gsession.specs.Requesting.{MakesNext, Requests}
 use Rattle.gsession.specs.Sessions.{SessionState, Begins, IsSession}
@@ -67,8 +69,8 @@ OfferedStays {A} indexes index_fails =
 abbrev pub OffersAreNew : Type 0 → Type 0
 OffersAreNew A =
     (g : List (Entry A)) (old new : SessionState A) (asked : FetchAsked)
-    → MakesNext old g new (Fetches asked) → asked.done ≡ false
-    → ((a : List ℕ) × Contains asked.haves a × ¬ (Contains old.sent a))
+    → MakesNext old g new (Fetches asked) → fetch_has asked Done ≡ false
+    → ((a : Id) × Contains asked.haves a × ¬ (Contains old.sent a))
 
 -- ---- the last request
 
@@ -78,13 +80,13 @@ IsPast s = (s.pending ≡ None) × ((s.stage ≡ Settling) ⊎ (s.stage ≡ Over
 
 -- the last request was made: one with `done` waits for its reply, or nothing more is asked for
 abbrev pub HasAskedLast : {A : Type 0} → SessionState A → Type 0
-HasAskedLast s = ((asked : FetchAsked) × Awaits s asked × (asked.done ≡ true)) ⊎ IsPast s
+HasAskedLast s = ((asked : FetchAsked) × Awaits s asked × (fetch_has asked Done ≡ true)) ⊎ IsPast s
 
 -- a request with `done` is the last one
 abbrev pub DoneAsksLast : Type 0 → Type 0
 DoneAsksLast A =
     (g : List (Entry A)) (old new : SessionState A) (asked : FetchAsked)
-    → MakesNext old g new (Fetches asked) → asked.done ≡ true → HasAskedLast new
+    → MakesNext old g new (Fetches asked) → fetch_has asked Done ≡ true → HasAskedLast new
 
 -- so it stays after every call
 abbrev pub LastStays : {A : Type 0} → Indexes A → IndexFails → Type 0

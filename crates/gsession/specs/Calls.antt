@@ -1,14 +1,16 @@
 -- What the calls of a session have in common.
-use Rattle.std.specs.Prelude.{◌≡◌, ℕ, Bool, true, List, [], ◌++◌, All, Contains, None, Some, Result, Err}
+use Rattle.std.specs.Prelude.{◌≡◌, Bool, true, List, [], ◌++◌, All, Contains, None, Some, Result, Err}
+use Rattle.gname.specs.Ids.{Id}
 use Rattle.ggrammar.specs.Capabilities.{Capability}
 use Rattle.gpkt.specs.Change.{Change}
 use Rattle.gobject.specs.Packs.{Indexes, IndexFails}
-use Rattle.grepo.specs.declared.ask.Ask.{Ask}
-use Rattle.grepo.specs.declared.ask.RefUpdate.{RefUpdate}
-use Rattle.grepo.specs.Repos.{RepoState}
+use Rattle.gclientrepo.specs.declared.ask.Ask.{Ask}
+use Rattle.gclientrepo.specs.declared.ask.RefUpdate.{RefUpdate}
+use Rattle.gclientrepo.specs.Repos.{RepoState}
 use Rattle.glsreply.specs.LsReplies.{LsReply}
 use Rattle.gobject.specs.declared.node.Entry.{Entry}
-use Rattle.grequest.specs.Asked.{Asked, Ls, LsRefsAsked, FetchAsked}
+use Rattle.grequest.specs.declared.flag.FetchFlag.TheVariants.{Done}
+use Rattle.grequest.specs.Asked.{Asked, Ls, LsRefsAsked, FetchAsked, fetch_has}
 use Rattle.gsession.specs.Requesting.{MakesNext, Requests}
 use Rattle.gsession.specs.Sessions.{SessionState, Hears, IsBegun, over}
 use Rattle.gsession.specs.SettlingRefs.{SettlesSession}
@@ -43,11 +45,11 @@ pub data Does {A : Type 0} (g : List (Entry A)) (old new : SessionState A) : Typ
   does_end : new ≡ over old → Does g old new
   does_hear : (offers : Bool) → IsBegun old → new ≡ record old { offers_unborn = offers } → Does g old new
   does_ask : (asked : Asked) → old.pending ≡ None → MakesNext old g new asked → Does g old new
-  does_list : (asked : LsRefsAsked) (reply : LsReply) (wants : List (List ℕ)) → old.pending ≡ Some (Ls asked)
+  does_list : (asked : LsRefsAsked) (reply : LsReply) (wants : List Id) → old.pending ≡ Some (Ls asked)
       → new ≡ with_refs old reply wants → Does g old new
-  does_take : (asked : FetchAsked) (stage : Stage) (acks : List (List ℕ)) → Awaits old asked
+  does_take : (asked : FetchAsked) (stage : Stage) (acks : List Id) → Awaits old asked
       → All (Contains asked.haves) acks
-      → (asked.done ≡ true → stage ≡ Settling) → new ≡ after_acks old stage acks → Does g old new
+      → (fetch_has asked Done ≡ true → stage ≡ Settling) → new ≡ after_acks old stage acks → Does g old new
   does_settle : old.stage ≡ Settling → new ≡ record (over old) { asks = [] } → Does g old new
 
 -- what a call leaves as it is: what is fetched and how, and the tips; of the ids that were offered none is forgotten
@@ -57,10 +59,10 @@ pub record GoesOn {A : Type 0} (old new : SessionState A) : Type 0 where
   pub limit : new.limit ≡ old.limit
   pub ends : new.ends ≡ old.ends
   pub tips : new.tips ≡ old.tips
-  pub sent : (more : List (List ℕ)) × (new.sent ≡ old.sent ++ more)
+  pub sent : (more : List Id) × (new.sent ≡ old.sent ++ more)
 
 -- the id is a have of the request that waits
-abbrev pub IsOpenHave : {A : Type 0} → SessionState A → List ℕ → Type 0
+abbrev pub IsOpenHave : {A : Type 0} → SessionState A → Id → Type 0
 IsOpenHave s a = (asked : FetchAsked) × Awaits s asked × Contains asked.haves a
 
 -- the session is over

@@ -1,9 +1,10 @@
 -- The table of faults: the number, the name and the text of each.
-use Rattle.std.specs.Prelude.{ℕ, List, codes}
+use Rattle.std.specs.Prelude.{codes}
 use Rattle.gname.specs.Faults.{FaultRow}
+use Rattle.gpkt.specs.Packets.{Bytes}
 use Rattle.ggrammar.specs.Faults.{message_fault_text, why_row}
 use Rattle.gobject.specs.Faults.{index_fault_row, index_fault_text}
-use Rattle.grepo.specs.Faults.{repo_fault_row, repo_fault_text}
+use Rattle.gclientrepo.specs.Faults.{repo_fault_row, repo_fault_text}
 use Rattle.gsession.specs.declared.fault.ClientFault.{ClientFault}
 use Rattle.gsession.specs.declared.fault.ClientFault.TheVariants.{Index, Message, NoOpenRequest, Repo, StrangeAck}
 use Rattle.gsession.specs.declared.fault.ClientFault.TheVariants.{TooManySpecs, TooManyWants}
@@ -19,7 +20,7 @@ client_fault_row TooManyWants = (86, codes "TooManyWants")
 client_fault_row (Repo fault) = repo_fault_row fault
 
 -- ---- their texts
-abbrev pub client_fault_text : {A : Type 0} → ClientFault A → List ℕ
+abbrev pub client_fault_text : {A : Type 0} → ClientFault A → Bytes
 client_fault_text (Message fault) = message_fault_text fault
 client_fault_text (Index fault) = index_fault_text fault
 client_fault_text TooManySpecs = codes "too many refspecs"

@@ -1,18 +1,21 @@
 -- What follows from the definitions of a session's calls.
-use Rattle.std.specs.Prelude.{◌≡◌, ◌≢◌, ◌⊎◌, ℕ, true, List, ◌∷◌, ◌++◌, All, Contains, Result}
+use Rattle.std.specs.Prelude.{◌≡◌, ◌≢◌, ◌⊎◌, true, List, ◌∷◌, ◌++◌, All, Contains, Result}
+use Rattle.gname.specs.Ids.{Id}
+use Rattle.gname.specs.Names.{Name}
 use Rattle.gpkt.specs.Change.{Change}
+use Rattle.gpkt.specs.Packets.{Bytes}
 use Rattle.ggrammar.specs.Capabilities.{Capability}
 use Rattle.ggrammar.specs.MessageBytes.{known}
 use Rattle.glsreply.specs.RefTexts.{RefLine}
 use Rattle.gfetchreply.specs.FetchReplies.{FetchReply}
 use Rattle.gobject.specs.declared.node.Entry.{Entry}
 use Rattle.gobject.specs.Packs.{Indexes, IndexFails}
-use Rattle.ghistory.specs.Reach.{Grows, IsFull}
-use Rattle.gspec.specs.Refspecs.{Refspec, destination_of, matches}
-use Rattle.grepo.specs.declared.ask.Ask.{Ask}
-use Rattle.grepo.specs.declared.ask.RefUpdate.{RefUpdate}
-use Rattle.grepo.specs.Asks.{NamesDiffer, asked_ids}
-use Rattle.grepo.specs.Repos.{RepoState}
+use Rattle.gdag.specs.Reach.{Grows, IsFull}
+use Rattle.grefspec.specs.Refspecs.{Refspec, destination_of, matches}
+use Rattle.gclientrepo.specs.declared.ask.Ask.{Ask}
+use Rattle.gclientrepo.specs.declared.ask.RefUpdate.{RefUpdate}
+use Rattle.gclientrepo.specs.Asks.{NamesDiffer, asked_ids}
+use Rattle.gclientrepo.specs.Repos.{RepoState}
 use Rattle.grequest.specs.Asked.{Asked, Fetches, FetchAsked}
 use Rattle.gsession.specs.Asking.{AreWants, ask_of, asked_of}
 use Rattle.gsession.specs.Calls.{Does, GoesOn, HasCalled, IsOpenHave, IsOutOfTurn, IsOver}
@@ -59,7 +62,7 @@ AsksAreOfLines A =
     (specs : List Refspec) (lines : List RefLine) → All (IsAskOf {A = A} specs lines) (asked_of specs lines)
 
 -- the refspec does not take the line to this ref
-abbrev pub LeadsElsewhere : List ℕ → Refspec → RefLine → Type 0
+abbrev pub LeadsElsewhere : Name → Refspec → RefLine → Type 0
 LeadsElsewhere name spec line = matches spec line.name ≡ true → destination_of spec line.name ≢ name
 
 -- the refspec takes the line to a ref, and is the first to do so: no refspec before it takes any line there, nor does
@@ -86,7 +89,7 @@ pub record FirstIsAsked (A : Type 0) : Type 0 where
       IsFirstFor specs lines spec line → Contains {X = Ask A} (asked_of specs lines) (ask_of spec line)
 
 -- each want is an asked id that is not connected, and each other asked id is
-pub record AreExactWants {A : Type 0} (g : List (Entry A)) (asks : List (Ask A)) (wants : List (List ℕ)) : Type 0 where
+pub record AreExactWants {A : Type 0} (g : List (Entry A)) (asks : List (Ask A)) (wants : List Id) : Type 0 where
   pub asked : All (Contains (asked_ids asks)) wants
   pub missing : All (λ a. ¬ (IsFull g a)) wants
   pub others : All (λ a. Contains wants a ⊎ IsFull g a) (asked_ids asks)
@@ -94,13 +97,13 @@ pub record AreExactWants {A : Type 0} (g : List (Entry A)) (asks : List (Ask A))
 -- the wants of a reply are exact
 abbrev pub WantsAreExact : Type 0 → Type 0
 WantsAreExact A =
-    (g : List (Entry A)) (asks : List (Ask A)) (wants : List (List ℕ)) → AreWants g asks wants
+    (g : List (Entry A)) (asks : List (Ask A)) (wants : List Id) → AreWants g asks wants
     → AreExactWants g asks wants
 
 -- where the bytes to come are known, they and what is answered decide the session after a reply to ls-refs
 abbrev pub ListingIsDecided : Type 0 → Type 0
 ListingIsDecided A =
-    (old one other : SessionState A) (g : List (Entry A)) (bytes left also : List ℕ)
+    (old one other : SessionState A) (g : List (Entry A)) (bytes left also : Bytes)
     (result : Result (LsTaken A) (ClientFault A)) → TakesLs old g (known bytes left) one result
     → TakesLs old g (known bytes also) other result → one ≡ other
 
@@ -127,7 +130,7 @@ HavesAreNew A =
 -- ---- common ids
 
 -- the common ids after a reply are those before it and those that it acknowledges, which are haves of the request
-pub record AreCommonsAfter (haves acks old new : List (List ℕ)) : Type 0 where
+pub record AreCommonsAfter (haves acks old new : List Id) : Type 0 where
   pub stay : All (Contains new) old
   pub come : All (Contains new) acks
   pub others : All (λ a. Contains old a ⊎ Contains acks a) new
@@ -136,7 +139,7 @@ pub record AreCommonsAfter (haves acks old new : List (List ℕ)) : Type 0 where
 -- so they are after each reply that is taken
 abbrev pub RepliesAddCommons : {A : Type 0} → Indexes A → IndexFails → Type 0
 RepliesAddCommons {A} indexes index_fails =
-    (haves : List (List ℕ)) (old new : SessionState A) (repo after : RepoState A) (reply : FetchReply) (taken : Taken)
+    (haves : List Id) (old new : SessionState A) (repo after : RepoState A) (reply : FetchReply) (taken : Taken)
     → TakesRead indexes index_fails haves old repo reply new after taken
     → AreCommonsAfter haves (acknowledged_by reply) old.commons new.commons
 

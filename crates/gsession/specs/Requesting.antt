@@ -2,13 +2,17 @@
 -- offered as haves, and when the client is done, is our own rule: batches of 16, 32, 64, 128 and then 256 ids.
 use Rattle.std.specs.Prelude.{◌≡◌, ℕ, ◌+◌, Bool, true, false, List, [], ◌++◌, length, map, nat_le, ◌==◌}
 use Rattle.std.specs.Prelude.{if◌then◌else◌, Option, Some, None, Result, Ok, Err}
+use Rattle.gname.specs.Ids.{Id}
 use Rattle.gobject.specs.declared.node.Entry.{Entry}
-use Rattle.ghistory.specs.Levels.{distinct_of}
-use Rattle.ghistory.specs.Offer.{IsOffer}
-use Rattle.ghistory.specs.declared.fault.GraphFault.TheVariants as graph
-use Rattle.gspec.specs.Refspecs.{Refspec}
-use Rattle.grepo.specs.declared.fault.RepoFault.TheVariants as repo
-use Rattle.grequest.specs.Asked.{Asked, Empty, Ls, Fetches, LsRefsAsked, FetchAsked, max_haves}
+use Rattle.gdag.specs.Levels.{distinct_of}
+use Rattle.gdag.specs.Offer.{IsOffer}
+use Rattle.gdag.specs.declared.fault.GraphFault.TheVariants as graph
+use Rattle.grefspec.specs.Refspecs.{Refspec}
+use Rattle.gclientrepo.specs.declared.fault.RepoFault.TheVariants as repo
+use Rattle.grequest.specs.declared.flag.LsRefsFlag.TheVariants.{Unborn}
+use Rattle.grequest.specs.declared.flag.FetchFlag.TheVariants.{NoProgress, IncludeTag, Done}
+use Rattle.grequest.specs.Building.{no_ls_refs, no_fetch}
+use Rattle.grequest.specs.Asked.{Asked, Empty, Ls, Fetches, LsRefsAsked, FetchAsked, max_haves, ls_with, fetch_with}
 use Rattle.gsession.specs.Sessions.{SessionState, over}
 use Rattle.gsession.specs.declared.stage.Stage.{Stage}
 use Rattle.gsession.specs.declared.stage.Stage.TheVariants.{Listing, Fetching}
@@ -18,13 +22,8 @@ use Rattle.gsession.specs.declared.fault.ClientFault.TheVariants.{NoOpenRequest,
 -- the request for refs: those whose names begin with the source of a refspec, or of a pattern with what stands before
 -- its `*`; and the target of an unborn HEAD where the server offers to report it
 abbrev pub ls_request : List Refspec → Bool → LsRefsAsked
-ls_request specs unborn = record {
-  agent = None;
-  symrefs = false;
-  peel = false;
-  unborn = unborn;
-  prefixes = distinct_of (map (λ spec. spec.source) specs);
-}
+ls_request specs unborn =
+    record (ls_with no_ls_refs Unborn unborn) { prefixes = distinct_of (map (λ spec. spec.source) specs) }
 
 -- how many ids are offered after so many rounds
 abbrev pub batch_size : ℕ → ℕ
@@ -36,45 +35,39 @@ batch_size rounds =
     else 256
 
 -- the batch: what is to be offered, unless a request has no room for it beside the common ids
-abbrev pub batch_of : List (List ℕ) → List (List ℕ) → List (List ℕ)
+abbrev pub batch_of : List Id → List Id → List Id
 batch_of commons offer = if nat_le (length commons + length offer) max_haves then offer else []
 
 -- the ids that are offered next, level by level from the tips
-pub record IsBatch {A : Type 0} (s : SessionState A) (g : List (Entry A)) (batch : List (List ℕ)) : Type 0 where
-  pub offer : List (List ℕ)
+pub record IsBatch {A : Type 0} (s : SessionState A) (g : List (Entry A)) (batch : List Id) : Type 0 where
+  pub offer : List Id
   pub offered : IsOffer g s.tips s.commons s.sent (batch_size s.rounds) offer
   pub is : batch ≡ batch_of s.commons offer
 
 -- the request for the wanted objects: the client has the common ids and those of the batch, and is done without a
 -- batch
-abbrev pub fetch_request : List (List ℕ) → List (List ℕ) → List (List ℕ) → FetchAsked
-fetch_request wants commons batch = record {
-  agent = None;
-  wants = wants;
-  haves = commons ++ batch;
-  done = length batch == 0;
-  thin_pack = false;
-  no_progress = true;
-  include_tag = true;
-  ofs_delta = false;
-}
+abbrev pub fetch_request : List Id → List Id → List Id → FetchAsked
+fetch_request wants commons batch =
+    let quiet = fetch_with no_fetch NoProgress true in
+    let tagged = fetch_with quiet IncludeTag true in
+    record (fetch_with tagged Done (length batch == 0)) { wants = wants; haves = commons ++ batch }
 
 -- the next request, with its batch: for refs first, then for objects, as often as the server only acknowledged
-abbrev pub IsNext : {A : Type 0} → SessionState A → List (Entry A) → Asked → List (List ℕ) → Type 0
+abbrev pub IsNext : {A : Type 0} → SessionState A → List (Entry A) → Asked → List Id → Type 0
 IsNext s g Empty batch = ⊥
 IsNext s g (Ls asked) batch = (s.stage ≡ Listing) × (asked ≡ ls_request s.refspecs s.offers_unborn) × (batch ≡ [])
 IsNext s g (Fetches asked) batch =
     (s.stage ≡ Fetching) × (asked ≡ fetch_request s.wants s.commons batch) × IsBatch s g batch
 
 -- the request waits for its reply; one for objects is a round
-abbrev pub waiting_for : {A : Type 0} → SessionState A → Asked → List (List ℕ) → SessionState A
+abbrev pub waiting_for : {A : Type 0} → SessionState A → Asked → List Id → SessionState A
 waiting_for s (Fetches asked) batch =
     record s { pending = Some (Fetches asked); sent = s.sent ++ batch; rounds = s.rounds + 1 }
 waiting_for s asked batch = record s { pending = Some asked }
 
 -- the next request is made, and waits for its reply
 abbrev pub MakesNext : {A : Type 0} → SessionState A → List (Entry A) → SessionState A → Asked → Type 0
-MakesNext old g new asked = (batch : List (List ℕ)) × IsNext old g asked batch × (new ≡ waiting_for old asked batch)
+MakesNext old g new asked = (batch : List Id) × IsNext old g asked batch × (new ≡ waiting_for old asked batch)
 
 -- a request is due: none waits for its reply, and refs or objects are to be asked for
 abbrev pub is_due : Stage → Option Asked → Bool

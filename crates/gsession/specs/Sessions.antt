@@ -5,19 +5,19 @@ use Rattle.std.specs.Prelude.{if◌then◌else◌, Option, Some, None, Result, O
 use Rattle.std.specs.List.{IsDistinct}
 use Rattle.std.specs.Map.{values_of}
 use Rattle.std.specs.Str.{bytes_eq}
-use Rattle.gname.specs.Ids.{IsIdOf}
+use Rattle.gname.specs.Ids.{Id, IsIdOf}
 use Rattle.gname.specs.declared.formats.Format.{Format}
 use Rattle.ggrammar.specs.declared.ends.Ends.{Ends}
 use Rattle.gpkt.specs.LineReading.{Reader}
 use Rattle.ggrammar.specs.Capabilities.{Capability}
 use Rattle.ggrammar.specs.MessageReading.{LeavesReader}
 use Rattle.ghello.specs.Offers.{has_feature}
-use Rattle.ghistory.specs.Levels.{distinct_of}
-use Rattle.ghistory.specs.declared.fault.GraphFault.TheVariants as graph
-use Rattle.gspec.specs.Refspecs.{Refspec}
-use Rattle.grepo.specs.declared.ask.Ask.{Ask}
-use Rattle.grepo.specs.declared.fault.RepoFault.TheVariants as repo
-use Rattle.grepo.specs.Repos.{RepoState}
+use Rattle.gdag.specs.Levels.{distinct_of}
+use Rattle.gdag.specs.declared.fault.GraphFault.TheVariants as graph
+use Rattle.grefspec.specs.Refspecs.{Refspec}
+use Rattle.gclientrepo.specs.declared.ask.Ask.{Ask}
+use Rattle.gclientrepo.specs.declared.fault.RepoFault.TheVariants as repo
+use Rattle.gclientrepo.specs.Repos.{RepoState}
 use Rattle.grequest.specs.Asked.{Asked, Ls, Fetches, FetchAsked, is_direct, max_haves, max_wants}
 use Rattle.gsession.specs.declared.stage.Stage.{Stage}
 use Rattle.gsession.specs.declared.stage.Stage.TheVariants.{Listing, Fetching, Settling, Over}
@@ -33,14 +33,14 @@ pub record SessionState (A : Type 0) : Type 0 where
   pub refspecs : List Refspec
   pub limit : ℕ
   pub ends : Ends
-  pub tips : List (List ℕ)
+  pub tips : List Id
   pub offers_unborn : Bool
   pub stage : Stage
   pub pending : Option Asked
   pub asks : List (Ask A)
-  pub wants : List (List ℕ)
-  pub commons : List (List ℕ)
-  pub sent : List (List ℕ)
+  pub wants : List Id
+  pub commons : List Id
+  pub sent : List Id
   pub rounds : ℕ
 
 -- the most refspecs of a session (our own rule)
@@ -67,7 +67,7 @@ FitsStage s Over None = Unit {0}
 FitsStage s _ _ = ⊥
 
 -- common ids: each is of the format and comes once, and a request has room for them
-pub record AreCommons (format : Format) (commons : List (List ℕ)) : Type 0 where
+pub record AreCommons (format : Format) (commons : List Id) : Type 0 where
   pub ids : All (IsIdOf format) commons
   pub few : length commons ≤ max_haves
   pub once : IsDistinct bytes_eq commons
@@ -112,11 +112,11 @@ no_memory = Repo (repo.Graph graph.Memory)
 -- ---- beginning
 
 -- the tips: the distinct ids of the refs
-abbrev pub tips_of : {A : Type 0} → RepoState A → List (List ℕ)
+abbrev pub tips_of : {A : Type 0} → RepoState A → List Id
 tips_of repo = distinct_of (values_of repo.refs)
 
 -- a session as it begins
-abbrev pub new_session : {A : Type 0} → Format → List Refspec → ℕ → Ends → List (List ℕ) → SessionState A
+abbrev pub new_session : {A : Type 0} → Format → List Refspec → ℕ → Ends → List Id → SessionState A
 new_session format refspecs limit ends tips = record {
   format = format;
   refspecs = refspecs;

@@ -1,9 +1,9 @@
 -- Settling at the end of a session. When it is time for it is our own rule.
 use Rattle.std.specs.Prelude.{◌≡◌, ◌≢◌, List, [], Result, Ok, Err}
-use Rattle.grepo.specs.declared.ask.Ask.{Ask}
-use Rattle.grepo.specs.declared.ask.RefUpdate.{RefUpdate}
-use Rattle.grepo.specs.Changes.{SettlesAsks}
-use Rattle.grepo.specs.Repos.{RepoState}
+use Rattle.gclientrepo.specs.declared.ask.Ask.{Ask}
+use Rattle.gclientrepo.specs.declared.ask.RefUpdate.{RefUpdate}
+use Rattle.gclientrepo.specs.Changes.{SettlesAsks}
+use Rattle.gclientrepo.specs.Repos.{RepoState}
 use Rattle.gsession.specs.Sessions.{SessionState, over}
 use Rattle.gsession.specs.declared.stage.Stage.TheVariants.{Settling}
 use Rattle.gsession.specs.declared.fault.ClientFault.{ClientFault}

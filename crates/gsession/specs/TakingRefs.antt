@@ -1,5 +1,6 @@
 -- Taking the reply to ls-refs (gitprotocol-v2(5), "ls-refs"). What is asked for and wanted of it is our own rule.
-use Rattle.std.specs.Prelude.{◌≡◌, ◌⊎◌, ℕ, ◌<◌, ◌≤◌, List, [], ◌∷◌, length, Some, None, Result, Ok, Err}
+use Rattle.std.specs.Prelude.{◌≡◌, ◌⊎◌, ◌<◌, ◌≤◌, List, [], ◌∷◌, length, Some, None, Result, Ok, Err}
+use Rattle.gname.specs.Ids.{Id}
 use Rattle.gpkt.specs.Change.{Change}
 use Rattle.gpkt.specs.Packets.{Packet}
 use Rattle.ggrammar.specs.Kinds.{ReadsMessage}
@@ -9,8 +10,8 @@ use Rattle.ggrammar.specs.declared.fault.Why.TheVariants.{BadName}
 use Rattle.glsreply.specs.LsReplies.{LsReply, Says, brings, judge}
 use Rattle.glsreply.specs.WellFormed.{last_frame}
 use Rattle.gobject.specs.declared.node.Entry.{Entry}
-use Rattle.ghistory.specs.declared.fault.GraphFault.TheVariants as graph
-use Rattle.grepo.specs.declared.fault.RepoFault.TheVariants as repo
+use Rattle.gdag.specs.declared.fault.GraphFault.TheVariants as graph
+use Rattle.gclientrepo.specs.declared.fault.RepoFault.TheVariants as repo
 use Rattle.grequest.specs.Asked.{Ls, LsRefsAsked, max_wants}
 use Rattle.gsession.specs.Asking.{AreNamed, AreNamedTo, AreWants, asked_of, asks_by_all, unborn_told}
 use Rattle.gsession.specs.Sessions.{SessionState, after_fault}
@@ -25,12 +26,12 @@ abbrev pub AwaitsRefs : {A : Type 0} → SessionState A → Type 0
 AwaitsRefs s = (asked : LsRefsAsked) × (s.pending ≡ Some (Ls asked))
 
 -- objects are fetched where some are wanted
-abbrev pub stage_for : List (List ℕ) → Stage
+abbrev pub stage_for : List Id → Stage
 stage_for [] = Settling
 stage_for (want ∷ wants) = Fetching
 
 -- after the reply
-abbrev pub with_refs : {A : Type 0} → SessionState A → LsReply → List (List ℕ) → SessionState A
+abbrev pub with_refs : {A : Type 0} → SessionState A → LsReply → List Id → SessionState A
 with_refs s reply wants =
     record s { stage = stage_for wants; pending = None; asks = asked_of s.refspecs reply.lines; wants = wants }
 
@@ -38,7 +39,7 @@ with_refs s reply wants =
 pub record TakesLines {A : Type 0} (old : SessionState A) (g : List (Entry A)) (reply : LsReply) (new : SessionState A)
     (taken : LsTaken A) : Type 0 where
   pub named : AreNamed {A = A} (asks_by_all old.refspecs reply.lines)
-  pub wants : List (List ℕ)
+  pub wants : List Id
   pub wanted : AreWants {A = A} g (asked_of old.refspecs reply.lines) wants
   pub few : length wants ≤ max_wants
   pub after : new ≡ with_refs old reply wants
@@ -56,7 +57,7 @@ pub record IsMisnamed {A : Type 0} (s : SessionState A) (reply : LsReply) (fault
 -- more objects are wanted than a request takes (our own rule)
 pub record WantsTooMuch {A : Type 0} (s : SessionState A) (g : List (Entry A)) (reply : LsReply) : Type 0 where
   pub named : AreNamed {A = A} (asks_by_all s.refspecs reply.lines)
-  pub wants : List (List ℕ)
+  pub wants : List Id
   pub wanted : AreWants {A = A} g (asked_of s.refspecs reply.lines) wants
   pub many : max_wants < length wants
 

@@ -1,8 +1,9 @@
 -- Taking the reply to fetch (gitprotocol-v2(5), "fetch"). A pack is indexed as it comes, and its objects come to the
 -- graph once the reply was read to its end; that is our own rule, and so is which of several faults is reported.
-use Rattle.std.specs.Prelude.{◌≡◌, true, false, ℕ, List, [], ◌∷◌, ◌++◌, length, All, Contains, Some, None, Result, Ok, Err}
+use Rattle.std.specs.Prelude.{◌≡◌, true, false, ℕ, List, ◌∷◌, ◌++◌, length, All, Contains, Some, None, Result, Ok, Err}
+use Rattle.gname.specs.Ids.{Id}
 use Rattle.gpkt.specs.Change.{Change}
-use Rattle.gpkt.specs.Packets.{Packet}
+use Rattle.gpkt.specs.Packets.{Bytes, Packet}
 use Rattle.ggrammar.specs.Kinds.{ReadsMessage}
 use Rattle.ggrammar.specs.MessageBytes.{known}
 use Rattle.ggrammar.specs.MessageReading.{ReadsRefused}
@@ -11,13 +12,14 @@ use Rattle.gfetchreply.specs.FetchReplies.{Reading, FetchReply, Acks, Ready, Pac
 use Rattle.gfetchreply.specs.FetchHeads.{acknowledged_by, pack_of}
 use Rattle.gobject.specs.declared.node.Entry.{Entry}
 use Rattle.gobject.specs.Packs.{Indexes, IndexFails}
-use Rattle.ghistory.specs.Levels.{distinct_of}
-use Rattle.ghistory.specs.Insert.{Adds, IsRefused}
-use Rattle.ghistory.specs.declared.fault.GraphFault.{GraphFault}
-use Rattle.ghistory.specs.declared.fault.GraphFault.TheVariants.{Memory}
-use Rattle.grepo.specs.declared.fault.RepoFault.TheVariants.{Graph}
-use Rattle.grepo.specs.Repos.{RepoState}
-use Rattle.grequest.specs.Asked.{Fetches, FetchAsked, is_direct}
+use Rattle.gdag.specs.Levels.{distinct_of}
+use Rattle.gdag.specs.Insert.{Adds, IsRefused}
+use Rattle.gdag.specs.declared.fault.GraphFault.{GraphFault}
+use Rattle.gdag.specs.declared.fault.GraphFault.TheVariants.{Memory}
+use Rattle.gclientrepo.specs.declared.fault.RepoFault.TheVariants.{Graph}
+use Rattle.gclientrepo.specs.Repos.{RepoState}
+use Rattle.grequest.specs.declared.flag.FetchFlag.TheVariants.{Done}
+use Rattle.grequest.specs.Asked.{Fetches, FetchAsked, is_direct, fetch_has}
 use Rattle.gsession.specs.Sessions.{SessionState, after_fault}
 use Rattle.gsession.specs.declared.stage.Stage.{Stage}
 use Rattle.gsession.specs.declared.stage.Stage.TheVariants.{Fetching, Settling}
@@ -34,15 +36,15 @@ HasPack (Pack pack) = Unit {0}
 
 -- the id is the first of those acknowledged that the request did not name; the manual has a server acknowledge only ids
 -- that were sent as haves (gitprotocol-v2(5), "fetch": `ACK`)
-pub record IsFirstStrange (haves acks : List (List ℕ)) (id : List ℕ) : Type 0 where
-  pub front : List (List ℕ)
-  pub rest : List (List ℕ)
+pub record IsFirstStrange (haves acks : List Id) (id : Id) : Type 0 where
+  pub front : List Id
+  pub rest : List Id
   pub parts : acks ≡ front ++ id ∷ rest
   pub named : All (Contains haves) front
   pub strange : ¬ (Contains haves id)
 
 -- after a reply: its acknowledged ids are common, each once, in the order in which they were first acknowledged
-abbrev pub after_acks : {A : Type 0} → SessionState A → Stage → List (List ℕ) → SessionState A
+abbrev pub after_acks : {A : Type 0} → SessionState A → Stage → List Id → SessionState A
 after_acks s stage acks = record s { stage = stage; pending = None; commons = distinct_of (s.commons ++ acks) }
 
 -- a list comes to the graph; refs and marks stay
@@ -54,17 +56,17 @@ pub record InsertsAll {A : Type 0} (old : RepoState A) (entries : List (Entry A)
 
 module _ {A : Type 0} (indexes : Indexes A) (index_fails : IndexFails) where
   -- some list that the indexer may answer for the pack comes to the graph
-  abbrev pub InsertsPack : RepoState A → List ℕ → RepoState A → ℕ → Type 0
+  abbrev pub InsertsPack : RepoState A → Bytes → RepoState A → ℕ → Type 0
   InsertsPack old pack new added = (entries : List (Entry A)) × indexes pack entries × InsertsAll old entries new added
 
   -- some list that the indexer may answer for the pack is refused by the graph
-  abbrev pub RefusesPack : RepoState A → List ℕ → GraphFault → Type 0
+  abbrev pub RefusesPack : RepoState A → Bytes → GraphFault → Type 0
   RefusesPack repo pack fault =
       (entries : List (Entry A)) × indexes pack entries × IsRefused repo.graph.format repo.graph.entries entries fault
 
   -- why a reply is not taken that was read: an id is acknowledged that the request did not name; or else the indexer
   -- refuses its pack, or the graph the pack's objects, or it is out of memory
-  abbrev pub IsReplyFault : List (List ℕ) → RepoState A → FetchReply → ClientFault A → Type 0
+  abbrev pub IsReplyFault : List Id → RepoState A → FetchReply → ClientFault A → Type 0
   IsReplyFault haves repo reply (StrangeAck id) = IsFirstStrange haves (acknowledged_by reply) id
   IsReplyFault haves repo reply (Index fault) =
       All (Contains haves) (acknowledged_by reply) × HasPack reply × index_fails (pack_of reply) fault
@@ -84,7 +86,7 @@ module _ {A : Type 0} (indexes : Indexes A) (index_fails : IndexFails) where
       × InsertsPack repo_old (pack_of reply) repo_new added
 
   -- each acknowledged id is one of the request's haves, and the reply is taken
-  abbrev pub TakesRead : List (List ℕ) → SessionState A → RepoState A → FetchReply → SessionState A → RepoState A
+  abbrev pub TakesRead : List Id → SessionState A → RepoState A → FetchReply → SessionState A → RepoState A
       → Taken → Type 0
   TakesRead haves old repo_old reply new repo_new taken =
       All (Contains haves) (acknowledged_by reply) × TakesHead old repo_old reply new repo_new taken
@@ -146,7 +148,7 @@ module _ {A : Type 0} (indexes : Indexes A) (index_fails : IndexFails) where
   -- where the bytes are known, the session after a reply is decided by the bytes and by what is answered
   abbrev pub TakingIsDecided : Type 0
   TakingIsDecided =
-      (old one other : SessionState A) (repo repo_one repo_other : RepoState A) (bytes left also : List ℕ)
+      (old one other : SessionState A) (repo repo_one repo_other : RepoState A) (bytes left also : Bytes)
       (result : Result Taken (ClientFault A)) → TakesReply old repo (known bytes left) one repo_one result
       → TakesReply old repo (known bytes also) other repo_other result → one ≡ other
 
@@ -154,5 +156,5 @@ module _ {A : Type 0} (indexes : Indexes A) (index_fails : IndexFails) where
   abbrev pub DoneIsLast : Type 0
   DoneIsLast =
       (old new : SessionState A) (repo repo_new : RepoState A) (change : Change) (asked : FetchAsked) (taken : Taken)
-      → Awaits old asked → asked.done ≡ true → TakesReply old repo change new repo_new (Ok taken)
+      → Awaits old asked → fetch_has asked Done ≡ true → TakesReply old repo change new repo_new (Ok taken)
       → new.stage ≡ Settling

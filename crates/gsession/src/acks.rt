@@ -1,9 +1,10 @@
 //! Ids that a server acknowledges.
 #![tactic(auto)]
 
-ghost use Rattle.std.specs.Prelude.{◌≡◌, ◌↔◌, ◌++◌, ℕ, List, true, All, Contains, IfOk, IfSome, MatchOption};
+ghost use Rattle.std.specs.Prelude.{◌≡◌, ◌↔◌, ◌++◌, true, All, Contains, IfOk, IfSome, MatchOption};
 ghost use Rattle.std.specs.Str.{bytes_eq};
-ghost use Rattle.ghistory.specs.Levels.{distinct_of};
+ghost use Rattle.gname.specs.Ids.{Id};
+ghost use Rattle.gdag.specs.Levels.{distinct_of};
 ghost use Rattle.indexmap.specs.IndexSet.{contains};
 ghost use Rattle.gsession.specs.TakingReplies.{IsFirstStrange};
 
@@ -19,7 +20,8 @@ pub(crate) fn first_strange<A: Allocator + Copy>(
     haves: &[Oid],
     acks: &[Oid],
 ) -> Option<Oid>
-    ensures { MatchOption result (All (Contains haves.now) acks.now) (IsFirstStrange haves.now acks.now) }
+    ensures { MatchOption result (All (Contains haves.now) acks.now)
+        (IsFirstStrange haves.now acks.now) }
 {
     match set_of(alloc, haves) {
         Ok(offered) => first_unoffered::<A>(&Some(offered), haves, acks),
@@ -33,8 +35,10 @@ fn first_unoffered<A: Allocator + Copy>(
     haves: &[Oid],
     acks: &[Oid],
 ) -> Option<Oid>
-    requires { IfSome offered.now (λ set. (a : List ℕ) → (contains bytes_eq set a ≡ true) ↔ Contains haves.now a) }
-    ensures { MatchOption result (All (Contains haves.now) acks.now) (IsFirstStrange haves.now acks.now) }
+    requires { IfSome offered.now (λ set. (a : Id)
+        → (contains bytes_eq set a ≡ true) ↔ Contains haves.now a) }
+    ensures { MatchOption result (All (Contains haves.now) acks.now)
+        (IsFirstStrange haves.now acks.now) }
 {
     for id in acks {
         if !is_offered(offered, haves, id) {
@@ -50,7 +54,8 @@ fn is_offered<A: Allocator + Copy>(
     haves: &[Oid],
     id: &Oid,
 ) -> bool
-    requires { IfSome offered.now (λ set. (a : List ℕ) → (contains bytes_eq set a ≡ true) ↔ Contains haves.now a) }
+    requires { IfSome offered.now (λ set. (a : Id)
+        → (contains bytes_eq set a ≡ true) ↔ Contains haves.now a) }
     ensures { (result ≡ true) ↔ Contains haves.now id.now }
 {
     match offered {
@@ -64,7 +69,8 @@ fn set_of<A: Allocator + Copy>(
     alloc: A,
     ids: &[Oid],
 ) -> Result<IndexSet<Oid, IdHasher, A>, AllocError>
-    ensures { IfOk result (λ set. (id : List ℕ) → (contains bytes_eq set id ≡ true) ↔ Contains ids.now id) }
+    ensures { IfOk result (λ set. (id : Id)
+        → (contains bytes_eq set id ≡ true) ↔ Contains ids.now id) }
 {
     ids.iter().copied().collect(alloc)
 }

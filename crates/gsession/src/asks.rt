@@ -5,19 +5,19 @@ ghost use Rattle.std.specs.Prelude.{◌≡◌, ◌↔◌, ◌∷◌, [], true, A
 ghost use Rattle.gname.specs.Ids.{IsIdOf};
 ghost use Rattle.gname.specs.declared.formats.Format.{Format};
 ghost use Rattle.glsreply.specs.WellFormed.{IsRefLine};
-ghost use Rattle.ghistory.specs.Reach.{IsFull};
-ghost use Rattle.ghistory.specs.Walks.{Misses};
-ghost use Rattle.ghistory.specs.declared.fault.GraphFault.TheVariants.{Memory};
+ghost use Rattle.gdag.specs.Reach.{IsFull};
+ghost use Rattle.gdag.specs.Walks.{Misses};
+ghost use Rattle.gdag.specs.declared.fault.GraphFault.TheVariants.{Memory};
 ghost use Rattle.gsession.specs.Asking.{AreWants, asks_by, takes_head, unborn_told};
-ghost use Rattle.gsession.specs.Steps.{AddsAsks, FindsAsks};
+ghost use Rattle.gsession.specs.steps.Calls.{AddsAsks, FindsAsks};
 
+use gclientrepo::{Ask, Asks, Repo};
 use ggraph::graph_laws::{distinct_are_once, places_are_nodes};
 use ggraph::{GraphFault, distinct_ids, missing};
 use glsreply::{LsReply, RefLine};
 use gname::laws::rules_never_report_memory;
 use gname::{NameFault, Oid, RefName};
-use grepo::{Ask, Asks, Repo};
-use gspec::Spec;
+use grefspec::Spec;
 use std::alloc::{AllocError, Allocator};
 
 /// What refspecs ask for of the refs of a reply. It fails with the name fault of a destination, and with `Memory`.
@@ -80,7 +80,8 @@ pub(crate) fn wants_of<A: Allocator + Copy>(
     asks: &Asks<A>,
 ) -> Result<Vec<Oid, A>, GraphFault>
     ensures wants { IfOk result (λ wants. AreWants repo.now.graph.entries asks.now wants.items) }
-    ensures ids { IfOk result (λ wants. (format : Format) → All (λ ask. IsIdOf format ask.id) asks.now
+    ensures ids { IfOk result (λ wants. (format : Format)
+        → All (λ ask. IsIdOf format ask.id) asks.now
         → All (IsIdOf format) wants.items) }
     ensures fault { IfErr result (λ fault. fault ≡ Memory) }
 {

@@ -2,16 +2,16 @@
 #![tactic(auto)]
 
 ghost use Rattle.std.specs.Prelude.{◌≡◌, Some};
-ghost use Rattle.ghistory.specs.declared.fault.GraphFault.TheVariants.{Memory};
-ghost use Rattle.grepo.specs.declared.fault.RepoFault.TheVariants.{Graph};
+ghost use Rattle.gdag.specs.declared.fault.GraphFault.TheVariants.{Memory};
+ghost use Rattle.gclientrepo.specs.declared.fault.RepoFault.TheVariants.{Graph};
 ghost use Rattle.gsession.specs.Faults.{client_fault_row, client_fault_text};
 ghost use Rattle.gsession.specs.Sessions.{ends_session};
 ghost use Rattle.gsession.specs.declared.fault.ClientFault.TheVariants as client;
 
+use gclientrepo::RepoFault;
 use ggrammar::MessageFault;
 use ggraph::{GraphFault, IndexFault};
 use gname::Oid;
-use grepo::RepoFault;
 use std::alloc::{AllocError, AllocFailed, Allocator, Global};
 use std::error::Error;
 use std::fmt;
@@ -65,18 +65,18 @@ impl<A: Allocator + Copy> ClientFault<A> {
         }
     }
 
-    // The table: the number and the name of each fault.
-    fn row(&self) -> (u32, &'static str)
+    /// The table: the number and the name of each fault.
+    pub fn row(&self) -> (u32, &'static str)
         ensures { (result.0, result.1.now) ≡ client_fault_row self.now }
     {
         match self {
             ClientFault::Message(fault) => (fault.code(), fault.name()),
-            ClientFault::Index(fault) => (fault.code(), fault.name()),
+            ClientFault::Index(fault) => fault.row(),
             ClientFault::TooManySpecs => (82, "TooManySpecs"),
             ClientFault::NoOpenRequest => (83, "NoOpenRequest"),
             ClientFault::StrangeAck { .. } => (84, "StrangeAck"),
             ClientFault::TooManyWants => (86, "TooManyWants"),
-            ClientFault::Repo(fault) => (fault.code(), fault.name()),
+            ClientFault::Repo(fault) => fault.row(),
         }
     }
 }

@@ -1,9 +1,10 @@
 //! The pack of a reply on its way to the indexer.
 #![tactic(auto)]
 
-ghost use Rattle.std.specs.Prelude.{◌≡◌, ◌++◌, [], List, ℕ, false, MatchResult};
+ghost use Rattle.std.specs.Prelude.{◌≡◌, ◌++◌, [], false, MatchResult};
+ghost use Rattle.gpkt.specs.Packets.{Bytes};
 ghost use Rattle.gfetchreply.specs.PackSinks.{TakesPiece};
-ghost use Rattle.gsession.specs.Steps.{MayHaveFed};
+ghost use Rattle.gsession.specs.steps.Calls.{MayHaveFed};
 
 use gfetchreply::PackSink;
 use ggraph::{Entry, IndexFault, Indexer};
@@ -34,11 +35,11 @@ impl<'k, K: Indexer<A>, A: Allocator + Copy> PackFeed<'k, K, A> {
     /// The entries of the pack that was fed, or the indexer's first fault.
     pub(crate) fn finish(self) -> Result<Vec<Entry<A>, A>, IndexFault>
         ensures { MatchResult result
-            (λ entries. ((bytes : List ℕ)
+            (λ entries. ((bytes : Bytes)
             → MayHaveFed (K.fed self.entry.indexer.now) (K.index_fails self.entry.indexer.now)
             self.entry.feed bytes
             → K.indexes self.entry.indexer.now bytes entries.items))
-            (λ fault. ((bytes : List ℕ)
+            (λ fault. ((bytes : Bytes)
             → MayHaveFed (K.fed self.entry.indexer.now) (K.index_fails self.entry.indexer.now)
             self.entry.feed bytes
             → K.index_fails self.entry.indexer.now bytes fault)) }
@@ -58,11 +59,12 @@ impl<'k, K: Indexer<A>, A: Allocator + Copy> PackFeed<'k, K, A> {
     fn add(&mut self, bytes: &[u8]) -> Result<(), IndexFault>
         ensures indexer { self.new.indexer.now ≡ self.old.indexer.now }
         ensures fed { MatchResult result
-            (λ _. ((before : List ℕ) → MayHaveFed (K.fed self.old.indexer.now) (K.index_fails self.old.indexer.now)
+            (λ _. ((before : Bytes)
+            → MayHaveFed (K.fed self.old.indexer.now) (K.index_fails self.old.indexer.now)
             self.old.feed before
             → MayHaveFed (K.fed self.old.indexer.now) (K.index_fails self.old.indexer.now)
             self.new.feed (before ++ bytes.now)))
-            (λ fault. ((before more : List ℕ)
+            (λ fault. ((before more : Bytes)
             → MayHaveFed (K.fed self.old.indexer.now) (K.index_fails self.old.indexer.now)
             self.old.feed before
             → K.index_fails self.old.indexer.now ((before ++ bytes.now) ++ more) fault)) }
@@ -85,8 +87,8 @@ impl<K: Indexer<A>, A: Allocator + Copy> PackSink for PackFeed<'_, K, A> {
 
     fn piece(&mut self, bytes: &[u8]) -> bool
         ensures takes { TakesPiece
-            (λ feed taken. MayHaveFed (K.fed feed.indexer.now) (K.index_fails feed.indexer.now) feed.feed taken)
-            false self.old self.new bytes.now result }
+            (λ feed taken. MayHaveFed (K.fed feed.indexer.now) (K.index_fails feed.indexer.now)
+            feed.feed taken) false self.old self.new bytes.now result }
         ensures same { self.old.indexer.now ≡ self.new.indexer.now }
     {
         if let Err(fault) = self.add(bytes) {

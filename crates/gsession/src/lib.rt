@@ -51,7 +51,7 @@
 //!
 //! # Stands on
 //!
-//! `gspec` for refspecs, `grepo` for the repository, `grequest`, `glsreply`, `gfetchreply` and `ghello` for messages,
+//! `grefspec` for refspecs, `gclientrepo` for the repository, `grequest`, `glsreply`, `gfetchreply` and `ghello` for messages,
 //! `ggraph` and `gwalk` for what is offered, `gobject` for indexers, `indexmap` for sets of ids.
 #![tactic(auto)]
 

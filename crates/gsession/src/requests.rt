@@ -6,15 +6,15 @@ ghost use Rattle.gname.specs.Ids.{IsIdOf};
 ghost use Rattle.ggrammar.specs.declared.fault.Why.TheVariants.{Memory};
 ghost use Rattle.grequest.specs.Asked.{Ls, Fetches, max_haves, max_prefixes, max_wants};
 ghost use Rattle.grequest.specs.RequestValues.{asked_by_request, ids_format};
-ghost use Rattle.ghistory.specs.Levels.{is_in};
+ghost use Rattle.gdag.specs.Levels.{is_in};
 ghost use Rattle.gsession.specs.Requesting.{batch_size, fetch_request, ls_request};
 ghost use Rattle.gsession.specs.Sessions.{max_specs};
-ghost use Rattle.gsession.specs.Steps.{with_prefix};
+ghost use Rattle.gsession.specs.steps.Calls.{with_prefix};
 
 use ggrammar::MessageFault;
 use gname::{Format, Oid, Prefix};
+use grefspec::Spec;
 use grequest::{FetchRequest, LsRefsRequest, Request};
-use gspec::Spec;
 use std::alloc::{AllocError, Allocator};
 
 /// How many ids are offered after so many rounds.
@@ -41,7 +41,8 @@ pub(crate) fn refs_request<A: Allocator + Copy>(
     unborn: bool,
 ) -> Result<Request<A>, AllocError>
     requires { length specs.now ≤ max_specs }
-    ensures asked { IfOk result (λ request. asked_by_request request ≡ Ls (ls_request specs.now unborn)) }
+    ensures asked { IfOk result (λ request. asked_by_request request
+        ≡ Ls (ls_request specs.now unborn)) }
     ensures format { IfOk result (λ request. ids_format request ≡ None) }
 {
     let mut request = LsRefsRequest::new(alloc);

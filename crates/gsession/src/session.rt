@@ -4,7 +4,7 @@
 ghost use Rattle.std.specs.Prelude.{◌≡◌, ◌↔◌, [], IsTrue, All, MatchBool, MatchResult, Ok, Err, IfOk, IfSome, option_map};
 ghost use Rattle.std.specs.Map.{values_of};
 ghost use Rattle.std.specs.Option.{option_copied};
-ghost use Rattle.ghistory.specs.Levels.{distinct_of};
+ghost use Rattle.gdag.specs.Levels.{distinct_of};
 ghost use Rattle.gname.specs.Ids.{IsIdOf};
 
 mod next;
@@ -14,15 +14,15 @@ mod refs;
 use crate::fault::ClientFault;
 use crate::stage::Stage;
 use crate::taken::Settled;
+use gclientrepo::{Asks, Repo};
 use gfetchreply::PackLimit;
 use ggrammar::Ends;
 use ggraph::distinct_ids;
 use ggraph::graph_laws::{distinct_are_once, places_are_nodes};
 use ghello::Advert;
 use gname::{Format, Oid};
-use grepo::{Asks, Repo};
+use grefspec::Spec;
 use grequest::Request;
-use gspec::Spec;
 use std::alloc::{AllocError, Allocator, Global};
 use std::marker::Model;
 use std::mem;
@@ -228,7 +228,8 @@ impl<A: Allocator + Copy> Session<A> {
     /// the session is over, and the repository as before: with `Repo`, as `Repo::settle` fails.
     pub fn settle(&mut self, repo: &mut Repo<A>) -> Result<Settled<A>, ClientFault<A>>
         ensures { MatchResult result
-            (λ settled. SettlesSession self.old repo.old self.new repo.new (Ok (settled.asks, settled.updates.items)))
+            (λ settled. SettlesSession self.old repo.old self.new repo.new
+            (Ok (settled.asks, settled.updates.items)))
             (λ fault. SettlesSession self.old repo.old self.new repo.new (Err fault)) }
     {
         if !self.is_settling() {

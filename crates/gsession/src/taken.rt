@@ -1,8 +1,8 @@
 //! What a session took.
 #![tactic(auto)]
 
+use gclientrepo::{Asks, RefUpdate};
 use gname::RefName;
-use grepo::{Asks, RefUpdate};
 use std::alloc::{Allocator, Global};
 
 /// What came of a reply to ls-refs.

@@ -8,7 +8,8 @@ use Rattle.gworld.specs.Runs.{RunWith, RunsFront}
 use Rattle.gworld.specs.Worlds.{WorldOf, WorldState, new_world}
 use Rattle.gworld.specs.declared.outcome.Outcome.{Outcome}
 use Rattle.gsimulate.specs.Lines.{simulated_text}
-use Rattle.gsimulate.specs.Simulating.{BeginsWith, CannotBegin, Ending, Shows, Simulates, StopsBefore, plain_tools}
+use Rattle.gsimulate.specs.steps.Simulating.{BeginsWith}
+use Rattle.gsimulate.specs.Simulating.{CannotBegin, Ending, Shows, Simulates, StopsBefore, plain_tools}
 use Rattle.gsimulate.specs.declared.fault.SimulationFault.{SimulationFault}
 use Rattle.gsimulate.specs.declared.fault.SimulationFault.TheVariants as faults
 use Rattle.gsimulate.specs.declared.simulate.Simulation.{Simulation}

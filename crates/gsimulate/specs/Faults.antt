@@ -1,8 +1,9 @@
 -- The table of a simulation's faults: what is printed of each.
-use Rattle.std.specs.Prelude.{ℕ, List, ◌++◌, codes}
+use Rattle.std.specs.Prelude.{ℕ, ◌++◌, codes}
 use Rattle.std.specs.Fmt.{decimal}
-use Rattle.gname.specs.Ids.{id_text}
+use Rattle.gname.specs.Ids.{Id, id_text}
 use Rattle.gname.specs.Faults.{FaultRow}
+use Rattle.gpkt.specs.Packets.{Bytes}
 use Rattle.gcmd.specs.Faults.{printed_of, program_fault_text}
 use Rattle.gcmd.specs.Printing.{fault_line}
 use Rattle.gscenario.specs.Faults.{scenario_fault_row, scenario_fault_text}
@@ -19,43 +20,40 @@ abbrev pub simulation_fault_row : {A : Type 0} → SimulationFault A → FaultRo
 simulation_fault_row (faults.Program fault) = ((printed_of fault).number, (printed_of fault).name)
 simulation_fault_row (faults.Scenario fault) = scenario_fault_row fault
 simulation_fault_row (faults.World fault) = world_fault_row fault
-simulation_fault_row faults.Memory = (91, codes "Memory")
+simulation_fault_row faults.Memory = scenario_fault_row scenario.Memory
 
 -- ---- the lines that are printed
 
 -- out of memory to go on
-abbrev pub memory_line : List ℕ
+abbrev pub memory_line : Bytes
 memory_line = codes "gitv2: fault 91 Memory\n"
 
 -- a line is wrong
-abbrev pub wrong_line : ℕ → List ℕ
+abbrev pub wrong_line : ℕ → Bytes
 wrong_line line = codes "gitv2: fault 92 Scenario line " ++ (decimal line ++ codes "\n")
 
-abbrev pub scenario_line : ScenarioFault → List ℕ
+abbrev pub scenario_line : ScenarioFault → Bytes
 scenario_line (scenario.Scenario line) = wrong_line line
 scenario_line scenario.Memory = memory_line
 
 -- two objects have this id
-abbrev pub disagreement : List ℕ → List ℕ
+abbrev pub disagreement : Id → Bytes
 disagreement id = codes "gitv2: fault 90 Disagree " ++ (id_text id ++ codes "\n")
 
-abbrev pub world_line : WorldFault → List ℕ
+abbrev pub world_line : WorldFault → Bytes
 world_line (world.Disagree id) = disagreement id
 world_line world.TwoFormats = codes "gitv2: fault 97 TwoFormats\n"
 
-abbrev pub simulation_fault_line : {A : Type 0} → SimulationFault A → List ℕ
+abbrev pub simulation_fault_line : {A : Type 0} → SimulationFault A → Bytes
 simulation_fault_line (faults.Program fault) = fault_line fault
 simulation_fault_line (faults.Scenario fault) = scenario_line fault
 simulation_fault_line (faults.World fault) = world_line fault
 simulation_fault_line faults.Memory = memory_line
 
--- room for such a line
-abbrev pub max_line : ℕ
-max_line = 128
-
 -- ---- their texts
-abbrev pub simulation_fault_text : {A : Type 0} → SimulationFault A → List ℕ
+
+abbrev pub simulation_fault_text : {A : Type 0} → SimulationFault A → Bytes
 simulation_fault_text (faults.Program fault) = program_fault_text fault
 simulation_fault_text (faults.Scenario fault) = scenario_fault_text fault
 simulation_fault_text (faults.World fault) = world_fault_text fault
-simulation_fault_text faults.Memory = codes "out of memory"
+simulation_fault_text faults.Memory = scenario_fault_text scenario.Memory

@@ -1,3 +1,4 @@
 pub mod Lines
 pub mod Faults
 pub mod Simulating
+pub mod steps

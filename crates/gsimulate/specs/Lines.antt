@@ -2,17 +2,19 @@
 use Rattle.std.specs.Prelude.{ℕ, List, ◌++◌, codes}
 use Rattle.std.specs.Fmt.{decimal}
 use Rattle.std.specs.List.{flat_map}
-use Rattle.gname.specs.Ids.{id_text}
+use Rattle.gname.specs.Ids.{Id, id_text}
+use Rattle.gname.specs.Names.{Name}
+use Rattle.gpkt.specs.Packets.{Bytes}
 use Rattle.grefs.specs.RefLists.{RefList}
 use Rattle.gworld.specs.declared.outcome.Outcome.{Outcome}
 use Rattle.gworld.specs.declared.outcome.Outcome.TheVariants as outcomes
 
 -- a number after its word
-abbrev pub counted : List ℕ → ℕ → List ℕ
+abbrev pub counted : Bytes → ℕ → Bytes
 counted word number = word ++ decimal number
 
 -- what came of an event
-abbrev pub outcome_text : Outcome → List ℕ
+abbrev pub outcome_text : Outcome → Bytes
 outcome_text outcomes.Done = codes "done"
 outcome_text (outcomes.Asked request) = counted (codes "asked ") request
 outcome_text (outcomes.Served reply) = counted (codes "served ") reply
@@ -25,13 +27,13 @@ outcome_text (outcomes.Settled moved same not_forward) =
     ++ (counted (codes " same=") same ++ counted (codes " notforward=") not_forward)
 outcome_text (outcomes.Fault number) = counted (codes "fault ") number
 
-abbrev pub outcome_line : Outcome → List ℕ
+abbrev pub outcome_line : Outcome → Bytes
 outcome_line outcome = outcome_text outcome ++ codes "\n"
 
 -- a ref, which is a name and an id
-abbrev pub ref_line : List ℕ × List ℕ → List ℕ
+abbrev pub ref_line : Name × Id → Bytes
 ref_line ref = codes "ref " ++ (id_text ref.1 ++ (codes " " ++ (ref.0 ++ codes "\n")))
 
 -- a line for each outcome, and then one for each ref
-abbrev pub simulated_text : List Outcome → RefList → List ℕ
+abbrev pub simulated_text : List Outcome → RefList → Bytes
 simulated_text outcomes refs = flat_map outcome_line outcomes ++ flat_map ref_line refs

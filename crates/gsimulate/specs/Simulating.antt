@@ -1,5 +1,6 @@
 -- What a simulation does: the files are taken in their order, the events happen, and it is shown what came of them.
 use Rattle.std.specs.Prelude.{◌≡◌, ◌⊎◌, ℕ, List, Result, Ok, Err}
+use Rattle.gpkt.specs.Packets.{Bytes}
 use Rattle.ganswer.specs.Servers.{Server}
 use Rattle.gcmd.specs.Fetching.{NamesClient, RefusesClient, plain_index_fails, plain_indexes}
 use Rattle.gcmd.specs.Outputs.{BreaksOff}
@@ -7,13 +8,13 @@ use Rattle.gcmd.specs.Programs.{Prints}
 use Rattle.gcmd.specs.Serving.{NamesServer, RefusesFile, plain_pack_fails, plain_packs}
 use Rattle.gcmd.specs.declared.fault.ProgramFault.TheVariants as program
 use Rattle.gpkt.specs.Sending.{Output, IsUnwritten, Sends}
-use Rattle.grepo.specs.Repos.{RepoState}
+use Rattle.gclientrepo.specs.Repos.{RepoState}
 use Rattle.gscenario.specs.ScenarioText.{IsScenario, Refuses}
 use Rattle.gscenario.specs.declared.event.Event.{Event}
 use Rattle.gworld.specs.Promises.{Promises}
 use Rattle.gworld.specs.Runs.{RunWith, RunsFront}
 use Rattle.gworld.specs.Starts.{CanStart, CannotStart}
-use Rattle.gworld.specs.Worlds.{PackTools, WorldOf, WorldState, new_world, tools_of}
+use Rattle.gworld.specs.Worlds.{PackTools, WorldState, new_world, tools_of}
 use Rattle.gworld.specs.declared.outcome.Outcome.{Outcome}
 use Rattle.gsimulate.specs.Faults.{simulation_fault_line}
 use Rattle.gsimulate.specs.Lines.{simulated_text}
@@ -64,11 +65,6 @@ CanHappen IsSo server repo events = CanStart server repo × IsSo (new_world serv
 abbrev pub HasWorld : {A : Type 0} → Simulation → (WorldState A → List (Event A) → Type 0) → Type 0
 HasWorld files IsSo = HasEvents files (CanHappen IsSo)
 
--- this is the world as it begins, and these are the events
-abbrev pub BeginsWith : {A K : Type 0} → Simulation → WorldOf A K → List (Event A) → Type 0
-BeginsWith {A} files begun events =
-    HasWorld {A = A} files (λ w happening. (begun.world ≡ w) × (events ≡ happening))
-
 -- why no event happens: the first file is no server's; or the second no client's; or the third has a wrong line, or
 -- it is out of memory for it; or no world can begin between server and client
 abbrev pub CannotBegin : {A : Type 0} → Simulation → SimulationFault A → Type 0
@@ -84,7 +80,7 @@ CannotBegin files faults.Memory = ⊥
 -- ---- what is shown
 
 -- the text is written and passed on; or the output failed at it; or out of memory for it
-abbrev pub Shows : {A : Type 0} → List ℕ → Output → Ending A → Type 0
+abbrev pub Shows : {A : Type 0} → Bytes → Output → Ending A → Type 0
 Shows text output (Ok done) = Sends output text
 Shows text output (Err (faults.Program program.WriteFailed)) = BreaksOff output text
 Shows text output (Err (faults.Program program.Memory)) = IsUnwritten output

@@ -33,7 +33,7 @@ impl<A: Allocator + Copy> SimulationFault<A> {
             SimulationFault::Program(fault) => fault.code(),
             SimulationFault::Scenario(fault) => fault.code(),
             SimulationFault::World(fault) => fault.code(),
-            SimulationFault::Memory => 91,
+            SimulationFault::Memory => ScenarioFault::Memory.code(),
         }
     }
 
@@ -45,7 +45,7 @@ impl<A: Allocator + Copy> SimulationFault<A> {
             SimulationFault::Program(fault) => fault.name(),
             SimulationFault::Scenario(fault) => fault.name(),
             SimulationFault::World(fault) => fault.name(),
-            SimulationFault::Memory => "Memory",
+            SimulationFault::Memory => ScenarioFault::Memory.name(),
         }
     }
 }
@@ -58,7 +58,7 @@ impl<A: Allocator + Copy> fmt::Display for SimulationFault<A> {
             SimulationFault::Program(fault) => fmt::Display::fmt(fault, f),
             SimulationFault::Scenario(fault) => fmt::Display::fmt(fault, f),
             SimulationFault::World(fault) => fmt::Display::fmt(fault, f),
-            SimulationFault::Memory => f.write_str("out of memory"),
+            SimulationFault::Memory => fmt::Display::fmt(&ScenarioFault::Memory, f),
         }
     }
 }

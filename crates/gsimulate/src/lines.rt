@@ -2,12 +2,11 @@
 
 ghost use Rattle.std.specs.Prelude.{◌≡◌, ◌<◌, ◌++◌, IfOk, OnOk, Some, length, slice_get};
 ghost use Rattle.std.specs.List.{flat_map};
-ghost use Rattle.gname.specs.Ids.{id_text};
 ghost use Rattle.gworld.specs.declared.outcome.Outcome.TheVariants as outcome;
 ghost use Rattle.gsimulate.specs.Lines.{outcome_line, outcome_text, ref_line, simulated_text};
 
 use ggraph::Refs;
-use gname::{MAX_ID_TEXT, Oid, RefName};
+use gname::{Oid, RefName};
 use gworld::Outcome;
 use itoa::{Buffer, Integer};
 use std::alloc::{AllocError, Allocator};
@@ -83,7 +82,8 @@ fn put_taken<A: Allocator + Copy>(
     asks: usize,
     wants: usize,
 ) -> Result<(), AllocError>
-    ensures { OnOk result (text.new.items ≡ text.old.items ++ outcome_text (outcome.LsTaken asks wants)) }
+    ensures { OnOk result (text.new.items
+        ≡ text.old.items ++ outcome_text (outcome.LsTaken asks wants)) }
 {
     put_count(text, b"ls asks=", asks)?;
     put_count(text, b" wants=", wants)
@@ -96,7 +96,8 @@ fn put_settled<A: Allocator + Copy>(
     same: usize,
     not_forward: usize,
 ) -> Result<(), AllocError>
-    ensures { OnOk result (text.new.items ≡ text.old.items ++ outcome_text (outcome.Settled moved same not_forward)) }
+    ensures { OnOk result (text.new.items
+        ≡ text.old.items ++ outcome_text (outcome.Settled moved same not_forward)) }
 {
     put_count(text, b"settled moved=", moved)?;
     put_count(text, b" same=", same)?;
@@ -137,16 +138,8 @@ fn put_ref<A: Allocator + Copy>(
     ensures { OnOk result (text.new.items ≡ text.old.items ++ ref_line (name.now, id.now)) }
 {
     text.extend_from_slice(b"ref ")?;
-    put_id(text, id)?;
+    id.push_hex(text)?;
     text.extend_from_slice(b" ")?;
     text.extend_from_slice(name.as_bytes())?;
     text.extend_from_slice(b"\n")
-}
-
-fn put_id<A: Allocator + Copy>(text: &mut Vec<u8, A>, id: &Oid) -> Result<(), AllocError>
-    ensures { OnOk result (text.new.items ≡ text.old.items ++ id_text id.now) }
-{
-    let mut digits = [0; MAX_ID_TEXT];
-    let count = id.to_hex(&mut digits);
-    text.extend_from_slice(&digits[..count])
 }

@@ -4,13 +4,14 @@ ghost use Rattle.std.specs.Prelude.{◌≡◌, ◌+◌, ◌≤◌, ◌++◌, len
 ghost use Rattle.gcmd.specs.Printing.{fault_line};
 ghost use Rattle.gcmd.specs.Programs.{Prints};
 ghost use Rattle.gpkt.specs.Sending.{output_of};
-ghost use Rattle.gsimulate.specs.Faults.{disagreement, max_line, scenario_line, simulation_fault_line, world_line, wrong_line};
+ghost use Rattle.gsimulate.specs.Faults.{disagreement, scenario_line, simulation_fault_line, world_line, wrong_line};
 ghost use Rattle.gsimulate.specs.Simulating.{ExitsWith};
 
 use crate::fault::SimulationFault;
 use arrayvec::ArrayVec;
 use gcmd::{ProgramFault, print_fault, send_text};
-use gname::{MAX_ID_TEXT, Oid};
+use ggrammar::compose::{add, add_id};
+use gname::Oid;
 use gpkt::Sink;
 use gworld::{ScenarioFault, WorldFault};
 use itoa::Buffer;
@@ -19,12 +20,16 @@ use std::alloc::Allocator;
 /// The most bytes of such a line: its words, and the digits of an id.
 const MAX_LINE: usize = 128;
 
+/// The line of a simulation that is out of memory.
+const MEMORY_LINE: &[u8] = b"gitv2: fault 91 Memory\n";
+
 /// Ends a simulation as its work came out: prints the fault that was met, if one was. It answers the exit status.
 pub(crate) fn finish<A: Allocator + Copy, E: Sink>(
     ending: Result<(), SimulationFault<A>>,
     errors: &mut E,
 ) -> u8
-    ensures exits { ExitsWith ending (output_of E.contents E.passed_on E.is_down errors.old errors.new) result }
+    ensures exits { ExitsWith ending (output_of E.contents E.passed_on E.is_down errors.old
+        errors.new) result }
     ensures loans { E.loans errors.new ≡ E.loans errors.old }
 {
     match ending {
@@ -38,36 +43,40 @@ pub(crate) fn finish<A: Allocator + Copy, E: Sink>(
 
 // Prints the fault as one line, and passes it on. Where the line can't be printed, there is nowhere to report it.
 fn print<A: Allocator + Copy, E: Sink>(fault: &SimulationFault<A>, errors: &mut E)
-    ensures printed { Prints (output_of E.contents E.passed_on E.is_down errors.old errors.new) (simulation_fault_line fault.now) }
+    ensures printed { Prints (output_of E.contents E.passed_on E.is_down errors.old errors.new)
+        (simulation_fault_line fault.now) }
     ensures loans { E.loans errors.new ≡ E.loans errors.old }
 {
     match fault {
         SimulationFault::Program(fault) => print_program(fault, errors),
         SimulationFault::Scenario(fault) => print_scenario::<A, E>(fault, errors),
         SimulationFault::World(fault) => print_world::<A, E>(fault, errors),
-        SimulationFault::Memory => print_line::<A, E>(b"gitv2: fault 91 Memory\n", errors),
+        SimulationFault::Memory => print_line::<A, E>(MEMORY_LINE, errors),
     }
 }
 
 fn print_program<A: Allocator + Copy, E: Sink>(fault: &ProgramFault<A>, errors: &mut E)
-    ensures printed { Prints (output_of E.contents E.passed_on E.is_down errors.old errors.new) (fault_line fault.now) }
+    ensures printed { Prints (output_of E.contents E.passed_on E.is_down errors.old errors.new)
+        (fault_line fault.now) }
     ensures loans { E.loans errors.new ≡ E.loans errors.old }
 {
     let _ = print_fault(fault, errors);
 }
 
 fn print_scenario<A: Allocator + Copy, E: Sink>(fault: &ScenarioFault, errors: &mut E)
-    ensures printed { Prints (output_of E.contents E.passed_on E.is_down errors.old errors.new) (scenario_line fault.now) }
+    ensures printed { Prints (output_of E.contents E.passed_on E.is_down errors.old errors.new)
+        (scenario_line fault.now) }
     ensures loans { E.loans errors.new ≡ E.loans errors.old }
 {
     match fault {
         ScenarioFault::Scenario { line } => print_wrong_line::<A, E>(*line, errors),
-        ScenarioFault::Memory => print_line::<A, E>(b"gitv2: fault 91 Memory\n", errors),
+        ScenarioFault::Memory => print_line::<A, E>(MEMORY_LINE, errors),
     }
 }
 
 fn print_world<A: Allocator + Copy, E: Sink>(fault: &WorldFault, errors: &mut E)
-    ensures printed { Prints (output_of E.contents E.passed_on E.is_down errors.old errors.new) (world_line fault.now) }
+    ensures printed { Prints (output_of E.contents E.passed_on E.is_down errors.old errors.new)
+        (world_line fault.now) }
     ensures loans { E.loans errors.new ≡ E.loans errors.old }
 {
     match fault {
@@ -78,7 +87,8 @@ fn print_world<A: Allocator + Copy, E: Sink>(fault: &WorldFault, errors: &mut E)
 
 // Prints which line of a scenario is wrong.
 fn print_wrong_line<A: Allocator + Copy, E: Sink>(line: usize, errors: &mut E)
-    ensures printed { Prints (output_of E.contents E.passed_on E.is_down errors.old errors.new) (wrong_line line) }
+    ensures printed { Prints (output_of E.contents E.passed_on E.is_down errors.old errors.new)
+        (wrong_line line) }
     ensures loans { E.loans errors.new ≡ E.loans errors.old }
 {
     let text = wrong_line(line);
@@ -98,7 +108,8 @@ fn wrong_line(line: usize) -> ArrayVec<u8, MAX_LINE>
 
 // Prints the id that server and client hold with two objects.
 fn print_disagreement<A: Allocator + Copy, E: Sink>(id: &Oid, errors: &mut E)
-    ensures printed { Prints (output_of E.contents E.passed_on E.is_down errors.old errors.new) (disagreement id.now) }
+    ensures printed { Prints (output_of E.contents E.passed_on E.is_down errors.old errors.new)
+        (disagreement id.now) }
     ensures loans { E.loans errors.new ≡ E.loans errors.old }
 {
     let text = disagreement(id);
@@ -109,24 +120,15 @@ fn disagreement(id: &Oid) -> ArrayVec<u8, MAX_LINE>
     ensures { result.items ≡ disagreement id.now }
 {
     let mut text = ArrayVec::new();
-    let mut digits = [0; MAX_ID_TEXT];
-    let count = id.to_hex(&mut digits);
     add(b"gitv2: fault 90 Disagree ", &mut text);
-    add(&digits[..count], &mut text);
+    add_id(id, &mut text);
     add(b"\n", &mut text);
     text
 }
 
-fn add(piece: &[u8], text: &mut ArrayVec<u8, MAX_LINE>)
-    requires { length text.old.items + length piece.now ≤ max_line }
-    ensures text { text.new.items ≡ text.old.items ++ piece.now }
-    ensures long { length text.new.items ≡ length text.old.items + length piece.now }
-{
-    text.try_extend_from_slice(piece).unwrap()
-}
-
 fn print_line<A: Allocator + Copy, E: Sink>(line: &[u8], errors: &mut E)
-    ensures printed { Prints (output_of E.contents E.passed_on E.is_down errors.old errors.new) line.now }
+    ensures printed { Prints (output_of E.contents E.passed_on E.is_down errors.old errors.new)
+        line.now }
     ensures loans { E.loans errors.new ≡ E.loans errors.old }
 {
     let _ = send_text::<A, E>(line, errors);

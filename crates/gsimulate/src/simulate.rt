@@ -5,7 +5,8 @@ ghost use Rattle.gpkt.specs.Sending.{output_of};
 ghost use Rattle.gworld.specs.Worlds.{WorldOf};
 ghost use Rattle.gsimulate.specs.declared.simulate.Simulation as files_of;
 ghost use Rattle.gsimulate.specs.Lines.{simulated_text};
-ghost use Rattle.gsimulate.specs.Simulating.{BeginsWith, CannotBegin, Runs, Shows, Simulates};
+ghost use Rattle.gsimulate.specs.steps.Simulating.{BeginsWith};
+ghost use Rattle.gsimulate.specs.Simulating.{CannotBegin, Runs, Shows, Simulates};
 
 use crate::fault::SimulationFault;
 use crate::lines::text_of;
@@ -41,8 +42,8 @@ pub fn cmd_simulate<A: Allocator + Copy, W: Sink, E: Sink>(
     output: &mut W,
     errors: &mut E,
 ) -> u8
-    ensures runs { Runs A files.now (output_of W.contents W.passed_on W.is_down output.old output.new)
-        (output_of E.contents E.passed_on E.is_down errors.old errors.new) result }
+    ensures runs { Runs A files.now (output_of W.contents W.passed_on W.is_down output.old
+        output.new) (output_of E.contents E.passed_on E.is_down errors.old errors.new) result }
     ensures output_loans { W.loans output.new ≡ W.loans output.old }
     ensures errors_loans { E.loans errors.new ≡ E.loans errors.old }
 {
@@ -54,7 +55,8 @@ fn simulate<A: Allocator + Copy, W: Sink>(
     files: &Simulation<'_>,
     output: &mut W,
 ) -> Result<(), SimulationFault<A>>
-    ensures simulates { Simulates {A = A} files.now (output_of W.contents W.passed_on W.is_down output.old output.new) result }
+    ensures simulates { Simulates {A = A} files.now
+        (output_of W.contents W.passed_on W.is_down output.old output.new) result }
     ensures loans { W.loans output.new ≡ W.loans output.old }
 {
     match begin(alloc, files) {
@@ -68,7 +70,8 @@ fn begin<A: Allocator + Copy>(
     alloc: A,
     files: &Simulation<'_>,
 ) -> Result<(World<PlainPack, A>, Vec<Event<A>, A>), SimulationFault<A>>
-    ensures { MatchResult result (λ pair. BeginsWith files.now pair.0 pair.1.items) (CannotBegin files.now) }
+    ensures { MatchResult result (λ pair. BeginsWith files.now pair.0 pair.1.items)
+        (CannotBegin files.now) }
 {
     let server = load_server(alloc, files.server)?;
     let repo = open_client(alloc, files.client)?;
@@ -85,7 +88,8 @@ fn happen<A: Allocator + Copy, W: Sink>(
     output: &mut W,
 ) -> Result<(), SimulationFault<A>>
     ensures simulates { (files : files_of.Simulation) → BeginsWith files world events.now
-        → Simulates {A = A} files (output_of W.contents W.passed_on W.is_down output.old output.new) result }
+        → Simulates {A = A} files (output_of W.contents W.passed_on W.is_down output.old
+        output.new) result }
     ensures loans { W.loans output.new ≡ W.loans output.old }
 {
     let mut running = world;
@@ -100,7 +104,8 @@ fn show<A: Allocator + Copy, W: Sink>(
     refs: &Refs<A>,
     output: &mut W,
 ) -> Result<(), SimulationFault<A>>
-    ensures shows { Shows {A = A} (simulated_text outcomes.now refs.now) (output_of W.contents W.passed_on W.is_down output.old output.new) result }
+    ensures shows { Shows {A = A} (simulated_text outcomes.now refs.now)
+        (output_of W.contents W.passed_on W.is_down output.old output.new) result }
     ensures loans { W.loans output.new ≡ W.loans output.old }
 {
     match text_of(alloc, outcomes, refs) {
@@ -111,7 +116,8 @@ fn show<A: Allocator + Copy, W: Sink>(
 
 // Writes a text, and passes it on.
 fn send<A: Allocator + Copy, W: Sink>(text: &[u8], output: &mut W) -> Result<(), SimulationFault<A>>
-    ensures shows { Shows {A = A} text.now (output_of W.contents W.passed_on W.is_down output.old output.new) result }
+    ensures shows { Shows {A = A} text.now (output_of W.contents W.passed_on W.is_down output.old
+        output.new) result }
     ensures loans { W.loans output.new ≡ W.loans output.old }
 {
     match send_text(text, output) {

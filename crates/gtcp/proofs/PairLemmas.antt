@@ -4,8 +4,8 @@ use Rattle.ggrammar.specs.declared.ends.Ends.TheVariants.{Plain}
 use Rattle.ghello.specs.Hello.{Hello, IsHello}
 use Rattle.gfetchreply.specs.Values.{default_limit}
 use Rattle.gpkt.specs.Sending.{Input, Output}
-use Rattle.gspec.specs.Refspecs.{Refspec}
-use Rattle.grepo.specs.Repos.{RepoState}
+use Rattle.grefspec.specs.Refspecs.{Refspec}
+use Rattle.gclientrepo.specs.Repos.{RepoState}
 use Rattle.gclient.specs.Conversations.{start_of}
 use Rattle.gclient.specs.declared.fault.FetchFault.{FetchFault}
 use Rattle.gclient.specs.declared.fetched.Fetched.{Fetched}
@@ -13,7 +13,7 @@ use Rattle.gconnect.specs.GitFetches.{FetchesGit}
 use Rattle.gcmd.specs.Fetching.{plain_index_fails, plain_indexes}
 use Rattle.gcmd.specs.declared.fault.ProgramFault.{ProgramFault}
 use Rattle.gtcp.specs.Remote.{FetchesAsClient, FetchesInPair, pair_hello}
-use Rattle.gtcp.specs.Steps.{IsPairFault}
+use Rattle.gtcp.specs.steps.Remote.{IsPairFault}
 
 module _ {A : Type 0} (old : RepoState A) (specs : List Refspec) (new : RepoState A) where
   -- it held a fetch with the default limit, over the first line of a pair

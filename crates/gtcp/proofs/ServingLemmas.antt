@@ -11,8 +11,9 @@ use Rattle.gconnect.specs.GitConnections.{ServesGit}
 use Rattle.gconnect.specs.declared.serving.GitEnd.{GitEnd}
 use Rattle.gcmd.specs.Programs.{Outcome}
 use Rattle.gcmd.specs.declared.fault.ProgramFault.TheVariants as program
-use Rattle.gtcp.specs.Sockets.{IsServed, ServesBetween, ServesEach, input_by, output_by}
-use Rattle.gtcp.specs.Steps.{ServesSoFar, Tells}
+use Rattle.gtcp.specs.Sockets.{IsServed, ServesEach}
+use Rattle.gtcp.specs.steps.Sockets.{ServesBetween, input_by, output_by}
+use Rattle.gtcp.specs.steps.Remote.{ServesSoFar, Tells}
 use Rattle.gtcp.proofs.TellingLemmas.{tells_all, tells_next}
 
 module _ {A : Type 0} (server : Server A) (packs : Packs A) (fails : PackFails A) (path : List ℕ) (ends : Ends) where

@@ -11,7 +11,7 @@ use Rattle.gcmd.specs.Outputs.{IsSent}
 use Rattle.gcmd.specs.Printing.{fault_line}
 use Rattle.gcmd.specs.Programs.{Outcome}
 use Rattle.gcmd.specs.declared.fault.ProgramFault.{ProgramFault}
-use Rattle.gtcp.specs.Steps.{PrintsSoFar, Tells}
+use Rattle.gtcp.specs.steps.Remote.{PrintsSoFar, Tells}
 use Rattle.gtcp.specs.Telling.{PrintsFaults, PrintsNone, fault_in, fault_lines, faults_of}
 
 module _ {W : Type 0} (contents passed_on : W → Option (List ℕ)) (is_down : W → Bool) where

@@ -5,4 +5,4 @@ pub mod Remote
 pub mod Sockets
 pub mod Places
 pub mod Prefixes
-pub mod Steps
+pub mod steps

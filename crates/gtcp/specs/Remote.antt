@@ -2,14 +2,15 @@
 use Rattle.std.specs.Prelude.{◌≡◌, ◌⊎◌, ◌<◌, List, ℕ, ◌++◌, codes, Option, None, Result, Ok, Err}
 use Rattle.std.specs.Fmt.{decimal}
 use Rattle.gpkt.specs.Sending.{Output, IsUnwritten, Sends}
+use Rattle.gpkt.specs.Packets.{Bytes}
 use Rattle.ggrammar.specs.declared.ends.Ends.{Ends}
 use Rattle.ggrammar.specs.declared.ends.Ends.TheVariants.{Plain}
 use Rattle.ggrammar.specs.declared.fault.MessageFault.{MessageFault}
 use Rattle.ghello.specs.Hello.{Hello}
 use Rattle.gfetchreply.specs.Values.{default_limit}
 use Rattle.glsreply.specs.LsReplies.{LsReply}
-use Rattle.gspec.specs.Refspecs.{Refspec}
-use Rattle.grepo.specs.Repos.{RepoState}
+use Rattle.grefspec.specs.Refspecs.{Refspec}
+use Rattle.gclientrepo.specs.Repos.{RepoState}
 use Rattle.ganswer.specs.Servers.{Server}
 use Rattle.gsession.specs.declared.fault.ClientFault.TheVariants as client
 use Rattle.gclient.specs.Conversations.{start_of}
@@ -34,7 +35,7 @@ StopsBefore {A} Cause output outcome =
 -- ---- serving
 
 -- the line that shows the port that is listened at
-abbrev pub port_line : ℕ → List ℕ
+abbrev pub port_line : ℕ → Bytes
 port_line port = codes "listening " ++ decimal port ++ codes "\n"
 
 -- what showing a port does: its line is written and passed on; or there is no such socket, or there is no memory for
@@ -47,12 +48,12 @@ Announces output (Err program.WriteFailed) = (port : ℕ) × (port < 65_536) × 
 Announces output (Err _) = ⊥
 
 -- why a file is served to nobody: it is no server's; or it is, and no connection is accepted
-abbrev pub ServesNobody : {A : Type 0} → List ℕ → Output → ProgramFault A → Type 0
+abbrev pub ServesNobody : {A : Type 0} → Bytes → Output → ProgramFault A → Type 0
 ServesNobody {A} file output fault =
     (RefusesFile file fault × IsUnwritten output)
     ⊎ ((server : Server A) × NamesServer file server × Announces {A = A} output (Err fault))
 
-module _ {A : Type 0} (file path : List ℕ) (ends : Ends) (connections : ℕ) (output : Output) where
+module _ {A : Type 0} (file path : Bytes) (ends : Ends) (connections : ℕ) (output : Output) where
   -- the port is shown, and the repository that the file names is served to so many
   pub record IsServedToAll (errors : Output) (outcome : Outcome A) : Type 0 where
     pub server : Server A
@@ -77,7 +78,7 @@ pub record RunsServing (A : Type 0) {E : Type 0} (errors : E → E → Output) (
 
 -- what asking the server at a place answers: a reply as it came over a socket; or there are too many prefixes, or there
 -- is no socket, or the conversation failed
-abbrev pub AsksRemote : {A : Type 0} → List (List ℕ) → Hello → Result LsReply (ProgramFault A) → Type 0
+abbrev pub AsksRemote : {A : Type 0} → List Bytes → Hello → Result LsReply (ProgramFault A) → Type 0
 AsksRemote {A} prefixes hello (Ok reply) =
     FitPrefixes prefixes × ListsFrom {A = A} (asked_for prefixes) hello (Ok reply)
 AsksRemote prefixes hello (Err program.Socket) = FitPrefixes prefixes
@@ -92,7 +93,7 @@ ShowsReply reply output outcome =
     SendsReport (reply_lines reply) output outcome ⊎ ((outcome ≡ Err program.Memory) × IsUnwritten output)
 
 -- what `ls --tcp` does: that, of the server's reply; or a fault was met before
-abbrev pub ListsRemote : {A : Type 0} → List (List ℕ) → Hello → Output → Outcome A → Type 0
+abbrev pub ListsRemote : {A : Type 0} → List Bytes → Hello → Output → Outcome A → Type 0
 ListsRemote {A} prefixes hello output outcome =
     ((reply : LsReply) × AsksRemote {A = A} prefixes hello (Ok reply) × ShowsReply reply output outcome)
     ⊎ StopsBefore (λ fault. AsksRemote prefixes hello (Err fault)) output outcome
@@ -109,10 +110,10 @@ FetchesAt {A} old specs limit ends hello new (Err (program.Fetch fault)) =
     FetchesFrom plain_indexes (plain_index_fails A) (start_of old specs limit ends) hello new (Err fault)
 FetchesAt old specs limit ends hello new (Err _) = ⊥
 
-module _ {A : Type 0} (old : List ℕ) (specs : List Refspec) (limit : ℕ) (ends : Ends) (hello : Hello) where
+module _ {A : Type 0} (old : Bytes) (specs : List Refspec) (limit : ℕ) (ends : Ends) (hello : Hello) where
   -- the repository that the file names was fetched into: objects only came, the refs are settled, there is a new file,
   -- and that is reported
-  pub record IsFetchedRemote (report : Output) (file : Option (List ℕ)) (outcome : Outcome A) : Type 0 where
+  pub record IsFetchedRemote (report : Output) (file : Option Bytes) (outcome : Outcome A) : Type 0 where
     pub repo : RepoState A
     pub names : NamesClient old repo
     pub new : RepoState A
@@ -128,7 +129,7 @@ module _ {A : Type 0} (old : List ℕ) (specs : List Refspec) (limit : ℕ) (end
       × FetchesAt repo specs limit ends hello new (Err fault))
 
   -- what `fetch --tcp` does: that; or a fault was met, nothing is reported, and there is no new file
-  abbrev pub FetchesRemote : Output → Option (List ℕ) → Outcome A → Type 0
+  abbrev pub FetchesRemote : Output → Option Bytes → Outcome A → Type 0
   FetchesRemote report file outcome =
       IsFetchedRemote report file outcome ⊎ (StopsBefore CannotFetch report outcome × (file ≡ None))
 
@@ -158,7 +159,7 @@ module _ {A : Type 0} (old : RepoState A) (specs : List Refspec) (new : RepoStat
   FetchesInPair (Err program.Socket) = new ≡ old
   FetchesInPair (Err _) = ⊥
 
-module _ {A : Type 0} (client : List ℕ) (specs : List Refspec) where
+module _ {A : Type 0} (client : Bytes) (specs : List Refspec) where
   -- the repository that the client's file names was fetched into, and that is reported
   pub record IsMet (output : Output) (outcome : Outcome A) : Type 0 where
     pub repo : RepoState A

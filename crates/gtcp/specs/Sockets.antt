@@ -1,16 +1,17 @@
 -- Conversations over a socket. Which bytes pass through one is not known to any clause: a call holds one where it
 -- does as over other devices, of some input and output.
-use Rattle.std.specs.Prelude.{◌≡◌, ◌⊎◌, ◌<◌, ◌≤◌, ℕ, Bool, true, false, List, length, All, None, Result, Ok, Err}
-use Rattle.gpkt.specs.Change.{Change}
+use Rattle.std.specs.Prelude.{◌≡◌, ◌⊎◌, ◌<◌, ◌≤◌, ℕ, Bool, true, false, List, length, All, Result, Ok, Err}
 use Rattle.gpkt.specs.Sending.{Input, Output}
+use Rattle.gpkt.specs.Packets.{Bytes}
 use Rattle.ggrammar.specs.Building.{IsBuildReason}
 use Rattle.ggrammar.specs.declared.ends.Ends.{Ends}
 use Rattle.ggrammar.specs.declared.fault.MessageFault.{MessageFault}
 use Rattle.ghello.specs.Hello.{Hello, IsHello, MakesHello}
 use Rattle.glsreply.specs.LsReplies.{LsReply}
 use Rattle.gobject.specs.Packs.{Indexes, IndexFails, PackFails, Packs}
-use Rattle.grepo.specs.Repos.{RepoState}
-use Rattle.grequest.specs.Asked.{LsRefsAsked, max_prefixes}
+use Rattle.gclientrepo.specs.Repos.{RepoState}
+use Rattle.grequest.specs.declared.flag.LsRefsFlag.TheVariants.{Symrefs, Peel}
+use Rattle.grequest.specs.Asked.{LsRefsAsked, ls_with, max_prefixes}
 use Rattle.grequest.specs.Building.{no_ls_refs}
 use Rattle.ganswer.specs.Servers.{Server}
 use Rattle.gsession.specs.declared.fault.ClientFault.TheVariants as client
@@ -28,30 +29,9 @@ use Rattle.gcmd.specs.Serving.{outcome_of_connection}
 use Rattle.gcmd.specs.declared.fault.ProgramFault.TheVariants as program
 use Rattle.gtcp.specs.Telling.{PrintsFaults, faults_of}
 
--- ---- a reader and a writer
-
--- a source over a reader that begins well, with this change of what there is to read
-abbrev pub input_by : Change → Bool → Input
-input_by read failed = record { read = read; was_down = false; is_down = failed }
-
--- a sink over a writer that begins well, with this change of what is written; what the writer passes on is not known
-abbrev pub output_by : Change → Bool → Output
-output_by written failed = record {
-  written = written;
-  passed_on = record { old = None; new = None };
-  was_down = false;
-  is_down = failed;
-}
-
 -- ---- fetching
 
 module _ {A : Type 0} (indexes : Indexes A) (index_fails : IndexFails) (start : Start A) (hello : Hello) where
-  -- a fetch is held between a reader and a writer, with this change of what each has
-  abbrev pub FetchesBetween : Change → Change → RepoState A → Result (Fetched A) (FetchFault A) → Type 0
-  FetchesBetween read written new result =
-      (reader_failed writer_failed : Bool)
-      × FetchesGit indexes index_fails start hello (input_by read reader_failed) (output_by written writer_failed) new result
-
   -- a fetch is held over a socket, from the first line on
   pub record HoldsFetch (new : RepoState A) (result : Result (Fetched A) (FetchFault A)) : Type 0 where
     pub input : Input
@@ -72,26 +52,22 @@ module _ {A : Type 0} (indexes : Indexes A) (index_fails : IndexFails) (start : 
 -- ---- listing
 
 -- what is asked: the refs with these prefixes, what symbolic refs point at, and what tags lead to
-abbrev pub asked_for : List (List ℕ) → LsRefsAsked
-asked_for prefixes = record no_ls_refs { symrefs = true; peel = true; prefixes = prefixes }
+abbrev pub asked_for : List Bytes → LsRefsAsked
+asked_for prefixes =
+    let named = ls_with no_ls_refs Symrefs true in
+    record (ls_with named Peel true) { prefixes = prefixes }
 
 -- why it is not asked: there are too many prefixes, or there is no memory for them
-abbrev pub RefusesPrefixes : List (List ℕ) → MessageFault → Type 0
+abbrev pub RefusesPrefixes : List Bytes → MessageFault → Type 0
 RefusesPrefixes prefixes cause =
     (cause.frame ≡ 0) × ((has_room : Bool) × IsBuildReason true has_room cause.why
     × (has_room ≡ false → max_prefixes < length prefixes))
 
 -- there are not too many prefixes
-abbrev pub FitPrefixes : List (List ℕ) → Type 0
+abbrev pub FitPrefixes : List Bytes → Type 0
 FitPrefixes prefixes = length prefixes ≤ max_prefixes
 
 module _ {A : Type 0} (asked : LsRefsAsked) (hello : Hello) where
-  -- a listing is held between a reader and a writer, with this change of what each has
-  abbrev pub ListsBetween : Change → Change → Result LsReply (FetchFault A) → Type 0
-  ListsBetween read written result =
-      (reader_failed writer_failed : Bool)
-      × ListsGit asked hello (input_by read reader_failed) (output_by written writer_failed) result
-
   -- a listing is held over a socket, from the first line on
   pub record HoldsListing (result : Result LsReply (FetchFault A)) : Type 0 where
     pub input : Input
@@ -103,7 +79,7 @@ module _ {A : Type 0} (asked : LsRefsAsked) (hello : Hello) where
   ListsFrom result = HoldsListing result ⊎ (result ≡ Err fetch.NoBuffer)
 
 -- that, of these prefixes; or there is no such request, or no such first line
-abbrev pub ListsOn : {A : Type 0} → List (List ℕ) → Hello → Result LsReply (FetchFault A) → Type 0
+abbrev pub ListsOn : {A : Type 0} → List Bytes → Hello → Result LsReply (FetchFault A) → Type 0
 ListsOn prefixes hello result =
     (IsHello hello × FitPrefixes prefixes × ListsFrom (asked_for prefixes) hello result)
     ⊎ ((cause : MessageFault) × (RefusesPrefixes prefixes cause ⊎ MakesHello hello (Err cause))
@@ -123,19 +99,7 @@ abbrev pub IsCount : {A : Type 0} → List (Outcome A) → ℕ → Outcome A →
 IsCount outcomes connections (Ok done) = length outcomes ≡ connections
 IsCount outcomes connections (Err fault) = (fault ≡ program.Socket) × (length outcomes < connections)
 
-module _ {A : Type 0} (server : Server A) (packs : Packs A) (fails : PackFails A) (path : List ℕ) (ends : Ends) where
-  -- a connection is served between a reader and a writer, with this change of what each has, and how it ended
-  abbrev pub ServesBetween : Change → Change → GitEnd → Type 0
-  ServesBetween read written ended =
-      (reader_failed writer_failed : Bool)
-      × ServesGit server packs fails path ends (input_by read reader_failed) (output_by written writer_failed) ended
-
-  -- a connection is served from a reader, with this change of what it has, and into a socket
-  abbrev pub ServesFrom : Change → GitEnd → Type 0
-  ServesFrom read ended =
-      (reader_failed : Bool) × (output : Output)
-      × ServesGit server packs fails path ends (input_by read reader_failed) output ended
-
+module _ {A : Type 0} (server : Server A) (packs : Packs A) (fails : PackFails A) (path : Bytes) (ends : Ends) where
   -- a connection is served over a socket, and how it ended
   pub record HoldsServing (ended : GitEnd) : Type 0 where
     pub input : Input

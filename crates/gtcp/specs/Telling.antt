@@ -1,13 +1,14 @@
 -- What is printed of the faults of connections.
-use Rattle.std.specs.Prelude.{◌≡◌, ◌⊎◌, ℕ, List, [], ◌∷◌, Ok, Err}
+use Rattle.std.specs.Prelude.{◌≡◌, ◌⊎◌, List, [], ◌∷◌, Ok, Err}
 use Rattle.std.specs.List.{flat_map}
 use Rattle.gpkt.specs.Sending.{Output, IsUnwritten, Passes, SendsSome}
+use Rattle.gpkt.specs.Packets.{Bytes}
 use Rattle.gcmd.specs.Printing.{fault_line}
 use Rattle.gcmd.specs.Programs.{Outcome}
 use Rattle.gcmd.specs.declared.fault.ProgramFault.{ProgramFault}
 
 -- the lines of faults, one after the other
-abbrev pub fault_lines : {A : Type 0} → List (ProgramFault A) → List ℕ
+abbrev pub fault_lines : {A : Type 0} → List (ProgramFault A) → Bytes
 fault_lines faults = flat_map fault_line faults
 
 -- no fault is printed

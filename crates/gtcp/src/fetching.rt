@@ -1,16 +1,17 @@
 //! A server at the other end of a stream, as its client.
 
 ghost use Rattle.std.specs.Prelude.{◌≡◌, ◌≤◌, ◌+◌, ℕ, IfOk, OnErr};
-ghost use Rattle.ghistory.specs.Reach.{Grows};
-ghost use Rattle.ghistory.specs.Walks.{CountsReached};
+ghost use Rattle.gdag.specs.Reach.{Grows};
+ghost use Rattle.gdag.specs.Walks.{CountsReached};
 ghost use Rattle.gpkt.specs.Change.{change_of};
-ghost use Rattle.grepo.specs.Repos.{IsWhole};
-ghost use Rattle.grepo.specs.Settling.{Settles};
+ghost use Rattle.gclientrepo.specs.Repos.{IsWhole};
+ghost use Rattle.gclientrepo.specs.Settling.{Settles};
 ghost use Rattle.gsession.specs.Sessions.{tips_of};
 ghost use Rattle.gclient.specs.Conversations.{start_of};
-ghost use Rattle.gtcp.specs.Sockets.{FetchesBetween, FetchesFrom, FetchesOn, ListsBetween, ListsFrom};
+ghost use Rattle.gtcp.specs.steps.Sockets.{FetchesBetween, ListsBetween};
+ghost use Rattle.gtcp.specs.Sockets.{FetchesFrom, FetchesOn, ListsFrom};
 ghost use Rattle.gtcp.specs.Sockets.{ListsOn};
-ghost use Rattle.gtcp.specs.Steps.{MakesRequest};
+ghost use Rattle.gtcp.specs.steps.Remote.{MakesRequest};
 
 use crate::stream::{MESSAGE_BUFFER, send_at_once};
 use gclient::{FetchFault, Fetched, Repo, Spec};
@@ -53,14 +54,16 @@ pub fn fetch_on<A: Allocator + Copy, K: Indexer<A>>(
     ends: Ends,
 ) -> Result<Fetched<A>, FetchFault<A>>
     ensures fetches { FetchesOn (K.indexes indexer.now) (K.index_fails indexer.now)
-        (start_of repo.old specs.now limit ends) (record { path = path.now; host = host.now }) repo.new result }
-    ensures settled { IfOk result (λ fetched. Settles repo.new.graph.entries repo.old.refs fetched.settled.asks
-        fetched.settled.updates.items repo.new.refs) }
+        (start_of repo.old specs.now limit ends) (record { path = path.now; host = host.now })
+        repo.new result }
+    ensures settled { IfOk result (λ fetched. Settles repo.new.graph.entries repo.old.refs
+        fetched.settled.asks fetched.settled.updates.items repo.new.refs) }
     ensures refs { OnErr result (repo.new.refs ≡ repo.old.refs) }
     ensures grows { Grows repo.old.graph.entries repo.new.graph.entries }
     ensures safe { IsWhole repo.new }
     ensures bound { IfOk result (λ fetched. (held parents : ℕ)
-        → CountsReached repo.old.graph.entries (tips_of repo.old) held parents → fetched.requests ≤ held + 1) }
+        → CountsReached repo.old.graph.entries (tips_of repo.old) held parents
+        → fetched.requests ≤ held + 1) }
 {
     // A look-up says that the repository is whole.
     let _format = repo.format();
@@ -85,14 +88,16 @@ pub(crate) fn fetch_from<A: Allocator + Copy, K: Indexer<A>>(
     wanted: &Wanted<'_, A>,
 ) -> Result<Fetched<A>, FetchFault<A>>
     ensures fetches { FetchesFrom (K.indexes indexer.now) (K.index_fails indexer.now)
-        (start_of repo.old wanted.now.specs.now wanted.now.limit wanted.now.ends) wanted.now.hello.now repo.new result }
-    ensures settled { IfOk result (λ fetched. Settles repo.new.graph.entries repo.old.refs fetched.settled.asks
-        fetched.settled.updates.items repo.new.refs) }
+        (start_of repo.old wanted.now.specs.now wanted.now.limit wanted.now.ends)
+        wanted.now.hello.now repo.new result }
+    ensures settled { IfOk result (λ fetched. Settles repo.new.graph.entries repo.old.refs
+        fetched.settled.asks fetched.settled.updates.items repo.new.refs) }
     ensures refs { OnErr result (repo.new.refs ≡ repo.old.refs) }
     ensures grows { Grows repo.old.graph.entries repo.new.graph.entries }
     ensures safe { IsWhole repo.new }
     ensures bound { IfOk result (λ fetched. (held parents : ℕ)
-        → CountsReached repo.old.graph.entries (tips_of repo.old) held parents → fetched.requests ≤ held + 1) }
+        → CountsReached repo.old.graph.entries (tips_of repo.old) held parents
+        → fetched.requests ≤ held + 1) }
 {
     // A look-up says that the repository is whole.
     let _format = repo.format();
@@ -119,15 +124,18 @@ fn fetch_between<A: Allocator + Copy, K: Indexer<A>, R: Read, W: Write>(
     wanted: &Wanted<'_, A>,
 ) -> Result<Fetched<A>, FetchFault<A>>
     ensures fetches { FetchesBetween (K.indexes indexer.now) (K.index_fails indexer.now)
-        (start_of repo.old wanted.now.specs.now wanted.now.limit wanted.now.ends) wanted.now.hello.now
-        (change_of R.remaining reader.old reader.new) (change_of W.contents writer.old writer.new) repo.new result }
-    ensures settled { IfOk result (λ fetched. Settles repo.new.graph.entries repo.old.refs fetched.settled.asks
-        fetched.settled.updates.items repo.new.refs) }
+        (start_of repo.old wanted.now.specs.now wanted.now.limit wanted.now.ends)
+        wanted.now.hello.now
+        (change_of R.remaining reader.old reader.new) (change_of W.contents writer.old writer.new)
+        repo.new result }
+    ensures settled { IfOk result (λ fetched. Settles repo.new.graph.entries repo.old.refs
+        fetched.settled.asks fetched.settled.updates.items repo.new.refs) }
     ensures refs { OnErr result (repo.new.refs ≡ repo.old.refs) }
     ensures grows { Grows repo.old.graph.entries repo.new.graph.entries }
     ensures safe { IsWhole repo.new }
     ensures bound { IfOk result (λ fetched. (held parents : ℕ)
-        → CountsReached repo.old.graph.entries (tips_of repo.old) held parents → fetched.requests ≤ held + 1) }
+        → CountsReached repo.old.graph.entries (tips_of repo.old) held parents
+        → fetched.requests ≤ held + 1) }
 {
     let mut source = FromRead::new(reader);
     let mut sink = ToWrite::new(writer);

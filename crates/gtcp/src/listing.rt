@@ -29,7 +29,8 @@ fn put_unborn<A: Allocator + Copy>(
     text: &mut Vec<u8, A>,
     target: Option<&RefName<A>>,
 ) -> Result<(), AllocError>
-    ensures { OnOk result (text.new.items ≡ text.old.items ++ unborn_line (option_copied target.entry)) }
+    ensures { OnOk result (text.new.items
+        ≡ text.old.items ++ unborn_line (option_copied target.entry)) }
 {
     match target {
         Some(target) => put_target(text, target),

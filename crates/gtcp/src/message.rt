@@ -30,7 +30,8 @@ pub struct MessageSink<W, A: Allocator + Copy = Global> {
 
 impl<W, A: Allocator + Copy> Model for MessageSink<W, A> {
     ghost use Rattle.std.specs.Prelude.{◌≤◌, length};
-    ghost use Rattle.gtcp.specs.Messages.{Holding, holding_code, max_message};
+    ghost use Rattle.gtcp.specs.Messages.{Holding, max_message};
+    ghost use Rattle.gtcp.specs.steps.Messages.{holding_code};
 
     ghost Value = { Holding W };
 
@@ -51,7 +52,14 @@ impl<W, A: Allocator + Copy> Model for MessageSink<W, A> {
 impl<W, A: Allocator + Copy> MessageSink<W, A> {
     /// A sink that holds nothing. It takes no memory yet.
     pub fn new(alloc: A, sink: W) -> MessageSink<W, A>
-        ensures { result ≡ record { inner = sink; held = []; written = 0; too_long = false; lacks_memory = false; down = false } }
+        ensures { result ≡ record {
+          inner = sink;
+          held = [];
+          written = 0;
+          too_long = false;
+          lacks_memory = false;
+          down = false;
+        } }
     {
         MessageSink {
             sink,
@@ -115,8 +123,8 @@ impl<W: Sink, A: Allocator + Copy> MessageSink<W, A> {
         ensures too_long { self.new.too_long
             ≡ (nat_lt max_message (length self.old.held + length bytes.now) || self.old.too_long) }
         ensures lacks { self.new.lacks_memory
-            ≡ ((is_err result && not (nat_lt max_message (length self.old.held + length bytes.now)))
-            || self.old.lacks_memory) }
+            ≡ ((is_err result && not (nat_lt max_message
+            (length self.old.held + length bytes.now))) || self.old.lacks_memory) }
         ensures written { self.new.written ≡ self.old.written }
         ensures down { OnErr result (self.new.down ≡ true) }
         ensures up { OnOk result (self.new.down ≡ false) }

@@ -1,11 +1,11 @@
 //! Both ends of a connection in one process, turn by turn.
 
 ghost use Rattle.std.specs.Prelude.{◌≡◌, ◌||◌, [], None, true, IfOk, IsErr};
-ghost use Rattle.ghistory.specs.Reach.{Grows};
-ghost use Rattle.grepo.specs.Settling.{Settles};
+ghost use Rattle.gdag.specs.Reach.{Grows};
+ghost use Rattle.gclientrepo.specs.Settling.{Settles};
 ghost use Rattle.ghello.specs.Hello.{MakesHello};
 ghost use Rattle.gtcp.specs.Remote.{FetchesAsClient, FetchesInPair, pair_hello};
-ghost use Rattle.gtcp.specs.Steps.{IsPairFault};
+ghost use Rattle.gtcp.specs.steps.Remote.{IsPairFault};
 
 use crate::message::MessageSink;
 use crate::stream::set_up;
@@ -199,8 +199,8 @@ pub(crate) fn fetch_in_pair<A: Allocator + Copy, N>(
 where
     N: Net<Stream = TcpStream, Listener = TcpListener>,
     ensures fetches { FetchesInPair repo.old specs.now repo.new result }
-    ensures settled { IfOk result (λ fetched. Settles repo.new.graph.entries repo.old.refs fetched.settled.asks
-        fetched.settled.updates.items repo.new.refs) }
+    ensures settled { IfOk result (λ fetched. Settles repo.new.graph.entries repo.old.refs
+        fetched.settled.asks fetched.settled.updates.items repo.new.refs) }
     ensures grows { Grows repo.old.graph.entries repo.new.graph.entries }
 {
     match connect(net) {
@@ -218,8 +218,8 @@ fn fetch_between<A: Allocator + Copy>(
     far: &TcpStream,
 ) -> Result<Fetched<A>, ProgramFault<A>>
     ensures fetches { FetchesInPair repo.old specs.now repo.new result }
-    ensures settled { IfOk result (λ fetched. Settles repo.new.graph.entries repo.old.refs fetched.settled.asks
-        fetched.settled.updates.items repo.new.refs) }
+    ensures settled { IfOk result (λ fetched. Settles repo.new.graph.entries repo.old.refs
+        fetched.settled.asks fetched.settled.updates.items repo.new.refs) }
     ensures grows { Grows repo.old.graph.entries repo.new.graph.entries }
 {
     let alloc = repo.graph().allocator();
@@ -260,8 +260,8 @@ where
     F: Source + Drop,
     W: Sink + Drop,
     ensures fetches { FetchesInPair repo.old specs.now repo.new result }
-    ensures settled { IfOk result (λ fetched. Settles repo.new.graph.entries repo.old.refs fetched.settled.asks
-        fetched.settled.updates.items repo.new.refs) }
+    ensures settled { IfOk result (λ fetched. Settles repo.new.graph.entries repo.old.refs
+        fetched.settled.asks fetched.settled.updates.items repo.new.refs) }
     ensures grows { Grows repo.old.graph.entries repo.new.graph.entries }
 {
     let alloc = repo.graph().allocator();
@@ -303,8 +303,8 @@ fn fetch_as_client<A: Allocator + Copy, S: Source, W: Sink>(
     requests: &mut W,
 ) -> Result<Fetched<A>, FetchFault<A>>
     ensures fetches { FetchesAsClient repo.old specs.now repo.new result }
-    ensures settled { IfOk result (λ fetched. Settles repo.new.graph.entries repo.old.refs fetched.settled.asks
-        fetched.settled.updates.items repo.new.refs) }
+    ensures settled { IfOk result (λ fetched. Settles repo.new.graph.entries repo.old.refs
+        fetched.settled.asks fetched.settled.updates.items repo.new.refs) }
     ensures grows { Grows repo.old.graph.entries repo.new.graph.entries }
 {
     let hello = match hello_of_pair(repo.graph().allocator()) {

@@ -15,8 +15,8 @@ pub fn read_prefixes<A: Allocator + Copy>(
     alloc: A,
     words: &[String<A>],
 ) -> Result<Vec<Prefix<A>, A>, ProgramFault<A>>
-    ensures { MatchResult result (λ prefixes. ReadsPrefixes {A = A} (map string_bytes words.now) (Ok prefixes.items))
-        (λ fault. ReadsPrefixes (map string_bytes words.now) (Err fault)) }
+    ensures { MatchResult result (λ prefixes. ReadsPrefixes {A = A} (map string_bytes words.now)
+        (Ok prefixes.items)) (λ fault. ReadsPrefixes (map string_bytes words.now) (Err fault)) }
 {
     let mut prefixes = Vec::new(alloc);
     for word in words {

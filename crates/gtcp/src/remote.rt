@@ -1,9 +1,10 @@
 //! The programs that open sockets, as functions over the network, bytes and sinks.
 
-ghost use Rattle.std.specs.Prelude.{◌≡◌, ℕ, List, IfErr, IfOk, option_map};
-ghost use Rattle.ghistory.specs.Reach.{Grows};
+ghost use Rattle.std.specs.Prelude.{◌≡◌, IfErr, IfOk, option_map};
+ghost use Rattle.gpkt.specs.Packets.{Bytes};
+ghost use Rattle.gdag.specs.Reach.{Grows};
 ghost use Rattle.gpkt.specs.Sending.{output_of};
-ghost use Rattle.grepo.specs.Settling.{Settles};
+ghost use Rattle.gclientrepo.specs.Settling.{Settles};
 ghost use Rattle.gcmd.specs.Fetching.{NamesClient};
 ghost use Rattle.gcmd.specs.Programs.{Runs};
 ghost use Rattle.gcmd.specs.declared.fault.ProgramFault.TheVariants.{Socket};
@@ -58,7 +59,8 @@ where
     N: Net<Stream = TcpStream, Listener = TcpListener>,
     ensures runs { RunsServing A (output_of E.contents E.passed_on E.is_down) errors.old errors.new
         (ServesRemote service.now.file.now service.now.place.now.hello.path service.now.ends
-        service.now.connections (output_of W.contents W.passed_on W.is_down output.old output.new)) result }
+        service.now.connections (output_of W.contents W.passed_on W.is_down output.old output.new))
+        result }
     ensures output_loans { W.loans output.new ≡ W.loans output.old }
     ensures errors_loans { E.loans errors.new ≡ E.loans errors.old }
 {
@@ -76,7 +78,8 @@ fn serve_all<A: Allocator + Copy, N, W: Sink, E: Sink>(
 ) -> Result<(), ProgramFault<A>>
 where
     N: Net<Stream = TcpStream, Listener = TcpListener>,
-    ensures serves { ServesRemote service.now.file.now service.now.place.now.hello.path service.now.ends
+    ensures serves { ServesRemote service.now.file.now service.now.place.now.hello.path
+        service.now.ends
         service.now.connections (output_of W.contents W.passed_on W.is_down output.old output.new)
         (output_of E.contents E.passed_on E.is_down errors.old errors.new) result }
     ensures output_loans { W.loans output.new ≡ W.loans output.old }
@@ -106,7 +109,8 @@ fn announce<A: Allocator + Copy, W: Sink>(
     listener: &TcpListener,
     output: &mut W,
 ) -> Result<(), ProgramFault<A>>
-    ensures announces { Announces {A = A} (output_of W.contents W.passed_on W.is_down output.old output.new) result }
+    ensures announces { Announces {A = A} (output_of W.contents W.passed_on W.is_down output.old
+        output.new) result }
     ensures loans { W.loans output.new ≡ W.loans output.old }
 {
     match listener.local_addr() {
@@ -120,7 +124,8 @@ fn show_port<A: Allocator + Copy, W: Sink>(
     port: u16,
     output: &mut W,
 ) -> Result<(), ProgramFault<A>>
-    ensures announces { Announces {A = A} (output_of W.contents W.passed_on W.is_down output.old output.new) result }
+    ensures announces { Announces {A = A} (output_of W.contents W.passed_on W.is_down output.old
+        output.new) result }
     ensures loans { W.loans output.new ≡ W.loans output.old }
 {
     match format!(in alloc; "listening {port}\n") {
@@ -256,7 +261,8 @@ pub fn cmd_fetch_remote<A: Allocator + Copy, N, R: Sink, E: Sink>(
 where
     N: Net<Stream = TcpStream, Listener = TcpListener>,
     ensures runs { Runs {A = A}
-        (FetchesRemote fetch.now.file.now fetch.now.specs.now fetch.now.limit fetch.now.ends fetch.now.place.now.hello
+        (FetchesRemote fetch.now.file.now fetch.now.specs.now fetch.now.limit fetch.now.ends
+        fetch.now.place.now.hello
         (output_of R.contents R.passed_on R.is_down report.old report.new)
         (option_map (λ text. text.items) result.file))
         (output_of E.contents E.passed_on E.is_down errors.old errors.new) result.status }
@@ -277,8 +283,8 @@ fn fetch_remote<A: Allocator + Copy, N, R: Sink>(
 ) -> (Result<(), ProgramFault<A>>, Option<Vec<u8, A>>)
 where
     N: Net<Stream = TcpStream, Listener = TcpListener>,
-    ensures fetches { FetchesRemote {A = A} fetch.now.file.now fetch.now.specs.now fetch.now.limit fetch.now.ends
-        fetch.now.place.now.hello
+    ensures fetches { FetchesRemote {A = A} fetch.now.file.now fetch.now.specs.now fetch.now.limit
+        fetch.now.ends fetch.now.place.now.hello
         (output_of R.contents R.passed_on R.is_down report.old report.new)
         (option_map (λ text. text.items) result.1) result.0 }
     ensures loans { R.loans report.new ≡ R.loans report.old }
@@ -299,8 +305,9 @@ fn fetch_for<A: Allocator + Copy, N, R: Sink>(
 ) -> (Result<(), ProgramFault<A>>, Option<Vec<u8, A>>)
 where
     N: Net<Stream = TcpStream, Listener = TcpListener>,
-    ensures fetches { (file : List ℕ) → NamesClient file repo.old
-        → FetchesRemote {A = A} file fetch.now.specs.now fetch.now.limit fetch.now.ends fetch.now.place.now.hello
+    ensures fetches { (file : Bytes) → NamesClient file repo.old
+        → FetchesRemote {A = A} file fetch.now.specs.now fetch.now.limit fetch.now.ends
+        fetch.now.place.now.hello
         (output_of R.contents R.passed_on R.is_down report.old report.new)
         (option_map (λ text. text.items) result.1) result.0 }
     ensures loans { R.loans report.new ≡ R.loans report.old }
@@ -319,10 +326,10 @@ fn fetch_at<A: Allocator + Copy, N>(
 ) -> Result<Fetched<A>, ProgramFault<A>>
 where
     N: Net<Stream = TcpStream, Listener = TcpListener>,
-    ensures fetches { FetchesAt repo.old fetch.now.specs.now fetch.now.limit fetch.now.ends fetch.now.place.now.hello
-        repo.new result }
-    ensures settled { IfOk result (λ fetched. Settles repo.new.graph.entries repo.old.refs fetched.settled.asks
-        fetched.settled.updates.items repo.new.refs) }
+    ensures fetches { FetchesAt repo.old fetch.now.specs.now fetch.now.limit fetch.now.ends
+        fetch.now.place.now.hello repo.new result }
+    ensures settled { IfOk result (λ fetched. Settles repo.new.graph.entries repo.old.refs
+        fetched.settled.asks fetched.settled.updates.items repo.new.refs) }
     ensures grows { Grows repo.old.graph.entries repo.new.graph.entries }
 {
     let stream = match connect(net, fetch.place) {
@@ -401,8 +408,9 @@ fn meet_client<A: Allocator + Copy, N, W: Sink>(
 ) -> Result<(), ProgramFault<A>>
 where
     N: Net<Stream = TcpStream, Listener = TcpListener>,
-    ensures meets { (file : List ℕ) → NamesClient file repo.old
-        → Meets {A = A} file specs.now (output_of W.contents W.passed_on W.is_down output.old output.new) result }
+    ensures meets { (file : Bytes) → NamesClient file repo.old
+        → Meets {A = A} file specs.now (output_of W.contents W.passed_on W.is_down output.old
+        output.new) result }
     ensures loans { W.loans output.new ≡ W.loans output.old }
 {
     match fetch_in_pair(net, server, repo, specs) {

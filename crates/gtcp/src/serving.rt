@@ -5,8 +5,9 @@ ghost use Rattle.gpkt.specs.Change.{change_of};
 ghost use Rattle.gpkt.specs.Sending.{input_of, output_of};
 ghost use Rattle.gconnect.specs.GitConnections.{ServesGit};
 ghost use Rattle.gcmd.specs.Serving.{outcome_of_connection};
-ghost use Rattle.gtcp.specs.Sockets.{HoldsServing, IsServed, ServesBetween, ServesEach, ServesFrom, outcome_of};
-ghost use Rattle.gtcp.specs.Steps.{Tells};
+ghost use Rattle.gtcp.specs.Sockets.{HoldsServing, IsServed, ServesEach, outcome_of};
+ghost use Rattle.gtcp.specs.steps.Sockets.{ServesBetween, ServesFrom};
+ghost use Rattle.gtcp.specs.steps.Remote.{Tells};
 
 use crate::stream::{MESSAGE_BUFFER, hang_up, set_up};
 use ganswer::Server;
@@ -45,7 +46,8 @@ pub fn serve_listener<A: Allocator + Copy, K: Packer<A>, E: Sink>(
     ends: Ends,
     errors: &mut E,
 ) -> Result<(), ProgramFault<A>>
-    ensures serves { ServesEach server.now (K.packs packer.now) (K.pack_fails packer.now) path.now ends
+    ensures serves { ServesEach server.now (K.packs packer.now) (K.pack_fails packer.now) path.now
+        ends
         (output_of E.contents E.passed_on E.is_down errors.old errors.new) connections result }
     ensures loans { E.loans errors.new ≡ E.loans errors.old }
 {
@@ -65,8 +67,8 @@ fn serve_each<A: Allocator + Copy, K: Packer<A>, E: Sink>(
     connections: u32,
     errors: &mut E,
 ) -> Result<(), ProgramFault<A>>
-    ensures serves { ServesEach site.now.server.now (K.packs site.now.packer.now) (K.pack_fails site.now.packer.now)
-        site.now.path.now site.now.ends
+    ensures serves { ServesEach site.now.server.now (K.packs site.now.packer.now)
+        (K.pack_fails site.now.packer.now) site.now.path.now site.now.ends
         (output_of E.contents E.passed_on E.is_down errors.old errors.new) connections result }
     ensures loans { E.loans errors.new ≡ E.loans errors.old }
 {
@@ -87,7 +89,8 @@ fn tell<A: Allocator + Copy, E: Sink>(
     can_tell: bool,
     errors: &mut E,
 ) -> bool
-    ensures tells { Tells outcome can_tell result (output_of E.contents E.passed_on E.is_down errors.old errors.new) }
+    ensures tells { Tells outcome can_tell result
+        (output_of E.contents E.passed_on E.is_down errors.old errors.new) }
     ensures loans { E.loans errors.new ≡ E.loans errors.old }
 {
     match outcome {
@@ -101,8 +104,8 @@ fn serve_stream<A: Allocator + Copy, K: Packer<A>>(
     site: &Site<'_, K, A>,
     stream: &TcpStream,
 ) -> Result<(), ProgramFault<A>>
-    ensures { IsServed site.now.server.now (K.packs site.now.packer.now) (K.pack_fails site.now.packer.now)
-        site.now.path.now site.now.ends result }
+    ensures { IsServed site.now.server.now (K.packs site.now.packer.now)
+        (K.pack_fails site.now.packer.now) site.now.path.now site.now.ends result }
 {
     if set_up(stream).is_err() {
         return Err(ProgramFault::WriteFailed);
@@ -117,8 +120,8 @@ fn serve_buffered<A: Allocator + Copy, K: Packer<A>>(
     site: &Site<'_, K, A>,
     stream: &TcpStream,
 ) -> GitEnd
-    ensures { HoldsServing site.now.server.now (K.packs site.now.packer.now) (K.pack_fails site.now.packer.now)
-        site.now.path.now site.now.ends result }
+    ensures { HoldsServing site.now.server.now (K.packs site.now.packer.now)
+        (K.pack_fails site.now.packer.now) site.now.path.now site.now.ends result }
 {
     match BufReader::new(site.server.graph().allocator(), stream) {
         Ok(mut reader) => serve_from(site, &mut reader, stream),
@@ -135,7 +138,8 @@ fn serve_from<A: Allocator + Copy, K: Packer<A>, R: Read>(
     reader: &mut R,
     stream: &TcpStream,
 ) -> GitEnd
-    ensures { ServesFrom site.now.server.now (K.packs site.now.packer.now) (K.pack_fails site.now.packer.now)
+    ensures { ServesFrom site.now.server.now (K.packs site.now.packer.now)
+        (K.pack_fails site.now.packer.now)
         site.now.path.now site.now.ends (change_of R.remaining reader.old reader.new) result }
 {
     let alloc = site.server.graph().allocator();
@@ -159,7 +163,8 @@ fn serve_between<A: Allocator + Copy, K: Packer<A>, R: Read, W: Write>(
     reader: &mut R,
     writer: &mut W,
 ) -> GitEnd
-    ensures { ServesBetween site.now.server.now (K.packs site.now.packer.now) (K.pack_fails site.now.packer.now)
+    ensures { ServesBetween site.now.server.now (K.packs site.now.packer.now)
+        (K.pack_fails site.now.packer.now)
         site.now.path.now site.now.ends (change_of R.remaining reader.old reader.new)
         (change_of W.contents writer.old writer.new) result }
 {
@@ -174,7 +179,8 @@ fn serve_devices<A: Allocator + Copy, K: Packer<A>, S: Source, W: Sink>(
     source: &mut S,
     sink: &mut W,
 ) -> GitEnd
-    ensures serves { ServesGit site.now.server.now (K.packs site.now.packer.now) (K.pack_fails site.now.packer.now)
+    ensures serves { ServesGit site.now.server.now (K.packs site.now.packer.now)
+        (K.pack_fails site.now.packer.now)
         site.now.path.now site.now.ends (input_of S.remaining S.is_down source.old source.new)
         (output_of W.contents W.passed_on W.is_down sink.old sink.new) result }
     ensures source_loans { S.loans source.new ≡ S.loans source.old }

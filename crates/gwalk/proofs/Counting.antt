@@ -6,7 +6,7 @@ use Rattle.std.proofs.lemmas.List.Sums.{sum_by-set, sum_by-cons, count_by-le-len
 use Rattle.std.proofs.lemmas.List.Folds.{sum_by-replicate}
 use Rattle.std.proofs.lemmas.List.{length-set}
 use Rattle.gobject.specs.declared.node.Entry.{Entry}
-use Rattle.gwalk.specs.Walks.{marked_parents}
+use Rattle.gwalk.specs.steps.Walks.{marked_parents}
 
 abbrev pub count_marks : List Bool → ℕ
 count_marks marks = count_by (λ mark. mark) marks

@@ -1,7 +1,7 @@
 -- A list of ids with those of others that are new to it.
 use Rattle.std.proofs.Common.{◌≡◌, ℕ, List, [], ◌∷◌, ◌++◌, sym, ap, ◌∙◌, append-nil}
-use Rattle.ghistory.specs.Levels.{is_in}
-use Rattle.ghistory.proofs.IdLists.{either_way, with_new, with_new-old, with_new-new}
+use Rattle.gdag.specs.Levels.{is_in}
+use Rattle.gdag.proofs.IdLists.{either_way, with_new, with_new-old, with_new-new}
 
 pub with_new-nil : (s : List (List ℕ)) → with_new s [] ≡ s
 with_new-nil s = append-nil s

@@ -1,9 +1,9 @@
 -- The ids of all levels about some tips are those that a tip reaches.
 use Rattle.std.proofs.Common.{ℕ, List, Contains, sym, subst}
 use Rattle.gobject.specs.declared.node.Entry.{Entry}
-use Rattle.ghistory.specs.Levels.{AreLevels}
-use Rattle.ghistory.specs.Reach.{SomeReaches}
-use Rattle.ghistory.proofs.LevelReach.{in_reached, reached_in}
+use Rattle.gdag.specs.Levels.{AreLevels}
+use Rattle.gdag.specs.Reach.{SomeReaches}
+use Rattle.gdag.proofs.LevelReach.{in_reached, reached_in}
 
 module _ {A : Type 0} (g : List (Entry A)) (tips ids : List (List ℕ)) (levels : AreLevels g tips ids) where
   pub met_reached : (a : List ℕ) → Contains ids a → SomeReaches g tips a

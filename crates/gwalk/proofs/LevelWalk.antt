@@ -3,8 +3,8 @@ use Rattle.std.proofs.Common.{◌≡◌, ℕ, suc, ◌<◌, ◌≤◌, ◌+◌, 
 use Rattle.std.proofs.Math.Seq.{get_or-append_seam}
 use Rattle.std.proofs.lemmas.List.{nil_from_length}
 use Rattle.gobject.specs.declared.node.Entry.{Entry}
-use Rattle.ghistory.specs.Levels.{new_ids, parents_of, parents_of_each, level, levels_below, AreLevels}
-use Rattle.ghistory.proofs.IdLists.{with_new}
+use Rattle.gdag.specs.Levels.{new_ids, parents_of, parents_of_each, level, levels_below, AreLevels}
+use Rattle.gdag.proofs.IdLists.{with_new}
 use Rattle.gwalk.proofs.IdLists.{with_new-nil, with_new-append}
 
 -- the walk stands in level k, at its position `at` of all ids: the ids of the levels down to there are those taken up

@@ -7,14 +7,14 @@ use Rattle.std.proofs.lemmas.Option.{none-some, same_Some}
 use Rattle.std.proofs.lemmas.List.Elements.{Contains-append_left, Contains-append_right, Contains-append_cases, Contains-push_cases}
 use Rattle.gobject.specs.declared.node.Entry.{Entry}
 use Rattle.gobject.specs.Objects.{node_at, place_of}
-use Rattle.ghistory.specs.Reach.{Reaches, SomeReaches}
-use Rattle.ghistory.specs.Levels.{new_ids, parents_of, parents_of_each}
-use Rattle.gwalk.specs.Common.{AreGoals, ids_at}
-use Rattle.gwalk.specs.Walks.{HasMet, places}
-use Rattle.ghistory.proofs.IdLists.{either_way, nothing_in_nil, new_ids-from, new_ids-has, contains_head, contains_tail, contains_cases, with_new}
-use Rattle.ghistory.proofs.LevelLaws.{parent_from}
-use Rattle.ghistory.proofs.LevelReach.{in_reached}
-use Rattle.ghistory.proofs.Reaching.{node_at_none, held_at_place, place_inside, reaches_parent}
+use Rattle.gdag.specs.Reach.{Reaches, SomeReaches}
+use Rattle.gdag.specs.Levels.{new_ids, parents_of, parents_of_each}
+use Rattle.gwalk.specs.steps.Common.{AreGoals, ids_at}
+use Rattle.gwalk.specs.steps.Walks.{HasMet, places}
+use Rattle.gdag.proofs.IdLists.{either_way, nothing_in_nil, new_ids-from, new_ids-has, contains_head, contains_tail, contains_cases, with_new}
+use Rattle.gdag.proofs.LevelLaws.{parent_from}
+use Rattle.gdag.proofs.LevelReach.{in_reached}
+use Rattle.gdag.proofs.Reaching.{node_at_none, held_at_place, place_inside, reaches_parent}
 use Rattle.gwalk.proofs.LevelReach.{reached_met}
 use Rattle.gwalk.proofs.LevelWalk.{IsWalked}
 use Rattle.gwalk.proofs.Reached.{found_at}

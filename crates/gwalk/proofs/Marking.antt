@@ -6,9 +6,9 @@ use Rattle.std.proofs.lemmas.List.{get_or_past, get_or_append_left, get_or-take,
 use Rattle.std.proofs.lemmas.Option.{slice_get_cases}
 use Rattle.gobject.specs.declared.node.Entry.{Entry}
 use Rattle.gwalk.specs.Marks.{AreFull, MarksReached}
-use Rattle.ghistory.specs.Reach.{IsFull, SomeReaches}
-use Rattle.gwalk.specs.Walks.{AreMarked}
-use Rattle.ghistory.proofs.Reaching.{reaches_on}
+use Rattle.gdag.specs.Reach.{IsFull, SomeReaches}
+use Rattle.gwalk.specs.steps.Walks.{AreMarked}
+use Rattle.gdag.proofs.Reaching.{reaches_on}
 
 -- a mark more of a list
 pub take_same : (marks : List Bool) (i : ℕ) (b : Bool) → i < length marks → get_or marks i false ≡ b → get_or (take (i + 1) marks) i false ≡ b

@@ -4,9 +4,9 @@ use Rattle.std.specs.Option.{MatchOption}
 use Rattle.std.proofs.lemmas.Bool.{false≢true}
 use Rattle.std.proofs.lemmas.List.Elements.{Contains-append_right}
 use Rattle.gobject.specs.declared.node.Entry.{Entry}
-use Rattle.ghistory.specs.Graphs.{Holds, IsFirstAbsent}
-use Rattle.ghistory.specs.Reach.{IsFull, here}
-use Rattle.ghistory.specs.Walks.{Misses}
+use Rattle.gdag.specs.Graphs.{Holds, IsFirstAbsent}
+use Rattle.gdag.specs.Reach.{IsFull, here}
+use Rattle.gdag.specs.Walks.{Misses}
 use Rattle.gwalk.specs.Marks.{AreFull}
 
 -- where each id that is held is connected, the ids themselves are looked up

@@ -6,11 +6,11 @@ use Rattle.std.proofs.lemmas.List.Sums.{sum_by-cons}
 use Rattle.std.proofs.lemmas.Option.{same_Some}
 use Rattle.gobject.specs.declared.node.Entry.{Entry}
 use Rattle.gobject.specs.Objects.{IdsDiffer}
-use Rattle.ghistory.specs.Reach.{SomeReaches}
-use Rattle.ghistory.specs.Selecting.{Selects, none, keep, skip}
-use Rattle.ghistory.specs.Walks.{CountsReached}
-use Rattle.ghistory.proofs.Choosing.{selects_same}
-use Rattle.ghistory.proofs.Holding.{own_place}
+use Rattle.gdag.specs.Reach.{SomeReaches}
+use Rattle.gdag.specs.Selecting.{Selects, none, keep, skip}
+use Rattle.gdag.specs.Walks.{CountsReached}
+use Rattle.gdag.proofs.Choosing.{selects_same}
+use Rattle.gdag.proofs.Holding.{own_place}
 use Rattle.gwalk.specs.Marks.{CountsPast, IsUnmarked, SomeReachesPast, StopsAtMarks, stop_at}
 use Rattle.gwalk.proofs.Reached.{past_from, past_to}
 use Rattle.gwalk.proofs.Stopping.{bare_if}

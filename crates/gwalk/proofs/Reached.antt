@@ -9,18 +9,18 @@ use Rattle.std.proofs.lemmas.Bool.{false≢true}
 use Rattle.gobject.specs.declared.node.Node.{Node}
 use Rattle.gobject.specs.declared.node.Entry.{Entry}
 use Rattle.gobject.specs.Objects.{node_at, place_of, IdsDiffer}
-use Rattle.ghistory.specs.Graphs.{Holds, HasParent, IsNode}
-use Rattle.ghistory.specs.Reach.{Reaches, here, onward, SomeReaches, IsFull}
+use Rattle.gdag.specs.Graphs.{Holds, HasParent, IsNode}
+use Rattle.gdag.specs.Reach.{Reaches, here, onward, SomeReaches, IsFull}
 use Rattle.gwalk.specs.Marks.{AreFull, IsUnmarked, ReachesPast, there, further, stop_at}
-use Rattle.ghistory.specs.Selecting.{Selects, none, keep, skip}
-use Rattle.ghistory.specs.Walks.{CountsReached, Misses}
-use Rattle.gwalk.specs.Walks.{IsWalk, AreMarked, marked, marked_parents}
-use Rattle.ghistory.proofs.Reaching.{held_at_place, node_at_place, node_at_none, place_inside, kept_along, some_reaches, place_of_node}
-use Rattle.ghistory.proofs.Holding.{own_place}
+use Rattle.gdag.specs.Selecting.{Selects, none, keep, skip}
+use Rattle.gdag.specs.Walks.{CountsReached, Misses}
+use Rattle.gwalk.specs.steps.Walks.{IsWalk, AreMarked, marked, marked_parents}
+use Rattle.gdag.proofs.Reaching.{held_at_place, node_at_place, node_at_none, place_inside, kept_along, some_reaches, place_of_node}
+use Rattle.gdag.proofs.Holding.{own_place}
 use Rattle.gwalk.proofs.Counting.{count_marks}
 use Rattle.gwalk.proofs.LevelReach.{met_reached, reached_met}
 use Rattle.gwalk.proofs.Stopping.{bare_if, stop_place, stop_slice, stopped_entry, mapped}
-use Rattle.ghistory.proofs.Places.{id_at_place}
+use Rattle.gdag.proofs.Places.{id_at_place}
 
 -- the marked positions are those of the ids that are reached
 pub marks_reached : {A : Type 0} (g : List (Entry A)) (starts : List (List ℕ)) (marks : List Bool) (met : List ℕ) (lost : Option (List ℕ)) (parents : ℕ) → IdsDiffer g → IsWalk g starts marks met lost parents → AreMarked (SomeReaches g starts) g marks

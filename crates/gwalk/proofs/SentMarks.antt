@@ -8,10 +8,10 @@ use Rattle.std.proofs.lemmas.List.Elements.{filter_map-append}
 use Rattle.std.proofs.lemmas.Option.{none-some}
 use Rattle.std.specs.List.{cons_option}
 use Rattle.gobject.specs.declared.node.Entry.{Entry}
-use Rattle.ghistory.specs.Reach.{SomeReaches}
-use Rattle.ghistory.specs.Sending.{IsNew}
-use Rattle.gwalk.specs.Common.{ids_at}
-use Rattle.gwalk.specs.Walks.{AreMarked, marked}
+use Rattle.gdag.specs.Reach.{SomeReaches}
+use Rattle.gdag.specs.Sending.{IsNew}
+use Rattle.gwalk.specs.steps.Common.{ids_at}
+use Rattle.gwalk.specs.steps.Walks.{AreMarked, marked}
 use Rattle.gwalk.proofs.Marking.{take_same, take_other, take_past, none_in}
 use Rattle.std.proofs.lemmas.Bool.{false_from_ne_true}
 

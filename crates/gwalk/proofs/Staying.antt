@@ -5,11 +5,11 @@ use Rattle.std.proofs.lemmas.List.Elements.{All-contains}
 use Rattle.std.proofs.lemmas.Option.{none-some, same_Some}
 use Rattle.gobject.specs.declared.node.Entry.{Entry}
 use Rattle.gobject.specs.Objects.{place_of}
-use Rattle.ghistory.specs.Laws.{FullStaysFull, GrowingKeeps}
-use Rattle.ghistory.specs.Reach.{IsFull, Reaches}
+use Rattle.gdag.specs.Laws.{FullStaysFull, GrowingKeeps}
+use Rattle.gdag.specs.Reach.{IsFull, Reaches}
 use Rattle.gwalk.specs.Marks.{CoveringStays, MarksStayFull}
-use Rattle.ghistory.proofs.Holding.{own_place}
-use Rattle.ghistory.proofs.Reaching.{place_at}
+use Rattle.gdag.proofs.Holding.{own_place}
+use Rattle.gdag.proofs.Reaching.{place_at}
 
 slice_in_front : {X : Type 0} (xs ys : List X) (place : ℕ) (x : X) → slice_get xs place ≡ Some x → slice_get (xs ++ ys) place ≡ Some x
 slice_in_front [] ys place x at = absurd (none-some x at)

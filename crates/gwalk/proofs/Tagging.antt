@@ -5,15 +5,15 @@ use Rattle.std.proofs.lemmas.List.{get_or-set_same, get_or-set_other, length-set
 use Rattle.std.proofs.lemmas.List.Elements.{Contains-append_left, Contains-push, Contains-push_cases}
 use Rattle.gobject.specs.declared.node.Entry.{Entry}
 use Rattle.gobject.specs.Objects.{place_of, IdsDiffer}
-use Rattle.ghistory.specs.Peeling.{IsTagOf, IsCommit, Tags, PeelsTo}
-use Rattle.ghistory.specs.Selecting.{Selects}
-use Rattle.ghistory.specs.Sending.{IsNew, IsTagToSend, IsToSend}
-use Rattle.gwalk.specs.Tags.{AreTagged, IsTagAmong, IsTagFrom, LeadsToMarked}
-use Rattle.gwalk.specs.Walks.{AreMarked, marked}
-use Rattle.ghistory.proofs.Holding.{own_place}
-use Rattle.ghistory.proofs.PeelLemmas.{onward, rest_of, tags_more}
-use Rattle.ghistory.proofs.Reaching.{place_inside, place_same}
-use Rattle.ghistory.proofs.IdLists.{nothing_in_nil}
+use Rattle.gdag.specs.Peeling.{IsTagOf, IsCommit, Tags, PeelsTo}
+use Rattle.gdag.specs.Selecting.{Selects}
+use Rattle.gdag.specs.Sending.{IsNew, IsTagToSend, IsToSend}
+use Rattle.gwalk.specs.steps.Tags.{AreTagged, IsTagAmong, IsTagFrom, LeadsToMarked}
+use Rattle.gwalk.specs.steps.Walks.{AreMarked, marked}
+use Rattle.gdag.proofs.Holding.{own_place}
+use Rattle.gdag.proofs.PeelLemmas.{onward, rest_of, tags_more}
+use Rattle.gdag.proofs.Reaching.{place_inside, place_same}
+use Rattle.gdag.proofs.IdLists.{nothing_in_nil}
 use Rattle.gwalk.proofs.Reached.{held_by, marked_selects}
 use Rattle.std.proofs.lemmas.Option.{same_Some}
 

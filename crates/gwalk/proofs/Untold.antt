@@ -2,11 +2,11 @@
 use Rattle.std.proofs.Common.{◌≡◌, ℕ, Bool, true, false, true≢false, ◌&&◌, not, List, take, filter, is_some, refl, sym}
 use Rattle.gobject.specs.declared.node.Entry.{Entry}
 use Rattle.gobject.specs.Objects.{node_at}
-use Rattle.ghistory.specs.Levels.{is_in, AreLevels}
-use Rattle.ghistory.specs.Offer.{IsOffer, MayBeOffered}
-use Rattle.ghistory.proofs.IdLists.{contains_from_in, absent_from_in}
+use Rattle.gdag.specs.Levels.{is_in, AreLevels}
+use Rattle.gdag.specs.Offer.{IsOffer, MayBeOffered}
+use Rattle.gdag.proofs.IdLists.{contains_from_in, absent_from_in}
 use Rattle.gwalk.proofs.LevelReach.{met_reached, reached_met}
-use Rattle.ghistory.proofs.Choosing.{filter_selects}
+use Rattle.gdag.proofs.Choosing.{filter_selects}
 
 -- ---- the test, where `reached` is all ids that a common id reaches
 

@@ -10,15 +10,15 @@ use Rattle.std.proofs.lemmas.List.Elements.{Contains-append_left, Contains-push,
 use Rattle.gobject.specs.declared.node.Node.{Node}
 use Rattle.gobject.specs.declared.node.Entry.{Entry}
 use Rattle.gobject.specs.Objects.{place_of}
-use Rattle.ghistory.specs.Graphs.{Holds}
-use Rattle.ghistory.specs.Levels.{is_in, new_ids, parents_of, AreLevels}
-use Rattle.gwalk.specs.Walks.{HasMet, IsLost, IsWalk, places}
-use Rattle.ghistory.proofs.IdLists.{either_way, nothing_in_nil, in_or_not, in_from_contains, new_ids-old, new_ids-new, contains_from_in, with_new}
-use Rattle.ghistory.proofs.Reaching.{place_inside, place_same, node_at_none, held_at_place}
+use Rattle.gdag.specs.Graphs.{Holds}
+use Rattle.gdag.specs.Levels.{is_in, new_ids, parents_of, AreLevels}
+use Rattle.gwalk.specs.steps.Walks.{HasMet, IsLost, IsWalk, places}
+use Rattle.gdag.proofs.IdLists.{either_way, nothing_in_nil, in_or_not, in_from_contains, new_ids-old, new_ids-new, contains_from_in, with_new}
+use Rattle.gdag.proofs.Reaching.{place_inside, place_same, node_at_none, held_at_place}
 use Rattle.gwalk.proofs.Counting.{count_none, count_more, count_less, parents_none, parents_more}
 use Rattle.gwalk.proofs.IdLists.{with_new-nil, with_new-append}
 use Rattle.gwalk.proofs.LevelWalk.{IsWalked, walk_begins, walk_goes, walk_ends}
-use Rattle.gpass.proofs.Places.{parents_are}
+use Rattle.gtopowalk.proofs.Places.{parents_are}
 
 -- ---- the start
 

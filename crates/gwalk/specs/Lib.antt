@@ -1,4 +1,2 @@
-pub mod Common
 pub mod Marks
-pub mod Tags
-pub mod Walks
+pub mod steps

@@ -1,12 +1,13 @@
 -- Marks of ids by their positions in store order. A position past the end has no mark.
 use Rattle.std.specs.Prelude.{◌≡◌, ◌≤◌, ◌⊎◌, ◌↔◌, ℕ, Bool, true, false, cond, List, [], ◌∷◌, length, slice_get, All}
 use Rattle.std.specs.Prelude.{slice_index_or, sum_by, Contains, Some}
+use Rattle.gname.specs.Ids.{Id}
 use Rattle.gobject.specs.declared.node.Entry.{Entry}
 use Rattle.gobject.specs.Objects.{entry_of, node_of, place_of, IdsDiffer}
-use Rattle.ghistory.specs.Graphs.{HasParent}
-use Rattle.ghistory.specs.Reach.{Reaches, IsFull, SomeReaches, Grows}
-use Rattle.ghistory.specs.Selecting.{Selects}
-use Rattle.ghistory.specs.Walks.{CountsReached}
+use Rattle.gdag.specs.Graphs.{HasParent}
+use Rattle.gdag.specs.Reach.{Reaches, IsFull, SomeReaches, Grows}
+use Rattle.gdag.specs.Selecting.{Selects}
+use Rattle.gdag.specs.Walks.{CountsReached}
 
 -- each marked id is connected
 abbrev pub AreFull : {A : Type 0} → List (Entry A) → List Bool → Type 0
@@ -22,22 +23,22 @@ stop_at (mark ∷ marks) (entry ∷ g) =
     cond mark (entry_of entry.id (node_of entry.node.kind [])) entry ∷ stop_at marks g
 
 -- the id is held, and its position has no mark
-abbrev pub IsUnmarked : {A : Type 0} → List (Entry A) → List Bool → List ℕ → Type 0
+abbrev pub IsUnmarked : {A : Type 0} → List (Entry A) → List Bool → Id → Type 0
 IsUnmarked g marks a = (place : ℕ) × (place_of g a ≡ Some place) × (slice_index_or marks place false ≡ false)
 
 -- reaching by steps that leave unmarked ids: an id reaches itself, and where it is held and has no mark all that a
 -- parent of it reaches so
-pub data ReachesPast {A : Type 0} (g : List (Entry A)) (marks : List Bool) : List ℕ → List ℕ → Type 0 where
-  there : {a : List ℕ} → ReachesPast g marks a a
-  further : {a b c : List ℕ} → IsUnmarked g marks a → HasParent g a b →
+pub data ReachesPast {A : Type 0} (g : List (Entry A)) (marks : List Bool) : Id → Id → Type 0 where
+  there : {a : Id} → ReachesPast g marks a a
+  further : {a b c : Id} → IsUnmarked g marks a → HasParent g a b →
       ReachesPast g marks b c → ReachesPast g marks a c
 
 -- one of the ids reaches `b` so
-abbrev pub SomeReachesPast : {A : Type 0} → List (Entry A) → List Bool → List (List ℕ) → List ℕ → Type 0
-SomeReachesPast g marks ids b = (a : List ℕ) × Contains ids a × ReachesPast g marks a b
+abbrev pub SomeReachesPast : {A : Type 0} → List (Entry A) → List Bool → List Id → Id → Type 0
+SomeReachesPast g marks ids b = (a : Id) × Contains ids a × ReachesPast g marks a b
 
 -- so many held ids do some ids reach so, and so many parents do the unmarked ones of these have
-pub record CountsPast {A : Type 0} (g : List (Entry A)) (marks : List Bool) (ids : List (List ℕ))
+pub record CountsPast {A : Type 0} (g : List (Entry A)) (marks : List Bool) (ids : List Id)
     (held parents : ℕ) : Type 0 where
   pub list : List (Entry A)
   pub reached : Selects (λ entry. SomeReachesPast g marks ids entry.id) g list
@@ -51,12 +52,12 @@ pub record CountsPast {A : Type 0} (g : List (Entry A)) (marks : List Bool) (ids
 abbrev pub StopsAtMarks : Type 0 → Type 0
 StopsAtMarks A =
     (g : List (Entry A)) (marks : List Bool)
-    → ((a b : List ℕ) → Reaches (stop_at marks g) a b ↔ ReachesPast g marks a b)
-    × ((ids : List (List ℕ)) (held parents : ℕ) → IdsDiffer g
+    → ((a b : Id) → Reaches (stop_at marks g) a b ↔ ReachesPast g marks a b)
+    × ((ids : List Id) (held parents : ℕ) → IdsDiffer g
     → CountsReached (stop_at marks g) ids held parents → CountsPast g marks ids held parents)
 
 -- the ids that some ids reach were marked, and all other marks are as before
-pub record MarksReached {A : Type 0} (g : List (Entry A)) (ids : List (List ℕ)) (old new : List Bool) : Type 0 where
+pub record MarksReached {A : Type 0} (g : List (Entry A)) (ids : List Id) (old new : List Bool) : Type 0 where
   pub each : (place : ℕ) (entry : Entry A) → slice_get g place ≡ Some entry →
       (slice_index_or new place false ≡ true) ↔ ((slice_index_or old place false ≡ true) ⊎ SomeReaches g ids entry.id)
   pub others : (place : ℕ) → length g ≤ place → slice_index_or new place false ≡ slice_index_or old place false
@@ -66,7 +67,7 @@ abbrev pub MarksStayFull : Type 0 → Type 0
 MarksStayFull A = (g h : List (Entry A)) (marks : List Bool) → Grows g h → AreFull g marks → AreFull h marks
 
 -- the marks cover the ids: all that one of these reaches has its mark
-abbrev pub Covers : {A : Type 0} → List (Entry A) → List (List ℕ) → List Bool → Type 0
+abbrev pub Covers : {A : Type 0} → List (Entry A) → List Id → List Bool → Type 0
 Covers {A} g ids marks =
     (place : ℕ) (entry : Entry A) → slice_get g place ≡ Some entry → SomeReaches g ids entry.id
     → slice_index_or marks place false ≡ true
@@ -74,5 +75,5 @@ Covers {A} g ids marks =
 -- marks that cover connected ids still do where a graph grows
 abbrev pub CoveringStays : Type 0 → Type 0
 CoveringStays A =
-    (g h : List (Entry A)) (ids : List (List ℕ)) (marks : List Bool)
+    (g h : List (Entry A)) (ids : List Id) (marks : List Bool)
     → Grows g h → IdsDiffer h → All (IsFull g) ids → Covers g ids marks → Covers h ids marks

@@ -2,14 +2,14 @@
 #![tactic(auto)]
 
 ghost use Rattle.std.specs.Prelude.{◌≡◌, IfOk, IfErr, IsTrue, is_ok};
-ghost use Rattle.ghistory.specs.Graphs.{IsOrdered};
-ghost use Rattle.ghistory.specs.Walks.{Misses, CountsReached};
-ghost use Rattle.ghistory.specs.declared.fault.GraphFault.TheVariants.{Memory};
+ghost use Rattle.gdag.specs.Graphs.{IsOrdered};
+ghost use Rattle.gdag.specs.Walks.{Misses, CountsReached};
+ghost use Rattle.gdag.specs.declared.fault.GraphFault.TheVariants.{Memory};
 ghost use Rattle.gwalk.specs.Marks.{AreFull, stop_at};
 
 use crate::marks::FullMarks;
 use crate::walk::walk_past;
-use ghistory::{Graph, GraphFault};
+use gdag::{Graph, GraphFault};
 use gname::Oid;
 use std::alloc::Allocator;
 
@@ -35,8 +35,8 @@ pub fn missing<A: Allocator + Copy>(
     ensures fault { IfErr result (λ fault. fault ≡ Memory) }
 {
     if graph.is_ordered() {
-        ghistory::laws::ordered_is_closed::<A>();
-        ghistory::laws::closed_is_full::<A>();
+        gdag::laws::ordered_is_closed::<A>();
+        gdag::laws::closed_is_full::<A>();
         return Ok(graph.first_absent(ids));
     }
     let (missing, _count) = missing_counted(graph, ids)?;
@@ -51,7 +51,8 @@ pub fn missing_counted<A: Allocator + Copy>(
     ids: &[Oid],
 ) -> Result<(Option<Oid>, Count), GraphFault>
     ensures answer { IfOk result (λ pair. Misses graph.now.entries ids.now pair.0) }
-    ensures count { IfOk result (λ pair. CountsReached graph.now.entries ids.now pair.1.ids pair.1.parents) }
+    ensures count { IfOk result (λ pair. CountsReached graph.now.entries ids.now pair.1.ids
+        pair.1.parents) }
     ensures fault { IfErr result (λ fault. fault ≡ Memory) }
 {
     missing_known(graph, ids, &FullMarks::new(graph.allocator()))

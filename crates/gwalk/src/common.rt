@@ -1,18 +1,19 @@
 //! What both ends have, and what reaches it.
 #![tactic(auto)]
 
-ghost use Rattle.std.specs.Prelude.{◌≡◌, ◌↔◌, ◌<◌, [], ℕ, List, Ok, Some, length, not, is_some, filter, IfOk, IfErr, IsTrue, false, All, Contains};
+ghost use Rattle.std.specs.Prelude.{◌≡◌, ◌↔◌, ◌<◌, [], List, Ok, Some, length, not, is_some, filter, IfOk, IfErr, IsTrue, false, All, Contains};
 ghost use Rattle.std.specs.List.{Any};
+ghost use Rattle.gname.specs.Ids.{Id};
 ghost use Rattle.gobject.specs.Objects.{node_at};
-ghost use Rattle.ghistory.specs.Levels.{new_ids};
-ghost use Rattle.ghistory.specs.Reach.{Reaches};
-ghost use Rattle.ghistory.specs.Walks.{IsReady, common_of};
-ghost use Rattle.ghistory.specs.declared.fault.GraphFault.TheVariants.{Memory};
-ghost use Rattle.gwalk.specs.Common.{AreGoals, ids_at};
-ghost use Rattle.gwalk.specs.Walks.{HasMet};
+ghost use Rattle.gdag.specs.Levels.{new_ids};
+ghost use Rattle.gdag.specs.Reach.{Reaches};
+ghost use Rattle.gdag.specs.Walks.{IsReady, common_of};
+ghost use Rattle.gdag.specs.declared.fault.GraphFault.TheVariants.{Memory};
+ghost use Rattle.gwalk.specs.steps.Common.{AreGoals, ids_at};
+ghost use Rattle.gwalk.specs.steps.Walks.{HasMet};
 
 use crate::walk::Walk;
-use ghistory::{Graph, GraphFault};
+use gdag::{Graph, GraphFault};
 use gname::Oid;
 use std::alloc::{AllocError, Allocator};
 
@@ -37,11 +38,12 @@ pub fn common_ids<A: Allocator + Copy>(
 /// In an ordered graph it passes once over the objects from the second id to the first. In any other it walks
 /// from the first id no further than to the second. It fails with `Memory` alone.
 pub fn reaches<A: Allocator + Copy>(graph: &Graph<A>, a: &Oid, b: &Oid) -> Result<bool, GraphFault>
-    ensures answer { IfOk result (λ answer. IsTrue answer ↔ Reaches graph.now.entries a.now b.now) }
+    ensures answer { IfOk result (λ answer. IsTrue answer
+        ↔ Reaches graph.now.entries a.now b.now) }
     ensures fault { IfErr result (λ fault. fault ≡ Memory) }
 {
     if graph.is_ordered() {
-        return gpass::reaches(graph, a, b);
+        return gtopowalk::reaches(graph, a, b);
     }
     let goals = Goals::new(graph, &[*b])?;
     Ok(goals.reached_by(graph, a)?)
@@ -58,12 +60,13 @@ pub fn ready<A: Allocator + Copy>(
     wants: &[Oid],
     commons: &[Oid],
 ) -> Result<bool, GraphFault>
-    ensures answer { IfOk result (λ answer. IsTrue answer ↔ IsReady graph.now.entries wants.now commons.now) }
+    ensures answer { IfOk result (λ answer. IsTrue answer
+        ↔ IsReady graph.now.entries wants.now commons.now) }
     ensures nothing { commons.now ≡ [] → result ≡ Ok false }
     ensures fault { IfErr result (λ fault. fault ≡ Memory) }
 {
     if graph.is_ordered() {
-        return gpass::ready(graph, wants, commons);
+        return gtopowalk::ready(graph, wants, commons);
     }
     if commons.is_empty() {
         return Ok(false);
@@ -153,7 +156,8 @@ struct Goals<A: Allocator + Copy> {
 
 impl<A: Allocator + Copy> Goals<A> {
     fn new(graph: &Graph<A>, ids: &[Oid]) -> Result<Goals<A>, AllocError>
-        ensures { IfOk result (λ goals. AreGoals graph.now.entries ids.now goals.marks.items goals.absent.items) }
+        ensures { IfOk result (λ goals. AreGoals graph.now.entries ids.now goals.marks.items
+            goals.absent.items) }
     {
         let walk = met_of(graph, ids)?;
         let absent = absent_of(graph, ids)?;
@@ -165,8 +169,9 @@ impl<A: Allocator + Copy> Goals<A> {
 
     // Whether the id reaches one of the goals.
     fn reached_by(&self, graph: &Graph<A>, start: &Oid) -> Result<bool, AllocError>
-        requires { (ids : List (List ℕ)) × AreGoals graph.now.entries ids self.now.marks.items self.now.absent.items }
-        ensures { IfOk result (λ answer. (ids : List (List ℕ)) →
+        requires { (ids : List Id)
+            × AreGoals graph.now.entries ids self.now.marks.items self.now.absent.items }
+        ensures { IfOk result (λ answer. (ids : List Id) →
             AreGoals graph.now.entries ids self.now.marks.items self.now.absent.items →
             IsTrue answer ↔ Any (Reaches graph.now.entries start.now) ids) }
     {

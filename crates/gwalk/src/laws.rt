@@ -3,7 +3,7 @@
 
 ghost use Rattle.gwalk.specs.Marks.{CoveringStays, MarksStayFull, StopsAtMarks};
 
-use ghistory::laws::{full_stays_full, growing_keeps};
+use gdag::laws::{full_stays_full, growing_keeps};
 use std::alloc::Allocator;
 
 /// Where objects only came to a graph, marks of connected ids are such marks yet.

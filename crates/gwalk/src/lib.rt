@@ -33,7 +33,7 @@
 //!
 //! # Stands on
 //!
-//! `ghistory` for graphs, `gpass` for passes over ordered ones, `gobject` for their objects,
+//! `gdag` for graphs, `gtopowalk` for passes over ordered ones, `gobject` for their objects,
 //! `gname` for ids, `grefs` for the refs whose tags are sent.
 #![tactic(auto)]
 

@@ -3,12 +3,12 @@
 
 ghost use Rattle.std.specs.Prelude.{◌≡◌, ℕ, List, [], length, IfOk, ◌||◌, OnOk, OnErr, IfErr, All, slice_index_or, false};
 ghost use Rattle.gobject.specs.declared.node.Entry.{Entry};
-ghost use Rattle.ghistory.specs.Reach.{IsFull};
-ghost use Rattle.ghistory.specs.declared.fault.GraphFault.TheVariants.{Memory};
+ghost use Rattle.gdag.specs.Reach.{IsFull};
+ghost use Rattle.gdag.specs.declared.fault.GraphFault.TheVariants.{Memory};
 ghost use Rattle.gwalk.specs.Marks.{AreFull, MarksReached};
 
 use crate::walk::walk_from;
-use ghistory::{Graph, GraphFault};
+use gdag::{Graph, GraphFault};
 use gname::Oid;
 use std::alloc::{AllocError, Allocator, Global};
 use std::marker::Model;

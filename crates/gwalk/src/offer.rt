@@ -1,16 +1,17 @@
 //! The ids that a client offers as haves.
 #![tactic(auto)]
 
-ghost use Rattle.std.specs.Prelude.{◌≡◌, ◌<◌, [], IfOk, IfErr, List, ℕ, length, not, ◌&&◌, slice_index_or, false};
-ghost use Rattle.ghistory.specs.Levels.{AreLevels, new_ids};
-ghost use Rattle.ghistory.specs.Offer.{IsOffer};
-ghost use Rattle.ghistory.specs.declared.fault.GraphFault.TheVariants.{Memory};
-ghost use Rattle.gwalk.specs.Walks.{HasMet};
+ghost use Rattle.std.specs.Prelude.{◌≡◌, ◌<◌, [], IfOk, IfErr, List, length, not, ◌&&◌, slice_index_or, false};
+ghost use Rattle.gname.specs.Ids.{Id};
+ghost use Rattle.gdag.specs.Levels.{AreLevels, new_ids};
+ghost use Rattle.gdag.specs.Offer.{IsOffer};
+ghost use Rattle.gdag.specs.declared.fault.GraphFault.TheVariants.{Memory};
+ghost use Rattle.gwalk.specs.steps.Walks.{HasMet};
 
 use crate::common::met_of;
 use crate::walk::{Walk, walk_from};
-use ghistory::laws::levels_are_distances;
-use ghistory::{Graph, GraphFault};
+use gdag::laws::levels_are_distances;
+use gdag::{Graph, GraphFault};
 use gname::Oid;
 use std::alloc::{AllocError, Allocator};
 
@@ -54,11 +55,11 @@ fn first_untold<A: Allocator + Copy>(
     sent: &Walk<A>,
     n: usize,
 ) -> Result<Vec<Oid, A>, AllocError>
-    requires known { (ids : List (List ℕ)) × HasMet graph.now.entries ids
+    requires known { (ids : List Id) × HasMet graph.now.entries ids
         known.now.marks.items known.now.met.items known.now.lost known.now.parents }
-    requires sent { (ids : List (List ℕ)) × HasMet graph.now.entries ids
+    requires sent { (ids : List Id) × HasMet graph.now.entries ids
         sent.now.marks.items sent.now.met.items sent.now.lost sent.now.parents }
-    ensures { IfOk result (λ list. (commons reached others : List (List ℕ)) →
+    ensures { IfOk result (λ list. (commons reached others : List Id) →
         AreLevels graph.now.entries commons reached →
         HasMet graph.now.entries reached
         known.now.marks.items known.now.met.items known.now.lost known.now.parents →

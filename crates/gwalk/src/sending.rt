@@ -1,20 +1,21 @@
 //! The objects to send.
 #![tactic(auto)]
 
-ghost use Rattle.std.specs.Prelude.{◌≡◌, ◌↔◌, ◌⊎◌, [], IfOk, IfErr, IfSome, IsSome, IsTrue, List, ℕ, Some, length, slice_index_or, true, false};
+ghost use Rattle.std.specs.Prelude.{◌≡◌, ◌↔◌, ◌⊎◌, [], IfOk, IfErr, IfSome, IsSome, IsTrue, ℕ, Some, length, slice_index_or, true, false};
 ghost use Rattle.std.specs.Map.{values_of};
+ghost use Rattle.gname.specs.Ids.{Id};
 ghost use Rattle.gobject.specs.Objects.{place_of};
-ghost use Rattle.ghistory.specs.Graphs.{IsGraph};
-ghost use Rattle.ghistory.specs.Peeling.{IsTagOf, PeelsTo};
-ghost use Rattle.ghistory.specs.Sending.{IsListToSend, IsNew};
-ghost use Rattle.ghistory.specs.declared.fault.GraphFault.TheVariants.{Memory};
-ghost use Rattle.gwalk.specs.Tags.{AreTagged, IsTagFrom, LeadsToMarked};
-ghost use Rattle.gwalk.specs.Walks.{AreMarked, marked};
+ghost use Rattle.gdag.specs.Graphs.{IsGraph};
+ghost use Rattle.gdag.specs.Peeling.{IsTagOf, PeelsTo};
+ghost use Rattle.gdag.specs.Sending.{IsListToSend, IsNew};
+ghost use Rattle.gdag.specs.declared.fault.GraphFault.TheVariants.{Memory};
+ghost use Rattle.gwalk.specs.steps.Tags.{AreTagged, IsTagFrom, LeadsToMarked};
+ghost use Rattle.gwalk.specs.steps.Walks.{AreMarked, marked};
 
 use crate::marks::is_marked;
 use crate::walk::walk_from;
-use ghistory::laws::sent_are_entries;
-use ghistory::{Graph, GraphFault};
+use gdag::laws::sent_are_entries;
+use gdag::{Graph, GraphFault};
 use gname::Oid;
 use gobject::{Entry, Kind};
 use grefs::Refs;
@@ -30,7 +31,8 @@ pub fn send_list<A: Allocator + Copy>(
     wants: &[Oid],
     commons: &[Oid],
 ) -> Result<Vec<Entry<A>, A>, GraphFault>
-    ensures answer { IfOk result (λ list. IsListToSend graph.now.entries wants.now commons.now [] list.items) }
+    ensures answer { IfOk result (λ list. IsListToSend graph.now.entries wants.now commons.now []
+        list.items) }
     ensures entries { IfOk result (λ list.
         IsGraph (record { format = graph.now.format; entries = list.items })) }
     ensures fault { IfErr result (λ fault. fault ≡ Memory) }
@@ -74,7 +76,7 @@ fn list_to_send<A: Allocator + Copy>(
     ensures fault { IfErr result (λ fault. fault ≡ Memory) }
 {
     if graph.is_ordered() {
-        return gpass::send_list(graph, wants, commons, tips);
+        return gtopowalk::send_list(graph, wants, commons, tips);
     }
     Ok(walked_list(graph, wants, commons, tips)?)
 }
@@ -136,8 +138,9 @@ struct Tag {
 // The tag under the id.
 fn tag_at<A: Allocator + Copy>(graph: &Graph<A>, id: &Oid) -> Option<Tag>
     ensures found { IfSome result (λ tag.
-        (place_of graph.now.entries id.now ≡ Some tag.number) × IsTagOf graph.now.entries id.now tag.named) }
-    ensures only { (b : List ℕ) → IsTagOf graph.now.entries id.now b → IsSome result }
+        (place_of graph.now.entries id.now ≡ Some tag.number)
+        × IsTagOf graph.now.entries id.now tag.named) }
+    ensures only { (b : Id) → IsTagOf graph.now.entries id.now b → IsSome result }
 {
     let node = graph.node(id)?;
     if node.kind == Kind::Commit {
@@ -151,11 +154,12 @@ fn tag_at<A: Allocator + Copy>(graph: &Graph<A>, id: &Oid) -> Option<Tag>
 // Marks the tags of the chain that begins at the id and leads to a commit.
 fn mark_chain<A: Allocator + Copy>(graph: &Graph<A>, marks: &mut Vec<bool, A>, id: &Oid)
     requires long { length marks.old.items ≡ length graph.now.entries }
-    requires ends { (c : List ℕ) × PeelsTo graph.now.entries id.now c }
+    requires ends { (c : Id) × PeelsTo graph.now.entries id.now c }
     ensures long { length marks.new.items ≡ length graph.now.entries }
-    ensures each { (place : ℕ) (a : List ℕ) → place_of graph.now.entries a ≡ Some place →
+    ensures each { (place : ℕ) (a : Id) → place_of graph.now.entries a ≡ Some place →
         (slice_index_or marks.new.items place false ≡ true) ↔
-        ((slice_index_or marks.old.items place false ≡ true) ⊎ IsTagFrom graph.now.entries id.now a) }
+        ((slice_index_or marks.old.items place false ≡ true)
+        ⊎ IsTagFrom graph.now.entries id.now a) }
 {
     let mut at = *id;
     for _step in 0..graph.len() {

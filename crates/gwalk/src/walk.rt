@@ -1,15 +1,16 @@
 //! The walk from some objects to their parents, and on to theirs.
 #![tactic(auto)]
 
-ghost use Rattle.std.specs.Prelude.{◌≡◌, ◌<◌, ◌∷◌, ◌++◌, [], ℕ, Bool, List, slice_get, length, IfOk, OnOk, Some};
+ghost use Rattle.std.specs.Prelude.{◌≡◌, ◌<◌, ◌∷◌, ◌++◌, [], Bool, List, slice_get, length, IfOk, OnOk, Some};
 ghost use Rattle.std.specs.Option.{option_map};
-ghost use Rattle.ghistory.specs.Graphs.{IsGraph};
-ghost use Rattle.ghistory.specs.Levels.{new_ids};
+ghost use Rattle.gname.specs.Ids.{Id};
+ghost use Rattle.gdag.specs.Graphs.{IsGraph};
+ghost use Rattle.gdag.specs.Levels.{new_ids};
 ghost use Rattle.gwalk.specs.Marks.{stop_at};
-ghost use Rattle.gwalk.specs.Walks.{HasMet, IsWalk};
+ghost use Rattle.gwalk.specs.steps.Walks.{HasMet, IsWalk};
 
 use crate::marks::is_marked;
-use ghistory::Graph;
+use gdag::Graph;
 use gname::Oid;
 use std::alloc::{AllocError, Allocator};
 
@@ -33,7 +34,8 @@ pub fn parents_past<'a, A: Allocator + Copy>(
     place: usize,
 ) -> &'a [Oid]
     requires { place < length graph.now.entries }
-    ensures { option_map (λ entry. entry.node.parents) (slice_get (stop_at known.now graph.now.entries) place)
+    ensures { option_map (λ entry. entry.node.parents)
+        (slice_get (stop_at known.now graph.now.entries) place)
         ≡ Some result.now }
 {
     if is_marked(known, place) {
@@ -47,7 +49,8 @@ impl<A: Allocator + Copy> Walk<A> {
     pub fn new(graph: &Graph<A>) -> Result<Walk<A>, AllocError>
         ensures graph { IsGraph graph.now }
         ensures met { IfOk result (λ walk. (known : List Bool) →
-            HasMet (stop_at known graph.now.entries) [] walk.marks.items walk.met.items walk.lost walk.parents) }
+            HasMet (stop_at known graph.now.entries) [] walk.marks.items walk.met.items walk.lost
+            walk.parents) }
     {
         let alloc = graph.allocator();
         let marks = vec![in alloc; false; graph.len()]?;
@@ -62,9 +65,9 @@ impl<A: Allocator + Copy> Walk<A> {
     /// Meets an id. It fails where there is no memory; the walk is then of no use.
     pub fn meet(&mut self, graph: &Graph<A>, known: &[bool], id: &Oid) -> Result<(), AllocError>
         requires graph { IsGraph graph.now }
-        requires has { (ids : List (List ℕ)) × HasMet (stop_at known.now graph.now.entries) ids
+        requires has { (ids : List Id) × HasMet (stop_at known.now graph.now.entries) ids
             self.old.marks.items self.old.met.items self.old.lost self.old.parents }
-        ensures { OnOk result ((ids : List (List ℕ)) →
+        ensures { OnOk result ((ids : List Id) →
             HasMet (stop_at known.now graph.now.entries) ids
             self.old.marks.items self.old.met.items self.old.lost self.old.parents →
             HasMet (stop_at known.now graph.now.entries) (ids ++ new_ids ids (id.now ∷ []))
@@ -90,9 +93,9 @@ impl<A: Allocator + Copy> Walk<A> {
         ids: &[Oid],
     ) -> Result<(), AllocError>
         requires graph { IsGraph graph.now }
-        requires has { (before : List (List ℕ)) × HasMet (stop_at known.now graph.now.entries) before
+        requires has { (before : List Id) × HasMet (stop_at known.now graph.now.entries) before
             self.old.marks.items self.old.met.items self.old.lost self.old.parents }
-        ensures { OnOk result ((before : List (List ℕ)) →
+        ensures { OnOk result ((before : List Id) →
             HasMet (stop_at known.now graph.now.entries) before
             self.old.marks.items self.old.met.items self.old.lost self.old.parents →
             HasMet (stop_at known.now graph.now.entries) (before ++ new_ids before ids.now)

@@ -3,9 +3,9 @@ use Rattle.std.specs.Prelude.{slice_get, Result, MatchResult}
 use Rattle.std.proofs.Common.{inr, true}
 use Rattle.std.proofs.Common.{◌∙◌, ◌≡◌, ℕ, Bool, false, List, [], ◌∷◌, ◌++◌, length, Option, Some, None, Ok, Err, refl}
 use Rattle.std.proofs.Common.{sym, ap, subst}
-use Rattle.grepo.specs.Repos.{RepoState}
-use Rattle.grepo.specs.declared.ask.Ask.{Ask}
-use Rattle.grepo.specs.declared.ask.RefUpdate.{RefUpdate}
+use Rattle.gclientrepo.specs.Repos.{RepoState}
+use Rattle.gclientrepo.specs.declared.ask.Ask.{Ask}
+use Rattle.gclientrepo.specs.declared.ask.RefUpdate.{RefUpdate}
 use Rattle.grequest.specs.Asked.{Asked}
 use Rattle.gsession.specs.Requesting.{Requests}
 use Rattle.gsession.specs.Sessions.{SessionState}
@@ -26,15 +26,15 @@ use Rattle.ganswer.specs.Changes.{Adds}
 use Rattle.ganswer.specs.Faults.{build_fault_row}
 use Rattle.ganswer.specs.Servers.{Server}
 use Rattle.ganswer.specs.declared.fault.BuildFault.{BuildFault}
-use Rattle.ghistory.specs.Laws.{AgreesWith}
+use Rattle.gdag.specs.Laws.{AgreesWith}
 use Rattle.gobject.specs.declared.node.Entry.{Entry}
-use Rattle.grepo.specs.Changes.{AddsLocal}
-use Rattle.grepo.specs.Faults.{repo_fault_row}
-use Rattle.grepo.specs.Laws.{RefusalsChangeNothing}
-use Rattle.grepo.specs.declared.fault.RepoFault.{RepoFault}
-use Rattle.gworld.specs.Bringing.{BringsTo, TakesIfOpen, refs_outcome}
-use Rattle.gworld.specs.Steps.{AddsAtClient, AddsAtServer, AsksNext, Delivers, Forges, ServesRequest, SettlesRefs}
-use Rattle.gworld.specs.Steps.{mark_after, settled_outcome, waiting, waits_for}
+use Rattle.gclientrepo.specs.Changes.{AddsLocal}
+use Rattle.gclientrepo.specs.Faults.{repo_fault_row}
+use Rattle.gclientrepo.specs.Laws.{RefusalsChangeNothing}
+use Rattle.gclientrepo.specs.declared.fault.RepoFault.{RepoFault}
+use Rattle.gworld.specs.steps.Bringing.{BringsTo, TakesIfOpen, refs_outcome}
+use Rattle.gworld.specs.Events.{AddsAtClient, AddsAtServer, AsksNext, Delivers, Forges, ServesRequest, SettlesRefs}
+use Rattle.gworld.specs.Events.{mark_after, settled_outcome, waiting, waits_for}
 use Rattle.gworld.specs.Taking.{TakesRefs, code_of}
 use Rattle.gworld.specs.Worlds.{Kept, WorldState}
 use Rattle.gworld.specs.declared.outcome.Outcome.{Outcome}

@@ -15,12 +15,12 @@ use Rattle.gfetchreply.specs.FetchReplies.{FetchReply, Reading, Acks, Ready, Pac
 use Rattle.gfetchreply.specs.FetchHeads.{acknowledged_by, pack_of}
 use Rattle.gfetchreply.specs.WellFormed.{IsReplyIn}
 use Rattle.gobject.specs.declared.node.Entry.{Entry}
-use Rattle.ghistory.specs.Graphs.{Holds, IsNode}
-use Rattle.ghistory.specs.Insert.{Inserts}
-use Rattle.ghistory.specs.Laws.{AgreeingStays, AgreesWith, HasAll, KeepingHasAll}
-use Rattle.ghistory.specs.Reach.{Agree, Grows, IsFull, Keeps}
+use Rattle.gdag.specs.Graphs.{Holds, IsNode}
+use Rattle.gdag.specs.Insert.{Inserts}
+use Rattle.gdag.specs.Laws.{AgreeingStays, AgreesWith, HasAll, KeepingHasAll}
+use Rattle.gdag.specs.Reach.{Agree, Grows, IsFull, Keeps}
 use Rattle.grequest.specs.Asked.{Asked, Empty, Ls, Fetches, FetchAsked, is_direct, max_haves}
-use Rattle.grepo.specs.Repos.{RepoState}
+use Rattle.gclientrepo.specs.Repos.{RepoState}
 use Rattle.ganswer.specs.Answers.{Answers, Reply, Ls as Refs, Fetch as Objects}
 use Rattle.ganswer.specs.FetchAnswers.{FetchAnswer, RepliesWith}
 use Rattle.ganswer.specs.Laws.{AcksAreCommon, FetchAnswersFit, IsEnough, LsAnswersAreHeld, LsAnswersFit, PacksAreEnough}

@@ -30,15 +30,15 @@ use Rattle.gobject.specs.declared.node.Entry.{Entry}
 use Rattle.gobject.specs.declared.fault.IndexFault.{IndexFault}
 use Rattle.gobject.specs.declared.fault.IndexFault.TheVariants as index
 use Rattle.gobject.specs.Faults.{index_fault_row}
-use Rattle.ghistory.specs.Faults.{graph_fault_row}
-use Rattle.ghistory.specs.Graphs.{IsGraph}
-use Rattle.ghistory.specs.Insert.{IsRefused}
-use Rattle.ghistory.specs.Laws.{AgreeingEntriesFit}
-use Rattle.ghistory.specs.Reach.{Agree}
-use Rattle.ghistory.specs.declared.fault.GraphFault.{GraphFault}
-use Rattle.ghistory.specs.declared.fault.GraphFault.TheVariants as graph
-use Rattle.grepo.specs.Repos.{RepoState}
-use Rattle.grepo.specs.declared.fault.RepoFault.TheVariants as repo
+use Rattle.gdag.specs.Faults.{graph_fault_row}
+use Rattle.gdag.specs.Graphs.{IsGraph}
+use Rattle.gdag.specs.Insert.{IsRefused}
+use Rattle.gdag.specs.Laws.{AgreeingEntriesFit}
+use Rattle.gdag.specs.Reach.{Agree}
+use Rattle.gdag.specs.declared.fault.GraphFault.{GraphFault}
+use Rattle.gdag.specs.declared.fault.GraphFault.TheVariants as graph
+use Rattle.gclientrepo.specs.Repos.{RepoState}
+use Rattle.gclientrepo.specs.declared.fault.RepoFault.TheVariants as repo
 use Rattle.grequest.specs.Asked.{Fetches, FetchAsked}
 use Rattle.ganswer.specs.Answers.{Fetch as Objects}
 use Rattle.ganswer.specs.FetchAnswers.{FetchAnswer}

@@ -6,11 +6,11 @@ use Rattle.std.specs.Prelude.{IfSome, MatchOption}
 use Rattle.std.proofs.lemmas.List.Elements.{All-weaker}
 use Rattle.gobject.specs.declared.node.Entry.{Entry}
 use Rattle.gobject.specs.Packs.{Packs}
-use Rattle.ghistory.specs.Graphs.{Holds}
-use Rattle.ghistory.specs.Laws.{FullStaysFull, GrowingGoesOn, GrowingKeeps, KeepingHolds, KeepingReaches}
-use Rattle.ghistory.specs.Reach.{Grows, IsFull, SomeReaches}
+use Rattle.gdag.specs.Graphs.{Holds}
+use Rattle.gdag.specs.Laws.{FullStaysFull, GrowingGoesOn, GrowingKeeps, KeepingHolds, KeepingReaches}
+use Rattle.gdag.specs.Reach.{Grows, IsFull, SomeReaches}
 use Rattle.grequest.specs.Asked.{Asked, Empty, Ls, Fetches, FetchAsked}
-use Rattle.grepo.specs.Asks.{asked_ids}
+use Rattle.gclientrepo.specs.Asks.{asked_ids}
 use Rattle.gsession.specs.Bounds.{BeganOn}
 use Rattle.gsession.specs.Sessions.{SessionState}
 use Rattle.gworld.specs.Sound.{IsAnswered, IsUnforgedAndFaithful, IsSoundFetch, IsSoundKept, IsSoundRequest}

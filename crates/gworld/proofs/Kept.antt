@@ -1,9 +1,9 @@
 -- From a sound world a step leads to a sound world, and keeps its promises.
 use Rattle.gsession.specs.Bounds.{RoundsAreFew}
-use Rattle.grepo.specs.Laws.{HeldIsNotMissing}
+use Rattle.gclientrepo.specs.Laws.{HeldIsNotMissing}
 use Rattle.gworld.specs.Promises.{Promises, TakesAnswers}
 use Rattle.gworld.specs.Sound.{AreEndsWhole, IsSound, IsUnforgedAndFaithful}
-use Rattle.gworld.specs.Steps.{Step}
+use Rattle.gworld.specs.Events.{Step}
 use Rattle.gworld.specs.Worlds.{PackTools, WorldState}
 use Rattle.gscenario.specs.declared.event.Event.{Event}
 use Rattle.gscenario.specs.declared.event.Event.TheVariants as event

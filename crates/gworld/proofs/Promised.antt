@@ -8,21 +8,21 @@ use Rattle.gobject.specs.declared.fault.PackFault.{PackFault}
 use Rattle.gobject.specs.declared.fault.PackFault.TheVariants as pack
 use Rattle.gobject.specs.Packs.{AreEntries}
 use Rattle.gfetchreply.specs.FetchReplies.{FetchReply}
-use Rattle.ghistory.proofs.Growing.{all_standing}
-use Rattle.ghistory.specs.Graphs.{History, Holds}
-use Rattle.ghistory.specs.Laws.{HasAll}
-use Rattle.ghistory.specs.Reach.{IsFull, here}
-use Rattle.ghistory.specs.declared.fault.GraphFault.TheVariants as graph
+use Rattle.gdag.proofs.Growing.{all_standing}
+use Rattle.gdag.specs.Graphs.{History, Holds}
+use Rattle.gdag.specs.Laws.{HasAll}
+use Rattle.gdag.specs.Reach.{IsFull, here}
+use Rattle.gdag.specs.declared.fault.GraphFault.TheVariants as graph
 use Rattle.grefs.specs.declared.fault.RefsFault.TheVariants as refs
 use Rattle.grequest.specs.Asked.{Asked, Empty, Ls, Fetches, FetchAsked}
-use Rattle.grepo.specs.Laws.{HeldIsNotMissing}
-use Rattle.grepo.specs.Asks.{asked_ids}
-use Rattle.grepo.specs.Changes.{SettlesAsks}
-use Rattle.grepo.specs.Repos.{RepoState}
-use Rattle.grepo.specs.Settling.{CannotSettle}
-use Rattle.grepo.specs.declared.ask.Ask.{Ask}
-use Rattle.grepo.specs.declared.ask.RefUpdate.{RefUpdate}
-use Rattle.grepo.specs.declared.fault.RepoFault.TheVariants as repo
+use Rattle.gclientrepo.specs.Laws.{HeldIsNotMissing}
+use Rattle.gclientrepo.specs.Asks.{asked_ids}
+use Rattle.gclientrepo.specs.Changes.{SettlesAsks}
+use Rattle.gclientrepo.specs.Repos.{RepoState}
+use Rattle.gclientrepo.specs.Settling.{CannotSettle}
+use Rattle.gclientrepo.specs.declared.ask.Ask.{Ask}
+use Rattle.gclientrepo.specs.declared.ask.RefUpdate.{RefUpdate}
+use Rattle.gclientrepo.specs.declared.fault.RepoFault.TheVariants as repo
 use Rattle.ganswer.specs.Answers.{Refuses, Reply, Fetch as Objects}
 use Rattle.ganswer.specs.FetchAnswers.{FailsToPack}
 use Rattle.ganswer.specs.Faults.{serve_fault_row}
@@ -41,7 +41,7 @@ use Rattle.gworld.specs.Promises.{IsServedOrRefused, IsSettledOrRefused, IsTaken
 use Rattle.gworld.specs.Promises.{ServesSent, SettlesAnswered, SharesCommons}
 use Rattle.gworld.specs.Sound.{AreEndsWhole, IsUnforgedAndFaithful, IsSound, IsSoundKept}
 use Rattle.gworld.specs.Sound.{IsSoundRequest, IsSoundSession}
-use Rattle.gworld.specs.Steps.{Delivers, ServesRequest, SettlesRefs, Step, waiting, waits_for}
+use Rattle.gworld.specs.Events.{Delivers, ServesRequest, SettlesRefs, Step, waiting, waits_for}
 use Rattle.gworld.specs.Faults.{out_of_turn}
 use Rattle.gworld.specs.Taking.{TakesBytes, code_of}
 use Rattle.gworld.specs.Worlds.{Kept, PackTools, WorldState, reply_bytes}

@@ -3,7 +3,7 @@ use Rattle.std.proofs.Common.{◌≡◌, ℕ, Bool, List, [], ◌∷◌, All, Op
 use Rattle.std.specs.Prelude.{slice_get}
 use Rattle.std.proofs.lemmas.List.Elements.{All-head, All-tail}
 use Rattle.gobject.specs.declared.node.Entry.{Entry}
-use Rattle.gspec.specs.Refspecs.{Refspec}
+use Rattle.grefspec.specs.Refspecs.{Refspec}
 use Rattle.grequest.specs.Asked.{Asked}
 use Rattle.gsession.specs.Sessions.{SessionState}
 use Rattle.gscenario.specs.declared.event.Event.{Event}
@@ -11,8 +11,8 @@ use Rattle.gscenario.specs.declared.event.Event.TheVariants as event
 use Rattle.gworld.specs.Laws.{IsNoForge}
 use Rattle.gworld.specs.Promises.{Promises}
 use Rattle.gworld.specs.Runs.{Run, RunWith}
-use Rattle.gworld.specs.Steps.{AddsAtClient, AddsAtServer, AsksNext, BeginsSession, Delivers, ServesRequest}
-use Rattle.gworld.specs.Steps.{SetsAtClient, SetsAtServer, SettlesRefs, Step, waiting}
+use Rattle.gworld.specs.Events.{AddsAtClient, AddsAtServer, AsksNext, BeginsSession, Delivers, ServesRequest}
+use Rattle.gworld.specs.Events.{SetsAtClient, SetsAtServer, SettlesRefs, Step, waiting}
 use Rattle.gworld.specs.Worlds.{Kept, PackTools, WorldState}
 use Rattle.gworld.specs.declared.outcome.Outcome.{Outcome}
 use Rattle.gworld.specs.declared.outcome.Outcome.TheVariants.{Done, Asked as Asks, Served, Settled, Fault}

@@ -2,8 +2,8 @@
 use Rattle.std.proofs.Common.{Result, Ok, Err, is_err, OnOk, false, ◌≡◌, ℕ, ◌+◌, ◌<◌, List, [], ◌∷◌}
 use Rattle.std.proofs.Common.{◌++◌, length, take, drop, get_or, refl, sym, subst}
 use Rattle.std.proofs.lemmas.Bool.{false≢true}
-use Rattle.ghistory.proofs.Growing.{at_front}
-use Rattle.gworld.specs.Bringing.{RunsSoundly}
+use Rattle.gdag.proofs.Growing.{at_front}
+use Rattle.gworld.specs.steps.Bringing.{RunsSoundly}
 use Rattle.gworld.specs.Promises.{Promises}
 use Rattle.gworld.specs.Sound.{IsSound}
 use Rattle.gworld.specs.Runs.{RunWith, RunsFront}

@@ -10,13 +10,13 @@ use Rattle.glsreply.specs.LsReplies.{LsReply}
 use Rattle.glsreply.specs.RefTexts.{RefLine}
 use Rattle.gname.specs.declared.formats.Format.{Format}
 use Rattle.gobject.specs.declared.node.Entry.{Entry}
-use Rattle.ghistory.proofs.Growing.{grows_none}
-use Rattle.ghistory.specs.Graphs.{Holds}
-use Rattle.ghistory.specs.Reach.{IsFull}
-use Rattle.gspec.specs.Refspecs.{Refspec}
-use Rattle.grepo.specs.Asks.{asked_ids}
-use Rattle.grepo.specs.Repos.{IsWhole}
-use Rattle.grepo.specs.declared.ask.Ask.{Ask}
+use Rattle.gdag.proofs.Growing.{grows_none}
+use Rattle.gdag.specs.Graphs.{Holds}
+use Rattle.gdag.specs.Reach.{IsFull}
+use Rattle.grefspec.specs.Refspecs.{Refspec}
+use Rattle.gclientrepo.specs.Asks.{asked_ids}
+use Rattle.gclientrepo.specs.Repos.{IsWhole}
+use Rattle.gclientrepo.specs.declared.ask.Ask.{Ask}
 use Rattle.ganswer.specs.Adverts.{advertised}
 use Rattle.grequest.specs.Asked.{Asked, Empty, Ls, Fetches, FetchAsked, LsRefsAsked}
 use Rattle.gsession.specs.Asking.{AreWants, asked_of}

@@ -7,12 +7,12 @@ use Rattle.std.proofs.lemmas.List.Elements.{All-nil, All-push}
 use Rattle.std.proofs.lemmas.Option.{get_or_from_slice_get, same_Some, slice_get_cases, slice_get_within}
 use Rattle.gobject.specs.declared.node.Entry.{Entry}
 use Rattle.gobject.specs.Objects.{IdsDiffer, entry_of}
-use Rattle.ghistory.proofs.Growing.{all_standing, at_front, take_one}
-use Rattle.ghistory.specs.Laws.{AgreesWith, PlacesAreNodes}
-use Rattle.ghistory.specs.Reach.{Agree}
+use Rattle.gdag.proofs.Growing.{all_standing, at_front, take_one}
+use Rattle.gdag.specs.Laws.{AgreesWith, PlacesAreNodes}
+use Rattle.gdag.specs.Reach.{Agree}
 use Rattle.ganswer.specs.Servers.{Server}
-use Rattle.grepo.specs.Repos.{RepoState}
-use Rattle.gworld.specs.Bringing.{AgreesAt, DisagreesAt}
+use Rattle.gclientrepo.specs.Repos.{RepoState}
+use Rattle.gworld.specs.steps.Bringing.{AgreesAt, DisagreesAt}
 use Rattle.gworld.specs.Sound.{IsSound, IsSoundKept, IsSoundRequest}
 use Rattle.gworld.specs.Starts.{CanStart, IsFirstDisagreement}
 use Rattle.grequest.specs.Asked.{Asked}

@@ -8,16 +8,16 @@ use Rattle.std.proofs.lemmas.List.Elements.{All-cons, All-nil, All-push}
 use Rattle.gname.specs.declared.formats.Format.{Format}
 use Rattle.gfetchreply.specs.FetchHeads.{acknowledged_by}
 use Rattle.gobject.specs.declared.node.Entry.{Entry}
-use Rattle.ghistory.proofs.Growing.{all_standing, grows_none}
-use Rattle.ghistory.specs.Graphs.{History}
-use Rattle.ghistory.specs.Insert.{ComesIn, Inserts}
-use Rattle.ghistory.specs.Laws.{AgreesWith, ComingGrows}
-use Rattle.ghistory.specs.Reach.{Agree, Grows}
-use Rattle.gspec.specs.Refspecs.{Refspec}
-use Rattle.grepo.specs.Repos.{RepoState}
-use Rattle.grepo.specs.Laws.{RefusalsChangeNothing}
-use Rattle.grepo.specs.declared.ask.Ask.{Ask}
-use Rattle.grepo.specs.declared.ask.RefUpdate.{RefUpdate}
+use Rattle.gdag.proofs.Growing.{all_standing, grows_none}
+use Rattle.gdag.specs.Graphs.{History}
+use Rattle.gdag.specs.Insert.{ComesIn, Inserts}
+use Rattle.gdag.specs.Laws.{AgreesWith, ComingGrows}
+use Rattle.gdag.specs.Reach.{Agree, Grows}
+use Rattle.grefspec.specs.Refspecs.{Refspec}
+use Rattle.gclientrepo.specs.Repos.{RepoState}
+use Rattle.gclientrepo.specs.Laws.{RefusalsChangeNothing}
+use Rattle.gclientrepo.specs.declared.ask.Ask.{Ask}
+use Rattle.gclientrepo.specs.declared.ask.RefUpdate.{RefUpdate}
 use Rattle.grequest.specs.Asked.{Asked, Empty, Ls, Fetches}
 use Rattle.ganswer.specs.Laws.{ServersGrow}
 use Rattle.ganswer.specs.Servers.{Server}
@@ -29,13 +29,13 @@ use Rattle.gsession.specs.declared.fault.ClientFault.{ClientFault}
 use Rattle.gsession.specs.declared.fault.ClientFault.TheVariants as client
 use Rattle.gsession.specs.declared.stage.Stage.{Stage}
 use Rattle.gsession.specs.declared.stage.Stage.TheVariants.{Listing, Fetching, Settling, Over}
-use Rattle.ghistory.specs.declared.fault.GraphFault.TheVariants as graph
-use Rattle.grepo.specs.declared.fault.RepoFault.TheVariants as repo
+use Rattle.gdag.specs.declared.fault.GraphFault.TheVariants as graph
+use Rattle.gclientrepo.specs.declared.fault.RepoFault.TheVariants as repo
 use Rattle.gworld.specs.Sound.{AreEndsWhole, IsAnswered, IsSound, IsSoundKept, IsSoundRequest, IsSoundSession}
 use Rattle.gworld.specs.Sound.{IsUnforgedAndFaithful}
-use Rattle.gworld.specs.Steps.{AddsAtClient, AddsAtServer, AsksNext, BeginsSession, Delivers, Forges}
-use Rattle.gworld.specs.Steps.{Restarts, ServesRequest}
-use Rattle.gworld.specs.Steps.{SetsAtClient, SetsAtServer, SettlesRefs, Step, mark_after, waiting, waits_for}
+use Rattle.gworld.specs.Events.{AddsAtClient, AddsAtServer, AsksNext, BeginsSession, Delivers, Forges}
+use Rattle.gworld.specs.Events.{Restarts, ServesRequest}
+use Rattle.gworld.specs.Events.{SetsAtClient, SetsAtServer, SettlesRefs, Step, mark_after, waiting, waits_for}
 use Rattle.gworld.specs.Taking.{IsFullAnswer, TakesBytes}
 use Rattle.gworld.specs.Worlds.{Kept, PackTools, WorldState, reply_bytes}
 use Rattle.gscenario.specs.declared.event.Event.{Event}

@@ -1,27 +1,13 @@
 -- The tables of a world's own faults: the number, the name and the text of each.
-use Rattle.std.specs.Prelude.{ℕ, List, codes}
+use Rattle.std.specs.Prelude.{ℕ, codes}
 use Rattle.gname.specs.Faults.{FaultRow}
+use Rattle.gpkt.specs.Packets.{Bytes}
+use Rattle.gscenario.specs.Faults.{scenario_fault_row, scenario_fault_text}
+use Rattle.gscenario.specs.declared.fault.ScenarioFault.TheVariants as scenario
 use Rattle.gworld.specs.declared.fault.RunFault.{RunFault}
 use Rattle.gworld.specs.declared.fault.RunFault.TheVariants as run
 use Rattle.gworld.specs.declared.fault.WorldFault.{WorldFault}
 use Rattle.gworld.specs.declared.fault.WorldFault.TheVariants as world
-
--- the two repositories have ids of two formats; or both hold one id, with two objects
-abbrev pub world_fault_row : WorldFault → FaultRow
-world_fault_row world.TwoFormats = (97, codes "TwoFormats")
-world_fault_row (world.Disagree id) = (90, codes "Disagree")
-
--- out of memory to go on
-abbrev pub run_fault_row : {A : Type 0} → RunFault A → FaultRow
-run_fault_row (run.Memory outcomes) = (91, codes "Memory")
-
--- their texts
-abbrev pub world_fault_text : WorldFault → List ℕ
-world_fault_text world.TwoFormats = codes "server and client have two object formats"
-world_fault_text (world.Disagree id) = codes "server and client hold an id with two objects"
-
-abbrev pub run_fault_text : {A : Type 0} → RunFault A → List ℕ
-run_fault_text (run.Memory outcomes) = codes "out of memory"
 
 -- ---- the numbers of events that are refused
 
@@ -36,3 +22,22 @@ no_such = 93
 -- the client's session does not wait for this: there is none, or another call is due
 abbrev pub out_of_turn : ℕ
 out_of_turn = 83
+
+-- ---- the faults
+
+-- the two repositories have ids of two formats; or both hold one id, with two objects
+abbrev pub world_fault_row : WorldFault → FaultRow
+world_fault_row world.TwoFormats = (97, codes "TwoFormats")
+world_fault_row (world.Disagree id) = (disagreement, codes "Disagree")
+
+-- out of memory to go on
+abbrev pub run_fault_row : {A : Type 0} → RunFault A → FaultRow
+run_fault_row (run.Memory outcomes) = scenario_fault_row scenario.Memory
+
+-- their texts
+abbrev pub world_fault_text : WorldFault → Bytes
+world_fault_text world.TwoFormats = codes "server and client have two object formats"
+world_fault_text (world.Disagree id) = codes "server and client hold an id with two objects"
+
+abbrev pub run_fault_text : {A : Type 0} → RunFault A → Bytes
+run_fault_text (run.Memory outcomes) = scenario_fault_text scenario.Memory

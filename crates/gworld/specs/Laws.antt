@@ -3,7 +3,7 @@ use Rattle.std.specs.Prelude.{◌≡◌, ⊤, false, List, All}
 use Rattle.gworld.specs.Promises.{AreCommonsShared, AreRefsWhole, AreRequestsFew, Promises}
 use Rattle.gworld.specs.Runs.{Run, RunWith}
 use Rattle.gworld.specs.Sound.{AreEndsWhole, IsSound}
-use Rattle.gworld.specs.Steps.{Step}
+use Rattle.gworld.specs.Events.{Step}
 use Rattle.gworld.specs.Worlds.{PackTools, WorldState}
 use Rattle.gscenario.specs.declared.event.Event.{Event}
 use Rattle.gscenario.specs.declared.event.Event.TheVariants as event

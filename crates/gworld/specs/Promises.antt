@@ -1,29 +1,30 @@
 -- What each step of a world promises, part by part.
 use Rattle.std.specs.Prelude.{◌≡◌, ◌⊎◌, ⊤, ℕ, ◌+◌, ◌<◌, ◌≤◌, true, false, List, length, All, IfSome, Option, None, Some}
 use Rattle.std.specs.Prelude.{slice_get}
+use Rattle.gname.specs.Ids.{Id}
 use Rattle.gobject.specs.declared.fault.IndexFault.TheVariants as index
 use Rattle.gobject.specs.declared.fault.PackFault.TheVariants as pack
 use Rattle.gfetchreply.specs.FetchReplies.{FetchReply, Acks, Ready, Pack}
 use Rattle.gfetchreply.specs.FetchHeads.{pack_of}
 use Rattle.gfetchreply.specs.Values.{default_limit}
 use Rattle.ggraph.specs.SafeRefs.{IsSafe}
-use Rattle.ghistory.specs.Graphs.{Holds}
-use Rattle.ghistory.specs.Laws.{HasAll}
-use Rattle.ghistory.specs.Reach.{IsFull}
-use Rattle.ghistory.specs.Walks.{CountsReached}
-use Rattle.ghistory.specs.declared.fault.GraphFault.TheVariants as graph
+use Rattle.gdag.specs.Graphs.{Holds}
+use Rattle.gdag.specs.Laws.{HasAll}
+use Rattle.gdag.specs.Reach.{IsFull}
+use Rattle.gdag.specs.Walks.{CountsReached}
+use Rattle.gdag.specs.declared.fault.GraphFault.TheVariants as graph
 use Rattle.grefs.specs.RefLists.{ref_at}
 use Rattle.grequest.specs.Asked.{Asked, Fetches}
-use Rattle.grepo.specs.Repos.{RepoState}
-use Rattle.grepo.specs.Settling.{CannotSettle, MayMove, asked_ids}
-use Rattle.grepo.specs.declared.ask.Ask.{Ask}
+use Rattle.gclientrepo.specs.Repos.{RepoState}
+use Rattle.gclientrepo.specs.Settling.{CannotSettle, MayMove, asked_ids}
+use Rattle.gclientrepo.specs.declared.ask.Ask.{Ask}
 use Rattle.ganswer.specs.Answers.{Fetch}
 use Rattle.ganswer.specs.FetchAnswers.{FailsToPack}
 use Rattle.ganswer.specs.Servers.{Server}
 use Rattle.gsession.specs.Sessions.{SessionState}
 use Rattle.gsession.specs.TakingReplies.{RefusesPack}
 use Rattle.gworld.specs.Sound.{IsUnforgedAndFaithful}
-use Rattle.gworld.specs.Steps.{Step}
+use Rattle.gworld.specs.Events.{Step}
 use Rattle.gworld.specs.Worlds.{Kept, PackTools, WorldState, reply_bytes}
 use Rattle.gscenario.specs.declared.event.Event.{Event}
 use Rattle.gscenario.specs.declared.event.Event.TheVariants as event
@@ -40,7 +41,7 @@ module _ {A : Type 0} where
   -- ---- common ids are held by both
 
   -- the server and the client hold the id
-  pub record IsHeldByBoth (w : WorldState A) (a : List ℕ) : Type 0 where
+  pub record IsHeldByBoth (w : WorldState A) (a : Id) : Type 0 where
     pub server : Holds w.server.graph.entries a
     pub client : Holds w.repo.graph.entries a
 

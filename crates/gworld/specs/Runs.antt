@@ -1,6 +1,6 @@
 -- Runs: events one after the other, with the outcome of each.
 use Rattle.std.specs.Prelude.{◌≡◌, List, [], ◌∷◌, ◌++◌}
-use Rattle.gworld.specs.Steps.{Step}
+use Rattle.gworld.specs.Events.{Step}
 use Rattle.gworld.specs.Worlds.{PackTools, WorldState}
 use Rattle.gscenario.specs.declared.event.Event.{Event}
 use Rattle.gworld.specs.declared.fault.RunFault.{RunFault}

@@ -1,16 +1,18 @@
 -- What stays true of a world, whatever events come.
-use Rattle.std.specs.Prelude.{◌≡◌, ◌≢◌, ◌⊎◌, ⊤, ℕ, ◌≤◌, true, false, List, [], length, All, Contains}
+use Rattle.std.specs.Prelude.{◌≡◌, ◌≢◌, ◌⊎◌, ⊤, ◌≤◌, true, false, List, [], length, All, Contains}
 use Rattle.std.specs.Prelude.{IfSome, MatchOption}
+use Rattle.gname.specs.Ids.{Id}
+use Rattle.gpkt.specs.Packets.{Bytes}
 use Rattle.gobject.specs.Packs.{LosesNothing, Packs}
 use Rattle.gobject.specs.declared.node.Entry.{Entry}
 use Rattle.ggrammar.specs.declared.ends.Ends.TheVariants.{Plain}
 use Rattle.gfetchreply.specs.Values.{default_limit}
-use Rattle.ghistory.specs.Graphs.{Holds, IsGraph}
-use Rattle.ghistory.specs.Reach.{Agree, Grows, IsFull}
+use Rattle.gdag.specs.Graphs.{Holds, IsGraph}
+use Rattle.gdag.specs.Reach.{Agree, Grows, IsFull}
 use Rattle.grefs.specs.RefLists.{IsRefs}
 use Rattle.grequest.specs.Asked.{Asked, Empty, Ls, Fetches, FetchAsked, max_haves}
-use Rattle.grepo.specs.Repos.{IsWhole}
-use Rattle.grepo.specs.Asks.{asked_ids}
+use Rattle.gclientrepo.specs.Repos.{IsWhole}
+use Rattle.gclientrepo.specs.Asks.{asked_ids}
 use Rattle.ganswer.specs.Answers.{Answers}
 use Rattle.ganswer.specs.Servers.{IsServer, Server}
 use Rattle.gsession.specs.Bounds.{BeganOn}
@@ -56,7 +58,7 @@ module _ {A : Type 0} where
   -- ---- the session
 
   -- an asked id is wanted, or connected at the client
-  abbrev pub IsWantedOrFull : List (Entry A) → SessionState A → List ℕ → Type 0
+  abbrev pub IsWantedOrFull : List (Entry A) → SessionState A → Id → Type 0
   IsWantedOrFull g s a = Contains s.wants a ⊎ IsFull g a
 
   -- A session began on what its repository holds, and offered nothing else. Each common id is connected at the client.
@@ -75,7 +77,7 @@ module _ {A : Type 0} where
 module _ {A : Type 0} (tools : PackTools A) where
   -- no bytes were forged, and packer and indexer are faithful
   pub record IsUnforgedAndFaithful (w : WorldState A) : Type 0 where
-    pub image : List (Entry A) → List ℕ
+    pub image : List (Entry A) → Bytes
     pub faithful : LosesNothing tools.packs tools.pack_fails tools.indexes tools.index_fails image
     pub unforged : w.forged ≡ false
 

@@ -1,17 +1,18 @@
 -- How a world begins.
-use Rattle.std.specs.Prelude.{◌≡◌, ◌≢◌, ℕ, List, ◌∷◌, ◌++◌, All, Result, Ok, Err}
+use Rattle.std.specs.Prelude.{◌≡◌, ◌≢◌, List, ◌∷◌, ◌++◌, All, Result, Ok, Err}
+use Rattle.gname.specs.Ids.{Id}
 use Rattle.gobject.specs.declared.node.Entry.{Entry}
-use Rattle.ghistory.specs.Laws.{AgreesWith}
-use Rattle.ghistory.specs.Reach.{Agree}
-use Rattle.grepo.specs.Repos.{RepoState}
+use Rattle.gdag.specs.Laws.{AgreesWith}
+use Rattle.gdag.specs.Reach.{Agree}
+use Rattle.gclientrepo.specs.Repos.{RepoState}
 use Rattle.ganswer.specs.Servers.{Server}
-use Rattle.gworld.specs.Steps.{Disagrees}
+use Rattle.gworld.specs.Events.{Disagrees}
 use Rattle.gworld.specs.Worlds.{WorldOf, new_world}
 use Rattle.gworld.specs.declared.fault.WorldFault.{WorldFault}
 use Rattle.gworld.specs.declared.fault.WorldFault.TheVariants as world
 
 -- of the server's ids, in store order, this is the first that the client holds with another object
-pub record IsFirstDisagreement {A : Type 0} (server client : List (Entry A)) (id : List ℕ) : Type 0 where
+pub record IsFirstDisagreement {A : Type 0} (server client : List (Entry A)) (id : Id) : Type 0 where
   pub front : List (Entry A)
   pub entry : Entry A
   pub back : List (Entry A)

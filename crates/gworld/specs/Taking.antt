@@ -1,9 +1,10 @@
 -- Bytes come as the reply to the request that waits.
-use Rattle.std.specs.Prelude.{◌≡◌, ⊤, ℕ, false, ◌≤◌, List, length, Ok, Err}
+use Rattle.std.specs.Prelude.{◌≡◌, ⊤, ℕ, false, ◌≤◌, length, Ok, Err}
+use Rattle.gpkt.specs.Packets.{Bytes}
 use Rattle.ggrammar.specs.MessageBytes.{known}
 use Rattle.ggrammar.specs.MessageReading.{IsReadFailure}
 use Rattle.gobject.specs.Packs.{Indexes, IndexFails}
-use Rattle.grepo.specs.Repos.{RepoState}
+use Rattle.gclientrepo.specs.Repos.{RepoState}
 use Rattle.grequest.specs.Asked.{Asked, Empty, Ls, Fetches}
 use Rattle.gsession.specs.Faults.{client_fault_row}
 use Rattle.gsession.specs.Sessions.{SessionState}
@@ -28,35 +29,34 @@ IsAtHand _ = ⊤
 
 -- the bytes come as the reply to ls-refs: so many refs are asked for, and so many objects wanted for them; or the reply
 -- is refused
-abbrev pub TakesRefs : {A : Type 0} → SessionState A → RepoState A → List ℕ → Outcome → SessionState A → RepoState A
+abbrev pub TakesRefs : {A : Type 0} → SessionState A → RepoState A → Bytes → Outcome → SessionState A → RepoState A
     → Type 0
 TakesRefs {A} s repo bytes (outcomes.LsTaken asks wants) after new =
-    (left : List ℕ) × (taken : LsTaken A) × TakesLs s repo.graph.entries (known bytes left) after (Ok taken)
+    (left : Bytes) × (taken : LsTaken A) × TakesLs s repo.graph.entries (known bytes left) after (Ok taken)
     × (asks ≡ taken.asks) × (wants ≡ taken.wants) × (new ≡ repo)
 TakesRefs {A} s repo bytes (outcomes.Fault number) after new =
-    (left : List ℕ) × (fault : ClientFault A) × TakesLs s repo.graph.entries (known bytes left) after (Err fault)
+    (left : Bytes) × (fault : ClientFault A) × TakesLs s repo.graph.entries (known bytes left) after (Err fault)
     × IsAtHand fault × (number ≡ code_of fault) × (new ≡ repo)
 TakesRefs s repo bytes _ after new = ⊥
 
 module _ {A : Type 0} (indexes : Indexes A) (index_fails : IndexFails) where
   -- the bytes come as the reply to fetch: ids are acknowledged, and so many are common now; or a pack is taken, and so
   -- many of its objects are new; or the reply is refused
-  abbrev pub TakesObjects : SessionState A → RepoState A → List ℕ → Outcome → SessionState A → RepoState A → Type 0
+  abbrev pub TakesObjects : SessionState A → RepoState A → Bytes → Outcome → SessionState A → RepoState A → Type 0
   TakesObjects s repo bytes (outcomes.Round common) after new =
-      (left : List ℕ)
+      (left : Bytes)
       × TakesReply indexes index_fails s repo (known bytes left) after new (Ok (taken.Round common))
   TakesObjects s repo bytes (outcomes.PackTaken added) after new =
-      (left : List ℕ)
+      (left : Bytes)
       × TakesReply indexes index_fails s repo (known bytes left) after new (Ok (taken.PackTaken added))
   TakesObjects s repo bytes (outcomes.Fault number) after new =
-      (left : List ℕ) × (fault : ClientFault A)
+      (left : Bytes) × (fault : ClientFault A)
       × TakesReply indexes index_fails s repo (known bytes left) after new (Err fault)
       × IsAtHand fault × (number ≡ code_of fault)
   TakesObjects s repo bytes _ after new = ⊥
 
   -- the bytes come as the reply to the request that waits, by what it asks for
-  abbrev pub TakesBytes : Asked → SessionState A → RepoState A → List ℕ → Outcome → SessionState A → RepoState A
-      → Type 0
+  abbrev pub TakesBytes : Asked → SessionState A → RepoState A → Bytes → Outcome → SessionState A → RepoState A → Type 0
   TakesBytes Empty s repo bytes outcome after new = ⊥
   TakesBytes (Ls asked) s repo bytes outcome after new = TakesRefs s repo bytes outcome after new
   TakesBytes (Fetches asked) s repo bytes outcome after new = TakesObjects s repo bytes outcome after new

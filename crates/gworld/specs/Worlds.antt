@@ -1,13 +1,13 @@
 -- A world: a server, a client that fetches from it, and what was sent between the two.
-use Rattle.std.specs.Prelude.{ℕ, Bool, false, List, [], Option, None}
-use Rattle.gpkt.specs.Packets.{canonical_all}
+use Rattle.std.specs.Prelude.{Bool, false, List, [], Option, None}
+use Rattle.gpkt.specs.Packets.{Bytes, canonical_all}
 use Rattle.ggrammar.specs.declared.ends.Ends.TheVariants.{Plain}
 use Rattle.gobject.specs.Packs.{Indexes, IndexFails, Packs, PackFails}
 use Rattle.grequest.specs.Asked.{Asked}
 use Rattle.ganswer.specs.Answers.{Reply}
 use Rattle.ganswer.specs.Servers.{Server}
 use Rattle.gserve.specs.Exchanges.{reply_packets}
-use Rattle.grepo.specs.Repos.{RepoState}
+use Rattle.gclientrepo.specs.Repos.{RepoState}
 use Rattle.gsession.specs.Sessions.{SessionState}
 
 -- a reply that the server made, and the request that it answers
@@ -28,7 +28,7 @@ pub record WorldState (A : Type 0) : Type 0 where
   pub answered : Bool
 
 -- the bytes of a reply, each packet in its canonical spelling
-abbrev pub reply_bytes : Reply → List ℕ
+abbrev pub reply_bytes : Reply → Bytes
 reply_bytes reply = canonical_all (reply_packets Plain reply)
 
 -- a world as it begins

@@ -6,6 +6,7 @@ ghost use Rattle.gworld.specs.Faults.{run_fault_row, run_fault_text, world_fault
 
 use crate::outcome::Outcome;
 use gname::Oid;
+use gscenario::ScenarioFault;
 use std::alloc::{Allocator, Global};
 use std::error::Error;
 use std::fmt;
@@ -50,7 +51,7 @@ impl WorldFault {
     {
         match self {
             WorldFault::TwoFormats => (97, "TwoFormats"),
-            WorldFault::Disagree { .. } => (90, "Disagree"),
+            WorldFault::Disagree { .. } => (DISAGREE, "Disagree"),
         }
     }
 }
@@ -98,7 +99,7 @@ impl<A: Allocator + Copy> RunFault<A> {
         ensures { (result.0, result.1.now) ≡ run_fault_row self.now }
     {
         match self {
-            RunFault::Memory { .. } => (91, "Memory"),
+            RunFault::Memory { .. } => ScenarioFault::Memory.row(),
         }
     }
 }
@@ -108,7 +109,7 @@ impl<A: Allocator + Copy> fmt::Display for RunFault<A> {
 
     fn fmt<W: fmt::Write>(&self, f: &mut fmt::Formatter<W>) -> fmt::Result {
         match self {
-            RunFault::Memory { .. } => f.write_str("out of memory"),
+            RunFault::Memory { .. } => fmt::Display::fmt(&ScenarioFault::Memory, f),
         }
     }
 }

@@ -2,14 +2,14 @@
 #![tactic(auto)]
 
 ghost use Rattle.std.specs.Prelude.{◌≡◌, MatchResult, take, Some};
-ghost use Rattle.gworld.specs.Bringing.{IsAwaited, TakesIfOpen, refs_outcome};
+ghost use Rattle.gworld.specs.steps.Bringing.{IsAwaited, TakesIfOpen, refs_outcome};
 ghost use Rattle.gworld.specs.Taking.{TakesObjects, TakesRefs};
 
 use crate::outcome::Outcome;
+use gclientrepo::Repo;
 use ggraph::Indexer;
 use gpkt::memory::SliceSource;
 use gpkt::{LineBuffer, LineReader};
-use grepo::Repo;
 use grequest::Request;
 use gsession::{ClientFault, LsTaken, Session, Taken};
 use std::alloc::{AllocError, Allocator};
@@ -44,8 +44,8 @@ pub(crate) fn take_bytes<A: Allocator + Copy, K: Indexer<A>>(
     indexer: &K,
 ) -> Result<Option<Outcome>, AllocError>
     ensures { MatchResult result
-        (λ took. TakesIfOpen (K.indexes indexer.now) (K.index_fails indexer.now) session.old.pending session.old
-        repo.old bytes.now took session.new repo.new)
+        (λ took. TakesIfOpen (K.indexes indexer.now) (K.index_fails indexer.now)
+        session.old.pending session.old repo.old bytes.now took session.new repo.new)
         (λ _. (session.new ≡ session.old) × (repo.new ≡ repo.old)) }
 {
     match awaited(session) {
@@ -98,8 +98,8 @@ fn take_objects<A: Allocator + Copy, K: Indexer<A>>(
     indexer: &K,
 ) -> Result<Outcome, AllocError>
     ensures { MatchResult result
-        (λ outcome. TakesObjects (K.indexes indexer.now) (K.index_fails indexer.now) session.old repo.old bytes.now
-        outcome session.new repo.new)
+        (λ outcome. TakesObjects (K.indexes indexer.now) (K.index_fails indexer.now) session.old
+        repo.old bytes.now outcome session.new repo.new)
         (λ _. (session.new ≡ session.old) × (repo.new ≡ repo.old)) }
 {
     let buffer = line_buffer(repo.graph().allocator())?;

@@ -10,6 +10,7 @@ use ganswer::laws::{
     acks_are_common, fetch_answers_fit, held_wants_are_served, ls_answers_are_held, ls_answers_fit,
     packs_are_enough, servers_grow,
 };
+use gclientrepo::laws::{held_is_not_missing, refusals_change_nothing};
 use ggraph::graph_laws::{
     agreeing_entries_fit, agreeing_stays, coming_grows, full_stays_full, growing_goes_on,
     growing_keeps, keeping_has_all, keeping_holds, keeping_reaches,
@@ -17,7 +18,6 @@ use ggraph::graph_laws::{
 use ggraph::{Faithful, Indexer, Packer};
 use gmsg::laws::replies_differ;
 use gpkt::laws::{canonical_spells, one_begins};
-use grepo::laws::{held_is_not_missing, refusals_change_nothing};
 use gsession::laws::{
     asks_are_of_lines, began_begins, began_stays, commons_are_haves, haves_are_held,
     open_is_the_sessions, rounds_are_few, taking_only_grows, wants_are_exact,
@@ -26,7 +26,8 @@ use std::alloc::Allocator;
 
 /// From a sound world each step leads to a sound world, and keeps its promises.
 pub fn steps_keep<A: Allocator + Copy, K: Packer<A> + Indexer<A>>()
-    ensures { (k : K) → StepsKeep (tools_of (K.packs k) (K.pack_fails k) (K.indexes k) (K.index_fails k)) }
+    ensures { (k : K) → StepsKeep (tools_of (K.packs k) (K.pack_fails k) (K.indexes k)
+        (K.index_fails k)) }
 {
     growing_keeps::<A>();
     growing_goes_on::<A>();
@@ -78,21 +79,25 @@ pub fn faithful_lose_nothing<A: Allocator + Copy, K: Faithful<A>>(tools: &K)
 
 /// A run whose steps keep their promises is a run.
 pub fn promises_are_runs<A: Allocator + Copy, K: Packer<A> + Indexer<A>>()
-    ensures { (k : K) → PromisesAreRuns (tools_of (K.packs k) (K.pack_fails k) (K.indexes k) (K.index_fails k)) }
+    ensures { (k : K) → PromisesAreRuns (tools_of (K.packs k) (K.pack_fails k) (K.indexes k)
+        (K.index_fails k)) }
 {}
 
 /// Where each ref of the client is connected, so it is after any run.
 pub fn refs_stay_whole<A: Allocator + Copy, K: Packer<A> + Indexer<A>>()
-    ensures { (k : K) → RefsStayWhole (tools_of (K.packs k) (K.pack_fails k) (K.indexes k) (K.index_fails k)) }
+    ensures { (k : K) → RefsStayWhole (tools_of (K.packs k) (K.pack_fails k) (K.indexes k)
+        (K.index_fails k)) }
 {}
 
 /// Where the client's session asked for objects at most once more than there are ids that its tips reach, so it is
 /// after any run. The tips are the ids at which the client's refs stood when the session began.
 pub fn requests_stay_few<A: Allocator + Copy, K: Packer<A> + Indexer<A>>()
-    ensures { (k : K) → RequestsStayFew (tools_of (K.packs k) (K.pack_fails k) (K.indexes k) (K.index_fails k)) }
+    ensures { (k : K) → RequestsStayFew (tools_of (K.packs k) (K.pack_fails k) (K.indexes k)
+        (K.index_fails k)) }
 {}
 
 /// Where no bytes were forged, and server and client hold each common id, so it is after any run that forges none.
 pub fn commons_stay_shared<A: Allocator + Copy, K: Packer<A> + Indexer<A>>()
-    ensures { (k : K) → CommonsStayShared (tools_of (K.packs k) (K.pack_fails k) (K.indexes k) (K.index_fails k)) }
+    ensures { (k : K) → CommonsStayShared (tools_of (K.packs k) (K.pack_fails k) (K.indexes k)
+        (K.index_fails k)) }
 {}

@@ -10,7 +10,7 @@
 //!   two repositories have ids of two formats, and else with `Disagree` exactly where they hold an id with two
 //!   objects: at the first such id in the order of the server's objects.
 //! - [`World::run`] does the events in order, with one outcome each. What an event does, and with which outcome, is
-//!   said by `Step` (specs/Steps.antt). Where the world's own lists or buffers can't grow, the run stops at an event
+//!   said by `Step` (specs/Events.antt). Where the world's own lists or buffers can't grow, the run stops at an event
 //!   that has not begun, with the outcomes of those before it.
 //! - **Whatever is answered, whatever bytes are forged, and whatever packer and indexer do: each ref of the client
 //!   is connected**, and the session asked for objects at most once more than there are ids that its tips reach.
@@ -40,9 +40,9 @@
 //!
 //! # Stands on
 //!
-//! `gscenario` for events, `gsession` and `grepo` for the client, `gserve` and `ganswer` for the server, `gmsg` and
+//! `gscenario` for events, `gsession` and `gclientrepo` for the client, `gserve` and `ganswer` for the server, `gmsg` and
 //! the crates of single messages for the laws of their bytes, `gpkt` for packets in memory, `ggraph` and
-//! `ghistory` for graphs, `gobject` for objects, packers and indexers, `gspec` for refspecs, `grefs` and `gname` for
+//! `gdag` for graphs, `gobject` for objects, packers and indexers, `grefspec` for refspecs, `grefs` and `gname` for
 //! refs and ids.
 #![tactic(auto)]
 

@@ -3,7 +3,7 @@
 
 ghost use Rattle.std.specs.Prelude.{◌≡◌, slice_get};
 ghost use Rattle.std.specs.Option.{option_copied};
-ghost use Rattle.gworld.specs.Steps.{mark_after};
+ghost use Rattle.gworld.specs.Events.{mark_after};
 ghost use Rattle.gworld.specs.Taking.{code_of};
 ghost use Rattle.gworld.specs.declared.outcome.Outcome.TheVariants as outcome;
 
@@ -16,7 +16,7 @@ mod start;
 
 use crate::outcome::Outcome;
 use ganswer::{Reply, Server};
-use grepo::Repo;
+use gclientrepo::Repo;
 use grequest::Request;
 use gsession::{ClientFault, Session};
 use std::alloc::Allocator;

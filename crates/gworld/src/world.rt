@@ -11,8 +11,8 @@ use crate::fault::{RunFault, WorldFault};
 use crate::outcome::Outcome;
 use crate::parts::Parts;
 use ganswer::Server;
+use gclientrepo::Repo;
 use ggraph::{Indexer, Packer};
-use grepo::Repo;
 use gscenario::Event;
 use std::alloc::{Allocator, Global};
 use std::marker::Model;
@@ -89,10 +89,12 @@ impl<K: Packer<A> + Indexer<A> + Drop, A: Allocator + Copy> World<K, A> {
         ensures tools { self.new.tools ≡ self.old.tools }
         ensures safe { AreRefsWhole self.new.world }
         ensures runs { MatchResult result
-            (λ outcomes. RunWith (Promises (tools_of (K.packs self.old.tools) (K.pack_fails self.old.tools)
+            (λ outcomes. RunWith (Promises (tools_of (K.packs self.old.tools)
+            (K.pack_fails self.old.tools)
             (K.indexes self.old.tools) (K.index_fails self.old.tools)))
             self.old.world events.now outcomes.items self.new.world)
-            (λ fault. RunsFront (Promises (tools_of (K.packs self.old.tools) (K.pack_fails self.old.tools)
+            (λ fault. RunsFront (Promises (tools_of (K.packs self.old.tools)
+            (K.pack_fails self.old.tools)
             (K.indexes self.old.tools) (K.index_fails self.old.tools)))
             self.old.world events.now (outcomes_before fault) self.new.world) }
     {

@@ -1,7 +1,7 @@
 //! The laws that reading a repository text rests on.
 #![tactic(auto)]
 
-ghost use Rattle.ggraph.specs.TextLaws.{TextLaws};
+ghost use Rattle.ggraph.specs.steps.TextLaws.{TextLaws};
 
 use gname::laws;
 

@@ -5,7 +5,7 @@ ghost use Rattle.std.specs.Prelude.{◌≡◌, ◌++◌, ◌∷◌, MatchOption,
 ghost use Rattle.gobject.specs.PlainPackText.{letter};
 ghost use Rattle.grefs.specs.RefLists.{IsBelowRefs};
 ghost use Rattle.ggraph.specs.RepositoryText.{IsHead, first_line, head_line};
-ghost use Rattle.ggraph.specs.NoSuchPart.{BeginsWithNoRefId, IsNoNode, IsNoHead, IsNoIdText, IsHeadAt, IsHeadOn, IsSymrefLine};
+ghost use Rattle.ggraph.specs.steps.NoSuchPart.{BeginsWithNoRefId, IsNoNode, IsNoHead, IsNoIdText, IsHeadAt, IsHeadOn, IsSymrefLine};
 ghost use Rattle.gname.specs.Ids.{IsIdOf, id_text};
 ghost use Rattle.gname.specs.declared.formats.Format.{Format};
 
@@ -47,7 +47,8 @@ pub(crate) struct RefLine<'a> {
 
 /// The parts of a node's line.
 pub(crate) fn node_parts(line: &[u8]) -> Option<NodeLine<'_>>
-    ensures { MatchOption result (IsNoNode line.now) (λ node. line.now ≡ letter node.kind ∷ node.ids.now) }
+    ensures { MatchOption result (IsNoNode line.now)
+        (λ node. line.now ≡ letter node.kind ∷ node.ids.now) }
 {
     if let Some(ids) = line.strip_prefix(b"c") {
         let kind = Kind::Commit;
@@ -102,7 +103,8 @@ pub(crate) fn head_of<A: Allocator + Copy>(
 
 // HEAD at the id whose digits these are.
 fn head_at<A: Allocator + Copy>(format: Format, digits: &[u8]) -> Option<Head<A>>
-    ensures { MatchOption result (IsNoIdText format digits.now) (λ head. IsHeadAt format digits.now head) }
+    ensures { MatchOption result (IsNoIdText format digits.now)
+        (λ head. IsHeadAt format digits.now head) }
 {
     text_laws();
     match take_id(format, digits) {

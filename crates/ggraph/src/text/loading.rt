@@ -3,7 +3,7 @@
 
 ghost use Rattle.std.specs.Prelude.{◌≡◌, ◌++◌, ◌≤◌, MatchOption, IfOk, IfErr};
 ghost use Rattle.gobject.specs.PlainPackText.{IsInLine, line};
-ghost use Rattle.ghistory.specs.Graphs.{max_nodes};
+ghost use Rattle.gdag.specs.Graphs.{max_nodes};
 ghost use Rattle.ggraph.specs.Loading.{AcceptsText, StopsAt};
 ghost use Rattle.ggraph.specs.RepositoryText.{IsLoadable, repository_text};
 
@@ -12,7 +12,7 @@ use crate::text::laws::text_laws;
 use crate::text::parts::Room;
 use crate::text::reading::{Reading, Stage};
 use crate::text::{Order, Repository};
-use ghistory::{Graph, MAX_NODES};
+use gdag::{Graph, MAX_NODES};
 use grefs::{Head, Refs};
 use memchr::{memchr, memchr_iter};
 use std::alloc::Allocator;
@@ -36,7 +36,8 @@ pub fn load<A: Allocator + Copy>(
     order: Order,
 ) -> Result<Repository<A>, LoadFault>
     ensures ok { IfOk result (λ it.
-        (text.now ≡ repository_text it.graph it.refs it.head) × IsLoadable order it.graph it.refs it.head) }
+        (text.now ≡ repository_text it.graph it.refs it.head)
+        × IsLoadable order it.graph it.refs it.head) }
     ensures refused { IfErr result (StopsAt A order text.now) }
     ensures accepts { AcceptsText A order text.now result }
 {

@@ -7,7 +7,7 @@ ghost use Rattle.gname.specs.Ids.{IsIdOf, id_text};
 ghost use Rattle.gobject.specs.Objects.{max_parents};
 ghost use Rattle.gobject.specs.PlainPackText.{ids_text};
 ghost use Rattle.grefs.specs.RefLists.{IsBelowRefs};
-ghost use Rattle.ggraph.specs.NoSuchPart.{BeginsWithNoId, BeginsWithNoSpacedId, IsNoParents};
+ghost use Rattle.ggraph.specs.steps.NoSuchPart.{BeginsWithNoId, BeginsWithNoSpacedId, IsNoParents};
 
 use crate::text::laws::text_laws;
 use crate::text::recent::Recent;
@@ -37,7 +37,8 @@ pub(crate) fn take_id(format: Format, text: &[u8]) -> Option<(Oid, &[u8])>
 // The id of the format whose digits are at the front.
 fn front_id(format: Format, text: &[u8]) -> Option<FrontId<'_>>
     ensures { MatchOption result (BeginsWithNoId format text.now) (λ found.
-        (text.now ≡ id_text found.id ++ found.rest.now) × (found.digits.now ≡ id_text found.id) × IsIdOf format found.id) }
+        (text.now ≡ id_text found.id ++ found.rest.now) × (found.digits.now ≡ id_text found.id)
+        × IsIdOf format found.id) }
 {
     text_laws();
     let length = format.id_text_length();
@@ -67,7 +68,8 @@ fn is_lower(digits: &[u8]) -> bool
 /// The id at the front after a space.
 pub(crate) fn take_spaced(format: Format, text: &[u8]) -> Option<FrontId<'_>>
     ensures { MatchOption result (BeginsWithNoSpacedId format text.now) (λ found.
-        (text.now ≡ codes " " ++ (id_text found.id ++ found.rest.now)) × (found.digits.now ≡ id_text found.id)
+        (text.now ≡ codes " " ++ (id_text found.id ++ found.rest.now))
+        × (found.digits.now ≡ id_text found.id)
         × IsIdOf format found.id) }
 {
     front_id(format, text.strip_prefix(b" ")?)
@@ -110,7 +112,8 @@ impl<'a> Room<'a> {
     /// The ids of a node's parents, a space before each. `None` where the text is not such ids alone.
     pub(crate) fn read(&mut self, format: Format, text: &[u8]) -> Option<&[Oid]>
         ensures { MatchOption result (IsNoParents format text.now) (λ ids.
-            (text.now ≡ ids_text ids.now) × All (IsIdOf format) ids.now × (length ids.now ≤ max_parents)) }
+            (text.now ≡ ids_text ids.now) × All (IsIdOf format) ids.now
+            × (length ids.now ≤ max_parents)) }
     {
         let count = read_parents(format, &self.recent, text, &mut self.ids)?;
         Some(&self.ids[..count])
@@ -151,8 +154,8 @@ pub(crate) fn name_of<A: Allocator + Copy>(
     text: &[u8],
 ) -> Result<Option<RefName<A>>, AllocError>
     ensures { MatchResult result
-        (λ found. MatchOption found (¬ (IsBelowRefs text.now)) (λ name. (name ≡ text.now) × IsBelowRefs text.now))
-        (λ _. IsBelowRefs text.now) }
+        (λ found. MatchOption found (¬ (IsBelowRefs text.now))
+        (λ name. (name ≡ text.now) × IsBelowRefs text.now)) (λ _. IsBelowRefs text.now) }
 {
     text_laws();
     if !text.starts_with(b"refs/") {

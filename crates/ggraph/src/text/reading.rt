@@ -5,16 +5,16 @@ ghost use Rattle.std.specs.Prelude.{◌≡◌, ◌++◌, ◌∷◌, [], IfErr, O
 ghost use Rattle.gname.specs.Ids.{IsIdOf};
 ghost use Rattle.gobject.specs.Objects.{IsShaped, entry_of, node_of};
 ghost use Rattle.gobject.specs.PlainPackText.{letter};
-ghost use Rattle.ghistory.specs.Graphs.{HasIdsOf};
+ghost use Rattle.gdag.specs.Graphs.{HasIdsOf};
 ghost use Rattle.ggraph.specs.RepositoryText.{MayFollow, RefMayFollow};
-ghost use Rattle.ggraph.specs.Reading.{RefusesEntry, RefusesRef, with_entry};
+ghost use Rattle.ggraph.specs.steps.Reading.{RefusesEntry, RefusesRef, with_entry};
 
 use crate::fault::LoadFault;
 use crate::text::Order;
 use crate::text::laws::text_laws;
 use crate::text::lines::{NodeLine, RefLine, format_of, head_of, node_parts, ref_parts};
 use crate::text::parts::{Room, name_of, take_spaced};
-use ghistory::{Graph, MAX_NODES};
+use gdag::{Graph, MAX_NODES};
 use gname::{Format, Oid};
 use gobject::{Entry, Kind, MAX_PARENTS, Node, Parents};
 use grefs::{Head, MAX_REFS, Refs};
@@ -45,8 +45,8 @@ pub(crate) struct Reading<A: Allocator + Copy> {
 }
 
 impl<A: Allocator + Copy> Reading<A> {
-    ghost use Rattle.ggraph.specs.Reading.{RefusesLine, ComesNext, RefMayCome, nothing_read};
-    ghost use Rattle.ggraph.specs.NoSuchPart.{IsNoNode, IsNoRef};
+    ghost use Rattle.ggraph.specs.steps.Reading.{RefusesLine, ComesNext, RefMayCome, nothing_read};
+    ghost use Rattle.ggraph.specs.steps.NoSuchPart.{IsNoNode, IsNoRef};
     ghost use Rattle.ggraph.specs.declared.text.Order.{Order};
 
     /// No line was read. It takes no memory.
@@ -88,7 +88,8 @@ impl<A: Allocator + Copy> Reading<A> {
     fn take_first(&mut self, nodes: usize, line: &[u8], number: usize) -> Result<(), LoadFault>
         requires { self.old.stage ≡ Stage.First }
         ensures ok { ((order : Order) → OnOk result (ComesNext order self.old line.now self.new)) }
-        ensures refused { ((order : Order) → IfErr result (RefusesLine order self.old line.now number)) }
+        ensures refused { ((order : Order)
+            → IfErr result (RefusesLine order self.old line.now number)) }
     {
         match format_of(line) {
             Some(format) => {
@@ -104,7 +105,8 @@ impl<A: Allocator + Copy> Reading<A> {
     fn take_last(&mut self, line: &[u8], number: usize) -> Result<(), LoadFault>
         requires { self.old.stage ≡ Stage.Last }
         ensures ok { ((order : Order) → OnOk result (ComesNext order self.old line.now self.new)) }
-        ensures refused { ((order : Order) → IfErr result (RefusesLine order self.old line.now number)) }
+        ensures refused { ((order : Order)
+            → IfErr result (RefusesLine order self.old line.now number)) }
     {
         if line != b"end".as_slice() {
             return Err(LoadFault::Text { line: number });
@@ -150,7 +152,8 @@ impl<A: Allocator + Copy> Reading<A> {
         requires due { RefMayCome self.old.stage }
         requires no_node { self.old.stage ≡ Stage.Nodes → IsNoNode line.now }
         ensures ok { ((order : Order) → OnOk result (ComesNext order self.old line.now self.new)) }
-        ensures refused { ((order : Order) → IfErr result (RefusesLine order self.old line.now number)) }
+        ensures refused { ((order : Order)
+            → IfErr result (RefusesLine order self.old line.now number)) }
     {
         text_laws();
         let Some(text) = line.strip_prefix(b"r ") else {
@@ -170,7 +173,8 @@ impl<A: Allocator + Copy> Reading<A> {
         requires no_node { self.old.stage ≡ Stage.Nodes → IsNoNode line.now }
         requires no_ref { IsNoRef line.now }
         ensures ok { ((order : Order) → OnOk result (ComesNext order self.old line.now self.new)) }
-        ensures refused { ((order : Order) → IfErr result (RefusesLine order self.old line.now number)) }
+        ensures refused { ((order : Order)
+            → IfErr result (RefusesLine order self.old line.now number)) }
     {
         match head_of(self.graph.allocator(), self.graph.format(), line)? {
             Some(head) => {

@@ -2,18 +2,19 @@
 #![tactic(auto)]
 
 ghost use Rattle.std.specs.Prelude.{◌≡◌, ◌++◌, All, IfOk, IsTrue, ◌↔◌, ◌∷◌, ◌<◌, [], MatchOption, MatchResult, OnOk, Some, length, map, slice_get};
-ghost use Rattle.ghistory.specs.Graphs.{IsGraph};
+ghost use Rattle.gdag.specs.Graphs.{IsGraph};
 ghost use Rattle.gobject.specs.declared.node.Entry.{Entry};
-ghost use Rattle.gname.specs.Ids.{IsIdOf, id_text};
-ghost use Rattle.gobject.specs.PlainPackText.{ids_text, line, node_text, text_of};
+ghost use Rattle.gname.specs.Ids.{IsIdOf};
+ghost use Rattle.gobject.specs.PlainPackText.{line, node_text, text_of};
 ghost use Rattle.ggraph.specs.RepositoryText.{IsLoadable, head_line, first_line, ref_line, repository_text};
-ghost use Rattle.ggraph.specs.Saving.{IsFirstOther, PointsBelowRefs, SaveRefuses, head_ids, named_ids, ref_ids};
+ghost use Rattle.ggraph.specs.Saving.{IsFirstOther, SaveRefuses, head_ids, named_ids, ref_ids};
+ghost use Rattle.ggraph.specs.steps.Saving.{PointsBelowRefs};
 
 use crate::fault::SaveFault;
 use crate::text::Order;
-use ghistory::Graph;
-use gname::{Format, MAX_ID_TEXT, Oid, RefName};
-use gobject::{Entry, Kind};
+use gdag::Graph;
+use gname::{Format, Oid, RefName};
+use gobject::Entry;
 use grefs::{Head, Refs};
 use std::alloc::{AllocError, Allocator};
 
@@ -27,11 +28,12 @@ pub fn save<A: Allocator + Copy>(
     refs: &Refs<A>,
     head: &Head<A>,
 ) -> Result<Vec<u8, A>, SaveFault>
-    ensures text { MatchResult result (λ text. text.items ≡ repository_text graph.now refs.now head.now)
+    ensures text { MatchResult result (λ text. text.items
+        ≡ repository_text graph.now refs.now head.now)
         (SaveRefuses graph.now.format refs.now head.now) }
     ensures loadable { IfOk result (λ text. IsLoadable Order.Any graph.now refs.now head.now) }
 {
-    ghistory::laws::entries_come_in_order::<A>();
+    gdag::laws::entries_come_in_order::<A>();
     grefs::laws::refs_come_in_order();
     if let Some(id) = other_id(graph.format(), refs.as_slice(), head) {
         return Err(SaveFault::OtherFormat { id });
@@ -57,7 +59,8 @@ fn other_id<A: Allocator + Copy>(
 
 // The first id at which a ref stands that is not of the format.
 fn other_ref<A: Allocator + Copy>(format: Format, refs: &[(RefName<A>, Oid)]) -> Option<Oid>
-    ensures { MatchOption result (All (IsIdOf format) (ref_ids refs.now)) (IsFirstOther format (ref_ids refs.now)) }
+    ensures { MatchOption result (All (IsIdOf format) (ref_ids refs.now))
+        (IsFirstOther format (ref_ids refs.now)) }
 {
     for pair in refs {
         if !is_of(format, &pair.1) {
@@ -69,7 +72,8 @@ fn other_ref<A: Allocator + Copy>(format: Format, refs: &[(RefName<A>, Oid)]) ->
 
 // The id at which HEAD stands, if it is not of the format.
 fn other_head<A: Allocator + Copy>(format: Format, head: &Head<A>) -> Option<Oid>
-    ensures { MatchOption result (All (IsIdOf format) (head_ids head.now)) (IsFirstOther format (head_ids head.now)) }
+    ensures { MatchOption result (All (IsIdOf format) (head_ids head.now))
+        (IsFirstOther format (head_ids head.now)) }
 {
     match head {
         Head::Id(id) => { if is_of(format, id) { None } else { Some(*id) } }
@@ -114,7 +118,8 @@ fn written<A: Allocator + Copy>(
 }
 
 fn put_nodes<A: Allocator + Copy>(text: &mut Vec<u8, A>, graph: &Graph<A>) -> Result<(), AllocError>
-    ensures text { OnOk result (text.new.items ≡ text.old.items ++ text_of (map node_text graph.now.entries)) }
+    ensures text { OnOk result (text.new.items
+        ≡ text.old.items ++ text_of (map node_text graph.now.entries)) }
     ensures graph { IsGraph graph.now }
 {
     for place in 0..graph.len() {
@@ -133,39 +138,7 @@ fn put_node<A: Allocator + Copy>(
         text.new.items ≡ text.old.items ++ line (node_text entry))) }
 {
     let (id, node) = graph.at(place).unwrap();
-    match node.kind {
-        Kind::Commit => text.extend_from_slice(b"c")?,
-        Kind::Tag => text.extend_from_slice(b"t")?,
-    }
-    put_spaced(text, id)?;
-    put_ids(text, node.parents.as_slice())?;
-    text.extend_from_slice(b"\n")
-}
-
-// The ids, a space before each.
-fn put_ids<A: Allocator + Copy>(text: &mut Vec<u8, A>, ids: &[Oid]) -> Result<(), AllocError>
-    ensures { OnOk result (text.new.items ≡ text.old.items ++ ids_text ids.now) }
-{
-    for id in ids {
-        put_spaced(text, id)?;
-    }
-    Ok(())
-}
-
-// The id, a space before it.
-fn put_spaced<A: Allocator + Copy>(text: &mut Vec<u8, A>, id: &Oid) -> Result<(), AllocError>
-    ensures { OnOk result (text.new.items ≡ text.old.items ++ ids_text (id.now ∷ [])) }
-{
-    text.extend_from_slice(b" ")?;
-    put_id(text, id)
-}
-
-fn put_id<A: Allocator + Copy>(text: &mut Vec<u8, A>, id: &Oid) -> Result<(), AllocError>
-    ensures { OnOk result (text.new.items ≡ text.old.items ++ id_text id.now) }
-{
-    let mut digits = [0; MAX_ID_TEXT];
-    let length = id.to_hex(&mut digits);
-    text.extend_from_slice(&digits[..length])
+    node.push_line(id, text)
 }
 
 fn put_refs<A: Allocator + Copy>(
@@ -187,7 +160,7 @@ fn put_ref<A: Allocator + Copy>(
     ensures { OnOk result (text.new.items ≡ text.old.items ++ line (ref_line pair.now)) }
 {
     text.extend_from_slice(b"r ")?;
-    put_id(text, &pair.1)?;
+    pair.1.push_hex(text)?;
     text.extend_from_slice(b" ")?;
     text.extend_from_slice(pair.0.as_bytes())?;
     text.extend_from_slice(b"\n")
@@ -201,7 +174,7 @@ fn put_head<A: Allocator + Copy>(text: &mut Vec<u8, A>, head: &Head<A>) -> Resul
         Head::None => text.extend_from_slice(b"h none\n"),
         Head::Id(id) => {
             text.extend_from_slice(b"h id ")?;
-            put_id(text, id)?;
+            id.push_hex(text)?;
             text.extend_from_slice(b"\n")
         }
         Head::Symref(target) => {

@@ -3,8 +3,10 @@
 
 ghost use Rattle.std.specs.Prelude.{[], ◌++◌, ◌∷◌, ℕ, List, MatchResult};
 ghost use Rattle.gobject.specs.PlainPackText.{IsPack, IndexRefuses};
-ghost use Rattle.gobject.specs.PlainPackReading.{IsPart, separator_byte};
-ghost use Rattle.gobject.specs.PlainPackFeed.{Fed, Feeds};
+ghost use Rattle.gobject.specs.PlainPackReading.{IsPart};
+ghost use Rattle.gobject.specs.steps.PlainPackReading.{separator_byte};
+ghost use Rattle.gobject.specs.PlainPackFeed.{Fed};
+ghost use Rattle.gobject.specs.steps.PlainPackFeed.{Feeds};
 
 use crate::fault::IndexFault;
 use crate::node::Entry;

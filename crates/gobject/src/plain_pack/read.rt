@@ -4,7 +4,8 @@
 ghost use Rattle.std.specs.Prelude.{◌≡◌, [], ℕ, ◌+◌, List, length, decimal, MatchOption, IfOk, OnErr, IsTrue, ◌↔◌};
 ghost use Rattle.gname.specs.Ids.{IsIdText};
 ghost use Rattle.gobject.specs.Objects.{entry_of, node_of};
-ghost use Rattle.gobject.specs.PlainPackReading.{IsPart, SplitsPart, format_of_digits, NoId, Leads, NeverLeads, EndsId, with_parent, IsKept, line_number, Reads, Finishes};
+ghost use Rattle.gobject.specs.PlainPackReading.{IsPart};
+ghost use Rattle.gobject.specs.steps.PlainPackReading.{SplitsPart, format_of_digits, NoId, Leads, NeverLeads, EndsId, with_parent, IsKept, line_number, Reads, Finishes};
 
 use crate::fault::IndexFault;
 use crate::node::{Entry, Kind, Node, Parents};
@@ -143,7 +144,8 @@ fn after_id<A: Allocator + Copy>(
     entry: Entry<A>,
     separator: Separator,
 ) -> Result<Next<A>, AllocError>
-    ensures ok { IfOk result (λ next. EndsId entries.old.items entry separator next entries.new.items) }
+    ensures ok { IfOk result (λ next. EndsId entries.old.items entry separator next
+        entries.new.items) }
     ensures err { OnErr result (separator ≡ Separator.LineFeed) }
 {
     match separator {
@@ -229,7 +231,8 @@ impl<A: Allocator + Copy> Lines<A> {
 
     /// The fault of a part that may not come next.
     pub fn bad_line(&self) -> IndexFault
-        ensures { result ≡ IndexFault.Bad (line_number self.now.next (length self.now.entries.items)) }
+        ensures { result ≡ IndexFault.Bad (line_number self.now.next
+            (length self.now.entries.items)) }
     {
         IndexFault::Bad { line: self.line() }
     }

@@ -3,13 +3,13 @@
 
 ghost use Rattle.std.specs.Prelude.{◌≡◌, ◌≤◌, ◌++◌, ◌∷◌, [], length, IsTrue, ◌↔◌, OnOk, MatchResult, IfOk};
 ghost use Rattle.gname.specs.Limits.{max_pack};
-ghost use Rattle.gobject.specs.PlainPackText.{letter, line, ids_text, node_text, end_text, pack_text, PackRefuses};
-ghost use Rattle.gobject.specs.PlainPackWriting.{Leaves, nodes_text};
+ghost use Rattle.gobject.specs.PlainPackText.{line, ids_text, node_text, end_text, pack_text, PackRefuses};
+ghost use Rattle.gobject.specs.steps.PlainPackWriting.{Leaves, nodes_text};
 
 use crate::fault::PackFault;
-use crate::node::{Entry, Kind};
+use crate::node::Entry;
 use gname::laws::ids_have_texts;
-use gname::{MAX_ID_TEXT, MAX_PACK, Oid};
+use gname::{MAX_PACK, Oid};
 use itoa::Buffer;
 use std::alloc::{AllocError, Allocator};
 
@@ -65,37 +65,6 @@ fn fits<A: Allocator + Copy>(entries: &[Entry<A>]) -> bool
     }
 }
 
-/// Writes an id after a space.
-fn put_id<A: Allocator + Copy>(text: &mut Vec<u8, A>, id: &Oid) -> Result<(), AllocError>
-    ensures { OnOk result (text.new.items ≡ text.old.items ++ ids_text (id.now ∷ [])) }
-{
-    let mut digits = [0; MAX_ID_TEXT];
-    let length = id.to_hex(&mut digits);
-    text.push(b' ')?;
-    text.extend_from_slice(&digits[..length])
-}
-
-/// Writes ids, each after a space.
-fn put_ids<A: Allocator + Copy>(text: &mut Vec<u8, A>, ids: &[Oid]) -> Result<(), AllocError>
-    ensures { OnOk result (text.new.items ≡ text.old.items ++ ids_text ids.now) }
-{
-    for id in ids {
-        put_id(text, id)?;
-    }
-    Ok(())
-}
-
-/// Writes the line of an entry.
-fn put_node<A: Allocator + Copy>(text: &mut Vec<u8, A>, entry: &Entry<A>) -> Result<(), AllocError>
-    ensures { OnOk result (text.new.items ≡ text.old.items ++ line (node_text entry.now)) }
-{
-    text.push(letter_of(entry.node.kind))?;
-    put_id(text, &entry.id)?;
-    put_ids(text, entry.node.parents.as_slice())?;
-    text.push(b'\n')?;
-    Ok(())
-}
-
 /// Writes the lines of some entries.
 fn put_nodes<A: Allocator + Copy>(
     text: &mut Vec<u8, A>,
@@ -104,7 +73,7 @@ fn put_nodes<A: Allocator + Copy>(
     ensures { OnOk result (text.new.items ≡ text.old.items ++ nodes_text entries.now) }
 {
     for entry in entries {
-        put_node(text, entry)?;
+        entry.node.push_line(&entry.id, text)?;
     }
     Ok(())
 }
@@ -118,16 +87,6 @@ fn put_end<A: Allocator + Copy>(text: &mut Vec<u8, A>, count: usize) -> Result<(
     text.extend_from_slice(digits.format(count).as_bytes())?;
     text.push(b'\n')?;
     Ok(())
-}
-
-/// The letter of a kind.
-fn letter_of(kind: Kind) -> u8
-    ensures { result ≡ letter kind }
-{
-    match kind {
-        Kind::Commit => b'c',
-        Kind::Tag => b't',
-    }
 }
 
 /// Writes the text of the pack of some entries, however long it is.
@@ -144,7 +103,8 @@ fn put_pack<A: Allocator + Copy>(alloc: A, entries: &[Entry<A>]) -> Result<Vec<u
 /// Writes the pack of some entries. It fails with `TooLarge`, before it takes memory, where the
 /// pack has more than `MAX_PACK` bytes, and else with `Memory`.
 pub fn write<A: Allocator + Copy>(alloc: A, entries: &[Entry<A>]) -> Result<Vec<u8, A>, PackFault>
-    ensures packed { MatchResult result (λ pack. pack.items ≡ pack_text entries.now) (PackRefuses (pack_text entries.now)) }
+    ensures packed { MatchResult result (λ pack. pack.items ≡ pack_text entries.now)
+        (PackRefuses (pack_text entries.now)) }
     ensures bounded { IfOk result (λ pack. length pack.items ≤ max_pack) }
 {
     if !fits(entries) {

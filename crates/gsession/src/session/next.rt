@@ -9,11 +9,11 @@ use crate::fault::ClientFault;
 use crate::requests::{batch_size, objects_request, refs_request};
 use crate::session::Session;
 use crate::stage::Stage;
+use gclientrepo::Repo;
 use ggraph::graph_laws::{offers_are_exact, places_are_nodes};
 use ggraph::haves;
 use gname::Oid;
 use gname::laws::ids_have_one_format;
-use grepo::Repo;
 use grequest::{MAX_HAVES, Request};
 use std::alloc::{AllocError, Allocator};
 
@@ -21,7 +21,7 @@ impl<A: Allocator + Copy> Session<A> {
     ghost use Rattle.grequest.specs.RequestValues.{IsOfFormat, asked_by_request};
     ghost use Rattle.gsession.specs.Requesting.{IsBatch, MakesNext, Requests, fetch_request, waiting_for};
     ghost use Rattle.gsession.specs.Sessions.{after_fault, no_memory};
-    ghost use Rattle.gsession.specs.Steps.{FitsBatch};
+    ghost use Rattle.gsession.specs.steps.Calls.{FitsBatch};
 
     /// The next request, which then waits for its reply: for refs at first, then for objects. A request for objects
     /// names as haves the common ids, and a batch of ids that it did not name before; without a batch the client is
@@ -31,7 +31,8 @@ impl<A: Allocator + Copy> Session<A> {
     /// session is over then.
     pub fn request(&mut self, repo: &Repo<A>) -> Result<Request<A>, ClientFault<A>>
         ensures requests { MatchResult result
-            (λ request. Requests self.old repo.now.graph.entries self.new (Ok (asked_by_request request)))
+            (λ request. Requests self.old repo.now.graph.entries self.new
+            (Ok (asked_by_request request)))
             (λ fault. Requests self.old repo.now.graph.entries self.new (Err fault)) }
         ensures format { IfOk result (IsOfFormat self.old.format) }
     {
@@ -44,8 +45,10 @@ impl<A: Allocator + Copy> Session<A> {
     // Makes the next request, where one is due. A fault does not end the session yet.
     fn make_request(&mut self, repo: &Repo<A>) -> Result<Request<A>, ClientFault<A>>
         ensures requests { MatchResult result
-            (λ request. Requests self.old repo.now.graph.entries self.new (Ok (asked_by_request request)))
-            (λ fault. Requests self.old repo.now.graph.entries (after_fault self.old fault) (Err fault)
+            (λ request. Requests self.old repo.now.graph.entries self.new
+            (Ok (asked_by_request request)))
+            (λ fault. Requests self.old repo.now.graph.entries (after_fault self.old fault)
+            (Err fault)
             × (self.new ≡ self.old)) }
         ensures format { IfOk result (IsOfFormat self.old.format) }
     {
@@ -80,8 +83,8 @@ impl<A: Allocator + Copy> Session<A> {
         requires stage { self.old.stage ≡ Stage.Fetching }
         requires pending { self.old.pending ≡ None }
         ensures made { MatchResult result
-            (λ request. MakesNext self.old repo.now.graph.entries self.new (asked_by_request request))
-            (λ fault. (self.new ≡ self.old) × (fault ≡ no_memory)) }
+            (λ request. MakesNext self.old repo.now.graph.entries self.new
+            (asked_by_request request)) (λ fault. (self.new ≡ self.old) × (fault ≡ no_memory)) }
         ensures format { IfOk result (IsOfFormat self.old.format) }
     {
         let alloc = self.allocator();
@@ -127,7 +130,8 @@ impl<A: Allocator + Copy> Session<A> {
     fn keep_request(&mut self, request: Request<A>, batch: &[Oid]) -> Result<(), AllocError>
         requires stage { self.old.stage ≡ Stage.Fetching }
         requires pending { self.old.pending ≡ None }
-        requires asked { asked_by_request request ≡ Fetches (fetch_request self.old.wants self.old.commons batch.now) }
+        requires asked { asked_by_request request
+            ≡ Fetches (fetch_request self.old.wants self.old.commons batch.now) }
         requires fits { FitsBatch self.old batch.now }
         requires format { IsOfFormat self.old.format request }
         ensures { MatchResult result

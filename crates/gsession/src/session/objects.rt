@@ -10,12 +10,12 @@ use crate::feed::PackFeed;
 use crate::session::Session;
 use crate::stage::Stage;
 use crate::taken::Taken;
+use gclientrepo::Repo;
 use gfetchreply::{FetchHead, FetchReading, read_fetch_reply_into_in};
 use ggraph::Indexer;
 use ggraph::graph_laws::distinct_are_once;
 use gname::Oid;
 use gpkt::{LineReader, Source};
-use grepo::Repo;
 use grequest::Request;
 use std::alloc::Allocator;
 
@@ -23,11 +23,11 @@ impl<A: Allocator + Copy> Session<A> {
     ghost use Rattle.gfetchreply.specs.FetchReplies.{FetchReply};
     ghost use Rattle.gfetchreply.specs.FetchHeads.{acknowledged_by, head_of, pack_of};
     ghost use Rattle.gfetchreply.specs.Views.{head_in, reading_in};
-    ghost use Rattle.ghistory.specs.Levels.{distinct_of};
-    ghost use Rattle.ghistory.specs.Reach.{Grows};
+    ghost use Rattle.gdag.specs.Levels.{distinct_of};
+    ghost use Rattle.gdag.specs.Reach.{Grows};
     ghost use Rattle.grequest.specs.Asked.{FetchAsked, is_direct};
     ghost use Rattle.gsession.specs.Sessions.{AreCommons, LeavesReplies};
-    ghost use Rattle.gsession.specs.Steps.{AnswersRead, AnswersReply, FitsHead, IsAcksFault, MayHaveFed};
+    ghost use Rattle.gsession.specs.steps.Calls.{AnswersRead, AnswersReply, FitsHead, IsAcksFault, MayHaveFed};
     ghost use Rattle.gsession.specs.TakingReplies.{Awaits, AwaitsObjects, HasPack, TakesReply};
     ghost use Rattle.gsession.specs.TakingReplies.{after_acks, reading_for};
 
@@ -46,7 +46,8 @@ impl<A: Allocator + Copy> Session<A> {
         reader: &mut LineReader<S, B>,
         indexer: &K,
     ) -> Result<Taken, ClientFault<A>>
-        ensures takes { TakesReply (K.indexes indexer.now) (K.index_fails indexer.now) self.old repo.old
+        ensures takes { TakesReply (K.indexes indexer.now) (K.index_fails indexer.now) self.old
+            repo.old
             (change_of S.remaining reader.old.source reader.new.source) self.new repo.new result }
         ensures grows { Grows repo.old.graph.entries repo.new.graph.entries }
         ensures reader { LeavesReplies S.is_down reader.old reader.new result }
@@ -65,7 +66,8 @@ impl<A: Allocator + Copy> Session<A> {
         reader: &mut LineReader<S, B>,
         indexer: &K,
     ) -> Result<Taken, ClientFault<A>>
-        ensures takes { AnswersReply (K.indexes indexer.now) (K.index_fails indexer.now) self.old repo.old
+        ensures takes { AnswersReply (K.indexes indexer.now) (K.index_fails indexer.now) self.old
+            repo.old
             (change_of S.remaining reader.old.source reader.new.source) self.new repo.new result }
         ensures reader { LeavesReplies S.is_down reader.old reader.new result }
         ensures loans { S.loans reader.new.source ≡ S.loans reader.old.source }
@@ -107,11 +109,12 @@ impl<A: Allocator + Copy> Session<A> {
         feed: PackFeed<'_, K, A>,
     ) -> Result<Taken, ClientFault<A>>
         requires { (asked : FetchAsked) × Awaits self.old asked × FitsHead asked (head_in head) }
-        ensures { (asked : FetchAsked) (reply : FetchReply) → Awaits self.old asked → head_in head ≡ head_of reply
-            → MayHaveFed (K.fed feed.entry.indexer.now) (K.index_fails feed.entry.indexer.now) feed.entry.feed
-            (pack_of reply)
-            → AnswersRead (K.indexes feed.entry.indexer.now) (K.index_fails feed.entry.indexer.now) asked.haves
-            self.old repo.old reply self.new repo.new result }
+        ensures { (asked : FetchAsked) (reply : FetchReply) → Awaits self.old asked
+            → head_in head ≡ head_of reply
+            → MayHaveFed (K.fed feed.entry.indexer.now) (K.index_fails feed.entry.indexer.now)
+            feed.entry.feed (pack_of reply)
+            → AnswersRead (K.indexes feed.entry.indexer.now) (K.index_fails feed.entry.indexer.now)
+            asked.haves self.old repo.old reply self.new repo.new result }
     {
         match head {
             FetchHead::Acks(acks) => self.take_acks(acks.ids()),
@@ -124,7 +127,8 @@ impl<A: Allocator + Copy> Session<A> {
     fn take_acks(&mut self, acks: &[Oid]) -> Result<Taken, ClientFault<A>>
         requires { (asked : FetchAsked) × Awaits self.old asked × (is_direct asked ≡ false) }
         ensures { (asked : FetchAsked) → Awaits self.old asked → MatchResult result
-            (λ taken. All (Contains asked.haves) acks.now × (self.new ≡ after_acks self.old Stage.Fetching acks.now)
+            (λ taken. All (Contains asked.haves) acks.now
+            × (self.new ≡ after_acks self.old Stage.Fetching acks.now)
             × (taken ≡ Taken.Round (length self.new.commons)))
             (λ fault. IsAcksFault asked.haves acks.now fault × (self.new ≡ self.old)) }
     {
@@ -144,12 +148,13 @@ impl<A: Allocator + Copy> Session<A> {
         feed: PackFeed<'_, K, A>,
     ) -> Result<Taken, ClientFault<A>>
         requires { AwaitsObjects self.old }
-        ensures { (asked : FetchAsked) (reply : FetchReply) → Awaits self.old asked → acknowledged_by reply ≡ acks.now
+        ensures { (asked : FetchAsked) (reply : FetchReply) → Awaits self.old asked
+            → acknowledged_by reply ≡ acks.now
             → HasPack reply
-            → MayHaveFed (K.fed feed.entry.indexer.now) (K.index_fails feed.entry.indexer.now) feed.entry.feed
-            (pack_of reply)
-            → AnswersRead (K.indexes feed.entry.indexer.now) (K.index_fails feed.entry.indexer.now) asked.haves
-            self.old repo.old reply self.new repo.new result }
+            → MayHaveFed (K.fed feed.entry.indexer.now) (K.index_fails feed.entry.indexer.now)
+            feed.entry.feed (pack_of reply)
+            → AnswersRead (K.indexes feed.entry.indexer.now) (K.index_fails feed.entry.indexer.now)
+            asked.haves self.old repo.old reply self.new repo.new result }
     {
         let commons = self.commons_with(acks)?;
         let entries = feed.finish()?;

@@ -11,11 +11,11 @@ use crate::fault::ClientFault;
 use crate::session::Session;
 use crate::stage::Stage;
 use crate::taken::LsTaken;
+use gclientrepo::{Asks, Repo};
 use ggrammar::{MessageFault, Why};
 use glsreply::{LsReply, read_ls_reply_in};
 use gname::{NameFault, Oid};
 use gpkt::{LineReader, Source};
-use grepo::{Asks, Repo};
 use grequest::{MAX_WANTS, Request};
 use std::alloc::{AllocError, Allocator};
 
@@ -24,7 +24,7 @@ impl<A: Allocator + Copy> Session<A> {
     ghost use Rattle.gname.specs.Ids.{IsIdOf};
     ghost use Rattle.grequest.specs.Asked.{max_wants};
     ghost use Rattle.gsession.specs.Sessions.{LeavesReplies};
-    ghost use Rattle.gsession.specs.Steps.{AnswersLs, AnswersRefs, FindsAsks};
+    ghost use Rattle.gsession.specs.steps.Calls.{AnswersLs, AnswersRefs, FindsAsks};
     ghost use Rattle.gsession.specs.TakingRefs.{AwaitsRefs, IsRefsFault, TakesLs};
 
     /// Takes the reply to ls-refs, and nothing after it: what is asked for, which of its objects are wanted, and the

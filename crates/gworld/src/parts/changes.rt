@@ -3,21 +3,21 @@
 
 ghost use Rattle.std.specs.Prelude.{◌≡◌, MatchBool, MatchResult};
 ghost use Rattle.ganswer.specs.Faults.{build_fault_row};
-ghost use Rattle.ghistory.specs.Laws.{AgreesWith};
+ghost use Rattle.gdag.specs.Laws.{AgreesWith};
 ghost use Rattle.gobject.specs.Objects.{entry_of};
-ghost use Rattle.grepo.specs.Faults.{repo_fault_row};
+ghost use Rattle.gclientrepo.specs.Faults.{repo_fault_row};
 ghost use Rattle.gworld.specs.declared.outcome.Outcome.TheVariants as outcome;
-ghost use Rattle.gworld.specs.Steps.{AddsAtClient, AddsAtServer, Disagrees, SetsAtClient, SetsAtServer};
+ghost use Rattle.gworld.specs.Events.{AddsAtClient, AddsAtServer, Disagrees, SetsAtClient, SetsAtServer};
 
 use super::Parts;
 use crate::fault::DISAGREE;
 use crate::outcome::Outcome;
 use ganswer::BuildFault;
+use gclientrepo::RepoFault;
+use gclientrepo::laws::refusals_change_nothing;
 use ggraph::Graph;
 use gname::{Oid, RefName};
 use gobject::{Entry, Node};
-use grepo::RepoFault;
-use grepo::laws::refusals_change_nothing;
 use std::alloc::{AllocError, Allocator};
 
 impl<A: Allocator + Copy> Parts<A> {

@@ -3,19 +3,19 @@
 
 ghost use Rattle.std.specs.Prelude.{◌≡◌, ◌↔◌, MatchResult, slice_get, IsTrue, IfOk, Some};
 ghost use Rattle.gworld.specs.Taking.{IsPackTaken};
-ghost use Rattle.gworld.specs.Bringing.{BringsTo};
-ghost use Rattle.gworld.specs.Steps.{Delivers, Forges, waiting};
+ghost use Rattle.gworld.specs.steps.Bringing.{BringsTo};
+ghost use Rattle.gworld.specs.Events.{Delivers, Forges, waiting};
 ghost use Rattle.gworld.specs.Worlds.{reply_bytes};
 
 use super::{KeptReply, Parts, kept_at};
 use crate::fault::{NO_OPEN_REQUEST, NO_SUCH};
 use crate::incoming::{front, take_bytes};
 use crate::outcome::Outcome;
+use gclientrepo::Repo;
 use ggrammar::Ends;
 use ggraph::Indexer;
 use gpkt::LineWriter;
 use gpkt::memory::VecSink;
-use grepo::Repo;
 use gserve::write_reply;
 use gsession::Session;
 use std::alloc::{AllocError, Allocator};
@@ -79,8 +79,8 @@ impl<A: Allocator + Copy> Parts<A> {
         indexer: &K,
     ) -> Result<Outcome, AllocError>
         ensures { MatchResult result
-            (λ outcome. Forges (K.indexes indexer.now) (K.index_fails indexer.now) self.old bytes.now
-            (waiting self.old.session) outcome self.new)
+            (λ outcome. Forges (K.indexes indexer.now) (K.index_fails indexer.now) self.old
+            bytes.now (waiting self.old.session) outcome self.new)
             (λ _. self.new ≡ self.old) }
     {
         match &mut self.session {
@@ -123,7 +123,8 @@ fn bring<A: Allocator + Copy, K: Indexer<A>>(
     indexer: &K,
 ) -> Result<Outcome, AllocError>
     ensures { MatchResult result
-        (λ outcome. BringsTo (K.indexes indexer.now) (K.index_fails indexer.now) coming.entry.kept.now coming.entry.count
+        (λ outcome. BringsTo (K.indexes indexer.now) (K.index_fails indexer.now)
+        coming.entry.kept.now coming.entry.count
         session.old.pending session.old repo.old mark.old outcome session.new repo.new mark.new)
         (λ _. (session.new ≡ session.old) × (repo.new ≡ repo.old) × (mark.new ≡ mark.old)) }
 {

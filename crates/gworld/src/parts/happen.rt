@@ -5,7 +5,7 @@ ghost use Rattle.std.specs.Prelude.{◌≡◌, MatchResult};
 ghost use Rattle.gworld.specs.Promises.{Promises};
 ghost use Rattle.gworld.specs.Runs.{RunWith, RunsFront, outcomes_before};
 ghost use Rattle.gworld.specs.Sound.{AreEndsWhole, IsSound};
-ghost use Rattle.gworld.specs.Steps.{Step};
+ghost use Rattle.gworld.specs.Events.{Step};
 ghost use Rattle.gworld.specs.Worlds.{tools_of};
 
 use super::Parts;

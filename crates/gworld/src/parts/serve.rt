@@ -3,7 +3,7 @@
 
 ghost use Rattle.std.specs.Prelude.{◌≡◌, ◌≢◌, ◌∷◌, ◌++◌, [], IfOk, MatchResult, length, slice_get};
 ghost use Rattle.ganswer.specs.Faults.{serve_fault_row};
-ghost use Rattle.gworld.specs.Steps.{HearsStranger, ServesRequest, TalksTo, stranger_outcome};
+ghost use Rattle.gworld.specs.Events.{HearsStranger, ServesRequest, TalksTo, stranger_outcome};
 ghost use Rattle.gworld.specs.declared.outcome.Outcome.TheVariants as outcome;
 
 use super::{KeptReply, Parts, sent_at};
@@ -24,8 +24,8 @@ impl<A: Allocator + Copy> Parts<A> {
         bytes: &[u8],
         packer: &K,
     ) -> Result<Outcome, AllocError>
-        ensures told { IfOk result (λ outcome. HearsStranger (K.packs packer.now) (K.pack_fails packer.now)
-            self.old bytes.now outcome self.new) }
+        ensures told { IfOk result (λ outcome. HearsStranger (K.packs packer.now)
+            (K.pack_fails packer.now) self.old bytes.now outcome self.new) }
         ensures same { self.new ≡ self.old }
     {
         talk(&self.server, packer, bytes, self.repo.graph().allocator())
@@ -62,7 +62,8 @@ fn keep<A: Allocator + Copy>(
     reply: KeptReply<A>,
 ) -> Result<Outcome, AllocError>
     ensures { MatchResult result
-        (λ told. (told ≡ outcome.Served (length kept.old.items)) × (kept.new.items ≡ kept.old.items ++ reply ∷ []))
+        (λ told. (told ≡ outcome.Served (length kept.old.items))
+        × (kept.new.items ≡ kept.old.items ++ reply ∷ []))
         (λ _. kept.new.items ≡ kept.old.items) }
 {
     let number = kept.len();
@@ -84,7 +85,8 @@ fn talk<A: Allocator + Copy, K: Packer<A>>(
     bytes: &[u8],
     alloc: A,
 ) -> Result<Outcome, AllocError>
-    ensures { IfOk result (TalksTo server.now (K.packs packer.now) (K.pack_fails packer.now) bytes.now) }
+    ensures { IfOk result (TalksTo server.now (K.packs packer.now) (K.pack_fails packer.now)
+        bytes.now) }
 {
     serving_is_talking::<A, K>();
     let mut source = SliceSource::new(bytes);

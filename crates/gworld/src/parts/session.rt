@@ -6,17 +6,17 @@ ghost use Rattle.gfetchreply.specs.Values.{default_limit};
 ghost use Rattle.ggrammar.specs.declared.ends.Ends.TheVariants.{Plain};
 ghost use Rattle.ganswer.specs.Adverts.{advertised};
 ghost use Rattle.gsession.specs.Sessions.{Begins, Hears, SessionState};
-ghost use Rattle.gworld.specs.Steps.{AsksNext, BeginsSession, Restarts, SettlesRefs};
-ghost use Rattle.gworld.specs.Steps.{settled_outcome, is_moved, is_same, is_not_forward};
+ghost use Rattle.gworld.specs.Events.{AsksNext, BeginsSession, Restarts, SettlesRefs};
+ghost use Rattle.gworld.specs.Events.{settled_outcome, is_moved, is_same, is_not_forward};
 
 use super::{Parts, Sent, refuse};
 use crate::fault::NO_OPEN_REQUEST;
 use crate::outcome::Outcome;
+use gclientrepo::RefUpdate;
 use gfetchreply::PackLimit;
 use ggrammar::Ends;
-use grepo::RefUpdate;
+use grefspec::Spec;
 use gsession::{ClientFault, Session, Settled};
-use gspec::Spec;
 use std::alloc::{AllocError, Allocator};
 
 impl<A: Allocator + Copy> Parts<A> {
@@ -37,7 +37,8 @@ impl<A: Allocator + Copy> Parts<A> {
     // A new session, which has heard the server.
     fn new_session(&self, specs: &[Spec<A>]) -> Result<Session<A>, ClientFault<A>>
         ensures { MatchResult result
-            (λ session. (begun : SessionState A) × Begins self.now.repo specs.now default_limit Plain (Ok begun)
+            (λ session. (begun : SessionState A)
+            × Begins self.now.repo specs.now default_limit Plain (Ok begun)
             × Hears begun (advertised self.now.server.graph.format) session (Ok tt))
             (λ fault. Begins self.now.repo specs.now default_limit Plain (Err fault)) }
     {

@@ -2,8 +2,8 @@
 #![tactic(auto)]
 
 ghost use Rattle.std.specs.Prelude.{◌≡◌, ◌≢◌, ◌<◌, length, MatchBool, MatchOption, MatchResult};
-ghost use Rattle.ghistory.specs.Reach.{Agree};
-ghost use Rattle.gworld.specs.Bringing.{AgreesAt, DisagreesAt};
+ghost use Rattle.gdag.specs.Reach.{Agree};
+ghost use Rattle.gworld.specs.steps.Bringing.{AgreesAt, DisagreesAt};
 ghost use Rattle.gworld.specs.Starts.{CanStart, CannotStart, IsFirstDisagreement};
 ghost use Rattle.gworld.specs.Worlds.{new_world};
 
@@ -11,10 +11,10 @@ use super::Parts;
 use super::changes::agrees;
 use crate::fault::WorldFault;
 use ganswer::Server;
+use gclientrepo::Repo;
 use ggraph::Graph;
 use ggraph::graph_laws::places_are_nodes;
 use gname::Oid;
-use grepo::Repo;
 use std::alloc::Allocator;
 
 impl<A: Allocator + Copy> Parts<A> {

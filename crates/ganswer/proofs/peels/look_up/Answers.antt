@@ -4,8 +4,8 @@ use Rattle.gobject.specs.declared.node.Kind.TheVariants.{Tag}
 use Rattle.gobject.specs.declared.node.Node.{Node}
 use Rattle.gobject.specs.declared.node.Entry.{Entry}
 use Rattle.gobject.specs.Objects.{node_at}
-use Rattle.ghistory.specs.Graphs.{Holds}
-use Rattle.ghistory.specs.Peeling.{PeelsTo}
+use Rattle.gdag.specs.Graphs.{Holds}
+use Rattle.gdag.specs.Peeling.{PeelsTo}
 use Rattle.ganswer.specs.LsAnswers.{IsPeeled, TagPeelsTo}
 use Rattle.ganswer.proofs.peels.look_up.Goals as goal
 

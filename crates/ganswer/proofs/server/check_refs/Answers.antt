@@ -2,7 +2,7 @@ use Rattle.std.proofs.Common.{ℕ, List, ◌≤◌, length, refl, subst, arith}
 use Rattle.std.proofs.lemmas.List.{take_all}
 use Rattle.std.proofs.lemmas.List.Elements.{All-more}
 use Rattle.std.proofs.lemmas.Option.{slice_get_read}
-use Rattle.ghistory.specs.Graphs.{Holds}
+use Rattle.gdag.specs.Graphs.{Holds}
 use Rattle.ganswer.proofs.KnownPeels.{knows_next}
 use Rattle.ganswer.proofs.ServerLemmas.{dangling, first_dangling, holds_refs}
 use Rattle.ganswer.proofs.server.check_refs.Goals as goal

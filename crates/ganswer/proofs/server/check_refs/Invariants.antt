@@ -1,5 +1,5 @@
 use Rattle.std.proofs.Common.{take, All}
-use Rattle.ghistory.specs.Graphs.{Holds}
+use Rattle.gdag.specs.Graphs.{Holds}
 use Rattle.ganswer.specs.KnownPeels.{KnowsPeels}
 use Rattle.ganswer.proofs.server.check_refs.Given as goal
 

@@ -1,6 +1,6 @@
 use Rattle.std.proofs.Common.{◌≤◌, length, arith}
 use Rattle.std.proofs.lemmas.List.{take_all}
-use Rattle.ghistory.specs.Graphs.{Holds}
+use Rattle.gdag.specs.Graphs.{Holds}
 use Rattle.ganswer.proofs.ServerLemmas.{closed_by_places, first_of_all, parents_more}
 use Rattle.ganswer.proofs.server.first_missing_parent.Goals as goal
 

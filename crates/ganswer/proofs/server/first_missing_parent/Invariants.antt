@@ -1,5 +1,5 @@
 use Rattle.std.proofs.Common.{take, All}
-use Rattle.ghistory.specs.Graphs.{Holds}
+use Rattle.gdag.specs.Graphs.{Holds}
 use Rattle.ganswer.specs.Servers.{parents_in}
 use Rattle.ganswer.proofs.server.first_missing_parent.Given as goal
 

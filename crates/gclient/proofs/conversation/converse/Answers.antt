@@ -1,8 +1,8 @@
 use Rattle.std.proofs.Common.{ℕ, ◌≤◌, ◌+◌, List, Result, refl, sym, subst, arith}
 use Rattle.gpkt.specs.Sending.{input_of, output_of}
-use Rattle.ghistory.specs.Walks.{CountsReached}
+use Rattle.gdag.specs.Walks.{CountsReached}
 use Rattle.gclient.specs.Conversations.{FetchesOver, IsLeft}
-use Rattle.gclient.specs.Steps.{client_of, start_with}
+use Rattle.gclient.specs.steps.Conversations.{client_of, start_with}
 use Rattle.gclient.specs.declared.fault.FetchFault.{FetchFault}
 use Rattle.gclient.specs.declared.fetched.Fetched.{Fetched}
 use Rattle.gclient.proofs.StepLemmas.{err_of}

@@ -1,8 +1,8 @@
 use Rattle.std.proofs.Common.{◌≡◌, length, None, Result, refl, sym, ap, subst, ◌∙◌, arith}
 use Rattle.gpkt.specs.Sending.{input_of, output_of}
-use Rattle.ghistory.specs.Reach.{Grows}
-use Rattle.grepo.specs.Repos.{RepoState}
-use Rattle.gclient.specs.Steps.{TalksTo, client_of, stage_after}
+use Rattle.gdag.specs.Reach.{Grows}
+use Rattle.gclientrepo.specs.Repos.{RepoState}
+use Rattle.gclient.specs.steps.Conversations.{TalksTo, client_of, stage_after}
 use Rattle.gclient.specs.declared.fault.FetchFault.{FetchFault}
 use Rattle.gclient.proofs.RoundLemmas.{round_taken, rounds_within}
 use Rattle.gclient.proofs.StepLemmas.{err_of}

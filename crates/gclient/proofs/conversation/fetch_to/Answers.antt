@@ -2,7 +2,7 @@ use Rattle.std.proofs.Common.{◌≡◌, ℕ, List, ◌∷◌, refl, sym, ap, su
 use Rattle.gpkt.specs.Sending.{input_of, output_of}
 use Rattle.gsession.specs.Sessions.{SessionState}
 use Rattle.gclient.specs.Conversations.{Start, FetchesOver, cannot_begin, no_buffer, start_of}
-use Rattle.gclient.specs.Steps.{HasBegun, start_with}
+use Rattle.gclient.specs.steps.Conversations.{HasBegun, start_with}
 use Rattle.gclient.specs.declared.fault.FetchFault.{FetchFault}
 use Rattle.gclient.specs.declared.fault.FetchFault.TheVariants as fetch
 use Rattle.gclient.specs.declared.fetched.Fetched.{Fetched}

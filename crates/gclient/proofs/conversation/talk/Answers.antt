@@ -1,7 +1,7 @@
 use Rattle.std.proofs.Common.{ℕ, List, Option, None, Result, refl, sym, subst, arith}
 use Rattle.gpkt.specs.Sending.{input_of, output_of}
 use Rattle.gclient.specs.Conversations.{IsLeft}
-use Rattle.gclient.specs.Steps.{Talks, client_of, start_with}
+use Rattle.gclient.specs.steps.Conversations.{Talks, client_of, start_with}
 use Rattle.gclient.specs.declared.fault.FetchFault.{FetchFault}
 use Rattle.gclient.specs.declared.fault.FetchFault.TheVariants as fetch
 use Rattle.gclient.proofs.RoundLemmas.{begins_on}

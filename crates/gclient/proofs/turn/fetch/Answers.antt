@@ -1,7 +1,7 @@
 use Rattle.std.proofs.Common.{Result, refl, sym, subst}
 use Rattle.gpkt.specs.Sending.{input_of, output_of}
 use Rattle.gsession.specs.declared.taken.Taken.{Taken}
-use Rattle.gclient.specs.Steps.{TakesTurn, client_of}
+use Rattle.gclient.specs.steps.Conversations.{TakesTurn, client_of}
 use Rattle.gclient.specs.declared.fault.FetchFault.{FetchFault}
 use Rattle.gclient.specs.declared.fault.FetchFault.TheVariants as fetch
 use Rattle.gclient.proofs.StepLemmas.{err_of}

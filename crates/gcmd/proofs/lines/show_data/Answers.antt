@@ -3,7 +3,7 @@ use Rattle.std.proofs.lemmas.Result.{err_from_is_err_and}
 use Rattle.std.specs.Fmt.{decimal}
 use Rattle.gcmd.specs.Lines.{digits_part}
 use Rattle.gpkt.specs.Sending.{output_of}
-use Rattle.gcmd.specs.Outputs.{IsPut}
+use Rattle.gcmd.specs.steps.Outputs.{IsPut}
 use Rattle.gcmd.proofs.LinesLemmas.{IsPut-after, IsPut-more}
 use Rattle.gcmd.proofs.lines.show_data.Goals as goal
 

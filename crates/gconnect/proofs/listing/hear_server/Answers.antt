@@ -2,7 +2,7 @@ use Rattle.std.proofs.Common.{Result, sym, subst, inr}
 use Rattle.gpkt.specs.Sending.{input_of}
 use Rattle.ggrammar.specs.declared.fault.MessageFault.{MessageFault}
 use Rattle.gclient.proofs.StepLemmas.{err_of}
-use Rattle.gconnect.specs.Steps.{HearsServer}
+use Rattle.gconnect.specs.steps.Listings.{HearsServer}
 use Rattle.gconnect.specs.declared.listing.Heard.{Heard}
 use Rattle.gconnect.proofs.ListingLemmas.{fits_no_format}
 use Rattle.gconnect.proofs.listing.hear_server.Goals as goal

@@ -1,7 +1,7 @@
 use Rattle.std.proofs.Common.{List, subst}
 use Rattle.gpkt.specs.Packets.{Packet}
 use Rattle.gpkt.specs.Sending.{output_of}
-use Rattle.gserve.specs.Steps.{PassesPackets}
+use Rattle.gserve.specs.steps.Connections.{PassesPackets}
 use Rattle.gconnect.proofs.ErrorLemmas.{err_line}
 use Rattle.gconnect.proofs.serving.report.Goals as goal
 

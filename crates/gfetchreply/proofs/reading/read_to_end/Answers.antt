@@ -1,8 +1,8 @@
 use Rattle.std.proofs.Common.{refl, sym, ap, subst, ◌∙◌}
 use Rattle.gpkt.specs.Change.{change_of}
-use Rattle.gfetchreply.specs.FetchHeads.{head_by}
+use Rattle.gfetchreply.specs.steps.FetchHeads.{head_by}
 use Rattle.gfetchreply.specs.FetchReplies.{Reading}
-use Rattle.gfetchreply.specs.ReplyState.{Holds, Kept, Leaves, kept_in}
+use Rattle.gfetchreply.specs.steps.ReplyState.{Holds, Kept, Leaves, kept_in}
 use Rattle.gfetchreply.specs.Views.{reading_in}
 use Rattle.gfetchreply.proofs.KeptLemmas.{begins}
 use Rattle.gfetchreply.proofs.ReplyLemmas.{takes_reply, refuses_reply}

@@ -1,5 +1,5 @@
 use Rattle.std.proofs.Common.{◌∷◌, sym, ap, ◌∙◌}
-use Rattle.glsreply.specs.LineViews.{parts_left}
+use Rattle.glsreply.specs.steps.LineViews.{parts_left}
 use Rattle.glsreply.specs.RefTexts.{unborn_after_head}
 use Rattle.glsreply.proofs.LineLemmas.{two_parts}
 use Rattle.glsreply.proofs.line.unborn_after_head.Goals as goal

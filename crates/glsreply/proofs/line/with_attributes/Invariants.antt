@@ -1,7 +1,7 @@
 -- The attributes that are left make of the line so far what all of them make of its name; what is left grows shorter.
 use Rattle.std.proofs.Common.{◌≡◌, None, Ok}
 use Rattle.glsreply.specs.RefTexts.{with_attributes}
-use Rattle.glsreply.specs.LineViews.{line_parts, parts_left}
+use Rattle.glsreply.specs.steps.LineViews.{line_parts, parts_left}
 use Rattle.glsreply.proofs.LineLemmas.{length_left}
 use Rattle.glsreply.proofs.line.with_attributes.Given as goal
 

@@ -1,4 +1,4 @@
-use Rattle.gscenario.specs.Reading.{words_after}
+use Rattle.gscenario.specs.steps.Reading.{words_after}
 use Rattle.gscenario.proofs.ArgumentLemmas.{bytes_reads}
 use Rattle.gscenario.proofs.arguments.bytes_alone.Goals as goal
 

@@ -1,4 +1,4 @@
-use Rattle.gscenario.specs.Reading.{words_after}
+use Rattle.gscenario.specs.steps.Reading.{words_after}
 use Rattle.gscenario.proofs.ArgumentLemmas.{at_none, no_client_ref}
 use Rattle.gscenario.proofs.arguments.client_ref.Goals as goal
 

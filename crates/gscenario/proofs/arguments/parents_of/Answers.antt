@@ -1,4 +1,4 @@
-use Rattle.gscenario.specs.Reading.{words_after}
+use Rattle.gscenario.specs.steps.Reading.{words_after}
 use Rattle.gname.specs.Ids.{IsIdText}
 use Rattle.gscenario.proofs.ArgumentLemmas.{reads_more, reads_wrong}
 use Rattle.gscenario.proofs.arguments.parents_of.Goals as goal

@@ -1,6 +1,6 @@
 use Rattle.std.proofs.Common.{length}
 use Rattle.gname.specs.Ids.{IsIdText}
-use Rattle.gscenario.specs.Reading.{words_after}
+use Rattle.gscenario.specs.steps.Reading.{words_after}
 use Rattle.gscenario.proofs.ArgumentLemmas.{ReadsEach}
 use Rattle.gscenario.proofs.arguments.parents_of.Given as goal
 

@@ -1,4 +1,4 @@
-use Rattle.gscenario.specs.Reading.{words_after}
+use Rattle.gscenario.specs.steps.Reading.{words_after}
 use Rattle.gscenario.proofs.ArgumentLemmas.{no_serve}
 use Rattle.gscenario.proofs.arguments.serve.Goals as goal
 

@@ -1,4 +1,4 @@
-use Rattle.gscenario.specs.Reading.{words_after}
+use Rattle.gscenario.specs.steps.Reading.{words_after}
 use Rattle.gscenario.proofs.ArgumentLemmas.{at_none, no_server_add}
 use Rattle.gscenario.proofs.arguments.server_add.Goals as goal
 

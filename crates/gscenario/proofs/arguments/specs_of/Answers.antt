@@ -1,5 +1,5 @@
-use Rattle.gspec.specs.Refspecs.{IsSpec}
-use Rattle.gscenario.specs.Reading.{words_after}
+use Rattle.grefspec.specs.Refspecs.{IsSpec}
+use Rattle.gscenario.specs.steps.Reading.{words_after}
 use Rattle.gscenario.proofs.ArgumentLemmas.{bad_spec, reads_more, reads_wrong}
 use Rattle.gscenario.proofs.arguments.specs_of.Goals as goal
 

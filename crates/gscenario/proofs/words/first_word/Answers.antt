@@ -1,5 +1,5 @@
 use Rattle.std.proofs.Common.{◌∙◌, ◌∷◌, ap, sym, take, List, ℕ}
-use Rattle.gscenario.specs.Reading.{words_after}
+use Rattle.gscenario.specs.steps.Reading.{words_after}
 use Rattle.gscenario.proofs.WordLemmas.{none_after, rest_of, words_at, words_whole}
 use Rattle.gscenario.proofs.words.first_word.Goals as goal
 

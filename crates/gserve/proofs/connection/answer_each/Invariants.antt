@@ -4,7 +4,7 @@ use Rattle.gpkt.specs.Packets.{canonical_all}
 use Rattle.gpkt.specs.Sending.{input_of, output_of, Passes}
 use Rattle.ganswer.specs.declared.one_pack.Packing.TheVariants.{Unasked}
 use Rattle.gserve.specs.Conversations.{advert_packets}
-use Rattle.gserve.specs.Steps.{HasAnswered}
+use Rattle.gserve.specs.steps.Connections.{HasAnswered}
 use Rattle.gserve.proofs.connection.answer_each.Given as goal
 
 abbrev pub invariant-loop-requests : goal.invariant-loop-requests

@@ -4,7 +4,7 @@ use Rattle.ggrammar.specs.Kinds.{ReadsIfAny}
 use Rattle.grequest.specs.Requests.{Says, brings, judge}
 use Rattle.grequest.specs.RequestValues.{asked_by_request, asked_result}
 use Rattle.grequest.specs.declared.request.Request.{Request}
-use Rattle.ghistory.specs.Graphs.{History}
+use Rattle.gdag.specs.Graphs.{History}
 use Rattle.gserve.proofs.ExchangeLemmas.{exchanged, reading_refused, refused_to_read}
 use Rattle.ganswer.specs.declared.fault.ServeFault.TheVariants as serve
 use Rattle.gserve.proofs.PackingLemmas.{refused_packing}

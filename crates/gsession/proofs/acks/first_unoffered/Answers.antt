@@ -2,7 +2,7 @@ use Rattle.std.proofs.Common.{ℕ, ◌+◌, ◌≤◌, List, length, take, drop,
 use Rattle.std.proofs.lemmas.Bool.{false≢true}
 use Rattle.std.proofs.lemmas.List.{take_all}
 use Rattle.std.proofs.lemmas.List.Elements.{All-more}
-use Rattle.ghistory.proofs.Growing.{at_front}
+use Rattle.gdag.proofs.Growing.{at_front}
 use Rattle.gsession.proofs.acks.first_unoffered.Goals as goal
 
 pub returns-then-not-is_offered : goal.returns-then-not-is_offered

@@ -4,7 +4,7 @@ use Rattle.std.proofs.lemmas.Iterator.Adapters.{fact_from_collect}
 use Rattle.std.proofs.lemmas.Iterator.Consumers.{YieldsList-from_copied}
 use Rattle.std.proofs.lemmas.Result.{IfOk-weaker}
 use Rattle.indexmap.specs.IndexSet.{IndexSet, IsFromIterResult, contains, insert_all}
-use Rattle.ghistory.proofs.IdLists.{any_from_contains, contains_from_any}
+use Rattle.gdag.proofs.IdLists.{any_from_contains, contains_from_any}
 use Rattle.gsession.proofs.acks.set_of.Goals as goal
 
 -- a set that was made of ids has exactly these

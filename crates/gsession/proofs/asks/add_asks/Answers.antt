@@ -2,7 +2,7 @@ use Rattle.std.proofs.Common.{◌≡◌, ◌∙◌, ◌+◌, ◌<◌, List, [], 
 use Rattle.std.specs.Option.{option_copied}
 use Rattle.std.proofs.lemmas.Option.{get_or_from_slice_get}
 use Rattle.std.proofs.lemmas.Result.{err_from_is_err_and}
-use Rattle.grepo.specs.declared.ask.Ask.{Ask}
+use Rattle.gclientrepo.specs.declared.ask.Ask.{Ask}
 use Rattle.gsession.specs.Asking.{asks_by}
 use Rattle.gsession.proofs.CommonLemmas.{none_inside}
 use Rattle.gsession.proofs.AskLemmas.{HasAdded, added_more, asks_by-more, asks_by-split, fails_among}

@@ -2,7 +2,7 @@ use Rattle.std.proofs.Common.{◌≡◌, ◌∙◌, [], ◌∷◌, Err, ap, subs
 use Rattle.std.proofs.lemmas.Result.{err_from_is_err_and}
 use Rattle.glsreply.specs.RefTexts.{RefLine}
 use Rattle.gsession.specs.Asking.{asks_by}
-use Rattle.gsession.specs.Steps.{AddsAsks}
+use Rattle.gsession.specs.steps.Calls.{AddsAsks}
 use Rattle.gsession.proofs.AskLemmas.{fails_one}
 use Rattle.gsession.proofs.asks.add_line.Goals as goal
 

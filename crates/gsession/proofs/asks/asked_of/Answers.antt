@@ -1,7 +1,7 @@
 use Rattle.std.proofs.Common.{◌≡◌, ◌∙◌, ◌+◌, ◌≤◌, List, [], Err, length, take, drop, sym, ap, subst, arith}
 use Rattle.std.proofs.lemmas.List.{take_all}
 use Rattle.std.proofs.lemmas.Result.{err_from_is_err_and}
-use Rattle.grepo.specs.declared.ask.Ask.{Ask}
+use Rattle.gclientrepo.specs.declared.ask.Ask.{Ask}
 use Rattle.gsession.specs.Asking.{asks_by, asks_by_all}
 use Rattle.gsession.proofs.AskLemmas.{HasAdded, added_more, asked_have_ids, asks_by_all-more, asks_by_all-split}
 use Rattle.gsession.proofs.AskLemmas.{fails_among, finds_as_adds}

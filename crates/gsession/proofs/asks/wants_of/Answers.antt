@@ -1,12 +1,12 @@
 use Rattle.std.proofs.Common.{◌≡◌, ◌∙◌, ◌+◌, ◌≤◌, ℕ, List, [], ◌∷◌, ◌++◌, length, take, sym, ap, subst, arith}
 use Rattle.std.proofs.lemmas.Bool.{false≢true}
 use Rattle.std.proofs.lemmas.List.{take_all}
-use Rattle.ghistory.specs.Levels.{distinct_of}
-use Rattle.ghistory.specs.Reach.{IsFull}
-use Rattle.ghistory.specs.Selecting.{Selects, none}
-use Rattle.grepo.specs.Asks.{asked_ids}
-use Rattle.ghistory.proofs.Choosing.{selects_keep, selects_skip}
-use Rattle.ghistory.proofs.Growing.{take_one}
+use Rattle.gdag.specs.Levels.{distinct_of}
+use Rattle.gdag.specs.Reach.{IsFull}
+use Rattle.gdag.specs.Selecting.{Selects, none}
+use Rattle.gclientrepo.specs.Asks.{asked_ids}
+use Rattle.gdag.proofs.Choosing.{selects_keep, selects_skip}
+use Rattle.gdag.proofs.Growing.{take_one}
 use Rattle.gsession.proofs.WantLemmas.{want_ids}
 use Rattle.gsession.proofs.asks.wants_of.Goals as goal
 use Rattle.gsession.proofs.asks.wants_of.Goals.{then-not-branch+in_ok-push, else-not-branch}

@@ -1,6 +1,6 @@
 use Rattle.std.proofs.Common.{take}
-use Rattle.ghistory.specs.Reach.{IsFull}
-use Rattle.ghistory.specs.Selecting.{Selects}
+use Rattle.gdag.specs.Reach.{IsFull}
+use Rattle.gdag.specs.Selecting.{Selects}
 use Rattle.gsession.proofs.asks.wants_of.Given as goal
 
 abbrev pub invariant-loop-id : goal.invariant-loop-id

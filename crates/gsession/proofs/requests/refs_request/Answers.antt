@@ -1,6 +1,7 @@
-use Rattle.std.proofs.Common.{ℕ, List, None, false, length, sym, ap, ap₂, ◌∙◌, arith}
+use Rattle.std.proofs.Common.{ℕ, List, length, sym, ap, ap₂, ◌∙◌, arith}
 use Rattle.grequest.specs.Asked.{LsRefsAsked}
-use Rattle.gsession.specs.Steps.{with_prefix}
+use Rattle.gsession.specs.Requesting.{ls_request}
+use Rattle.gsession.specs.steps.Calls.{with_prefix}
 use Rattle.gsession.proofs.ListLemmas.{prefixes_more, with_prefix_few}
 use Rattle.gsession.proofs.requests.refs_request.Goals as goal
 
@@ -12,7 +13,7 @@ loop-spec-preserved g c = record {
   made =
       c.in_ok-add_prefix.ensures ∙ ap₂ with c.loop-spec.invariant.made c.prefix.ensures
       ∙ ap (λ (l : List (List ℕ)).
-      record { agent = None; symrefs = false; peel = false; unborn = c.args.unborn; prefixes = l })
+      record (ls_request c.args.specs.now c.args.unborn) { prefixes = l })
       (sym (prefixes_more c.args.specs.now c.loop-spec.spec-index c.spec-item.result c.loop-spec-test.true
       (sym c.spec-item.is)));
   few = omega (

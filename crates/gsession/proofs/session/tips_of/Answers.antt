@@ -2,7 +2,7 @@ use Rattle.std.proofs.Common.{◌≡◌, All, ap, sym, subst, ◌∙◌}
 use Rattle.std.specs.Map.{values_of}
 use Rattle.std.proofs.lemmas.Result.{IfOk-weaker}
 use Rattle.gname.specs.Ids.{IsIdOf}
-use Rattle.ghistory.specs.Levels.{distinct_of}
+use Rattle.gdag.specs.Levels.{distinct_of}
 use Rattle.gsession.proofs.BatchLemmas.{tip_ids}
 use Rattle.gsession.proofs.session.tips_of.Goals as goal
 

@@ -1,7 +1,7 @@
 use Rattle.std.proofs.Common.{refl, ap, ◌∙◌}
 use Rattle.std.proofs.lemmas.Result.{err_from_is_err_and}
 use Rattle.gpkt.specs.Sending.{output_of}
-use Rattle.grepo.specs.Repos.{RepoState}
+use Rattle.gclientrepo.specs.Repos.{RepoState}
 use Rattle.gworld.specs.Runs.{outcomes_before}
 use Rattle.gsimulate.proofs.SimulationLemmas.{is_simulated, is_stopped, shows_same}
 use Rattle.gsimulate.proofs.simulate.happen.Goals as goal

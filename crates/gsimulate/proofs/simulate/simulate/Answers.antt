@@ -1,6 +1,6 @@
 use Rattle.std.proofs.Common.{List, refl, sym, subst}
 use Rattle.gscenario.specs.declared.event.Event.{Event}
-use Rattle.gsimulate.specs.Simulating.{BeginsWith}
+use Rattle.gsimulate.specs.steps.Simulating.{BeginsWith}
 use Rattle.gsimulate.proofs.SimulationLemmas.{not_begun}
 use Rattle.gsimulate.proofs.simulate.simulate.Goals as goal
 

@@ -1,6 +1,6 @@
 use Rattle.std.proofs.Common.{◌≡◌}
 use Rattle.gpkt.specs.Sending.{output_of}
-use Rattle.gtcp.specs.Steps.{ServesSoFar}
+use Rattle.gtcp.specs.steps.Remote.{ServesSoFar}
 use Rattle.gtcp.proofs.serving.serve_each.Given as goal
 
 abbrev pub invariant-loop-number : goal.invariant-loop-number

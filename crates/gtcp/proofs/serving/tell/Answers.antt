@@ -1,6 +1,6 @@
 use Rattle.std.proofs.Common.{Bool, Err, subst, sym}
 use Rattle.gpkt.specs.Sending.{output_of}
-use Rattle.gtcp.specs.Steps.{Tells}
+use Rattle.gtcp.specs.steps.Remote.{Tells}
 use Rattle.gtcp.proofs.TellingLemmas.{tells_printed}
 use Rattle.gtcp.proofs.serving.tell.Goals as goal
 

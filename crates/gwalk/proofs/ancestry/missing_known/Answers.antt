@@ -1,5 +1,5 @@
 use Rattle.std.proofs.Common.{ℕ, subst, arith}
-use Rattle.ghistory.specs.Walks.{CountsReached}
+use Rattle.gdag.specs.Walks.{CountsReached}
 use Rattle.gwalk.proofs.Reached.{misses, counts_reached, stop_differ}
 use Rattle.gwalk.specs.Marks.{stop_at}
 use Rattle.gwalk.proofs.ancestry.missing_known.Goals as goal

@@ -3,7 +3,7 @@ use Rattle.std.specs.List.{Any}
 use Rattle.std.proofs.lemmas.Bool.{false≢true}
 use Rattle.std.proofs.lemmas.List.{take_all}
 use Rattle.std.proofs.lemmas.List.Elements.{All-more}
-use Rattle.ghistory.specs.Reach.{Reaches}
+use Rattle.gdag.specs.Reach.{Reaches}
 use Rattle.gwalk.proofs.common.all_reach.Goals as goal
 
 pub returns-then-not-branch : goal.returns-then-not-branch

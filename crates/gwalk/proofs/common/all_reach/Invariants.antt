@@ -1,6 +1,6 @@
 use Rattle.std.proofs.Common.{take, All}
 use Rattle.std.specs.List.{Any}
-use Rattle.ghistory.specs.Reach.{Reaches}
+use Rattle.gdag.specs.Reach.{Reaches}
 use Rattle.gwalk.proofs.common.all_reach.Given as goal
 
 abbrev pub invariant-loop-id : goal.invariant-loop-id

@@ -1,7 +1,7 @@
 use Rattle.std.proofs.Common.{ℕ, List, [], ◌<◌, length, sym, ap, ◌∙◌, subst}
 use Rattle.std.proofs.Common.{All}
-use Rattle.ghistory.specs.Levels.{new_ids}
-use Rattle.gwalk.specs.Common.{ids_at}
+use Rattle.gdag.specs.Levels.{new_ids}
+use Rattle.gwalk.specs.steps.Common.{ids_at}
 use Rattle.gwalk.proofs.Looking.{all_from, places_inside, ids_at_places}
 use Rattle.gwalk.proofs.common.common_ids.Goals as goal
 

@@ -2,7 +2,7 @@ use Rattle.std.proofs.Common.{ℕ, List, length, ◌≤◌, Contains, refl, sym,
 use Rattle.std.proofs.lemmas.Bool.{false≢true}
 use Rattle.std.proofs.lemmas.List.{take_all}
 use Rattle.std.proofs.lemmas.List.Elements.{All-more}
-use Rattle.ghistory.proofs.IdLists.{contains_from_in, absent_from_in}
+use Rattle.gdag.proofs.IdLists.{contains_from_in, absent_from_in}
 use Rattle.gwalk.proofs.Looking.{none_any}
 use Rattle.gwalk.proofs.common.has_one.Goals as goal
 

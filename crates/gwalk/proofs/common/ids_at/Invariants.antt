@@ -1,5 +1,5 @@
 use Rattle.std.proofs.Common.{◌≡◌, take}
-use Rattle.gwalk.specs.Common.{ids_at}
+use Rattle.gwalk.specs.steps.Common.{ids_at}
 use Rattle.gwalk.proofs.common.ids_at.Given as goal
 
 abbrev pub invariant-loop-number : goal.invariant-loop-number

@@ -1,5 +1,5 @@
 use Rattle.std.proofs.Common.{◌∷◌, []}
-use Rattle.ghistory.specs.Reach.{Reaches}
+use Rattle.gdag.specs.Reach.{Reaches}
 use Rattle.gwalk.proofs.Looking.{any_one}
 use Rattle.gwalk.proofs.common.reaches.Goals as goal
 

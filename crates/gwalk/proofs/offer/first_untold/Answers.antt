@@ -1,7 +1,7 @@
 use Rattle.std.proofs.Common.{◌≡◌, ◌≤◌, ◌++◌, ◌∷◌, [], length, sym, ap, ◌∙◌, subst, length-append, arith}
-use Rattle.ghistory.specs.Levels.{new_ids}
-use Rattle.ghistory.proofs.IdLists.{with_new}
-use Rattle.ghistory.proofs.Reaching.{place_inside}
+use Rattle.gdag.specs.Levels.{new_ids}
+use Rattle.gdag.proofs.IdLists.{with_new}
+use Rattle.gdag.proofs.Reaching.{place_inside}
 use Rattle.gwalk.proofs.Offering.{offers_enough, offers_all, offers_next, skips_next, untold_is, id_taken}
 use Rattle.gwalk.proofs.Walking.{underway, next, goes, lent_parents, mark_inside}
 use Rattle.gwalk.proofs.offer.first_untold.Goals as goal

@@ -1,6 +1,6 @@
 use Rattle.std.proofs.Common.{◌≡◌, ◌≤◌, ℕ, List, [], ◌-◌, length, filter}
-use Rattle.ghistory.specs.Levels.{AreLevels, new_ids}
-use Rattle.gwalk.specs.Walks.{HasMet}
+use Rattle.gdag.specs.Levels.{AreLevels, new_ids}
+use Rattle.gwalk.specs.steps.Walks.{HasMet}
 use Rattle.gwalk.proofs.Untold.{is_untold}
 use Rattle.gwalk.proofs.Walking.{IsUnderway}
 use Rattle.gwalk.proofs.offer.first_untold.Given as goal

@@ -1,7 +1,7 @@
 use Rattle.std.proofs.Common.{false, get_or, sym, ap, ◌∙◌}
 use Rattle.std.proofs.lemmas.Bool.{false≢true}
 use Rattle.std.proofs.lemmas.Option.{none-some, same_Some}
-use Rattle.gpass.proofs.Places.{is_none}
+use Rattle.gtopowalk.proofs.Places.{is_none}
 use Rattle.gobject.specs.Objects.{place_of}
 use Rattle.gwalk.proofs.sending.leads_to_marked.Goals as goal
 

@@ -1,6 +1,6 @@
 use Rattle.std.proofs.Common.{arith}
-use Rattle.ghistory.proofs.PeelLemmas.{peel_long}
-use Rattle.gpass.proofs.Places.{is_none}
+use Rattle.gdag.proofs.PeelLemmas.{peel_long}
+use Rattle.gtopowalk.proofs.Places.{is_none}
 use Rattle.gwalk.proofs.Tagging.{none_held}
 use Rattle.gwalk.proofs.Tagging.{passed_none, passes_tag, passes_all}
 use Rattle.gwalk.proofs.sending.mark_chain.Goals as goal

@@ -1,7 +1,7 @@
 use Rattle.std.proofs.Common.{◌≡◌, None, sym, ◌∙◌}
 use Rattle.std.proofs.lemmas.Option.{none-some}
 use Rattle.gobject.specs.Objects.{place_of}
-use Rattle.ghistory.proofs.Reaching.{node_at_none}
+use Rattle.gdag.proofs.Reaching.{node_at_none}
 use Rattle.gwalk.proofs.sending.tag_at.Goals as goal
 
 -- the node was found, so the id has a position

@@ -1,5 +1,5 @@
 use Rattle.std.proofs.Common.{◌∙◌, List, Bool, length, ap, subst}
-use Rattle.gwalk.specs.Tags.{AreTagged}
+use Rattle.gwalk.specs.steps.Tags.{AreTagged}
 use Rattle.gwalk.proofs.Tagging.{tags_end}
 use Rattle.gwalk.proofs.sending.walked_list.Goals as goal
 

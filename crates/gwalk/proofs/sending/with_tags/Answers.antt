@@ -1,7 +1,7 @@
 use Rattle.std.proofs.Common.{◌≡◌, ◌≤◌, ◌+◌, ◌++◌, ◌∷◌, [], List, ℕ, Bool, length, take, sym, ap, ◌∙◌, subst, arith}
 use Rattle.std.proofs.lemmas.Bool.{false≢true}
 use Rattle.std.proofs.lemmas.List.{take_all, take_more}
-use Rattle.gwalk.specs.Tags.{AreTagged}
+use Rattle.gwalk.specs.steps.Tags.{AreTagged}
 use Rattle.gwalk.proofs.Tagging.{tags_none, tags_step, tags_skip}
 use Rattle.gwalk.proofs.sending.with_tags.Goals as goal
 use Rattle.gwalk.proofs.sending.with_tags.Goals.{then-leads_to_marked, else-leads_to_marked}

@@ -1,5 +1,5 @@
 use Rattle.std.proofs.Common.{take}
-use Rattle.gwalk.specs.Tags.{AreTagged}
+use Rattle.gwalk.specs.steps.Tags.{AreTagged}
 use Rattle.gwalk.proofs.sending.with_tags.Given as goal
 
 abbrev pub invariant-loop-tip : goal.invariant-loop-tip

@@ -1,8 +1,8 @@
 use Rattle.std.proofs.Common.{◌++◌, ◌∷◌, [], arith}
 use Rattle.gwalk.specs.Marks.{stop_at}
-use Rattle.ghistory.specs.Levels.{new_ids}
-use Rattle.ghistory.proofs.IdLists.{with_new}
-use Rattle.ghistory.proofs.Reaching.{place_inside}
+use Rattle.gdag.specs.Levels.{new_ids}
+use Rattle.gdag.proofs.IdLists.{with_new}
+use Rattle.gdag.proofs.Reaching.{place_inside}
 use Rattle.gwalk.proofs.Stopping.{stop_length}
 use Rattle.gwalk.proofs.Walking.{underway, met_few, next, goes, finishes, lent_parents}
 use Rattle.gwalk.proofs.walk.walk_past.Goals as goal

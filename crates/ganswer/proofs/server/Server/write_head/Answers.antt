@@ -4,7 +4,7 @@ use Rattle.grefs.specs.RefLists.{RefList}
 use Rattle.glsreply.specs.LsReplies.{ref_packet}
 use Rattle.glsreply.specs.RefTexts.{RefLine}
 use Rattle.ganswer.specs.LsAnswers.{ShowsLines, head_ref}
-use Rattle.ganswer.specs.LsBuilding.{line_list}
+use Rattle.ganswer.specs.steps.LsBuilding.{line_list}
 use Rattle.ganswer.proofs.LsLemmas.{one_list, shows_none}
 use Rattle.ganswer.proofs.server.Server.write_head.Goals as goal
 

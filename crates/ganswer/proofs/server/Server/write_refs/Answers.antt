@@ -6,7 +6,7 @@ use Rattle.grefs.specs.RefLists.{RefList}
 use Rattle.glsreply.specs.LsReplies.{ref_packet}
 use Rattle.glsreply.specs.RefTexts.{RefLine}
 use Rattle.ganswer.specs.LsAnswers.{ShowsLines}
-use Rattle.ganswer.specs.LsBuilding.{line_list}
+use Rattle.ganswer.specs.steps.LsBuilding.{line_list}
 use Rattle.ganswer.proofs.KnownPeels.{ref_there}
 use Rattle.ganswer.proofs.LsLemmas.{one_list, shows_none}
 use Rattle.ganswer.proofs.LsWriting.{next_line}

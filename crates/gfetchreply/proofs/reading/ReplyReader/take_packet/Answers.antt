@@ -1,8 +1,8 @@
 use Rattle.std.proofs.Common.{refl, false}
 use Rattle.gpkt.specs.Packets.{Flush, Delim, ResponseEnd}
 use Rattle.gfetchreply.specs.FetchReplies.{payload_brings}
-use Rattle.gfetchreply.specs.Views.{reading_with}
-use Rattle.gfetchreply.specs.ReplyState.{data_at, kept_in, place_in, state_in, with_packet, with_payload}
+use Rattle.gfetchreply.specs.steps.Views.{reading_with}
+use Rattle.gfetchreply.specs.steps.ReplyState.{data_at, kept_in, place_in, state_in, with_packet, with_payload}
 use Rattle.gfetchreply.proofs.KeptLemmas.{data_judged, judged_as, judged_there, past_sink}
 use Rattle.gfetchreply.proofs.reading.ReplyReader.take_packet.Goals as goal
 

@@ -1,7 +1,7 @@
 use Rattle.std.proofs.Common.{sym, subst, [], ◌∷◌, ◌++◌}
 use Rattle.gpkt.specs.Packets.{packet_of}
 use Rattle.gfetchreply.specs.FetchReplies.{judge, brings_into}
-use Rattle.gfetchreply.specs.ReplyState.{Holds, Leaves, TakesOr, kept_in}
+use Rattle.gfetchreply.specs.steps.ReplyState.{Holds, Leaves, TakesOr, kept_in}
 use Rattle.gfetchreply.specs.Views.{reading_in}
 use Rattle.gfetchreply.proofs.KeptLemmas.{takes_after, as_packet}
 use Rattle.gfetchreply.proofs.reading.ReplyReaderMessage.take.Goals as goal

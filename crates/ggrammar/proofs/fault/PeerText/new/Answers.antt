@@ -8,4 +8,4 @@ pub returns : goal.returns
 returns c =
     let text = c.text_of-text.result.now in
     let least : c.min.result ≡ min max_peer_text (length text) = omega arith in
-    c.add_short.ensures ∙ (ap (λ (xs : List ℕ). xs ++ take c.min.result text) c.new-kept.ensures ∙ (ap (λ (n : ℕ). take n text) least ∙ (take_min max_peer_text text ∙ ap (λ (xs : List ℕ). take max_peer_text xs) c.text_of-text.ensures)))
+    c.add.ensures.text ∙ (ap (λ (xs : List ℕ). xs ++ take c.min.result text) c.new-kept.ensures ∙ (ap (λ (n : ℕ). take n text) least ∙ (take_min max_peer_text text ∙ ap (λ (xs : List ℕ). take max_peer_text xs) c.text_of-text.ensures)))

@@ -1,6 +1,6 @@
 use Rattle.std.proofs.Common.{sym, ap, ◌∙◌, arith}
 use Rattle.glsreply.specs.RefTexts.{UnbornForm}
-use Rattle.glsreply.specs.LineViews.{target_read}
+use Rattle.glsreply.specs.steps.LineViews.{target_read}
 use Rattle.glsreply.proofs.TextLemmas.{unborn_refused}
 use Rattle.glsreply.proofs.reader.LsReplyReader.take_text.Goals as goal
 

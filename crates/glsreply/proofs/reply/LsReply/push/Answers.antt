@@ -1,5 +1,6 @@
 use Rattle.std.proofs.Common.{sym, ap, subst, ◌∙◌}
-use Rattle.glsreply.specs.WellFormed.{IsLine, has_one_format}
+use Rattle.glsreply.specs.steps.WellFormed.{IsLine}
+use Rattle.glsreply.specs.WellFormed.{has_one_format}
 use Rattle.glsreply.proofs.ValueLemmas.{pushed_value_at, pushes_at}
 use Rattle.glsreply.proofs.reply.LsReply.push.Goals as goal
 

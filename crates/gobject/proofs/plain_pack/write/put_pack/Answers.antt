@@ -1,6 +1,6 @@
 use Rattle.std.proofs.Common.{◌≡◌, ◌++◌, List, ℕ, length, ap, sym, ◌∙◌, rules}
 use Rattle.gobject.specs.PlainPackText.{header, line, end_text}
-use Rattle.gobject.specs.PlainPackWriting.{nodes_text}
+use Rattle.gobject.specs.steps.PlainPackWriting.{nodes_text}
 use Rattle.gobject.proofs.PlainPackWriting.{pack_text-is}
 use Rattle.gobject.proofs.plain_pack.write.put_pack.Goals as goal
 

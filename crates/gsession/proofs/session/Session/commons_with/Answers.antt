@@ -1,6 +1,6 @@
 use Rattle.std.proofs.Common.{◌≡◌, ℕ, List, ◌++◌, All, Contains, ap, subst, ◌∙◌}
 use Rattle.std.proofs.lemmas.Result.{err_from_is_err_and}
-use Rattle.ghistory.specs.Levels.{distinct_of}
+use Rattle.gdag.specs.Levels.{distinct_of}
 use Rattle.gsession.specs.Sessions.{SessionState, IsSession}
 use Rattle.gsession.proofs.ReplyLemmas.{are_commons}
 use Rattle.gsession.proofs.SessionLemmas.{open_fetch}

@@ -1,7 +1,7 @@
 use Rattle.std.proofs.Common.{[], sym, subst, ◌∙◌}
 use Rattle.gpkt.specs.Change.{change_of}
 use Rattle.gfetchreply.specs.FetchReplies.{Reading}
-use Rattle.gsession.specs.Steps.{AnswersRead, MayHaveFed}
+use Rattle.gsession.specs.steps.Calls.{AnswersRead, MayHaveFed}
 use Rattle.gsession.specs.TakingReplies.{ReadsFetch}
 use Rattle.gsession.proofs.ReplyLemmas.{read_answer}
 use Rattle.gsession.proofs.session.Session.read_objects.Goals as goal

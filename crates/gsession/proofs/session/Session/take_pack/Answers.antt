@@ -1,6 +1,6 @@
 use Rattle.std.proofs.Common.{ℕ, List, ◌++◌, All, Contains, refl, sym, ap, subst, ◌∙◌}
 use Rattle.std.proofs.lemmas.Result.{err_from_is_err_and}
-use Rattle.ghistory.specs.Levels.{distinct_of}
+use Rattle.gdag.specs.Levels.{distinct_of}
 use Rattle.gfetchreply.specs.FetchHeads.{pack_of}
 use Rattle.gsession.specs.declared.stage.Stage.TheVariants.{Settling}
 use Rattle.gsession.proofs.ReplyLemmas.{acked, acks_fault, graph_fault, same_repo}

@@ -1,9 +1,9 @@
 use Rattle.std.proofs.Common.{◌≡◌, List, None, Err, length, refl, ap, subst, arith, ◌∙◌}
-use Rattle.grepo.specs.declared.ask.Ask.{Ask}
-use Rattle.gspec.specs.Refspecs.{Refspec}
+use Rattle.gclientrepo.specs.declared.ask.Ask.{Ask}
+use Rattle.grefspec.specs.Refspecs.{Refspec}
 use Rattle.gsession.specs.Asking.{AreWants, unborn_told}
 use Rattle.gsession.specs.Sessions.{SessionState}
-use Rattle.gsession.specs.Steps.{FindsAsks}
+use Rattle.gsession.specs.steps.Calls.{FindsAsks}
 use Rattle.gsession.specs.TakingRefs.{stage_for}
 use Rattle.gsession.proofs.session.Session.take_refs.Goals as goal
 

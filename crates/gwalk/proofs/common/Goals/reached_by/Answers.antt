@@ -1,10 +1,10 @@
 use Rattle.std.proofs.Common.{◌++◌, ◌∷◌, [], false, refl, sym, ap, ◌∙◌, arith}
 use Rattle.std.proofs.lemmas.Bool.{false≢true}
 use Rattle.std.proofs.lemmas.List.{get_or_read}
-use Rattle.ghistory.specs.Levels.{is_in, new_ids}
-use Rattle.ghistory.specs.Reach.{here, Reaches}
-use Rattle.ghistory.proofs.IdLists.{with_new, contains_from_in, absent_from_in}
-use Rattle.ghistory.proofs.Reaching.{place_inside}
+use Rattle.gdag.specs.Levels.{is_in, new_ids}
+use Rattle.gdag.specs.Reach.{here, Reaches}
+use Rattle.gdag.proofs.IdLists.{with_new, contains_from_in, absent_from_in}
+use Rattle.gdag.proofs.Reaching.{place_inside}
 use Rattle.gwalk.proofs.Looking.{any_of, looks, found, found_absent, looks_on, looks_ends}
 use Rattle.gwalk.proofs.Walking.{underway, next, goes, lent_parents}
 use Rattle.gwalk.proofs.common.Goals.reached_by.Goals as goal

@@ -1,6 +1,6 @@
 use Rattle.std.proofs.Common.{false, sym, ◌∙◌, arith}
 use Rattle.gwalk.specs.Marks.{stop_at}
-use Rattle.gpass.proofs.Places.{is_none}
+use Rattle.gtopowalk.proofs.Places.{is_none}
 use Rattle.gwalk.proofs.Counting.{counts_fit}
 use Rattle.gwalk.proofs.Stopping.{stop_place, stop_length, stop_narrow}
 use Rattle.std.proofs.lemmas.List.{get_or_read}

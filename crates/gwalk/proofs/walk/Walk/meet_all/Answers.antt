@@ -1,8 +1,8 @@
 use Rattle.std.proofs.Common.{◌≤◌, ℕ, List, take, length, sym, subst, append-nil, arith}
 use Rattle.std.proofs.lemmas.List.{take_all}
 use Rattle.gwalk.specs.Marks.{stop_at}
-use Rattle.gwalk.specs.Walks.{HasMet}
-use Rattle.ghistory.proofs.IdLists.{with_new}
+use Rattle.gwalk.specs.steps.Walks.{HasMet}
+use Rattle.gdag.proofs.IdLists.{with_new}
 use Rattle.gwalk.proofs.Walking.{with_one_more}
 use Rattle.gwalk.proofs.walk.Walk.meet_all.Goals as goal
 

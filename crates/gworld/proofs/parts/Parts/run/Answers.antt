@@ -5,7 +5,7 @@ use Rattle.gworld.specs.Promises.{Promises}
 use Rattle.gworld.specs.Runs.{RunsFront}
 use Rattle.gworld.specs.Worlds.{WorldState, tools_of}
 use Rattle.gworld.specs.declared.outcome.Outcome.{Outcome}
-use Rattle.ghistory.proofs.Growing.{take_one}
+use Rattle.gdag.proofs.Growing.{take_one}
 use Rattle.gworld.proofs.Runs.{front_runs, goes_on_soundly, room_left}
 use Rattle.gworld.proofs.parts.Parts.run.Goals as goal
 

@@ -1,5 +1,5 @@
 use Rattle.std.proofs.Common.{take}
-use Rattle.gworld.specs.Bringing.{RunsSoundly}
+use Rattle.gworld.specs.steps.Bringing.{RunsSoundly}
 use Rattle.gworld.specs.Worlds.{tools_of}
 use Rattle.gworld.proofs.parts.Parts.run.Given as goal
 

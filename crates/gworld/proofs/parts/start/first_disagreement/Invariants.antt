@@ -1,5 +1,5 @@
 use Rattle.std.proofs.Common.{take, All}
-use Rattle.ghistory.specs.Laws.{AgreesWith}
+use Rattle.gdag.specs.Laws.{AgreesWith}
 use Rattle.gworld.proofs.parts.start.first_disagreement.Given as goal
 
 abbrev pub invariant-loop-place : goal.invariant-loop-place

@@ -2,7 +2,7 @@ use Rattle.std.proofs.Common.{◌≡◌, ◌++◌, ◌∷◌, [], ℕ, List, ap,
 use Rattle.std.proofs.lemmas.List.{append-nil}
 use Rattle.std.proofs.lemmas.Result.{err_from_is_err_and}
 use Rattle.arrayvec.specs.ArrayVec.{ArrayVec}
-use Rattle.gobject.specs.PlainPackReading.{separator_byte}
+use Rattle.gobject.specs.steps.PlainPackReading.{separator_byte}
 use Rattle.gobject.proofs.PlainPackFeed.{Feeds-then, Feeds-more, Feeds-part, nil-of_empty}
 use Rattle.gobject.proofs.PlainPackLines.{IsPart-nil}
 use Rattle.gobject.proofs.plain_pack.feed.PlainFeed.end_part.Goals as goal

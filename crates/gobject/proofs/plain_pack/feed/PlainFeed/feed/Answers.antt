@@ -1,5 +1,5 @@
 use Rattle.std.proofs.lemmas.Result.{err_from_is_err_and}
-use Rattle.gobject.specs.PlainPackReading.{separator_byte}
+use Rattle.gobject.specs.steps.PlainPackReading.{separator_byte}
 use Rattle.gobject.proofs.PlainPackFeed.{FedUpTo-part, Feeds-refused, Feeds-rest}
 use Rattle.gobject.proofs.plain_pack.feed.PlainFeed.feed.Goals as goal
 

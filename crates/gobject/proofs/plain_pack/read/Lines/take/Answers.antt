@@ -1,7 +1,7 @@
 use Rattle.std.proofs.Common.{subst}
 use Rattle.std.proofs.lemmas.Result.{err_from_is_err_and}
 use Rattle.gobject.specs.declared.plain_pack.read.Next.{Next}
-use Rattle.gobject.specs.PlainPackReading.{IsKept}
+use Rattle.gobject.specs.steps.PlainPackReading.{IsKept}
 use Rattle.gobject.proofs.PlainPackReading.{HasRead-part, IsBadLine-part, TakesMemory-part, leads_at, never_leads_at}
 use Rattle.gobject.proofs.plain_pack.read.Lines.take.Goals as goal
 

@@ -1,0 +1,43 @@
+//! The numbers of a command line.
+
+ghost use Rattle.std.specs.Prelude.{◌≤◌, ◌<◌, ◌^◌, ℕ, MatchOption};
+ghost use Rattle.gname.specs.Limits.{max_pack};
+ghost use Rattle.gargs.specs.Numbers.{Says};
+
+use gcmd::PackLimit;
+
+// The most connections that are served.
+const MAX_CONNECTIONS: u32 = 1_000_000;
+
+/// The limit of a pack that the text says. `None` where it is no number, or too high.
+pub(crate) fn limit_of(text: &str) -> Option<PackLimit>
+    ensures { MatchOption result (((bytes : ℕ) → bytes ≤ max_pack → Says text.now bytes → ⊥))
+        (Says text.now) }
+{
+    PackLimit::new(number_of(text)?)
+}
+
+/// How many connections the text says. `None` where it is no number, or none, or more than 1,000,000.
+pub(crate) fn connections_of(text: &str) -> Option<u32>
+    ensures { MatchOption result
+        (((count : ℕ) → 1 ≤ count → count ≤ 1_000_000 → Says text.now count → ⊥))
+        (λ count. (Says text.now count × (1 ≤ count) × (count ≤ 1_000_000))) }
+{
+    let number = u32::try_from(number_of(text)?).ok()?;
+    if (1..=MAX_CONNECTIONS).contains(&number) {
+        Some(number)
+    } else {
+        None
+    }
+}
+
+// The number that some decimal digits, at least one, stand for. `parse` takes a `+` before them, too.
+fn number_of(text: &str) -> Option<usize>
+    ensures { MatchOption result (((number : ℕ) → number < 2 ^ 64 → Says text.now number → ⊥))
+        (Says text.now) }
+{
+    if text.as_bytes().first() == Some(&b'+') {
+        return None;
+    }
+    text.parse::<usize>().ok()
+}

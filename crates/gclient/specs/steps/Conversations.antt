@@ -1,0 +1,123 @@
+-- The steps of a conversation.
+use Rattle.std.specs.Prelude.{◌≡◌, List, Option, None, Result, Ok, Err}
+use Rattle.gname.specs.declared.formats.Format.{Format}
+use Rattle.gname.specs.Names.{Name}
+use Rattle.gpkt.specs.LineReading.{ReadsLines}
+use Rattle.gpkt.specs.Packets.{Packet}
+use Rattle.gpkt.specs.Sending.{Input, Output, IsUnread, IsUnwritten, IsUp, Passes}
+use Rattle.ggrammar.specs.Capabilities.{Capability}
+use Rattle.gobject.specs.Packs.{Indexes, IndexFails}
+use Rattle.gclientrepo.specs.Changes.{SettlesAsks}
+use Rattle.gclientrepo.specs.Repos.{RepoState}
+use Rattle.grequest.specs.Asked.{Asked, Empty}
+use Rattle.gsession.specs.Requesting.{Requests}
+use Rattle.gsession.specs.Sessions.{SessionState, no_memory, tells_unborn}
+use Rattle.gsession.specs.declared.stage.Stage.{Stage}
+use Rattle.gsession.specs.declared.stage.Stage.TheVariants.{Fetching, Settling}
+use Rattle.gsession.specs.declared.fault.ClientFault.{ClientFault}
+use Rattle.gsession.specs.declared.fault.ClientFault.TheVariants as client
+use Rattle.gsession.specs.declared.taken.Settled.{Settled}
+use Rattle.gsession.specs.declared.taken.Taken.{Taken}
+use Rattle.gsession.specs.declared.taken.Taken.TheVariants.{Round, PackTaken}
+use Rattle.gclient.specs.Conversations.{Start, Advertises, Converses, Fails, FailsToSend, HasAsked, IsLeft}
+use Rattle.gclient.specs.Conversations.{RefusesAdvert, begun, request_bytes}
+use Rattle.gclient.specs.Turns.{AsksNext, ClientState, IsTurn, Refuses, Turn}
+use Rattle.gclient.specs.declared.fault.FetchFault.{FetchFault}
+use Rattle.gclient.specs.declared.fault.FetchFault.TheVariants as fetch
+
+-- what hearing the server answers: the session has heard an advertisement that was read; or that is refused
+abbrev pub HearsServer : {A : Type 0} → Format → SessionState A → Input → SessionState A
+    → Result (Unit {0}) (FetchFault A) → Type 0
+HearsServer format old input new (Ok done) =
+    (packets : List Packet) × (capabilities : List Capability) × Advertises format packets capabilities
+    × ReadsLines input.read packets × (new ≡ record old { offers_unborn = tells_unborn capabilities }) × IsUp input
+HearsServer format old input new (Err (fetch.Client (client.Message cause))) = RefusesAdvert format input cause
+HearsServer format old input new (Err _) = ⊥
+
+-- what asking answers: the next request is passed on, and waits for its reply; or it is out of memory for it, and
+-- nothing is written; or the sink failed, and a beginning of it stands
+abbrev pub AsksServer : {A : Type 0} → SessionState A → RepoState A → Output → SessionState A
+    → Result (Unit {0}) (FetchFault A) → Type 0
+AsksServer old repo output new (Ok done) =
+    (asked : Asked) × Requests old repo.graph.entries new (Ok asked)
+    × Passes output (request_bytes repo.graph.format asked)
+AsksServer old repo output new (Err (fetch.Client cause)) =
+    (cause ≡ no_memory) × Requests old repo.graph.entries new (Err no_memory) × IsUnwritten output
+AsksServer old repo output new (Err fetch.NoBuffer) = ⊥
+AsksServer old repo output new (Err fetch.WriteFailed) =
+    (asked : Asked) × Requests old repo.graph.entries new (Ok asked)
+    × FailsToSend output (request_bytes repo.graph.format asked)
+
+-- what ending a conversation answers: the lone flush is passed on, and the refs are settled, or why not; or the sink
+-- failed, and nothing changes
+abbrev pub Closes : {A : Type 0} → SessionState A → RepoState A → Output → RepoState A
+    → Result (Settled A) (FetchFault A) → Type 0
+Closes session old output new (Ok settled) =
+    Passes output (request_bytes old.graph.format Empty) × (settled.asks ≡ session.asks)
+    × SettlesAsks old session.asks new (Ok settled.updates.items)
+Closes session old output new (Err (fetch.Client (client.Repo cause))) =
+    Passes output (request_bytes old.graph.format Empty) × SettlesAsks old session.asks new (Err cause)
+Closes session old output new (Err fetch.WriteFailed) =
+    FailsToSend output (request_bytes old.graph.format Empty) × (new ≡ old)
+Closes session old output new (Err _) = ⊥
+
+-- a client by its parts
+abbrev pub client_of : {A : Type 0} → SessionState A → RepoState A → Option Name → ClientState A
+client_of session repo unborn = record { session = session; repo = repo; unborn = unborn }
+
+-- how far a session is after a reply to fetch
+abbrev pub stage_after : Taken → Stage
+stage_after (Round common) = Fetching
+stage_after (PackTaken added) = Settling
+
+module _ {A : Type 0} (indexes : Indexes A) (index_fails : IndexFails) where
+  -- a turn is read and taken, and its request is passed on
+  pub record HasTurned (old : ClientState A) (input : Input) (output : Output) (new : ClientState A) : Type 0 where
+    pub turn : Turn
+    pub is_turn : IsTurn indexes index_fails old turn new
+    pub lines : ReadsLines input.read turn.reply
+    pub passed : Passes output (request_bytes old.repo.graph.format turn.asked)
+    pub up : IsUp input
+
+  -- why there is no turn: out of memory for its request; or that can't be sent; or its reply is refused
+  pub data FailsTurn (old : ClientState A) (input : Input) (output : Output) : FetchFault A → Type 0 where
+    unasked : (after : SessionState A) → Requests old.session old.repo.graph.entries after (Err no_memory)
+        → IsUnread input → IsUnwritten output → FailsTurn old input output (fetch.Client no_memory)
+    unsent : (asked : Asked) (waiting : SessionState A) → AsksNext old asked waiting → IsUnread input
+        → FailsToSend output (request_bytes old.repo.graph.format asked) → FailsTurn old input output fetch.WriteFailed
+    untaken : (asked : Asked) (waiting : SessionState A) (cause : ClientFault A) → AsksNext old asked waiting
+        → Refuses indexes index_fails waiting asked old.repo input cause
+        → Passes output (request_bytes old.repo.graph.format asked)
+        → FailsTurn old input output (fetch.Client cause)
+
+  -- what asking for objects and taking the reply answers
+  abbrev pub TakesTurn : ClientState A → Input → Output → ClientState A → Result Taken (FetchFault A) → Type 0
+  TakesTurn old input output new (Ok taken) =
+      HasTurned old input output new × (new.session.stage ≡ stage_after taken) × (new.session.pending ≡ None)
+  TakesTurn old input output new (Err failed) = FailsTurn old input output failed × (new.repo ≡ old.repo)
+
+module _ {A : Type 0} (indexes : Indexes A) (index_fails : IndexFails) (start : Start A) where
+  -- The conversation came so far: each request so far is passed on, and each reply is taken.
+  pub record HasTalked (input : Input) (output : Output) (now : ClientState A) : Type 0 where
+    pub talk : List Turn
+    pub converses : Converses indexes index_fails start input talk now IsLeft
+    pub asked : HasAsked start.repo.graph.format output talk
+
+  -- what asking until the last reply is taken answers: what is known of an unborn HEAD; or why it failed
+  abbrev pub Talks : Input → Output → SessionState A → RepoState A → Result (Option Name) (FetchFault A) → Type 0
+  Talks input output session repo (Ok unborn) = HasTalked input output (client_of session repo unborn)
+  Talks input output session repo (Err failed) = Fails indexes index_fails start input output repo failed
+
+  -- what a part of it answers
+  abbrev pub TalksTo : {T : Type 0} → Input → Output → ClientState A → Result T (FetchFault A) → Type 0
+  TalksTo input output now (Ok done) = HasTalked input output now
+  TalksTo input output now (Err failed) = Fails indexes index_fails start input output now.repo failed
+
+-- what a conversation of this session begins with
+abbrev pub start_with : {A : Type 0} → SessionState A → RepoState A → Start A
+start_with session repo =
+    record { repo = repo; refspecs = session.refspecs; limit = session.limit; ends = session.ends }
+
+-- the session has begun on the repository, and nothing was asked
+abbrev pub HasBegun : {A : Type 0} → SessionState A → RepoState A → Type 0
+HasBegun session repo = session ≡ begun (start_with session repo)

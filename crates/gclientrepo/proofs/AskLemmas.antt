@@ -1,0 +1,77 @@
+-- Asks, and the pairs of their map.
+use Rattle.std.proofs.Common.{◌≡◌, ◌≢◌, ◌||◌, ◌≤◌, ℕ, zero, suc, Bool, true, false, cond, if◌then◌else◌, nat_eq, List, [], ◌∷◌, ◌++◌, length, map, get_or, Option, None, Some, refl, sym, ap, ◌∙◌, arith}
+use Rattle.std.specs.Borrow.{Bor}
+use Rattle.std.specs.Cmp.Lexicographic.{pointwise}
+use Rattle.std.specs.List.{slice_get}
+use Rattle.std.specs.Map.{lookup, values_of}
+use Rattle.std.specs.Map.Iter.{deref_pair}
+use Rattle.std.specs.Option.{is_some, option_map, MatchOption}
+use Rattle.std.specs.Str.{bytes_eq}
+use Rattle.std.proofs.lemmas.Bool.{false≢true}
+use Rattle.std.proofs.lemmas.Cmp.{nat_list_eq_equiv}
+use Rattle.std.proofs.lemmas.List.{length-map, map-append}
+use Rattle.std.proofs.lemmas.List.Folds.{list_any_at}
+use Rattle.std.proofs.lemmas.List.Quantifiers.{all_pairs_push}
+use Rattle.std.proofs.lemmas.Option.{none-some, slice_get-map}
+use Rattle.std.proofs.lemmas.Slice.Eq.{bytes_eq-Decides}
+use Rattle.indexmap.specs.IndexMap.{IndexMap, insert_entry}
+use Rattle.indexmap.proofs.CallerLemmas.{insert_entry-new}
+use Rattle.gdag.proofs.Pairs.{past}
+use Rattle.gclientrepo.specs.declared.ask.Ask.{Ask}
+use Rattle.gclientrepo.specs.declared.asks.Aim.{Aim}
+use Rattle.gclientrepo.specs.Asks.{IsAskAt, NamesDiffer, aimed, asked_ids, asks_of, is_asked, with_ask}
+
+-- no value is there
+none_there : {X : Type 0} (found : Option X) → is_some found ≡ false → found ≡ None
+none_there None absent = refl
+none_there (Some x) absent = absurd (false≢true (sym absent))
+
+asked_step : (same : Bool) (aim : Aim) (found : Option Aim) (rest : Bool) → is_some found ≡ rest → is_some (cond same (Some aim) found) ≡ (same || rest)
+asked_step true aim found rest is = refl
+asked_step false aim found rest is = is
+
+module _ (A : Type 0) where
+  abbrev asks_here : List (List ℕ × Aim) → List (Ask A)
+  asks_here pairs = asks_of pairs
+
+  -- a name of the map is that of an ask
+  pub asked_pairs : (pairs : List (List ℕ × Aim)) (name : List ℕ) → is_some (lookup (pointwise nat_eq name) pairs) ≡ is_asked (asks_here pairs) name
+  asked_pairs [] name = refl
+  asked_pairs (pair ∷ pairs) name =
+      ap (λ (b : Bool). is_some (cond b (Some pair.1) (lookup (pointwise nat_eq name) pairs))) (nat_list_eq_equiv.symm name pair.0)
+      ∙ asked_step (pointwise nat_eq pair.0 name) pair.1 (lookup (pointwise nat_eq name) pairs) (is_asked (asks_here pairs) name) (asked_pairs pairs name)
+
+  -- a new pair is one more ask
+  pub pushed_asks : {S : Type 0} (m : IndexMap (List ℕ) Aim S) (new : List (List ℕ × Aim)) (name : List ℕ) (aim : Aim) → is_asked (asks_here m.entries) name ≡ false
+      → new ≡ insert_entry (pointwise nat_eq) m.entries name aim → asks_here new ≡ asks_here m.entries ++ aimed (name, aim) ∷ []
+  pushed_asks m new name aim absent is =
+      ap asks_here (is ∙ insert_entry-new (pointwise nat_eq) m name aim (none_there (lookup (pointwise nat_eq name) m.entries) (asked_pairs m.entries name ∙ absent)))
+      ∙ map-append (λ (pair : List ℕ × Aim). aimed pair) m.entries ((name, aim) ∷ [])
+
+  -- an ask for a ref of which none is there
+  pub with_ask_new : (asks : List (Ask A)) (ask : Ask A) → is_asked asks ask.name ≡ false → with_ask asks ask ≡ asks ++ ask ∷ []
+  with_ask_new asks ask absent = ap (λ (b : Bool). if b then asks else asks ++ ask ∷ []) absent
+
+  pub with_ask_there : (asks : List (Ask A)) (ask : Ask A) → is_asked asks ask.name ≡ true → with_ask asks ask ≡ asks
+  with_ask_there asks ask there = ap (λ (b : Bool). if b then asks else asks ++ ask ∷ []) there
+
+  pub differ_push : (asks : List (Ask A)) (ask : Ask A) → NamesDiffer asks → is_asked asks ask.name ≡ false → NamesDiffer (asks ++ ask ∷ [])
+  differ_push asks ask differ absent =
+      all_pairs_push (λ (a b : Ask A). a.name ≢ b.name) asks ask differ
+      (λ k d low. λ same.
+      false≢true (sym absent ∙ list_any_at (λ (a : Ask A). bytes_eq a.name ask.name) asks k d low ((bytes_eq-Decides (get_or asks k d).name ask.name).1 same)))
+
+  -- what a look-up by position finds
+  pub at_place : (pairs : List (List ℕ × Aim)) (k : ℕ) (found : Option (Bor (List ℕ) × Bor Aim)) → option_map deref_pair found ≡ slice_get pairs k
+      → MatchOption found (length (asks_here pairs) ≤ k) (λ pair. slice_get (asks_here pairs) k ≡ Some (aimed (pair.0.now, pair.1.now)))
+  at_place pairs k None is = let n = length-map pairs (λ (pair : List ℕ × Aim). aimed {A = A} pair) in let h = past pairs k is in omega arith
+  at_place pairs k (Some pair) is = slice_get-map (λ (p : List ℕ × Aim). aimed {A = A} p) pairs k ∙ ap (option_map (λ (p : List ℕ × Aim). aimed {A = A} p)) (sym is)
+
+  -- the ids of the map are those that are asked for
+  pub ids_pairs : (pairs : List (List ℕ × Aim)) → map (λ aim. aim.id) (values_of pairs) ≡ asked_ids (asks_here pairs)
+  ids_pairs [] = refl
+  ids_pairs (pair ∷ pairs) = ap (λ (ids : List (List ℕ)). pair.1.id ∷ ids) (ids_pairs pairs)
+
+  -- so a look-up finds an ask
+  pub ask_at : (pairs : List (List ℕ × Aim)) (k : ℕ) (name : List ℕ) (aim : Aim) → slice_get (asks_here pairs) k ≡ Some (aimed (name, aim)) → IsAskAt (asks_here pairs) k name aim.id
+  ask_at pairs k name aim is = (aimed (name, aim), is, refl, refl)

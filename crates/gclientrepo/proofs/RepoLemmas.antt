@@ -1,0 +1,108 @@
+-- Facts on connected repositories.
+use Rattle.std.proofs.Common.{◌≡◌, ◌⊎◌, inl, inr, ℕ, ◌+◌, ◌<◌, Bool, true, false, List, [], ◌∷◌, ◌++◌, length, take, drop, get_or, All, Contains, Option, None, Some, refl, sym, ap, ◌∙◌, subst, arith}
+use Rattle.std.specs.Option.{is_some}
+use Rattle.std.specs.Map.{values_of}
+use Rattle.std.proofs.lemmas.Bool.{false≢true}
+use Rattle.std.proofs.lemmas.List.{drop_more, get_or-map, length-map, take-append-drop, take-map}
+use Rattle.std.proofs.lemmas.List.Elements.{All-contains, All-map, All-more, All-weaker}
+use Rattle.gobject.specs.declared.node.Entry.{Entry}
+use Rattle.gobject.specs.Objects.{node_at}
+use Rattle.ggraph.specs.SafeRefs.{SafeStays}
+use Rattle.gdag.specs.Graphs.{History}
+use Rattle.gdag.specs.Laws.{GrowingKeeps}
+use Rattle.gdag.specs.Reach.{IsFull}
+use Rattle.gdag.specs.Walks.{Misses}
+use Rattle.grefs.specs.RefLists.{RefList, SetsRef}
+use Rattle.gwalk.specs.Marks.{AreFull, CoveringStays, MarksReached, MarksStayFull}
+use Rattle.gclientrepo.specs.Laws.{WholeStays}
+use Rattle.gclientrepo.specs.steps.Repos.{ComeFrom, IsFirstLost}
+use Rattle.gclientrepo.specs.Repos.{IsFirstUnsafe, IsWhole}
+
+value_there : (refs : RefList) (ref : List ℕ × List ℕ) → Contains refs ref → Contains (values_of refs) ref.1
+value_there refs ref there =
+    let place = there.0 in (
+      place,
+      omega (arith, there.1, length-map refs (λ (r : List ℕ × List ℕ). r.1)),
+      get_or-map (λ (r : List ℕ × List ℕ). r.1) refs place ref ref.1 there.1 ∙ ap (λ (r : List ℕ × List ℕ). r.1) there.2,
+    )
+
+-- the ids of refs that come from others are theirs, or among the ids
+values_from : (others : RefList) (ids : List (List ℕ)) (refs : RefList) → ComeFrom others ids refs
+    → All (λ (a : List ℕ). Contains (values_of others) a ⊎ Contains ids a) (values_of refs)
+values_from others ids refs from =
+    let P : List ℕ → Type 0 = λ a. Contains (values_of others) a ⊎ Contains ids a in
+    All-map P (λ (ref : List ℕ × List ℕ). ref.1) refs
+    (All-weaker (λ ref. Contains others ref ⊎ Contains ids ref.1) (λ ref. P ref.1)
+    (λ ref there. elim there [ inl old ↦ inl (value_there others ref old) | inr asked ↦ inr asked ]) refs from)
+
+module _ {A : Type 0} where
+  pub whole_stays : GrowingKeeps A → SafeStays A → MarksStayFull A → CoveringStays A → WholeStays A
+  whole_stays keeps safe full covers g h refs known grows differ whole = record {
+    safe = safe g.entries h.entries refs (keeps g.entries h.entries grows) whole.safe;
+    full = full g.entries h.entries known grows whole.full;
+    covers = covers g.entries h.entries (values_of refs) known grows differ whole.safe whole.covers;
+  }
+
+  -- where nothing is missing of some ids they are connected; else they are not all connected
+  pub all_held : (g : List (Entry A)) (ids : List (List ℕ)) (missing : Option (List ℕ)) → Misses g ids missing → is_some missing ≡ false → All (IsFull g) ids
+  all_held g ids None misses is = misses
+  all_held g ids (Some b) misses is = absurd (false≢true (sym is))
+
+  pub not_all_held : (g : List (Entry A)) (ids : List (List ℕ)) (missing : Option (List ℕ)) → Misses g ids missing → is_some missing ≡ true → ¬ (All (IsFull g) ids)
+  not_all_held g ids None misses is = absurd (false≢true is)
+  not_all_held g ids (Some b) misses is = λ full.
+      let held : is_some (node_at g b) ≡ true = All-contains (IsFull g) ids misses.0.0 full misses.0.1 b misses.0.2 in
+      false≢true (sym (ap is_some misses.1) ∙ held)
+
+  -- marks of all that the refs reach
+  pub whole_opened : (g : History A) (refs : RefList) (known : List Bool) → All (IsFull g.entries) (values_of refs) → AreFull g.entries known
+      → MarksReached g.entries (values_of refs) [] known → IsWhole (record { graph = g; refs = refs; known = known })
+  whole_opened g refs known safe full marks = record {
+    safe = safe;
+    full = full;
+    covers = λ place entry at reached. (marks.each place entry at).1 (inr reached);
+  }
+
+  -- refs that come from those of a connected repository, or stand at connected ids whose ancestries are marked now
+  pub whole_installed : (g : History A) (old : RefList) (known : List Bool) (ids : List (List ℕ)) (new : RefList) (marks : List Bool)
+      → IsWhole (record { graph = g; refs = old; known = known }) → All (IsFull g.entries) ids → ComeFrom old ids new
+      → AreFull g.entries marks → MarksReached g.entries ids known marks → IsWhole (record { graph = g; refs = new; known = marks })
+  whole_installed g old known ids new marks whole full from are reached =
+      let each = values_from old ids new from in
+      let Either : List ℕ → Type 0 = λ a. Contains (values_of old) a ⊎ Contains ids a in
+      record {
+        safe = All-weaker Either (IsFull g.entries) (λ a there. elim there [ inl held ↦ All-contains (IsFull g.entries) (values_of old) a whole.safe held | inr asked ↦ All-contains (IsFull g.entries) ids a full asked ]) (values_of new) each;
+        full = are;
+        covers = λ place entry at some.
+            (reached.each place entry at).1
+            (elim (All-contains Either (values_of new) some.0 each some.1) [
+              | inl held ↦ inl (whole.covers place entry at (some.0, held, some.2))
+              | inr asked ↦ inr (some.0, asked, some.2)
+            ]);
+      }
+
+  -- the first ref that is not connected
+  pub unsafe_at : (g : List (Entry A)) (refs : RefList) (place : ℕ) (ref : List ℕ × List ℕ) → IsFirstLost g (values_of refs) place → get_or refs place ref ≡ ref → IsFirstUnsafe g refs ref.0
+  unsafe_at g refs place ref first is =
+      let value : List ℕ × List ℕ → List ℕ = λ r. r.1 in
+      let inside : place < length refs = let low = first.inside in let long = length-map refs value in omega (arith, low, long) in
+      record {
+        front = take place refs;
+        id = ref.1;
+        back = drop (place + 1) refs;
+        parts = sym (take-append-drop place refs) ∙ ap (λ (l : RefList). take place refs ++ l) (drop_more refs place ref inside ∙ ap (λ (r : List ℕ × List ℕ). r ∷ drop (place + 1) refs) is);
+        safe = subst (λ (l : List (List ℕ)). All (IsFull g) l) (take-map value place refs) first.held;
+        unsafe = λ full.
+            let there : get_or (values_of refs) place ref.1 ≡ ref.1 = get_or-map value refs place ref ref.1 inside ∙ ap value is in
+            first.lost (All-more (IsFull g) (values_of refs) place ref.1 first.inside first.held (subst (IsFull g) (sym there) full));
+      }
+
+-- refs of which one was set come from the others, or stand at its id
+pub set_from : (others old new : RefList) (name id : List ℕ) → old ≡ others → SetsRef old new name id → ComeFrom others (id ∷ []) new
+set_from others old new name id same sets =
+    let Others : List ℕ × List ℕ → Type 0 = λ ref. Contains others ref ⊎ Contains (id ∷ []) ref.1 in
+    All-weaker (λ ref. (ref ≡ (name, id)) ⊎ Contains old ref) Others
+    (λ ref there. elim there [
+      | inl is ↦ inr (subst (λ (r : List ℕ × List ℕ). Contains (id ∷ []) r.1) (sym is) (0, omega arith, refl))
+      | inr held ↦ inl (subst (λ (l : RefList). Contains l ref) same held)
+    ]) new sets.each

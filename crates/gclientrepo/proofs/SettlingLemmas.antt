@@ -1,0 +1,176 @@
+-- Settling ask by ask.
+use Rattle.std.proofs.Common.{◌≡◌, ◌≢◌, inl, inr, ℕ, ◌+◌, ◌<◌, Bool, true, false, cond, List, [], ◌∷◌, ◌++◌, length, take, get_or, map, All, Contains, count_by, Option, None, Some, Err, refl, sym, ap, ◌∙◌, subst, arith}
+use Rattle.std.specs.List.{AllZip}
+use Rattle.std.specs.Option.{is_none}
+use Rattle.std.proofs.lemmas.List.{get_or_append_left, get_or_at, get_or_default, get_or-map, get_or-take, length-append, length-map, length-take}
+use Rattle.std.proofs.lemmas.List.Elements.{All-contains, All-map, All-more, All-nil, All-push}
+use Rattle.std.proofs.lemmas.List.Sums.{count_by_more_yes, sum_by_push, sum_by-take-le}
+use Rattle.gname.specs.Names.{head_name}
+use Rattle.gname.proofs.ListLemmas.{All-parts}
+use Rattle.gobject.specs.declared.node.Entry.{Entry}
+use Rattle.gdag.specs.declared.fault.GraphFault.TheVariants as graph
+use Rattle.gdag.specs.Reach.{IsFull}
+use Rattle.grefs.specs.declared.fault.RefsFault.{RefsFault}
+use Rattle.grefs.specs.declared.fault.RefsFault.TheVariants as refs
+use Rattle.grefs.specs.RefLists.{RefList, CannotSet, SetsRef, ref_at}
+use Rattle.gclientrepo.specs.declared.ask.Ask.{Ask}
+use Rattle.gclientrepo.specs.declared.ask.RefUpdate.{RefUpdate}
+use Rattle.gclientrepo.specs.declared.ask.RefUpdate.TheVariants.{Moved, Same, NotForward}
+use Rattle.gclientrepo.specs.declared.fault.RepoFault.{RepoFault}
+use Rattle.gclientrepo.specs.declared.fault.RepoFault.TheVariants.{Graph, Refs}
+use Rattle.gclientrepo.specs.Changes.{SetsLocal, SettlesAsks}
+use Rattle.gclientrepo.specs.Repos.{RepoState}
+use Rattle.gclientrepo.specs.Settling.{CannotSettle, IsUpdate, MayMove, NamesDiffer, asked_ids, is_new}
+use Rattle.gclientrepo.specs.steps.Settling.{HasSettled, IsRefusal, Sets, TakesAsk}
+
+-- one more pair of two lists
+pub zip_push : {X Y : Type 0} (R : X → Y → Type 0) (xs : List X) (ys : List Y) (x : X) (y : Y) → AllZip R xs ys → R x y → AllZip R (xs ++ x ∷ []) (ys ++ y ∷ [])
+zip_push R [] [] x y all is = (is, tt)
+zip_push R [] (b ∷ ys) x y all is = absurd all
+zip_push R (a ∷ xs) [] x y all is = absurd all
+zip_push R (a ∷ xs) (b ∷ ys) x y all is = (all.0, zip_push R xs ys x y all.1 is)
+
+-- a ref that stands at some id is there
+not_new : (there : Option (List ℕ)) → there ≢ None → is_none there ≡ false
+not_new None some = absurd (some refl)
+not_new (Some id) some = refl
+
+module _ {A : Type 0} where
+  -- nothing is settled yet
+  pub settles_none : (g : List (Entry A)) (old : RefList) → HasSettled g old [] [] old
+  settles_none g old = record {
+    settles = record { each = tt; asked = All-nil (λ (ask : Ask A). MayMove g old ask → ref_at old ask.name ≡ Some ask.id); others = λ name all. refl };
+    count = omega arith;
+  }
+
+  -- the asks so far are for other refs
+  abbrev Differ : List (Ask A) → Ask A → Type 0
+  Differ front ask = All (λ other. other.name ≢ ask.name) front
+
+  -- so the ref of the next one stands where it stood
+  unmoved : (g : List (Entry A)) (old : RefList) (front : List (Ask A)) (updates : List RefUpdate) (before : RefList) (ask : Ask A)
+      → HasSettled g old front updates before → Differ front ask → ref_at before ask.name ≡ ref_at old ask.name
+  unmoved g old front updates before ask settled differ = settled.settles.others ask.name (λ k d low may. differ k d low)
+
+  -- how many of the asks are for new refs
+  count_next : (old : RefList) (front : List (Ask A)) (ask : Ask A) (b : Bool) → is_new old ask ≡ b
+      → count_by (is_new old) (front ++ ask ∷ []) ≡ count_by (is_new old) front + cond b 1 0
+  count_next old front ask b is = sum_by_push (λ (a : Ask A). cond (is_new old a) 1 0) front ask ∙ ap (λ (c : Bool). count_by (is_new old) front + cond c 1 0) is
+
+  -- whether the name was there decides by how many the refs grew
+  count_set : (old before after : RefList) (front : List (Ask A)) (ask : Ask A) (there : Option (List ℕ)) → ref_at old ask.name ≡ there → ref_at before ask.name ≡ there
+      → SetsRef before after ask.name ask.id → length before ≡ length old + count_by (is_new old) front
+      → length after ≡ length old + count_by (is_new old) (front ++ ask ∷ [])
+  count_set old before after front ask None was is sets count =
+      let one = sets.one_more is in
+      let next = count_next old front ask true (ap is_none was) in
+      omega (arith, one, next, count)
+  count_set old before after front ask (Some id) was is sets count =
+      let same = sets.as_many (λ none. (cc (sym is ∙ none))) in
+      let next = count_next old front ask false (ap is_none was) in
+      omega (arith, same, next, count)
+
+  settles_move : (g : List (Entry A)) (old : RefList) (front : List (Ask A)) (updates : List RefUpdate) (before after : RefList) (ask : Ask A)
+      → HasSettled g old front updates before → Differ front ask → IsUpdate g old ask Moved → SetsRef before after ask.name ask.id
+      → HasSettled g old (front ++ ask ∷ []) (updates ++ Moved ∷ []) after
+  settles_move g old front updates before after ask settled differ update sets =
+      let Stands : Ask A → Type 0 = λ a. MayMove g old a → ref_at after a.name ≡ Some a.id in
+      record {
+        settles = record {
+          each = zip_push (IsUpdate g old) front updates ask Moved settled.settles.each update;
+          asked = All-push Stands front ask (λ k d low may. sets.others _ (differ k d low) ∙ settled.settles.asked k d low may) (λ may. sets.this_name);
+          others = λ name stay.
+              let parts = All-parts (λ (a : Ask A). MayMove g old a → a.name ≢ name) front ask stay in
+              sets.others name (λ same. parts.1 update.1 (sym same)) ∙ settled.settles.others name parts.0;
+        };
+        count = count_set old before after front ask (ref_at old ask.name) refl (unmoved g old front updates before ask settled differ) sets settled.count;
+      }
+
+  -- an ask that moves nothing
+  settles_stay : (g : List (Entry A)) (old : RefList) (front : List (Ask A)) (updates : List RefUpdate) (before : RefList) (ask : Ask A) (update : RefUpdate)
+      → HasSettled g old front updates before → IsUpdate g old ask update → (MayMove g old ask → ref_at before ask.name ≡ Some ask.id) → is_new old ask ≡ false
+      → HasSettled g old (front ++ ask ∷ []) (updates ++ update ∷ []) before
+  settles_stay g old front updates before ask update settled is stands known = record {
+    settles = record {
+      each = zip_push (IsUpdate g old) front updates ask update settled.settles.each is;
+      asked = All-push (λ (a : Ask A). MayMove g old a → ref_at before a.name ≡ Some a.id) front ask settled.settles.asked stands;
+      others = λ name stay. settled.settles.others name (All-parts (λ (a : Ask A). MayMove g old a → a.name ≢ name) front ask stay).0;
+    };
+    count = (let next = count_next old front ask false known in let count = settled.count in omega (arith, next, count));
+  }
+
+  pub settles_more : (g : List (Entry A)) (old : RefList) (front : List (Ask A)) (updates : List RefUpdate) (before after : RefList) (ask : Ask A) (update : RefUpdate)
+      → HasSettled g old front updates before → Differ front ask → IsUpdate g old ask update → Sets update before ask after
+      → HasSettled g old (front ++ ask ∷ []) (updates ++ update ∷ []) after
+  settles_more g old front updates before after ask Moved settled differ is sets = settles_move g old front updates before after ask settled differ is sets
+  settles_more g old front updates before after ask Same settled differ is sets =
+      subst (HasSettled g old (front ++ ask ∷ []) (updates ++ Same ∷ [])) (sym sets)
+      (settles_stay g old front updates before ask Same settled is (λ may. unmoved g old front updates before ask settled differ ∙ is) (ap is_none is))
+  settles_more g old front updates before after ask NotForward settled differ is sets =
+      subst (HasSettled g old (front ++ ask ∷ []) (updates ++ NotForward ∷ [])) (sym sets)
+      (settles_stay g old front updates before ask NotForward settled is (λ may. absurd (is.1 may)) (not_new (ref_at old ask.name) (λ none. is.1 (inl none))))
+
+  -- the asks before one are for other refs
+  pub differ_before : (asks : List (Ask A)) (place : ℕ) (ask : Ask A) → NamesDiffer asks → place < length asks → get_or asks place ask ≡ ask → Differ (take place asks) ask
+  differ_before asks place ask differ inside is k d low =
+      let long = length-take place asks in
+      let before : k < place = omega (arith, low, long) in
+      let there : get_or asks place d ≡ ask = get_or_default asks place d ask inside ∙ is in
+      λ same. differ k place d before inside (ap (λ (a : Ask A). a.name) (sym (get_or-take place asks k d before)) ∙ same ∙ ap (λ (a : Ask A). a.name) (sym there))
+
+  -- an ask for HEAD is one of them
+  pub head_at : (asks : List (Ask A)) (place : ℕ) (ask : Ask A) → place < length asks → get_or asks place ask ≡ ask → ask.name ≡ head_name → Contains (map (λ a. a.name) asks) head_name
+  head_at asks place ask inside is head =
+      let name : Ask A → List ℕ = λ a. a.name in
+      (place, (let same = length-map asks name in omega (arith, inside, same)), get_or-map name asks place ask head_name inside ∙ ap name is ∙ head)
+
+  -- no ask is for HEAD
+  abbrev pub NoHead : List (Ask A) → Type 0
+  NoHead asks = All (λ ask. ask.name ≢ head_name) asks
+
+  pub no_head_more : (asks : List (Ask A)) (place : ℕ) (ask : Ask A) → place < length asks → get_or asks place ask ≡ ask → NoHead (take place asks) → ask.name ≢ head_name
+      → NoHead (take (place + 1) asks)
+  no_head_more asks place ask inside is none differs =
+      let Other : Ask A → Type 0 = λ a. a.name ≢ head_name in
+      All-more Other asks place ask inside none (subst Other (sym is) differs)
+
+  pub no_head_there : (asks : List (Ask A)) → NoHead asks → ¬ (Contains (map (λ a. a.name) asks) head_name)
+  no_head_there asks none there =
+      let Other : List ℕ → Type 0 = λ name. name ≢ head_name in
+      All-contains Other (map (λ (a : Ask A). a.name) asks) head_name (All-map Other (λ (a : Ask A). a.name) asks none) there refl
+
+  -- a ref that can't be set stands in the way of settling
+  pub cannot_settle : (g : List (Entry A)) (old : RefList) (asks : List (Ask A)) (place : ℕ) (updates : List RefUpdate) (before : RefList) (ask : Ask A)
+      → NamesDiffer asks → place < length asks → get_or asks place ask ≡ ask → HasSettled g old (take place asks) updates before → CannotSet before ask.name → CannotSettle old asks
+  cannot_settle g old asks place updates before ask differ inside is settled (inl head) =
+      inl (head_at asks place ask inside is head)
+  cannot_settle g old asks place updates before ask differ inside is settled (inr full) =
+      let new : is_new old ask ≡ true = ap is_none (sym (unmoved g old (take place asks) updates before ask settled (differ_before asks place ask differ inside is)) ∙ full.0) in
+      let next = count_by_more_yes (is_new old) asks place ask inside (ap (is_new old) is ∙ new) in
+      let all = sum_by-take-le (λ (a : Ask A). cond (is_new old a) 1 0) asks (place + 1) in
+      let count = settled.count in
+      inr (omega (arith, next, all, count, full.1))
+
+  -- why an ask is not taken is why the asks are not settled
+  pub refuses_ask : (g : List (Entry A)) (old : RefList) (asks : List (Ask A)) (ask : Ask A) (before after : RefList) (fault : RepoFault A)
+      → ¬ (CannotSettle old asks) → (CannotSet before ask.name → CannotSettle old asks) → TakesAsk g old ask before after (Err fault) → IsRefusal old asks fault
+  refuses_ask g old asks ask before after (Refs refs.Refs) can why takes = why takes
+  refuses_ask g old asks ask before after (Refs refs.Memory) can why takes = can
+  refuses_ask g old asks ask before after (Graph graph.Memory) can why takes = tt
+  refuses_ask g old asks ask before after (Graph cause) can why takes = absurd takes
+  refuses_ask g old asks ask before after fault can why takes = absurd takes
+
+  -- and why the repository stays
+  pub refuses_asks : (old : RepoState A) (asks : List (Ask A)) (fault : RepoFault A) → All (IsFull old.graph.entries) (asked_ids asks)
+      → IsRefusal old.refs asks fault → SettlesAsks old asks old (Err fault)
+  refuses_asks old asks (Refs refs.Refs) full why = (refl, full, why)
+  refuses_asks old asks (Refs refs.Memory) full why = (refl, full, why)
+  refuses_asks old asks (Graph graph.Memory) full why = refl
+  refuses_asks old asks (Graph cause) full why = absurd why
+  refuses_asks old asks fault full why = absurd why
+
+  -- where it is because of the refs
+  pub cannot_set_local : (old : RepoState A) (name id : List ℕ) (cause : RefsFault) → IsFull old.graph.entries id → (cause ≡ refs.Refs → CannotSet old.refs name)
+      → (CannotSet old.refs name → cause ≡ refs.Refs) → SetsLocal old name id old (Err (Refs cause))
+  cannot_set_local old name id refs.Refs full why only = (refl, full, why refl)
+  cannot_set_local old name id refs.Memory full why only = (refl, full, λ cannot. (let same = only cannot in cc))

@@ -1,0 +1,12 @@
+use Rattle.std.proofs.Common.{◌≡◌, List, Some, subst}
+use Rattle.std.specs.List.{slice_get}
+use Rattle.std.proofs.lemmas.Option.{MatchOption-at_some}
+use Rattle.gclientrepo.specs.declared.ask.Ask.{Ask}
+use Rattle.gclientrepo.specs.Asks.{aimed}
+use Rattle.gclientrepo.proofs.AskLemmas.{at_place}
+use Rattle.gclientrepo.proofs.asks.Asks.aim.Goals as goal
+
+pub returns : goal.returns
+returns g c =
+    let at = MatchOption-at_some _ _ c.unwrap.result c.unwrap.ensures (at_place g.row.A.Denot c.self.inside.aims.entries c.args.place c.get_index.result c.get_index.ensures.entry) in
+    subst (λ (asks : List (Ask g.row.A.Denot)). slice_get asks c.args.place ≡ Some (aimed (c.unwrap.result.0.now, c.unwrap.result.1.now))) c.self.view_is at

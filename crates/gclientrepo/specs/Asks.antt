@@ -1,0 +1,41 @@
+-- What is asked of refs (git-fetch(1), "<refspec>"): each ask is that a ref come to stand at an id, perhaps by force.
+use Rattle.std.specs.Prelude.{◌≡◌, ◌≢◌, ℕ, Bool, List, [], ◌∷◌, ◌++◌, map, slice_get, AllPairs, Some, if◌then◌else◌}
+use Rattle.std.specs.List.{list_any}
+use Rattle.std.specs.Str.{bytes_eq}
+use Rattle.gname.specs.Ids.{Id}
+use Rattle.gname.specs.Names.{Name}
+use Rattle.gclientrepo.specs.declared.ask.Ask.{Ask}
+use Rattle.gclientrepo.specs.declared.asks.Aim.{Aim}
+
+-- no two asks are for one ref
+abbrev pub NamesDiffer : {A : Type 0} → List (Ask A) → Type 0
+NamesDiffer asks = AllPairs (λ ask other. ask.name ≢ other.name) asks
+
+-- the ids that are asked for
+abbrev pub asked_ids : {A : Type 0} → List (Ask A) → List Id
+asked_ids asks = map (λ ask. ask.id) asks
+
+-- whether one of the asks is for the ref
+abbrev pub is_asked : {A : Type 0} → List (Ask A) → Name → Bool
+is_asked asks name = list_any (λ ask. bytes_eq ask.name name) asks
+
+-- an ask more, unless one is for the same ref
+abbrev pub with_ask : {A : Type 0} → List (Ask A) → Ask A → List (Ask A)
+with_ask asks ask = if is_asked asks ask.name then asks else asks ++ ask ∷ []
+
+-- the ask at a position is for this ref and this id
+abbrev pub IsAskAt : {A : Type 0} → List (Ask A) → ℕ → (name : Name) (id : Id) → Type 0
+IsAskAt {A} asks place name id =
+    (ask : Ask A) × (slice_get asks place ≡ Some ask) × (ask.name ≡ name) × (ask.id ≡ id)
+
+-- whether the ask at a position is forced
+abbrev pub IsForcedAt : {A : Type 0} → List (Ask A) → ℕ → Bool → Type 0
+IsForcedAt {A} asks place forced = (ask : Ask A) × (slice_get asks place ≡ Some ask) × (ask.forced ≡ forced)
+
+-- a name, and where its ref is to stand, as an ask
+abbrev pub aimed : {A : Type 0} → Name × Aim → Ask A
+aimed pair = record { name = pair.0; id = pair.1.id; forced = pair.1.forced }
+
+-- the asks of a map's pairs
+abbrev pub asks_of : {A : Type 0} → List (Name × Aim) → List (Ask A)
+asks_of pairs = map aimed pairs

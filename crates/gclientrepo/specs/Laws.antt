@@ -1,0 +1,56 @@
+-- What follows from the definitions of a repository and of settling.
+use Rattle.std.specs.Prelude.{◌≡◌, Bool, List, All, Some, Ok, Err}
+use Rattle.gname.specs.Ids.{Id}
+use Rattle.gname.specs.Names.{Name}
+use Rattle.gobject.specs.declared.node.Entry.{Entry}
+use Rattle.gobject.specs.Objects.{IdsDiffer}
+use Rattle.gdag.specs.Graphs.{History}
+use Rattle.gdag.specs.Reach.{Grows, IsFull}
+use Rattle.gdag.specs.Walks.{Misses}
+use Rattle.grefs.specs.RefLists.{RefList, IsRefs}
+use Rattle.gclientrepo.specs.declared.ask.Ask.{Ask}
+use Rattle.gclientrepo.specs.declared.ask.RefUpdate.{RefUpdate}
+use Rattle.gclientrepo.specs.declared.fault.RepoFault.{RepoFault}
+use Rattle.gclientrepo.specs.Changes.{AddsLocal, SetsLocal, SettlesAsks}
+use Rattle.gclientrepo.specs.Repos.{IsWhole, RepoState}
+use Rattle.gclientrepo.specs.Settling.{Settles}
+
+-- a repository stays connected where objects come to its graph
+abbrev pub WholeStays : Type 0 → Type 0
+WholeStays A =
+    (g h : History A) (refs : RefList) (known : List Bool) → Grows g.entries h.entries → IdsDiffer h.entries
+    → IsWhole (record { graph = g; refs = refs; known = known })
+    → IsWhole (record { graph = h; refs = refs; known = known })
+
+-- a repository stays connected where asks are settled
+abbrev pub SettlingStaysWhole : Type 0 → Type 0
+SettlingStaysWhole A =
+    (old new : RepoState A) (asks : List (Ask A)) (updates : List RefUpdate)
+    → IsRefs new.refs → IsWhole old → SettlesAsks old asks new (Ok updates) → IsWhole new
+
+-- and where a ref is set
+abbrev pub SettingStaysWhole : Type 0 → Type 0
+SettingStaysWhole A =
+    (old new : RepoState A) (name : Name) (id : Id) → IsWhole old → SetsLocal old name id new (Ok tt) → IsWhole new
+
+-- a refusal changes nothing
+pub record RefusalsChangeNothing (A : Type 0) : Type 0 where
+  pub adding : (old new : RepoState A) (entry : Entry A) (fault : RepoFault A) →
+      AddsLocal old entry new (Err fault) → new ≡ old
+  pub setting : (old new : RepoState A) (name : Name) (id : Id) (fault : RepoFault A) →
+      SetsLocal old name id new (Err fault) → new ≡ old
+  pub settling : (old new : RepoState A) (asks : List (Ask A)) (fault : RepoFault A) →
+      SettlesAsks old asks new (Err fault) → new ≡ old
+
+-- nothing is missing of connected ids
+abbrev pub HeldIsNotMissing : Type 0 → Type 0
+HeldIsNotMissing A =
+    (g : List (Entry A)) (ids : List Id) (missing : Id)
+    → All (IsFull g) ids → ¬ (Misses g ids (Some missing))
+
+-- there is one settling of some asks
+abbrev pub OneSettling : Type 0 → Type 0
+OneSettling A =
+    (g : List (Entry A)) (old : RefList) (asks : List (Ask A)) (updates others : List RefUpdate) (new other : RefList)
+    → IsRefs new → IsRefs other → Settles g old asks updates new → Settles g old asks others other
+    → (updates ≡ others) × (new ≡ other)

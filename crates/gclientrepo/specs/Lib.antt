@@ -1,0 +1,14 @@
+pub mod Asks
+pub mod Changes
+pub mod Faults
+pub mod Laws
+pub mod Repos
+pub mod Settling
+pub mod steps
+pub use Rattle.ggraph.specs.SafeRefs
+pub use Rattle.gdag.specs.Graphs
+pub use Rattle.gdag.specs.Insert
+pub use Rattle.gdag.specs.Reach
+pub use Rattle.gdag.specs.Walks
+pub use Rattle.grefs.specs.RefLists
+pub use Rattle.gwalk.specs.Marks

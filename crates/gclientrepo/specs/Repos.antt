@@ -1,0 +1,33 @@
+-- A client's repository: objects, refs, and marks of connected objects. Git's manuals leave open what a client keeps;
+-- that it keeps these marks, and that its repository is connected at all times, is our own rule.
+use Rattle.std.specs.Prelude.{◌≡◌, List, Bool, ◌∷◌, ◌++◌}
+use Rattle.std.specs.Map.{values_of}
+use Rattle.gname.specs.Ids.{Id}
+use Rattle.gname.specs.Names.{Name}
+use Rattle.gobject.specs.declared.node.Entry.{Entry}
+use Rattle.ggraph.specs.SafeRefs.{IsSafe}
+use Rattle.gdag.specs.Graphs.{History}
+use Rattle.gdag.specs.Reach.{IsFull}
+use Rattle.grefs.specs.RefLists.{RefList}
+use Rattle.gwalk.specs.Marks.{AreFull, Covers}
+
+-- what a repository holds
+pub record RepoState (A : Type 0) : Type 0 where
+  pub graph : History A
+  pub refs : RefList
+  pub known : List Bool
+
+-- each ref is connected; each marked object is connected; and all that a ref reaches is marked
+pub record IsWhole {A : Type 0} (repo : RepoState A) : Type 0 where
+  pub safe : IsSafe repo.graph.entries repo.refs
+  pub full : AreFull repo.graph.entries repo.known
+  pub covers : Covers repo.graph.entries (values_of repo.refs) repo.known
+
+-- the name is that of the first ref that is not connected
+pub record IsFirstUnsafe {A : Type 0} (g : List (Entry A)) (refs : RefList) (name : Name) : Type 0 where
+  pub front : RefList
+  pub id : Id
+  pub back : RefList
+  pub parts : refs ≡ front ++ (name, id) ∷ back
+  pub safe : IsSafe g front
+  pub unsafe : ¬ (IsFull g id)

@@ -1,0 +1,112 @@
+//! What a call on a repository refuses.
+#![tactic(auto)]
+
+ghost use Rattle.std.specs.Prelude.{◌≡◌, Some};
+ghost use Rattle.gdag.specs.declared.fault.GraphFault.TheVariants.{Memory};
+ghost use Rattle.gclientrepo.specs.Faults.{repo_fault_row, repo_fault_text};
+ghost use Rattle.gclientrepo.specs.declared.fault.RepoFault.TheVariants as repo;
+
+use gdag::GraphFault;
+use gname::{MISSING_PARENT, Oid, RefName};
+use grefs::RefsFault;
+use std::alloc::{AllocError, AllocFailed, Allocator, Global};
+use std::error::Error;
+use std::fmt;
+
+/// Why a call on a repository was refused.
+#[derive(Debug, Drop)]
+pub enum RepoFault<A: Allocator + Copy = Global> {
+    /// A parent of the object that was to be added is not held.
+    MissingParent { id: Oid },
+    /// This ref, the first in the order of the names, is not connected.
+    UnsafeRef { name: RefName<A> },
+    /// The id at which a ref was to stand is not connected: of its ancestry this id is missing.
+    NotHeld { missing: Oid },
+    /// The ids that were asked for are not all connected: of their ancestries this id is missing.
+    NotConnected { missing: Oid },
+    /// The graph refused it, or out of memory for a walk or a copy.
+    Graph(GraphFault),
+    /// A ref can't be set, or it can and it is out of memory to set it.
+    Refs(RefsFault),
+}
+
+impl<A: Allocator + Copy> RepoFault<A> {
+    /// The number of the fault.
+    pub fn code(&self) -> u32
+        ensures { result ≡ (repo_fault_row self.now).0 }
+    {
+        self.row().0
+    }
+
+    /// The name of the fault.
+    pub fn name(&self) -> &'static str
+        ensures { result.now ≡ (repo_fault_row self.now).1 }
+    {
+        self.row().1
+    }
+
+    /// The table: the number and the name of each fault.
+    pub fn row(&self) -> (u32, &'static str)
+        ensures { (result.0, result.1.now) ≡ repo_fault_row self.now }
+    {
+        match self {
+            RepoFault::MissingParent { .. } => MISSING_PARENT,
+            RepoFault::UnsafeRef { .. } => (80, "UnsafeRef"),
+            RepoFault::NotHeld { .. } => (81, "NotHeld"),
+            RepoFault::NotConnected { .. } => (85, "NotConnected"),
+            RepoFault::Graph(fault) => fault.row(),
+            RepoFault::Refs(fault) => fault.row(),
+        }
+    }
+}
+
+impl<A: Allocator + Copy> fmt::Display for RepoFault<A> {
+    ghost output = { λ fault. Some (repo_fault_text fault) };
+
+    fn fmt<W: fmt::Write>(&self, f: &mut fmt::Formatter<W>) -> fmt::Result {
+        match self {
+            RepoFault::MissingParent { .. } => f.write_str("a parent is not held"),
+            RepoFault::UnsafeRef { .. } => f.write_str("the ancestry of a ref is not held"),
+            RepoFault::NotHeld { .. } => f.write_str("the ancestry of an id is not held"),
+            RepoFault::NotConnected { .. } => f.write_str(
+                "the ancestries of the asked ids are not held",
+            ),
+            RepoFault::Graph(fault) => fmt::Display::fmt(fault, f),
+            RepoFault::Refs(fault) => fmt::Display::fmt(fault, f),
+        }
+    }
+}
+
+impl<A: Allocator + Copy + fmt::Debug> Error for RepoFault<A> {}
+
+impl<A: Allocator + Copy> From<GraphFault> for RepoFault<A> {
+    ghost from_gives = { λ cause fault. fault ≡ repo.Graph cause };
+
+    fn from(cause: GraphFault) -> RepoFault<A> {
+        RepoFault::Graph(cause)
+    }
+}
+
+impl<A: Allocator + Copy> From<RefsFault> for RepoFault<A> {
+    ghost from_gives = { λ cause fault. fault ≡ repo.Refs cause };
+
+    fn from(cause: RefsFault) -> RepoFault<A> {
+        RepoFault::Refs(cause)
+    }
+}
+
+impl<A: Allocator + Copy> From<AllocError> for RepoFault<A> {
+    ghost from_gives = { λ _ fault. fault ≡ repo.Graph Memory };
+
+    fn from(_refused: AllocError) -> RepoFault<A> {
+        RepoFault::Graph(GraphFault::Memory)
+    }
+}
+
+impl<A: Allocator + Copy, T: Drop> From<AllocFailed<T>> for RepoFault<A> {
+    ghost from_gives = { λ _ fault. fault ≡ repo.Graph Memory };
+
+    fn from(_refused: AllocFailed<T>) -> RepoFault<A> {
+        RepoFault::Graph(GraphFault::Memory)
+    }
+}

@@ -1,0 +1,104 @@
+//! Refs while they are set one after the other.
+#![tactic(auto)]
+
+ghost use Rattle.std.specs.Prelude.{◌≡◌, ◌≢◌, ◌≤◌, ◌<◌, ◌⊎◌, false, IfOk, IsTrue, None, is_some, length};
+ghost use Rattle.grefs.specs.RefLists.{IsRefs, max_refs, ref_at};
+ghost use Rattle.gclientrepo.specs.steps.Settling.{SetsOne};
+
+use ggraph::{MAX_REFS, Refs, RefsFault};
+use gname::laws::names_are_clean;
+use gname::{Oid, RefName};
+use grefs::laws::refs_come_in_order;
+use std::alloc::{AllocError, Allocator};
+use std::collections::BTreeMap;
+use std::marker::Model;
+
+/// Refs to which many may be added: a list of refs has to move all that come after a new name.
+#[derive(Drop)]
+pub(crate) struct RefMap<A: Allocator + Copy> {
+    refs: BTreeMap<RefName<A>, Oid, A>,
+}
+
+impl<A: Allocator + Copy> Model for RefMap<A> {
+    ghost use Rattle.grefs.specs.RefLists.{RefList, IsRefs};
+
+    ghost Value = { RefList };
+
+    ghost view = { λ it. it.refs.entries };
+
+    ghost invariant = { λ it. IsRefs it.refs.entries };
+}
+
+impl<A: Allocator + Copy> RefMap<A> {
+    /// Refs like these. It fails where there is no memory.
+    pub(crate) fn copy_of(alloc: A, refs: &Refs<A>) -> Result<RefMap<A>, AllocError>
+        ensures { IfOk result (λ copy. copy ≡ refs.now) }
+    {
+        let refs = tree_of(alloc, refs.as_slice())?;
+        Ok(RefMap { refs })
+    }
+
+    /// Puts a name at an id.
+    ///
+    /// It fails as `Refs::set` does.
+    pub(crate) fn set(&mut self, name: RefName<A>, id: Oid) -> Result<(), RefsFault>
+        ensures { SetsOne self.old name id self.new result }
+    {
+        names_are_clean();
+        if name.is_head() {
+            return Err(RefsFault::Refs);
+        }
+        if !self.has_room(&name) {
+            return Err(RefsFault::Refs);
+        }
+        self.refs.insert(name, id)?;
+        Ok(())
+    }
+
+    // Whether the name is there, or there is room for one more.
+    fn has_room(&self, name: &RefName<A>) -> bool
+        ensures room { IsTrue result
+            → (length self.now < max_refs) ⊎ (ref_at self.now name.now ≢ None) }
+        ensures full { result ≡ false
+            → (ref_at self.now name.now ≡ None) × (length self.now ≡ max_refs) }
+    {
+        self.refs.len() < MAX_REFS || self.is_there(name)
+    }
+
+    // Whether the name is there.
+    fn is_there(&self, name: &RefName<A>) -> bool
+        ensures { result ≡ is_some (ref_at self.now name.now) }
+    {
+        self.refs.contains_key(name)
+    }
+
+    /// The refs, in the order of their names. It fails where there is no memory.
+    pub(crate) fn into_refs(self, alloc: A) -> Result<Refs<A>, AllocError>
+        ensures refs { IfOk result (λ refs. refs ≡ self) }
+        ensures valid { IfOk result IsRefs }
+    {
+        refs_come_in_order();
+        let mut refs = Refs::new(alloc);
+        for (name, id) in self.refs {
+            refs.push(name, id)?;
+        }
+        Ok(refs)
+    }
+}
+
+// The refs as a map. It fails where there is no memory.
+fn tree_of<A: Allocator + Copy>(
+    alloc: A,
+    refs: &[(RefName<A>, Oid)],
+) -> Result<BTreeMap<RefName<A>, Oid, A>, AllocError>
+    requires { IsRefs refs.now }
+    ensures { IfOk result (λ copies. copies.entries ≡ refs.now) }
+{
+    refs_come_in_order();
+    let mut copies = BTreeMap::new(alloc);
+    for pair in refs {
+        let name = pair.0.copy_in(alloc)?;
+        copies.insert(name, pair.1)?;
+    }
+    Ok(copies)
+}

@@ -1,0 +1,124 @@
+//! What becomes of the refs that are asked for (git-fetch(1), "<refspec>").
+#![tactic(auto)]
+
+ghost use Rattle.std.specs.Prelude.{◌≡◌, ◌↔◌, Contains, IfErr, IfOk, IsTrue, MatchResult, count_by, map};
+ghost use Rattle.gdag.specs.declared.fault.GraphFault.TheVariants.{Memory};
+ghost use Rattle.gname.specs.Names.{head_name};
+ghost use Rattle.grefs.specs.RefLists.{IsRefs};
+ghost use Rattle.gclientrepo.specs.steps.Settling.{HasSettled, IsRefusal, TakesAsk};
+ghost use Rattle.gclientrepo.specs.Asks.{aimed};
+ghost use Rattle.gclientrepo.specs.Settling.{CannotSettle, IsUpdate, is_new};
+
+use crate::ask::RefUpdate;
+use crate::asks::{Aim, Asks};
+use crate::fault::RepoFault;
+use crate::ref_map::RefMap;
+use ggraph::{Graph, GraphFault, MAX_REFS, Refs, RefsFault, reaches};
+use gname::RefName;
+use grefs::laws::limits_are_the_constants;
+use std::alloc::Allocator;
+
+/// The refs once the asks are settled, and what becomes of each ask.
+///
+/// Whether the refs can be set is judged first, which takes no memory.
+pub(crate) fn settled<A: Allocator + Copy>(
+    graph: &Graph<A>,
+    refs: &Refs<A>,
+    asks: &Asks<A>,
+) -> Result<(Refs<A>, Vec<RefUpdate, A>), RepoFault<A>>
+    ensures settles { MatchResult result
+        (λ pair. HasSettled graph.now.entries refs.now asks.now pair.1.items pair.0)
+        (IsRefusal refs.now asks.now) }
+    ensures valid { IfOk result (λ pair. IsRefs pair.0) }
+{
+    if cannot_settle(refs, asks) {
+        return Err(RepoFault::Refs(RefsFault::Refs));
+    }
+    let alloc = graph.allocator();
+    let mut new = RefMap::copy_of(alloc, refs)?;
+    let mut updates = Vec::new(alloc);
+    for place in 0..asks.len() {
+        let (name, aim) = asks.aim(place);
+        let update = take_ask(graph, refs, name, aim, &mut new)?;
+        updates.push(update)?;
+    }
+    let new = new.into_refs(alloc)?;
+    Ok((new, updates))
+}
+
+// Whether the refs can't be set: an ask is for HEAD, or there would be too many.
+fn cannot_settle<A: Allocator + Copy>(refs: &Refs<A>, asks: &Asks<A>) -> bool
+    ensures { IsTrue result ↔ CannotSettle refs.now asks.now }
+{
+    limits_are_the_constants();
+    asks_for_head(asks) || count_new(refs, asks) > MAX_REFS - refs.len()
+}
+
+// Whether an ask is for HEAD.
+fn asks_for_head<A: Allocator + Copy>(asks: &Asks<A>) -> bool
+    ensures { IsTrue result ↔ Contains (map (λ ask. ask.name) asks.now) head_name }
+{
+    for place in 0..asks.len() {
+        let (name, _aim) = asks.aim(place);
+        if name.is_head() {
+            return true;
+        }
+    }
+    false
+}
+
+// How many of the asks are for new refs.
+fn count_new<A: Allocator + Copy>(refs: &Refs<A>, asks: &Asks<A>) -> usize
+    ensures { result ≡ count_by (is_new refs.now) asks.now }
+{
+    let mut count = 0;
+    for place in 0..asks.len() {
+        let (name, _aim) = asks.aim(place);
+        if refs.get(name).is_none() {
+            count += 1;
+        }
+    }
+    count
+}
+
+// Moves the ref that is asked for, where it may move. What becomes of it is judged by the old refs.
+fn take_ask<A: Allocator + Copy>(
+    graph: &Graph<A>,
+    old: &Refs<A>,
+    name: &RefName<A>,
+    aim: &Aim,
+    refs: &mut RefMap<A>,
+) -> Result<RefUpdate, RepoFault<A>>
+    ensures { TakesAsk graph.now.entries old.now (aimed (name.now, aim.now)) refs.old refs.new
+        result }
+{
+    let update = update_of(graph, old, name, aim)?;
+    if update == RefUpdate::Moved {
+        let name = name.copy_in(graph.allocator())?;
+        refs.set(name, aim.id)?;
+    }
+    Ok(update)
+}
+
+// What becomes of an ask.
+fn update_of<A: Allocator + Copy>(
+    graph: &Graph<A>,
+    refs: &Refs<A>,
+    name: &RefName<A>,
+    aim: &Aim,
+) -> Result<RefUpdate, GraphFault>
+    ensures update { IfOk result (IsUpdate graph.now.entries refs.now
+        (aimed (name.now, aim.now))) }
+    ensures fault { IfErr result (λ fault. fault ≡ Memory) }
+{
+    let Some(old) = refs.get(name) else {
+        return Ok(RefUpdate::Moved);
+    };
+    if old == aim.id {
+        return Ok(RefUpdate::Same);
+    }
+    if aim.forced || reaches(graph, &aim.id, &old)? {
+        return Ok(RefUpdate::Moved);
+    }
+    Ok(RefUpdate::NotForward)
+}

@@ -1,0 +1,30 @@
+-- The steps of `lines`.
+use Rattle.std.specs.Prelude.{ℕ, List, Result, Ok, Err}
+use Rattle.gpkt.specs.Packets.{Packet}
+use Rattle.gpkt.specs.declared.device.Down.{Down}
+use Rattle.gpkt.specs.declared.fault.LineFault.{LineFault}
+use Rattle.gpkt.specs.Sending.{Input, Output, Sends}
+use Rattle.gcmd.specs.Outputs.{FailsAtWrite}
+use Rattle.gcmd.specs.steps.Outputs.{IsPut}
+use Rattle.gcmd.specs.Lines.{shown_lines, ReadsEach, ReadsSome, ShowsSome}
+
+-- ---- what is shown
+
+-- how many bytes of a payload are shown in one call
+abbrev pub chunk : ℕ
+chunk = 512
+
+-- ---- its steps, by how reading ended, or the sink's failure
+
+-- the packets are shown
+abbrev pub ShowsEach : Input → Output → Result (Result (Unit {0}) LineFault) Down → Type 0
+ShowsEach input output (Ok ended) =
+    (lines : List Packet) × ReadsEach input lines ended × IsPut output (Ok tt) (shown_lines lines)
+ShowsEach input output (Err down) =
+    (lines : List Packet) × ReadsSome input lines × FailsAtWrite output (shown_lines lines)
+
+-- and passed on
+abbrev pub HasPassed : Input → Output → Result (Result (Unit {0}) LineFault) Down → Type 0
+HasPassed input output (Ok ended) =
+    (lines : List Packet) × ReadsEach input lines ended × Sends output (shown_lines lines)
+HasPassed input output (Err down) = ShowsSome input output

@@ -1,0 +1,13 @@
+-- The steps of writing to a sink.
+use Rattle.std.specs.Prelude.{Result, Ok, Err}
+use Rattle.std.specs.Io.KnownBytes.{Appends, Keeps}
+use Rattle.gpkt.specs.Sending.{Output}
+use Rattle.gpkt.specs.declared.device.Down.{Down}
+use Rattle.gpkt.specs.Packets.{Bytes}
+use Rattle.gcmd.specs.Outputs.{FailsAtWrite}
+
+-- what a call did that was to write these bytes, and to pass nothing on
+abbrev pub IsPut : Output → Result (Unit {0}) Down → Bytes → Type 0
+IsPut output (Ok done) bytes =
+    Appends output.written.old output.written.new bytes × Keeps output.passed_on.old output.passed_on.new
+IsPut output (Err down) bytes = FailsAtWrite output bytes

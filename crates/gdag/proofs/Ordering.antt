@@ -1,0 +1,115 @@
+-- Graphs in which parents come first.
+use Rattle.std.proofs.Common.{◌≡◌, ◌⊎◌, inl, inr, ℕ, zero, suc, ◌<◌, ◌≤◌, List, [], ◌∷◌, ◌++◌, length, take, All, Contains, Option, Some, None, refl, sym, ap, ◌∙◌, subst, arith}
+use Rattle.std.specs.List.{slice_get}
+use Rattle.std.specs.Option.{option_map}
+use Rattle.std.proofs.lemmas.List.{take-append-le}
+use Rattle.std.proofs.lemmas.List.Elements.{All-contains}
+use Rattle.std.proofs.Math.Seq.{take-append_seam}
+use Rattle.std.proofs.lemmas.Option.{same_Some, none-some, slice_get_within}
+use Rattle.gobject.specs.declared.node.Node.{Node}
+use Rattle.gobject.specs.declared.node.Entry.{Entry}
+use Rattle.gobject.specs.Objects.{place_of, IdsDiffer}
+use Rattle.gdag.specs.Graphs.{IsNode, Holds, HasParent, IsOrdered}
+use Rattle.gdag.specs.Reach.{Reaches, here, onward, IsClosed}
+use Rattle.gdag.proofs.Reaching.{node_at_place, held_at_place, place_at, place_of_node}
+use Rattle.gdag.proofs.Holding.{own_place}
+
+-- ---- one entry more
+
+at_more : {X : Type 0} (xs : List X) (x y : X) (p : ℕ) → slice_get (xs ++ x ∷ []) p ≡ Some y → ((p < length xs) × (slice_get xs p ≡ Some y)) ⊎ ((p ≡ length xs) × (y ≡ x))
+at_more [] x y zero at = inr (refl, sym (same_Some x y at))
+at_more [] x y (suc p) at = absurd (none-some y at)
+at_more (first ∷ xs) x y zero at = inl (omega arith, at)
+at_more (first ∷ xs) x y (suc p) at =
+    elim (at_more xs x y p at) [
+      | inl h ↦ (let e = h.0 in inl (omega arith, h.1))
+      | inr h ↦ (let e = h.0 in inr (omega arith, h.1))
+    ]
+
+at_front : {X : Type 0} (xs more : List X) (y : X) (p : ℕ) → slice_get xs p ≡ Some y → slice_get (xs ++ more) p ≡ Some y
+at_front [] more y p at = absurd (none-some y at)
+at_front (first ∷ xs) more y zero at = at
+at_front (first ∷ xs) more y (suc p) at = at_front xs more y p at
+
+at_end : {X : Type 0} (xs : List X) (x : X) → slice_get (xs ++ x ∷ []) (length xs) ≡ Some x
+at_end [] x = refl
+at_end (first ∷ xs) x = at_end xs x
+
+pub ordered_none : {A : Type 0} → IsOrdered {A = A} []
+ordered_none place entry at = absurd (none-some entry at)
+
+module _ {A : Type 0} (g : List (Entry A)) (entry : Entry A) where
+  pub ordered_push : IsOrdered g → All (Holds g) entry.node.parents → IsOrdered (g ++ entry ∷ [])
+  ordered_push ordered held p e at =
+      elim (at_more g entry e p at) [
+        | inl h ↦ (
+            let inside : p ≤ length g = let l = h.0 in omega arith in
+            let P : List (Entry A) → Type 0 = λ xs. All (Holds xs) e.node.parents in
+            subst P (sym (take-append-le p g (entry ∷ []) inside)) (ordered p e h.1))
+        | inr h ↦ (
+            let P : ℕ → Entry A → Type 0 = λ n x. All (Holds (take n (g ++ entry ∷ []))) x.node.parents in
+            let Q : List (Entry A) → Type 0 = λ xs. All (Holds xs) entry.node.parents in
+            let last : P (length g) entry = subst Q (sym (take-append_seam g (entry ∷ []))) held in
+            subst (λ x. P p x) (sym h.1) (subst (λ n. P n entry) (sym h.0) last))
+      ]
+
+  pub ordered_before : IsOrdered (g ++ entry ∷ []) → IsOrdered g
+  ordered_before ordered p e at =
+      let inside : p ≤ length g = let l = slice_get_within g p e at in omega arith in
+      let P : List (Entry A) → Type 0 = λ xs. All (Holds xs) e.node.parents in
+      subst P (take-append-le p g (entry ∷ []) inside) (ordered p e (at_front g (entry ∷ []) e p at))
+
+  pub ordered_last : IsOrdered (g ++ entry ∷ []) → All (Holds g) entry.node.parents
+  ordered_last ordered =
+      let P : List (Entry A) → Type 0 = λ xs. All (Holds xs) entry.node.parents in
+      subst P (take-append_seam g (entry ∷ [])) (ordered (length g) entry (at_end g entry))
+
+-- ---- positions
+
+in_take : {X : Type 0} (xs : List X) (n p : ℕ) (x : X) → slice_get (take n xs) p ≡ Some x → (slice_get xs p ≡ Some x) × (p < n)
+in_take [] zero p x at = absurd (none-some x at)
+in_take [] (suc n) p x at = absurd (none-some x at)
+in_take (first ∷ xs) zero p x at = absurd (none-some x at)
+in_take (first ∷ xs) (suc n) zero x at = (at, omega arith)
+in_take (first ∷ xs) (suc n) (suc p) x at = let h = in_take xs n p x at in (h.0, let l = h.1 in omega arith)
+
+-- what the entries before a position hold has a smaller position
+pub place_before : {A : Type 0} (g : List (Entry A)) (p : ℕ) (a : List ℕ) → IdsDiffer g → Holds (take p g) a → (q : ℕ) × (place_of g a ≡ Some q) × (q < p)
+place_before {A} g p a differ held =
+    let at = place_at (take p g) a held in
+    let inside = in_take g p at.0 at.1 at.2 in
+    let P : List ℕ → Type 0 = λ x. place_of g x ≡ Some at.0 in
+    (at.0, subst P at.3 (own_place g at.0 at.1 differ inside.0), inside.1)
+
+-- an id's node is that of the entry at its position
+pub entry_at_place : {A : Type 0} (g : List (Entry A)) (a : List ℕ) (p : ℕ) (node : Node A) → place_of g a ≡ Some p → IsNode g a node → (entry : Entry A) × (slice_get g p ≡ Some entry) × (entry.node ≡ node)
+entry_at_place {A} g a p node place is = by (slice_get g p) refl (sym (node_at_place g a p place) ∙ is)
+  where
+    by : (o : Option (Entry A)) → slice_get g p ≡ o → option_map (λ (entry : Entry A). entry.node) (slice_get g p) ≡ Some node → (entry : Entry A) × (slice_get g p ≡ Some entry) × (entry.node ≡ node)
+    by None at e = absurd (none-some node (ap (option_map (λ (entry : Entry A). entry.node)) (sym at) ∙ e))
+    by (Some entry) at e = (entry, at, same_Some entry.node node (ap (option_map (λ (entry : Entry A). entry.node)) (sym at) ∙ e))
+
+-- the parents of the entry at a position have smaller positions
+pub parent_place : {A : Type 0} (g : List (Entry A)) (p : ℕ) (entry : Entry A) (b : List ℕ) → IdsDiffer g → IsOrdered g → slice_get g p ≡ Some entry → Contains entry.node.parents b → (q : ℕ) × (place_of g b ≡ Some q) × (q < p)
+parent_place g p entry b differ ordered at among =
+    place_before g p b differ (All-contains (Holds (take p g)) entry.node.parents b (ordered p entry at) among)
+
+pub step_down : {A : Type 0} (g : List (Entry A)) (a b : List ℕ) (p : ℕ) → IdsDiffer g → IsOrdered g → HasParent g a b → place_of g a ≡ Some p → (q : ℕ) × (place_of g b ≡ Some q) × (q < p)
+step_down {A} g a b p differ ordered parent place =
+    let at = entry_at_place g a p parent.0 place parent.1 in
+    let P : Node A → Type 0 = λ node. Contains node.parents b in
+    parent_place g p at.0 b differ ordered at.1 (subst P (sym at.2) parent.2)
+
+-- reaching goes down
+pub reaching_down : {A : Type 0} (g : List (Entry A)) (a b : List ℕ) (p : ℕ) → IdsDiffer g → IsOrdered g → Reaches g a b → place_of g a ≡ Some p → (q : ℕ) × (place_of g b ≡ Some q) × (q ≤ p)
+reaching_down g a b p differ ordered here place = (p, place, omega arith)
+reaching_down g a b p differ ordered (onward {b = m} parent rest) place =
+    let step = step_down g a m p differ ordered parent place in
+    let on = reaching_down g m b step.0 differ ordered rest step.1 in
+    (on.0, on.1, let l = on.2 in let k = step.2 in omega arith)
+
+pub ordered_is_closed : {A : Type 0} (g : List (Entry A)) → IdsDiffer g → IsOrdered g → IsClosed g
+ordered_is_closed g differ ordered a b parent =
+    let place = place_of_node g a parent.0 parent.1 in
+    let step = step_down g a b place.0 differ ordered parent place.1 in
+    held_at_place g b step.0 step.1

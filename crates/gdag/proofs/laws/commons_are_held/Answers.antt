@@ -1,0 +1,5 @@
+use Rattle.gdag.proofs.CommonLaws as laws
+use Rattle.gdag.proofs.laws.commons_are_held.Goals as goal
+
+pub returns : goal.returns
+returns g c = λ h haves. laws.commons_are_held h haves

@@ -1,0 +1,99 @@
+-- Adding entries to a graph, all or none.
+use Rattle.std.specs.Prelude.{◌≡◌, ◌≢◌, ◌⊎◌, ◌↔◌, ℕ, ◌+◌, ◌<◌, ◌≤◌, Bool, true, false, List, [], ◌∷◌, ◌++◌, length}
+use Rattle.std.specs.Prelude.{Contains, IsTrue, None, Result, Ok, Err}
+use Rattle.gname.specs.declared.formats.Format.{Format}
+use Rattle.gname.specs.Ids.{Id}
+use Rattle.gdag.specs.declared.fault.GraphFault.{GraphFault}
+use Rattle.gdag.specs.declared.fault.GraphFault.TheVariants.{OtherFormat, Conflict, TooMany}
+use Rattle.gdag.specs.declared.fault.GraphFault.TheVariants.{TooManyParents, TagShape, Memory}
+use Rattle.gobject.specs.declared.node.Node.{Node}
+use Rattle.gobject.specs.declared.node.Entry.{Entry}
+use Rattle.gobject.specs.Objects.{node_at, entry_of, IsShaped, IsTagShaped, max_parents}
+use Rattle.gdag.specs.Graphs.{History, IsNode, HasIdsOf, HasParent, max_nodes}
+
+-- one entry comes in: its ids are of the graph's format, its node has its shape, and it was there with that node or
+-- comes at the end; one that is new comes in only where there is room for it
+pub record ComesIn {A : Type 0} (format : Format) (old : List (Entry A)) (entry : Entry A)
+    (new : List (Entry A)) : Type 0 where
+  pub ids : HasIdsOf format entry
+  pub shaped : IsShaped entry.node
+  pub comes :
+      (IsNode old entry.id entry.node × (new ≡ old)) ⊎ ((node_at old entry.id ≡ None) × (new ≡ old ++ entry ∷ []))
+  pub room : node_at old entry.id ≡ None → length old < max_nodes
+
+-- the entries come in, one after the other
+abbrev pub Inserts : {A : Type 0} → Format → List (Entry A) → List (Entry A) → List (Entry A) → Type 0
+Inserts format old [] new = new ≡ old
+Inserts {A} format old (entry ∷ entries) new =
+    (next : List (Entry A)) × ComesIn format old entry next × Inserts format next entries new
+
+-- why a node has not its shape; too many parents come first
+abbrev pub IsMisshapen : {A : Type 0} → Node A → GraphFault → Type 0
+IsMisshapen node TooManyParents = max_parents < length node.parents
+IsMisshapen node TagShape = (length node.parents ≤ max_parents) × ¬ (IsTagShaped node)
+IsMisshapen node _ = ⊥
+
+-- an entry's ids and its node's shape are those of a graph's
+pub record IsFit {A : Type 0} (format : Format) (entry : Entry A) : Type 0 where
+  pub ids : HasIdsOf format entry
+  pub shaped : IsShaped entry.node
+
+-- why an entry can't come in: an id of another format; then its node's shape; then another node under its id; then,
+-- where its id is new, that there is no room for it, or out of memory
+abbrev pub IsCause : {A : Type 0} → Format → List (Entry A) → Entry A → GraphFault → Type 0
+IsCause format g entry (OtherFormat id) = (id ≡ entry.id) × ¬ (HasIdsOf format entry)
+IsCause format g entry TooManyParents = HasIdsOf format entry × IsMisshapen entry.node TooManyParents
+IsCause format g entry TagShape = HasIdsOf format entry × IsMisshapen entry.node TagShape
+IsCause {A} format g entry (Conflict id) =
+    IsFit format entry × (id ≡ entry.id) × ((other : Node A) × IsNode g id other × (other ≢ entry.node))
+IsCause format g entry TooMany = IsFit format entry × (node_at g entry.id ≡ None) × (length g ≡ max_nodes)
+IsCause format g entry Memory = IsFit format entry × (node_at g entry.id ≡ None) × (length g < max_nodes)
+
+-- entries are refused: those of a front come in, and the next one can't
+pub record IsRefused {A : Type 0} (format : Format) (old entries : List (Entry A)) (fault : GraphFault) : Type 0 where
+  pub front : List (Entry A)
+  pub entry : Entry A
+  pub back : List (Entry A)
+  pub parts : entries ≡ front ++ entry ∷ back
+  pub so_far : List (Entry A)
+  pub comes : Inserts format old front so_far
+  pub cause : IsCause format so_far entry fault
+
+-- an entry may come in: its id is new and there is room, or it is there with its node
+abbrev pub Admits : {A : Type 0} → Format → List (Entry A) → Entry A → Bool → Type 0
+Admits format g entry true = IsFit format entry × (node_at g entry.id ≡ None) × (length g < max_nodes)
+Admits format g entry false = IsFit format entry × IsNode g entry.id entry.node
+
+-- what adding an entry answers: whether its id is new, and it came in; or a fault, and nothing changed
+abbrev pub AddsOne : {A : Type 0} → History A → Entry A → History A → Result Bool GraphFault → Type 0
+AddsOne old entry new (Ok is_new) =
+    (new.format ≡ old.format) × ComesIn old.format old.entries entry new.entries
+    × (IsTrue is_new ↔ (node_at old.entries entry.id ≡ None))
+AddsOne old entry new (Err fault) = (new ≡ old) × IsCause old.format old.entries entry fault
+
+-- what adding a copy of it answers
+abbrev pub AddsCopy : {A : Type 0} → History A → Entry A → History A → Result (Unit {0}) GraphFault → Type 0
+AddsCopy old entry new (Ok _) = (new.format ≡ old.format) × ComesIn old.format old.entries entry new.entries
+AddsCopy old entry new (Err fault) = (new ≡ old) × IsCause old.format old.entries entry fault
+
+-- what adding entries answers: how many ids are new, and all entries came in; or a fault, and nothing changed
+abbrev pub Adds : {A : Type 0} → History A → List (Entry A) → History A → Result ℕ GraphFault → Type 0
+Adds old entries new (Ok added) =
+    (new.format ≡ old.format) × Inserts old.format old.entries entries new.entries
+    × (length new.entries ≡ length old.entries + added)
+Adds old entries new (Err fault) = (new ≡ old) × IsRefused old.format old.entries entries fault
+
+-- the id is that of an entry of the list, with the node
+abbrev pub Lists : {A : Type 0} → List (Entry A) → Id → Node A → Type 0
+Lists entries a node = Contains entries (entry_of a node)
+
+-- nothing else came in: each node of the new graph is one of the old graph's or stands in the list
+abbrev pub AddsOnly : {A : Type 0} → List (Entry A) → List (Entry A) → List (Entry A) → Type 0
+AddsOnly {A} old entries new =
+    (a : Id) (node : Node A) → IsNode new a node → IsNode old a node ⊎ Lists entries a node
+
+-- and so is each parent of an id
+abbrev pub AddsOnlyParents : {A : Type 0} → List (Entry A) → List (Entry A) → List (Entry A) → Type 0
+AddsOnlyParents {A} old entries new =
+    (a b : Id) → HasParent new a b →
+    HasParent old a b ⊎ ((node : Node A) × Lists entries a node × Contains node.parents b)

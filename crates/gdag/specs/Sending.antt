@@ -1,0 +1,33 @@
+-- The objects to send for some wants to one who has the common ids with their ancestries
+-- (gitprotocol-v2(5), "fetch": `want`, `have`, `include-tag`).
+use Rattle.std.specs.Prelude.{◌⊎◌, ℕ, List, Contains}
+use Rattle.gname.specs.Ids.{Id}
+use Rattle.gobject.specs.declared.node.Entry.{Entry}
+use Rattle.gdag.specs.Reach.{SomeReaches}
+use Rattle.gdag.specs.Peeling.{IsTagOf, Tags, PeelsTo}
+use Rattle.gdag.specs.Selecting.{Selects}
+
+-- some want reaches the id, and no common id does
+pub record IsNew {A : Type 0} (g : List (Entry A)) (wants commons : List Id) (a : Id) : Type 0 where
+  pub wanted : SomeReaches g wants a
+  pub unknown : ¬ (SomeReaches g commons a)
+
+-- the id is a tag on the chain of tags that leads from a tip to a new commit
+pub record IsTagToSend {A : Type 0} (g : List (Entry A)) (wants commons tips : List Id) (a : Id) : Type 0 where
+  pub tip : Id
+  pub among : Contains tips tip
+  pub steps : ℕ
+  pub leads : Tags g steps tip a
+  pub next : Id
+  pub tag : IsTagOf g a next
+  pub commit : Id
+  pub peels : PeelsTo g a commit
+  pub new : IsNew g wants commons commit
+
+-- an object to send: it is new, or such a tag
+abbrev pub IsToSend : {A : Type 0} → List (Entry A) → List Id → List Id → List Id → Entry A → Type 0
+IsToSend g wants commons tips entry = IsNew g wants commons entry.id ⊎ IsTagToSend g wants commons tips entry.id
+
+-- the objects to send, in store order; without `include-tag` there are no tips
+abbrev pub IsListToSend : {A : Type 0} → List (Entry A) → List Id → List Id → List Id → List (Entry A) → Type 0
+IsListToSend g wants commons tips list = Selects (IsToSend g wants commons tips) g list

@@ -1,0 +1,34 @@
+//! Whether a graph is closed.
+#![tactic(auto)]
+
+ghost use Rattle.std.specs.Prelude.{◌↔◌, All, IsTrue};
+ghost use Rattle.gdag.specs.Graphs.{HoldsParents, IsGraph};
+ghost use Rattle.gdag.specs.Reach.{IsClosed};
+
+use crate::graph::Graph;
+use std::alloc::Allocator;
+
+impl<A: Allocator + Copy> Graph<A> {
+    /// Whether the graph is closed: it holds each parent of each object. It takes no memory.
+    pub fn is_closed(&self) -> bool
+        ensures { IsTrue result ↔ IsClosed self.now.entries }
+    {
+        if self.is_ordered() {
+            return true;
+        }
+        self.holds_parents()
+    }
+
+    // Whether the graph holds the parents of each of its nodes.
+    fn holds_parents(&self) -> bool
+        ensures graph { IsGraph self.now }
+        ensures answer { IsTrue result ↔ All (HoldsParents self.now.entries) self.now.entries }
+    {
+        for place in 0..self.len() {
+            if !self.contains_all(self.parents(place)) {
+                return false;
+            }
+        }
+        true
+    }
+}

@@ -1,0 +1,257 @@
+//! The graph: a map from ids to nodes, in the order in which they first came.
+#![tactic(auto)]
+
+ghost use Rattle.std.specs.Prelude.{◌≡◌, [], length, IsTrue, ◌↔◌, slice_get, take, MatchOption, OnOk, OnErr, IfOk, IfErr, All, None, Some, ◌≤◌, ◌<◌, ◌++◌, ◌∷◌};
+ghost use Rattle.std.specs.Option.{option_copied, option_map};
+ghost use Rattle.gobject.specs.Objects.{IsShaped, entry_of, node_at, place_of};
+ghost use Rattle.gname.specs.declared.formats.Format.TheVariants.{Sha1};
+ghost use Rattle.gdag.specs.declared.fault.GraphFault.TheVariants.{Memory};
+ghost use Rattle.gdag.specs.Graphs.{IsGraph, IsOrdered, Holds, IsFirstAbsent, HasIdsOf, max_nodes, pairs_of};
+
+use crate::fault::GraphFault;
+use gname::{Format, Oid};
+use gobject::{Entry, Node};
+use indexmap::IndexMap;
+use std::alloc::{AllocError, Allocator, Global};
+use std::hash::{BuildHasherDefault, DefaultHasher};
+use std::marker::Model;
+
+/// The most nodes that a graph has.
+pub const MAX_NODES: usize = 1_048_576;
+
+/// How the ids of a graph are hashed. Ids come from peers, who may choose them: for `DefaultHasher` ids that
+/// collide have to be searched for one by one, where for std's fast hasher they can be written down.
+pub type IdHasher = BuildHasherDefault<DefaultHasher>;
+
+/// The commits and tags of a repository, each id once, in the order in which they first came. All ids
+/// are of one format.
+#[derive(Debug, Drop)]
+pub struct Graph<A: Allocator + Copy = Global> {
+    format: Format,
+    nodes: IndexMap<Oid, Node<A>, IdHasher, A>,
+    // Whether each node came after all its parents.
+    ordered: bool,
+}
+
+impl<A: Allocator + Copy> Model for Graph<A> {
+    ghost use Rattle.std.specs.Prelude.{IsTrue, ◌↔◌};
+    ghost use Rattle.gdag.specs.Graphs.{History, IsGraph, IsOrdered, entries_of};
+
+    ghost Value = { History A };
+
+    ghost view = { λ graph. record { format = graph.format; entries = entries_of graph.nodes.entries } };
+
+    ghost invariant = { λ graph. IsGraph (record { format = graph.format; entries = entries_of graph.nodes.entries }) × (IsTrue graph.ordered ↔ IsOrdered (entries_of graph.nodes.entries)) };
+}
+
+impl<A: Allocator + Copy> Graph<A> {
+    /// A graph without nodes, for ids of the format. It takes no memory.
+    pub fn new_in(alloc: A, format: Format) -> Graph<A>
+        ensures { result ≡ record { format = format; entries = [] } }
+    {
+        Graph {
+            format,
+            nodes: IndexMap::with_hasher(alloc, BuildHasherDefault::new()),
+            ordered: true,
+        }
+    }
+
+    /// A graph without nodes, for SHA-1 ids. It takes no memory.
+    pub fn new(alloc: A) -> Graph<A>
+        ensures { result ≡ record { format = Sha1; entries = [] } }
+    {
+        Graph::new_in(alloc, Format::Sha1)
+    }
+
+    /// Makes room for so many more nodes, so that adding them moves none. Where there is no memory for that, it gives
+    /// back what it took. The graph is the same.
+    pub fn make_room(&mut self, more: usize)
+        ensures { self.new ≡ self.old }
+    {
+        let before = self.nodes.capacity();
+        if self.nodes.reserve(more).is_err() {
+            self.nodes.shrink_to(before);
+        }
+    }
+
+    /// The format of the graph's ids.
+    pub fn format(&self) -> Format
+        ensures { result ≡ self.now.format }
+    {
+        self.format
+    }
+
+    /// How many nodes there are.
+    pub fn len(&self) -> usize
+        ensures len { result ≡ length self.now.entries }
+        ensures graph { IsGraph self.now }
+    {
+        self.nodes.len()
+    }
+
+    /// Whether the graph has no node.
+    pub fn is_empty(&self) -> bool
+        ensures { IsTrue result ↔ (self.now.entries ≡ []) }
+    {
+        self.nodes.is_empty()
+    }
+
+    /// Whether each node came after all its parents. Then the graph is closed, and an id reaches no
+    /// id at a higher position. It takes no memory.
+    pub fn is_ordered(&self) -> bool
+        ensures graph { IsGraph self.now }
+        ensures ordered { IsTrue result ↔ IsOrdered self.now.entries }
+    {
+        self.ordered
+    }
+
+    /// Whether the id is held. It takes no memory.
+    pub fn contains(&self, id: &Oid) -> bool
+        ensures { IsTrue result ↔ Holds self.now.entries id.now }
+    {
+        self.nodes.contains_key(id)
+    }
+
+    /// Whether the graph holds each of the ids. It takes no memory.
+    pub fn contains_all(&self, ids: &[Oid]) -> bool
+        ensures { IsTrue result ↔ All (Holds self.now.entries) ids.now }
+    {
+        ids.iter().all(|id| self.contains(id))
+    }
+
+    /// The first of the ids that the graph does not hold. It takes no memory.
+    pub fn first_absent(&self, ids: &[Oid]) -> Option<Oid>
+        ensures { MatchOption result (All (Holds self.now.entries) ids.now)
+            (IsFirstAbsent self.now.entries ids.now) }
+    {
+        for id in ids {
+            if !self.contains(id) {
+                return Some(*id);
+            }
+        }
+        None
+    }
+
+    /// The node under the id; `None` where it is not held.
+    pub fn node(&self, id: &Oid) -> Option<&Node<A>>
+        ensures { option_copied result ≡ node_at self.now.entries id.now }
+    {
+        self.nodes.get(id)
+    }
+
+    /// The position of the id in store order, counted from 0; `None` where it is not held.
+    pub fn number(&self, id: &Oid) -> Option<usize>
+        ensures { result ≡ place_of self.now.entries id.now }
+    {
+        self.nodes.get_index_of(id)
+    }
+
+    /// The id and the node at a position in store order, counted from 0; `None` past the end.
+    pub fn at(&self, place: usize) -> Option<(&Oid, &Node<A>)>
+        ensures at { MatchOption result (length self.now.entries ≤ place) (λ pair.
+            slice_get self.now.entries place ≡ Some (entry_of pair.0.now pair.1.now)) }
+        ensures graph { IsGraph self.now }
+    {
+        self.nodes.get_index(place)
+    }
+
+    /// The map from ids to nodes. Its pairs are the graph's in store order.
+    pub fn as_map(&self) -> &IndexMap<Oid, Node<A>, IdHasher, A>
+        ensures { result.now.entries ≡ pairs_of self.now.entries }
+    {
+        &self.nodes
+    }
+
+    /// The allocator that the graph's memory comes from.
+    pub fn allocator(&self) -> A {
+        *self.nodes.allocator()
+    }
+
+    /// The parents of the node at a position in store order, in the order of the object.
+    pub fn parents(&self, place: usize) -> &[Oid]
+        requires { place < length self.now.entries }
+        ensures { option_map (λ entry. entry.node.parents) (slice_get self.now.entries place)
+            ≡ Some result.now }
+    {
+        self.nodes[place].parents.as_slice()
+    }
+
+    /// The id at a position in store order.
+    pub fn id_at(&self, place: usize) -> &Oid
+        requires { place < length self.now.entries }
+        ensures { option_map (λ entry. entry.id) (slice_get self.now.entries place)
+            ≡ Some result.now }
+    {
+        self.at(place).unwrap().0
+    }
+
+    /// A copy of the entry at a position in store order. It fails where there is no memory.
+    pub fn entry_in(&self, place: usize, alloc: A) -> Result<Entry<A>, AllocError>
+        requires { place < length self.now.entries }
+        ensures { IfOk result (λ entry. slice_get self.now.entries place ≡ Some entry) }
+    {
+        let (id, node) = self.at(place).unwrap();
+        let node = node.copy_in(alloc)?;
+        Ok(Entry { id: *id, node })
+    }
+
+    // Whether each node came after all its parents, one more too that is added where its parents are held, or are not.
+    fn stays_ordered(&self, parents_held: bool) -> bool
+        ensures { IsTrue result ↔ (IsOrdered self.now.entries × IsTrue parents_held) }
+    {
+        self.is_ordered() && parents_held
+    }
+
+    /// Adds an entry after the others. Where there is no memory the graph stays as it was.
+    ///
+    /// It fails with `Memory` alone.
+    pub(crate) fn push(&mut self, entry: Entry<A>) -> Result<(), GraphFault>
+        requires new { node_at self.old.entries entry.id ≡ None }
+        requires ids { HasIdsOf self.old.format entry }
+        requires shaped { IsShaped entry.node }
+        requires room { length self.old.entries < max_nodes }
+        ensures ok { OnOk result (self.new
+            ≡ record { format = self.old.format; entries = self.old.entries ++ entry ∷ [] }) }
+        ensures err { OnErr result (self.new ≡ self.old) }
+        ensures graph { IsGraph self.new }
+        ensures fault { IfErr result (λ fault. fault ≡ Memory) }
+    {
+        let parents_held = self.contains_all(entry.node.parents.as_slice());
+        self.push_after(entry, parents_held)
+    }
+
+    /// Adds an entry after the others, for a caller who has looked up whether the graph holds its parents. Where there is
+    /// no memory the graph stays as it was.
+    ///
+    /// It fails with `Memory` alone.
+    pub fn push_after(&mut self, entry: Entry<A>, parents_held: bool) -> Result<(), GraphFault>
+        requires new { node_at self.old.entries entry.id ≡ None }
+        requires ids { HasIdsOf self.old.format entry }
+        requires shaped { IsShaped entry.node }
+        requires room { length self.old.entries < max_nodes }
+        requires parents { IsTrue parents_held ↔ All (Holds self.old.entries) entry.node.parents }
+        ensures ok { OnOk result (self.new
+            ≡ record { format = self.old.format; entries = self.old.entries ++ entry ∷ [] }) }
+        ensures err { OnErr result (self.new ≡ self.old) }
+        ensures graph { IsGraph self.new }
+        ensures fault { IfErr result (λ fault. fault ≡ Memory) }
+    {
+        let ordered = self.stays_ordered(parents_held);
+        self.nodes.insert(entry.id, entry.node)?;
+        self.ordered = ordered;
+        Ok(())
+    }
+
+    /// Keeps the first entries, as many as `count`, which came with their parents first as `ordered` says.
+    pub(crate) fn cut_back(&mut self, count: usize, ordered: bool)
+        requires { IsTrue ordered ↔ IsOrdered (take count self.old.entries) }
+        ensures { self.new ≡ record {
+          format = self.old.format;
+          entries = take count
+              self.old.entries;
+        } }
+    {
+        self.nodes.truncate(count);
+        self.ordered = ordered;
+    }
+}

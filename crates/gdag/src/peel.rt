@@ -1,0 +1,39 @@
+//! From a tag to the commit at the end of its chain.
+#![tactic(auto)]
+
+ghost use Rattle.std.specs.Prelude.{◌≡◌, IfSome, Some};
+ghost use Rattle.gname.specs.Ids.{Id};
+ghost use Rattle.gdag.specs.Peeling.{PeelsTo};
+
+use crate::graph::Graph;
+use gname::Oid;
+use gobject::Kind;
+use std::alloc::Allocator;
+
+impl<A: Allocator + Copy> Graph<A> {
+    /// The commit at the end of the chain of tags that begins at the id, or the id itself where it
+    /// is a commit (gitrevisions(7), `<rev>^{}`). `None` where the chain leaves the graph or never
+    /// ends. It takes no memory.
+    pub fn peel(&self, id: &Oid) -> Option<Oid>
+        ensures found { IfSome result (PeelsTo self.now.entries id.now) }
+        ensures only { (c : Id) → PeelsTo self.now.entries id.now c → result ≡ Some c }
+    {
+        // An id of the chain is kept, a later one at each power of two. A chain that comes back to it never ends.
+        let mut at = *id;
+        let mut kept = *id;
+        for steps in 0..self.len() {
+            let node = self.node(&at)?;
+            match node.kind {
+                Kind::Commit => return Some(at),
+                Kind::Tag => at = *node.parents.as_slice().first()?,
+            }
+            if at == kept {
+                return None;
+            }
+            if (steps + 1).is_power_of_two() {
+                kept = at;
+            }
+        }
+        None
+    }
+}

@@ -1,0 +1,177 @@
+-- The steps of reading a reply: what is kept of the packets so far, and what a packet adds to it.
+use Rattle.std.specs.Prelude.{◌≡◌, ℕ, ◌+◌, Bool, true, false, List, [], ◌∷◌, ◌++◌, length}
+use Rattle.std.specs.Prelude.{Option, Some, None, Result, Ok, Err}
+use Rattle.gname.specs.Ids.{Id}
+use Rattle.gpkt.specs.Packets.{Bytes, Packet, Data, Flush, Delim, ResponseEnd, text}
+use Rattle.gpkt.specs.Bands.{band_form}
+use Rattle.gname.specs.declared.formats.Format.{Format}
+use Rattle.ggrammar.specs.Grammar.{Verdict, Open, Whole}
+use Rattle.ggrammar.specs.Ids.{id_of_text}
+use Rattle.ggrammar.specs.MessageReading.{IsReason}
+use Rattle.ggrammar.specs.declared.fault.Why.{Why}
+use Rattle.ggrammar.specs.declared.message.Step.{Step}
+use Rattle.ggrammar.specs.declared.message.Step.TheVariants as step
+use Rattle.gfetchreply.specs.FetchReplies.{Reading, State}
+use Rattle.gfetchreply.specs.FetchReplies.{Place, Start, Acking, AfterNak, AfterReady, BeforePack, InPack, Over}
+use Rattle.gfetchreply.specs.FetchReplies.{ReplyForm, Acknowledgments, Nak, Readiness, Packfile, Ack, reply_form}
+use Rattle.gfetchreply.specs.FetchReplies.{ack_texts, acks_of, band_payloads, data_in, data_of, first_place, is_ready}
+use Rattle.gfetchreply.specs.FetchReplies.{next_place, payload_brings, place_of}
+use Rattle.gfetchreply.specs.Values.{Acks}
+use Rattle.gfetchreply.specs.declared.sections.Place as coded
+use Rattle.gfetchreply.specs.declared.sections.Place.TheVariants as place
+use Rattle.gfetchreply.specs.declared.sections.Sections.{Sections}
+
+-- where the next packet stands, the acknowledged ids, whether `ready` came, and how many packets and bytes of the
+-- pack came
+pub record Kept : Type 0 where
+  pub place : Place
+  pub acks : Acks
+  pub ready : Bool
+  pub band_count : ℕ
+  pub byte_count : ℕ
+
+-- what is kept of these packets
+abbrev pub kept_of : Format → Bool → List Packet → Kept
+kept_of format direct packets = record {
+  place = place_of direct packets;
+  acks = record { format = format; ids = acks_of format (ack_texts direct packets) };
+  ready = is_ready (ack_texts direct packets);
+  band_count = length (band_payloads direct packets);
+  byte_count = length (data_of (band_payloads direct packets));
+}
+
+abbrev pub first_kept : Format → Bool → Kept
+first_kept format direct = record {
+  place = first_place direct;
+  acks = record { format = format; ids = [] };
+  ready = false;
+  band_count = 0;
+  byte_count = 0;
+}
+
+-- what it counts for
+abbrev pub state_kept : Kept → State
+state_kept kept = record {
+  place = kept.place;
+  ack_count = length kept.acks.ids;
+  band_count = kept.band_count;
+  byte_count = kept.byte_count;
+}
+
+-- ---- what a packet adds
+
+abbrev pub id_list : Option Id → List Id
+id_list None = []
+id_list (Some id) = id ∷ []
+
+abbrev pub with_text : Place → Kept → ReplyForm → Kept
+with_text Start kept Acknowledgments = record kept { place = Acking }
+with_text Acking kept Nak = record kept { place = AfterNak }
+with_text Acking kept Readiness = record kept { place = AfterReady; ready = true }
+with_text Acking kept (Ack id) = record kept {
+  acks = record kept.acks { ids = kept.acks.ids ++ id_list (id_of_text kept.acks.format id) };
+}
+with_text BeforePack kept Packfile = record kept { place = InPack }
+with_text place kept form = kept
+
+-- so many bytes of the pack in a packet more
+abbrev pub with_band : Kept → ℕ → Kept
+with_band kept more = record kept { band_count = kept.band_count + 1; byte_count = kept.byte_count + more }
+
+abbrev pub with_payload : Place → Kept → Bytes → Kept
+with_payload InPack kept payload = with_band kept (length (data_in (band_form payload)))
+with_payload Over kept payload = kept
+with_payload place kept payload = with_text place kept (reply_form (text payload))
+
+abbrev pub with_packet : Kept → Packet → Kept
+with_packet kept (Data payload) = with_payload kept.place kept payload
+with_packet kept Flush = record kept { place = next_place kept.place Flush }
+with_packet kept Delim = record kept { place = next_place kept.place Delim }
+with_packet kept ResponseEnd = record kept { place = next_place kept.place ResponseEnd }
+
+-- what the next packet brings of the pack
+abbrev pub data_at : Place → Bytes → Bytes
+data_at InPack payload = data_in (band_form payload)
+data_at place payload = []
+
+abbrev pub data_there : Place → Packet → Bytes
+data_there place (Data payload) = data_at place payload
+data_there place Flush = []
+data_there place Delim = []
+data_there place ResponseEnd = []
+
+-- whether it brings something that takes memory
+abbrev pub brings_there : Bool → Place → Packet → Bool
+brings_there refuses place (Data payload) = payload_brings refuses place payload
+brings_there refuses place Flush = false
+brings_there refuses place Delim = false
+brings_there refuses place ResponseEnd = false
+
+-- ---- what is kept, without where it lies in memory
+
+abbrev pub place_in : coded.Place → Place
+place_in place.Start = Start
+place_in place.Acking = Acking
+place_in place.AfterNak = AfterNak
+place_in place.AfterReady = AfterReady
+place_in place.BeforePack = BeforePack
+place_in place.InPack = InPack
+place_in place.Over = Over
+
+abbrev pub kept_in : {A : Type 0} → Sections A → Kept
+kept_in sections = record {
+  place = place_in sections.place;
+  acks = sections.acks;
+  ready = sections.ready;
+  band_count = sections.band_count;
+  byte_count = sections.byte_count;
+}
+
+abbrev pub state_in : {A : Type 0} → Sections A → State
+state_in sections = state_kept (kept_in sections)
+
+-- The packet is taken as the verdict says, and then this holds; where it is refused, for a reason of the verdict or
+-- out of memory for what it brings, that holds.
+abbrev pub TakesOr : Verdict → Bool → Type 0 → Type 0 → Result Step Why → Type 0
+TakesOr verdict brings taken left (Ok step.Open) = (verdict ≡ Open) × taken
+TakesOr verdict brings taken left (Ok step.Whole) = (verdict ≡ Whole) × taken
+TakesOr verdict brings taken left (Err why) = IsReason verdict brings why × left
+
+abbrev pub verdict_of : Step → Verdict
+verdict_of step.Open = Open
+verdict_of step.Whole = Whole
+
+-- ---- the sink
+
+module _ {S : Type 0} (taken : S → Bytes → Type 0) where
+  -- the sink takes these bytes more
+  abbrev pub TakesMore : S → S → Bytes → Type 0
+  TakesMore old new more = (before : Bytes) → taken old before → taken new (before ++ more)
+
+  -- it takes none
+  abbrev pub TakesNone : S → S → Type 0
+  TakesNone old new = (before : Bytes) → taken old before → taken new before
+
+  -- a packet is taken as the verdict says: then this is kept, and the sink takes these bytes more
+  abbrev pub TakesBoth : Verdict → Bool → Kept → Kept → Bytes → S → S → Result Step Why → Type 0
+  TakesBoth verdict brings wanted kept more old new result =
+      TakesOr verdict brings ((kept ≡ wanted) × TakesMore old new more) (TakesNone old new) result
+
+module _ {S : Type 0} (taken : S → Bytes → Type 0) (same : S → S → Type 0) where
+  -- this is what is held of the packets so far, which are read as was asked: what is kept; the pack's data in the
+  -- sink, after all that it had before; and the sink is in its place, and still what it was
+  pub record Holds (had : Bytes → Type 0) (starts : S → Type 0) (seat : ℕ) (asked reading : Reading) (kept : Kept)
+      (sink : S) (name : ℕ) (packets : List Packet) : Type 0 where
+    pub kind : reading ≡ asked
+    pub counts : kept ≡ kept_of reading.format reading.direct packets
+    pub pack : (before : Bytes) → had before → taken sink (before ++ data_of (band_payloads reading.direct packets))
+    pub is_same : (start : S) → starts start → same start sink
+    pub in_place : name ≡ seat
+
+  -- and this is left of them
+  pub record Leaves (had : Bytes → Type 0) (starts : S → Type 0) (seat : ℕ) (asked reading : Reading) (sink : S)
+      (name : ℕ) (packets : List Packet) : Type 0 where
+    pub kind : reading ≡ asked
+    pub pack : (before : Bytes) → had before → taken sink (before ++ data_of (band_payloads reading.direct packets))
+    pub is_same : (start : S) → starts start → same start sink
+    pub in_place : name ≡ seat

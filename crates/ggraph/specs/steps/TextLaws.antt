@@ -1,0 +1,12 @@
+-- The steps of reading a repository text that are laws of ids and names.
+use Rattle.gname.specs.Laws.{IdTextsAreDigits, IdsHaveOneFormat, IdsHaveTexts, NamesAreClean, RulesNeverReportMemory}
+use Rattle.gname.specs.Laws.{TextsHaveOneReading, TextsSpellOneId}
+
+pub record TextLaws : Type 0 where
+  pub have_texts : IdsHaveTexts
+  pub are_digits : IdTextsAreDigits
+  pub one_id : TextsSpellOneId
+  pub one_format : IdsHaveOneFormat
+  pub one_reading : TextsHaveOneReading
+  pub clean_names : NamesAreClean
+  pub no_memory_rule : RulesNeverReportMemory

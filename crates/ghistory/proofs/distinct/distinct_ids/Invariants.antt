@@ -1,7 +1,0 @@
-use Rattle.std.proofs.Common.{◌≡◌, drop}
-use Rattle.ghistory.specs.Levels.{distinct_of}
-use Rattle.ghistory.proofs.IdLists.{with_new}
-use Rattle.ghistory.proofs.distinct.distinct_ids.Given as goal
-
-abbrev pub invariant-loop-id : goal.invariant-loop-id
-invariant-loop-id g l = with_new l.seen.keys (drop l.id-index l.ids) ≡ distinct_of l.ids

@@ -1,6 +1,0 @@
-use Rattle.std.proofs.Common.{take, All}
-use Rattle.ghistory.specs.Graphs.{Holds}
-use Rattle.ghistory.proofs.graph.Graph.first_absent.Given as goal
-
-abbrev pub invariant-loop-id : goal.invariant-loop-id
-invariant-loop-id g l = All (Holds l.self.entries) (take l.id-index l.ids)

@@ -1,6 +1,0 @@
-use Rattle.std.proofs.Common.{take, All}
-use Rattle.ghistory.specs.Graphs.{HoldsParents}
-use Rattle.ghistory.proofs.graph.Graph.holds_parents.Given as goal
-
-abbrev pub invariant-loop-place : goal.invariant-loop-place
-invariant-loop-place g l = All (HoldsParents l.self.entries) (take l.place l.self.entries)

@@ -1,5 +1,0 @@
-use Rattle.ghistory.proofs.Sharing.{closed_stays}
-use Rattle.ghistory.proofs.laws.closed_stays.Goals as goal
-
-pub returns : goal.returns
-returns g c = λ format h entry k closed held comes. closed_stays format h entry k closed held comes

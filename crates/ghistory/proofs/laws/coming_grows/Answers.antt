@@ -1,5 +1,0 @@
-use Rattle.ghistory.proofs.Growing.{comes_grows}
-use Rattle.ghistory.proofs.laws.coming_grows.Goals as goal
-
-pub returns : goal.returns
-returns g c = λ format h entry k comes. comes_grows format h entry k comes

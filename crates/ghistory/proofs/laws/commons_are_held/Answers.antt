@@ -1,5 +1,0 @@
-use Rattle.ghistory.proofs.CommonLaws as laws
-use Rattle.ghistory.proofs.laws.commons_are_held.Goals as goal
-
-pub returns : goal.returns
-returns g c = λ h haves. laws.commons_are_held h haves

@@ -1,5 +1,0 @@
-use Rattle.ghistory.proofs.DistinctLaws as laws
-use Rattle.ghistory.proofs.laws.distinct_are_once.Goals as goal
-
-pub returns : goal.returns
-returns c = laws.distinct_are_once

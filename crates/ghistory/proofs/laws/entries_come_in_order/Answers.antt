@@ -1,5 +1,0 @@
-use Rattle.ghistory.proofs.OrderLemmas as order
-use Rattle.ghistory.proofs.laws.entries_come_in_order.Goals as goal
-
-pub returns : goal.returns
-returns g c = order.entries_come_in_order _

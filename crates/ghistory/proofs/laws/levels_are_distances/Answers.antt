@@ -1,5 +1,0 @@
-use Rattle.ghistory.proofs.LevelLaws as laws
-use Rattle.ghistory.proofs.laws.levels_are_distances.Goals as goal
-
-pub returns : goal.returns
-returns g c = λ h tips. laws.levels_are_distances h tips

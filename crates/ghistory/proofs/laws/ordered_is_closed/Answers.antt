@@ -1,5 +1,0 @@
-use Rattle.ghistory.proofs.Ordering.{ordered_is_closed}
-use Rattle.ghistory.proofs.laws.ordered_is_closed.Goals as goal
-
-pub returns : goal.returns
-returns g c = λ h differ ordered. ordered_is_closed h differ ordered

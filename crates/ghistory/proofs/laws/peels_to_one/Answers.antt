@@ -1,5 +1,0 @@
-use Rattle.ghistory.proofs.Sharing.{peels_to_one}
-use Rattle.ghistory.proofs.laws.peels_to_one.Goals as goal
-
-pub returns : goal.returns
-returns g c = λ h a b d first other. peels_to_one h a b d first other

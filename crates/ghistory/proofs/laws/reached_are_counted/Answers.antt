@@ -1,5 +1,0 @@
-use Rattle.ghistory.proofs.Counting.{reached_are_counted}
-use Rattle.ghistory.proofs.laws.reached_are_counted.Goals as goal
-
-pub returns : goal.returns
-returns g c = λ h tips ids held parents counts distinct each. reached_are_counted h tips ids held parents counts distinct each

@@ -1,5 +1,0 @@
-use Rattle.ghistory.proofs.Sharing.{sending_is_enough}
-use Rattle.ghistory.proofs.laws.sending_is_enough.Goals as goal
-
-pub returns : goal.returns
-returns g c = λ s k list new wants commons tips format differ closed agree held full sent inserts. sending_is_enough s k list new wants commons tips format differ closed agree held full sent inserts

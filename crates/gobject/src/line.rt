@@ -1,0 +1,55 @@
+//! The line of an object, in plain packs and in the text that keeps a repository.
+
+ghost use Rattle.std.specs.Prelude.{◌≡◌, ◌++◌, ◌∷◌, [], OnOk};
+ghost use Rattle.gobject.specs.PlainPackText.{ids_text, letter, line, node_text};
+
+use crate::node::{Kind, Node};
+use gname::Oid;
+use std::alloc::{AllocError, Allocator};
+
+impl<A: Allocator + Copy> Node<A> {
+    /// Adds the line of this object, under an id, to a text: `c` for a commit or `t` for a tag, the id and those of its
+    /// parents, a space before each, and a line feed. It fails only out of memory.
+    pub fn push_line<B: Allocator + Copy>(
+        &self,
+        id: &Oid,
+        text: &mut Vec<u8, B>,
+    ) -> Result<(), AllocError>
+        ensures { OnOk result (text.new.items ≡ text.old.items
+            ++ line (node_text (record { id = id.now; node = self.now }))) }
+    {
+        text.push(letter_of(self.kind))?;
+        push_id(text, id)?;
+        push_ids(text, self.parents.as_slice())?;
+        text.push(b'\n')?;
+        Ok(())
+    }
+}
+
+// The letter of a kind.
+fn letter_of(kind: Kind) -> u8
+    ensures { result ≡ letter kind }
+{
+    match kind {
+        Kind::Commit => b'c',
+        Kind::Tag => b't',
+    }
+}
+
+// An id after a space.
+fn push_id<A: Allocator + Copy>(text: &mut Vec<u8, A>, id: &Oid) -> Result<(), AllocError>
+    ensures { OnOk result (text.new.items ≡ text.old.items ++ ids_text (id.now ∷ [])) }
+{
+    text.push(b' ')?;
+    id.push_hex(text)
+}
+
+// Ids, each after a space.
+fn push_ids<A: Allocator + Copy>(text: &mut Vec<u8, A>, ids: &[Oid]) -> Result<(), AllocError>
+    ensures { OnOk result (text.new.items ≡ text.old.items ++ ids_text ids.now) }
+{
+    for id in ids {
+        push_id(text, id)?;
+    }
+    Ok(())
+}

@@ -1,6 +1,0 @@
-use Rattle.std.proofs.Common.{ℕ, ◌≡◌, false, take}
-use Rattle.gpass.specs.Passes.{IsPlaceOf, is_marked}
-use Rattle.gpass.proofs.up.has_marked.Given as goal
-
-abbrev pub invariant-loop-id : goal.invariant-loop-id
-invariant-loop-id g l = (p : ℕ) → IsPlaceOf l.graph.entries (take l.id-index l.ids) p → is_marked l.marks p ≡ false

@@ -1,0 +1,20 @@
+-- The steps of look-ups and edits of refs: what a search finds in order, and what an edit at that position does.
+use Rattle.std.specs.Prelude.{◌≡◌, ⊤, ℕ, zero, suc, [], ◌∷◌}
+use Rattle.std.specs.Cmp.Lexicographic.{slice_cmp}
+use Rattle.std.specs.Ordering.{nat_cmp}
+use Rattle.std.specs.declared.cmp.Ordering.TheVariants.{Less}
+use Rattle.gname.specs.Names.{Name}
+use Rattle.grefs.specs.RefLists.{RefList}
+
+-- the name is at the position, and each name before it is lower
+abbrev pub IsFound : RefList → Name → ℕ → Type 0
+IsFound [] name place = ⊥
+IsFound (ref ∷ refs) name zero = ref.0 ≡ name
+IsFound (ref ∷ refs) name (suc place) = (slice_cmp nat_cmp ref.0 name ≡ Less) × IsFound refs name place
+
+-- the name would go at the position: lower names before it, and a higher one there
+abbrev pub IsGap : RefList → Name → ℕ → Type 0
+IsGap [] name zero = ⊤
+IsGap [] name (suc place) = ⊥
+IsGap (ref ∷ refs) name zero = slice_cmp nat_cmp name ref.0 ≡ Less
+IsGap (ref ∷ refs) name (suc place) = (slice_cmp nat_cmp ref.0 name ≡ Less) × IsGap refs name place

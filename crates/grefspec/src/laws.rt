@@ -1,0 +1,13 @@
+//! The laws of refspecs: functions without effect, whose contracts they are.
+#![tactic(auto)]
+
+ghost use Rattle.grefspec.specs.Refspecs.{OneReading};
+
+use gname::laws::names_are_clean;
+
+/// A text is that of one refspec at most.
+pub fn one_reading()
+    ensures { OneReading }
+{
+    names_are_clean();
+}

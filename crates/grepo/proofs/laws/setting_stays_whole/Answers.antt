@@ -1,5 +1,0 @@
-use Rattle.grepo.proofs.KeepingWhole.{setting_stays_whole}
-use Rattle.grepo.proofs.laws.setting_stays_whole.Goals as goal
-
-pub returns : goal.returns
-returns g c = setting_stays_whole c.reaching_goes_on.ensures

@@ -1,5 +1,0 @@
-use Rattle.std.proofs.Common.{◌≡◌, ◌++◌}
-use Rattle.grepo.proofs.ref_map.RefMap.into_refs.Given as goal
-
-abbrev pub invariant-loop-name : goal.invariant-loop-name
-invariant-loop-name g l = l.refs ++ l.name-iterator ≡ l.initial.name-iterator

@@ -1,6 +1,0 @@
-use Rattle.std.proofs.Common.{take}
-use Rattle.grepo.proofs.SettlingLemmas.{NoHead}
-use Rattle.grepo.proofs.settling.asks_for_head.Given as goal
-
-abbrev pub invariant-loop-place : goal.invariant-loop-place
-invariant-loop-place g l = NoHead (take l.place l.asks)

@@ -1,0 +1,79 @@
+-- Facts on tables of flags.
+use Rattle.std.proofs.Common.{◌≡◌, ◌||◌, Bool, true, false, cond, [], ◌∷◌, refl, sym, ap, ◌∙◌, true≢false}
+use Rattle.std.proofs.Math.Bool.{or-false, or-true}
+use Rattle.std.specs.Prelude.{IsTrue}
+use Rattle.std.specs.List.{list_all}
+use Rattle.std.specs.Bool.{beq}
+use Rattle.std.specs.Cmp.{booleans_Decides}
+use Rattle.std.proofs.lemmas.Bool.{and_parts, and_from}
+use denote.Enum.Bare.{same_true}
+use Rattle.grequest.specs.declared.flag.LsRefsFlag.{LsRefsFlag}
+use Rattle.grequest.specs.declared.flag.LsRefsFlag.TheVariants.{Peel}
+use Rattle.grequest.specs.declared.flag.FetchFlag.{FetchFlag}
+use Rattle.grequest.specs.declared.flag.FetchFlag.TheVariants.{ThinPack}
+use Rattle.grequest.specs.contracts.flag.LsRefsFlag.{the_type as the_ls_flags}
+use Rattle.grequest.specs.contracts.flag.FetchFlag.{the_type as the_fetch_flags}
+use Rattle.grequest.specs.Flags.{Table, flags_where, has_flag, with_flag}
+use Rattle.grequest.specs.Arguments.{ls_flags, fetch_flags}
+use Rattle.grequest.specs.Asked.{same_ls_flag, same_fetch_flag}
+
+-- ---- two tests on the flags of a table
+
+module _ {F : Type 0} (p q : F → Bool) where
+  -- they agree at each row
+  abbrev pub agree : Table F → Bool
+  agree table = list_all (λ row. beq (p row.0) (q row.0)) table
+
+  same_where : (table : Table F) → agree table ≡ true → flags_where table p ≡ flags_where table q
+  same_where [] h = refl
+  same_where (row ∷ rows) h =
+      let parts = and_parts (beq (p row.0) (q row.0)) (agree rows) h in
+      let here = (booleans_Decides _ _).0 parts.0 in
+      let rest = same_where rows parts.1 in
+      λ i. (here i, rest i)
+
+  where_same : (table : Table F) → flags_where table p ≡ flags_where table q → agree table ≡ true
+  where_same [] same = refl
+  where_same (row ∷ rows) same =
+      and_from (beq (p row.0) (q row.0)) (agree rows) ((booleans_Decides _ _).1 (λ i. (same i).0)) (where_same rows (λ i. (same i).1))
+
+  -- so the same flags pass both
+  pub agree_same : (table : Table F) (b : Bool) → agree table ≡ b
+      → (IsTrue b → flags_where table p ≡ flags_where table q) × (flags_where table p ≡ flags_where table q → IsTrue b)
+  agree_same table true e = (λ h. same_where table e, λ same. refl)
+  agree_same table false e = (λ h. absurd (true≢false (sym h)), λ same. sym e ∙ where_same table same)
+
+-- ---- one flag more
+
+or_is_cond : (before here : Bool) → (before || here) ≡ cond here true before
+or_is_cond before true = or-true before
+or_is_cond before false = or-false before
+
+module _ {F : Type 0} (same : F → F → Bool) (table : Table F) where
+  -- a flag is among those that pass a test exactly where it passes
+  abbrev pub HasEach : Type 0
+  HasEach = (passes : F → Bool) (flag : F) → has_flag same table (flags_where table passes) flag ≡ passes flag
+
+  pub where_more : HasEach → (passes : F → Bool) (flag : F)
+      → flags_where table (λ other. passes other || same other flag) ≡ with_flag same table (flags_where table passes) flag true
+  where_more each passes flag = λ i. flags_where table (λ other.
+      (or_is_cond (passes other) (same other flag) ∙ ap (λ (b : Bool). cond (same other flag) true b) (sym (each passes other))) i)
+
+  pub where_same_as : (p q : F → Bool) → ((flag : F) → p flag ≡ q flag) → flags_where table p ≡ flags_where table q
+  where_same_as p q each = λ i. flags_where table (λ flag. each flag i)
+
+-- ---- each flag is in its table; the case after the first is for all others
+
+pub one_ls_flag : (a b : LsRefsFlag) → same_ls_flag a b ≡ true → a ≡ b
+one_ls_flag = same_true the_ls_flags tt
+
+pub one_fetch_flag : (a b : FetchFlag) → same_fetch_flag a b ≡ true → a ≡ b
+one_fetch_flag = same_true the_fetch_flags tt
+
+pub ls_has_each : HasEach same_ls_flag ls_flags
+ls_has_each passes Peel = refl
+ls_has_each passes _ = refl
+
+pub fetch_has_each : HasEach same_fetch_flag fetch_flags
+fetch_has_each passes ThinPack = refl
+fetch_has_each passes _ = refl

@@ -1,0 +1,19 @@
+-- The steps of building a request, and of comparing two: what is kept of something that is added, and which parts are
+-- the same.
+use Rattle.std.specs.Prelude.{◌≡◌, Bool, true, false, Result, Ok, Err}
+use Rattle.grequest.specs.declared.kept.NotKept.{NotKept}
+use Rattle.grequest.specs.declared.kept.NotKept.TheVariants as not_kept
+use Rattle.grequest.specs.Asked.{FetchAsked}
+
+-- the wants and the haves of two requests are the same
+abbrev pub HaveSameIds : FetchAsked → FetchAsked → Type 0
+HaveSameIds one other = (one.wants ≡ other.wants) × (one.haves ≡ other.haves)
+
+-- what is kept of something: it is added; or nothing changes, for the first of these reasons
+abbrev pub KeepsAs : {V : Type 0} → Bool → Bool → V → V → V → Result Unit NotKept → Type 0
+KeepsAs well_formed has_room old new built (Ok done) = (well_formed ≡ true) × (has_room ≡ true) × (new ≡ built)
+KeepsAs well_formed has_room old new built (Err not_kept.WrongForm) = (well_formed ≡ false) × (new ≡ old)
+KeepsAs well_formed has_room old new built (Err not_kept.NoRoom) =
+    (well_formed ≡ true) × (has_room ≡ false) × (new ≡ old)
+KeepsAs well_formed has_room old new built (Err not_kept.NoMemory) =
+    (well_formed ≡ true) × (has_room ≡ true) × (new ≡ old)

@@ -1,0 +1,77 @@
+-- The steps of reading a request: what a packet that is taken adds to what the packets before it come to.
+use Rattle.std.specs.Prelude.{◌+◌, true, [], ◌∷◌, ◌++◌, Some}
+use Rattle.std.specs.Option.{option_to_list}
+use Rattle.gpkt.specs.Packets.{Bytes, Packet, Data, Flush, Delim, ResponseEnd, text}
+use Rattle.gname.specs.declared.formats.Format.{Format}
+use Rattle.ggrammar.specs.Ids.{id_of_text}
+use Rattle.grequest.specs.declared.command.CommandForm.{CommandForm}
+use Rattle.grequest.specs.declared.command.CommandForm.TheVariants.{Known, Unknown as UnknownCommand, Bad as BadCommand}
+use Rattle.grequest.specs.Arguments.{command_form, CapabilityForm, Agent, ObjectFormat, UnknownCapability, BadCapability}
+use Rattle.grequest.specs.Arguments.{capability_form, LsArgument, KnownLsFlag, RefPrefix, UnknownLsArgument}
+use Rattle.grequest.specs.Arguments.{ls_argument, FetchArgument, KnownFetchFlag, Want, Have, UnknownFetchArgument, fetch_argument}
+use Rattle.grequest.specs.Asked.{LsRefsAsked, FetchAsked, Asked, Empty, Ls, Fetches, ls_with, fetch_with}
+use Rattle.grequest.specs.RequestLines.{Place, First, InCapabilities, InArguments, asked_by_command}
+use Rattle.grequest.specs.Requests.{State}
+
+-- ---- the first text
+
+abbrev pub with_command : Format → State → CommandForm → State
+with_command format state (Known command) =
+    record state { place = InCapabilities command; asked = asked_by_command format command [] [] }
+with_command format state UnknownCommand = state
+with_command format state BadCommand = state
+
+-- ---- capabilities
+
+abbrev pub with_agent : Bytes → Asked → Asked
+with_agent value Empty = Empty
+with_agent value (Ls asked) = Ls (record asked { agent = Some value })
+with_agent value (Fetches asked) = Fetches (record asked { agent = Some value })
+
+abbrev pub with_capability : State → CapabilityForm → State
+with_capability state (Agent value) = record state { asked = with_agent value state.asked }
+with_capability state (ObjectFormat value) = record state { format_lines = state.format_lines + 1 }
+with_capability state UnknownCapability = state
+with_capability state BadCapability = state
+
+-- ---- arguments
+
+abbrev pub with_ls_argument : LsRefsAsked → LsArgument → LsRefsAsked
+with_ls_argument asked (KnownLsFlag flag) = ls_with asked flag true
+with_ls_argument asked (RefPrefix prefix) = record asked { prefixes = asked.prefixes ++ prefix ∷ [] }
+with_ls_argument asked UnknownLsArgument = asked
+
+abbrev pub with_fetch_argument : Format → FetchAsked → FetchArgument → FetchAsked
+with_fetch_argument format asked (KnownFetchFlag flag) = fetch_with asked flag true
+with_fetch_argument format asked (Want id) =
+    record asked { wants = asked.wants ++ option_to_list (id_of_text format id) }
+with_fetch_argument format asked (Have id) =
+    record asked { haves = asked.haves ++ option_to_list (id_of_text format id) }
+with_fetch_argument format asked UnknownFetchArgument = asked
+
+abbrev pub with_argument_text : Format → Bytes → Asked → Asked
+with_argument_text format line Empty = Empty
+with_argument_text format line (Ls asked) = Ls (with_ls_argument asked (ls_argument line))
+with_argument_text format line (Fetches asked) = Fetches (with_fetch_argument format asked (fetch_argument line))
+
+abbrev pub with_argument : Format → State → Bytes → State
+with_argument format state line =
+    record state { argument_lines = state.argument_lines + 1; asked = with_argument_text format line state.asked }
+
+-- ---- a packet
+
+abbrev pub with_text : Format → Place → State → Bytes → State
+with_text format First state line = with_command format state (command_form line)
+with_text format (InCapabilities command) state line = with_capability state (capability_form line)
+with_text format (InArguments command) state line = with_argument format state line
+
+abbrev pub with_delim : Place → State → State
+with_delim First state = state
+with_delim (InCapabilities command) state = record state { place = InArguments command }
+with_delim (InArguments command) state = state
+
+unfoldable pub with_packet : Format → State → Packet → State
+with_packet format state (Data payload) = with_text format state.place state (text payload)
+with_packet format state Flush = state
+with_packet format state Delim = with_delim state.place state
+with_packet format state ResponseEnd = state

@@ -1,0 +1,110 @@
+-- The steps of a session's calls.
+use Rattle.std.specs.Prelude.{◌≡◌, ◌+◌, ◌≤◌, false, cond, List, [], ◌∷◌, ◌++◌, length, All, Contains, Result, Ok, Err}
+use Rattle.std.specs.List.{IsDistinct}
+use Rattle.std.specs.Str.{bytes_eq}
+use Rattle.gname.specs.Ids.{Id, IsIdOf}
+use Rattle.gname.specs.declared.faults.NameFault.{NameFault}
+use Rattle.gname.specs.declared.faults.NameFault.TheVariants as name
+use Rattle.gpkt.specs.Change.{Change}
+use Rattle.gpkt.specs.Packets.{Bytes}
+use Rattle.glsreply.specs.LsReplies.{LsReply}
+use Rattle.glsreply.specs.RefTexts.{RefLine}
+use Rattle.gfetchreply.specs.FetchReplies.{FetchReply}
+use Rattle.gfetchreply.specs.FetchHeads.{FetchHead}
+use Rattle.gfetchreply.specs.FetchHeads as head
+use Rattle.gobject.specs.declared.fault.IndexFault.{IndexFault}
+use Rattle.gobject.specs.declared.node.Entry.{Entry}
+use Rattle.gobject.specs.Packs.{Indexes, IndexFails}
+use Rattle.gdag.specs.Levels.{is_in}
+use Rattle.gdag.specs.declared.fault.GraphFault.TheVariants as graph
+use Rattle.grefspec.specs.Refspecs.{Refspec}
+use Rattle.gclientrepo.specs.declared.ask.Ask.{Ask}
+use Rattle.gclientrepo.specs.declared.fault.RepoFault.TheVariants as repo
+use Rattle.gclientrepo.specs.Repos.{RepoState}
+use Rattle.grequest.specs.Asked.{FetchAsked, is_direct, max_haves}
+use Rattle.gsession.specs.Asking.{AreNamed, AreNamedTo, asked_of, asks_by_all, with_asks}
+use Rattle.gsession.specs.Sessions.{SessionState}
+use Rattle.gsession.specs.TakingRefs.{IsLsFault, IsRefsFault, TakesLines, TakesLs}
+use Rattle.gsession.specs.TakingReplies.{IsFirstStrange, IsReplyFault, IsTakeFault, TakesRead, TakesReply}
+use Rattle.gsession.specs.declared.fault.ClientFault.{ClientFault}
+use Rattle.gsession.specs.declared.fault.ClientFault.TheVariants.{StrangeAck, Repo}
+use Rattle.gsession.specs.declared.taken.LsTaken.{LsTaken}
+use Rattle.gsession.specs.declared.taken.Taken.{Taken}
+
+-- ---- asking
+
+-- what adding asks answers: they are added, and each is for a ref name; or one is not; or it is out of memory for one,
+-- and it and those before it are
+abbrev pub AddsAsks : {A : Type 0} → List (Ask A) → List (Ask A) → List (Ask A) → Result Unit NameFault → Type 0
+AddsAsks old more new (Ok _) = (new ≡ with_asks old more) × AreNamed more
+AddsAsks old more new (Err name.Memory) = AreNamedTo more
+AddsAsks old more new (Err _) = ¬ (AreNamed more)
+
+-- what asking answers: the asks; or that one is for no ref name; or that it is out of memory for one, where it and
+-- those before it are
+abbrev pub FindsAsks : {A : Type 0} → List Refspec → List RefLine → Result (List (Ask A)) NameFault → Type 0
+FindsAsks {A} specs lines (Ok asks) = (asks ≡ asked_of specs lines) × AreNamed {A = A} (asks_by_all specs lines)
+FindsAsks {A} specs lines (Err name.Memory) = AreNamedTo {A = A} (asks_by_all specs lines)
+FindsAsks {A} specs lines (Err _) = ¬ (AreNamed {A = A} (asks_by_all specs lines))
+
+-- ---- the next request
+
+-- a prefix more, unless it is there
+abbrev pub with_prefix : List Bytes → Bytes → List Bytes
+with_prefix prefixes prefix = cond (is_in prefixes prefix) prefixes (prefixes ++ prefix ∷ [])
+
+-- a batch that was not offered before, and for which a request has room beside the common ids
+pub record FitsBatch {A : Type 0} (s : SessionState A) (batch : List Id) : Type 0 where
+  pub ids : All (IsIdOf s.format) batch
+  pub room : length s.commons + length batch ≤ max_haves
+  pub fresh : IsDistinct bytes_eq (s.sent ++ batch)
+
+-- ---- the reply to ls-refs
+
+-- what taking the refs of a reply answers that was read, before a fault ends the session
+abbrev pub AnswersRefs : {A : Type 0} → SessionState A → List (Entry A) → LsReply → SessionState A
+    → Result (LsTaken A) (ClientFault A) → Type 0
+AnswersRefs old g reply new (Ok taken) = TakesLines old g reply new taken
+AnswersRefs old g reply new (Err fault) = IsRefsFault old g reply fault × (new ≡ old)
+
+-- what taking a reply answers, before a fault ends the session
+abbrev pub AnswersLs : {A : Type 0} → SessionState A → List (Entry A) → Change → SessionState A
+    → Result (LsTaken A) (ClientFault A) → Type 0
+AnswersLs old g change new (Ok taken) = TakesLs old g change new (Ok taken)
+AnswersLs old g change new (Err fault) = IsLsFault old g change fault × (new ≡ old)
+
+-- ---- the reply to fetch
+
+-- the bytes of a pack were fed to the indexer; or it has refused, as it may each pack that begins with them
+abbrev pub MayHaveFed : {F : Type 0} → (F → Bytes → Type 0) → IndexFails → Result F IndexFault → Bytes → Type 0
+MayHaveFed fed index_fails (Ok feed) bytes = fed feed bytes
+MayHaveFed fed index_fails (Err fault) bytes = (more : Bytes) → index_fails (bytes ++ more) fault
+
+-- why acknowledgments are not taken: one is of an id that the request did not name; or each is of a have, and it is
+-- out of memory
+abbrev pub IsAcksFault : {A : Type 0} → List Id → List Id → ClientFault A → Type 0
+IsAcksFault haves acks (StrangeAck id) = IsFirstStrange haves acks id
+IsAcksFault haves acks (Repo (repo.Graph graph.Memory)) = All (Contains haves) acks
+IsAcksFault haves acks _ = ⊥
+
+-- acknowledgments alone answer a request that is not direct
+abbrev pub FitsHead : FetchAsked → FetchHead → Type 0
+FitsHead asked (head.Acks ids) = is_direct asked ≡ false
+FitsHead asked _ = Unit {0}
+
+module _ {A : Type 0} (indexes : Indexes A) (index_fails : IndexFails) where
+  -- what taking a reply answers that was read, before a fault ends the session
+  abbrev pub AnswersRead : List Id → SessionState A → RepoState A → FetchReply → SessionState A → RepoState A
+      → Result Taken (ClientFault A) → Type 0
+  AnswersRead haves old repo_old reply new repo_new (Ok taken) =
+      TakesRead indexes index_fails haves old repo_old reply new repo_new taken
+  AnswersRead haves old repo_old reply new repo_new (Err fault) =
+      IsReplyFault indexes index_fails haves repo_old reply fault × (new ≡ old) × (repo_new ≡ repo_old)
+
+  -- what taking a reply answers, before a fault ends the session
+  abbrev pub AnswersReply : SessionState A → RepoState A → Change → SessionState A → RepoState A
+      → Result Taken (ClientFault A) → Type 0
+  AnswersReply old repo_old change new repo_new (Ok taken) =
+      TakesReply indexes index_fails old repo_old change new repo_new (Ok taken)
+  AnswersReply old repo_old change new repo_new (Err fault) =
+      IsTakeFault indexes index_fails old repo_old change fault × (new ≡ old) × (repo_new ≡ repo_old)

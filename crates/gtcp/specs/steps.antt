@@ -1,0 +1,4 @@
+-- The steps: what only private functions and proofs speak of.
+pub mod Messages
+pub mod Sockets
+pub mod Remote

@@ -1,0 +1,68 @@
+-- The steps of conversations over a socket: between the devices of its two ends.
+use Rattle.std.specs.Prelude.{Bool, false, None, Result}
+use Rattle.gpkt.specs.Change.{Change}
+use Rattle.gpkt.specs.Sending.{Input, Output}
+use Rattle.gpkt.specs.Packets.{Bytes}
+use Rattle.ggrammar.specs.declared.ends.Ends.{Ends}
+use Rattle.ghello.specs.Hello.{Hello}
+use Rattle.glsreply.specs.LsReplies.{LsReply}
+use Rattle.gobject.specs.Packs.{Indexes, IndexFails, PackFails, Packs}
+use Rattle.gclientrepo.specs.Repos.{RepoState}
+use Rattle.grequest.specs.Asked.{LsRefsAsked}
+use Rattle.ganswer.specs.Servers.{Server}
+use Rattle.gclient.specs.Conversations.{Start}
+use Rattle.gclient.specs.declared.fault.FetchFault.{FetchFault}
+use Rattle.gclient.specs.declared.fetched.Fetched.{Fetched}
+use Rattle.gconnect.specs.GitConnections.{ServesGit}
+use Rattle.gconnect.specs.GitFetches.{FetchesGit}
+use Rattle.gconnect.specs.Listings.{ListsGit}
+use Rattle.gconnect.specs.declared.serving.GitEnd.{GitEnd}
+
+-- ---- a reader and a writer
+
+-- a source over a reader that begins well, with this change of what there is to read
+abbrev pub input_by : Change → Bool → Input
+input_by read failed = record { read = read; was_down = false; is_down = failed }
+
+-- a sink over a writer that begins well, with this change of what is written; what the writer passes on is not known
+abbrev pub output_by : Change → Bool → Output
+output_by written failed = record {
+  written = written;
+  passed_on = record { old = None; new = None };
+  was_down = false;
+  is_down = failed;
+}
+
+-- ---- fetching
+
+module _ {A : Type 0} (indexes : Indexes A) (index_fails : IndexFails) (start : Start A) (hello : Hello) where
+  -- a fetch is held between a reader and a writer, with this change of what each has
+  abbrev pub FetchesBetween : Change → Change → RepoState A → Result (Fetched A) (FetchFault A) → Type 0
+  FetchesBetween read written new result =
+      (reader_failed writer_failed : Bool)
+      × FetchesGit indexes index_fails start hello
+          (input_by read reader_failed) (output_by written writer_failed) new result
+
+-- ---- listing
+
+module _ {A : Type 0} (asked : LsRefsAsked) (hello : Hello) where
+  -- a listing is held between a reader and a writer, with this change of what each has
+  abbrev pub ListsBetween : Change → Change → Result LsReply (FetchFault A) → Type 0
+  ListsBetween read written result =
+      (reader_failed writer_failed : Bool)
+      × ListsGit asked hello (input_by read reader_failed) (output_by written writer_failed) result
+
+-- ---- serving
+
+module _ {A : Type 0} (server : Server A) (packs : Packs A) (fails : PackFails A) (path : Bytes) (ends : Ends) where
+  -- a connection is served between a reader and a writer, with this change of what each has, and how it ended
+  abbrev pub ServesBetween : Change → Change → GitEnd → Type 0
+  ServesBetween read written ended =
+      (reader_failed writer_failed : Bool)
+      × ServesGit server packs fails path ends (input_by read reader_failed) (output_by written writer_failed) ended
+
+  -- a connection is served from a reader, with this change of what it has, and into a socket
+  abbrev pub ServesFrom : Change → GitEnd → Type 0
+  ServesFrom read ended =
+      (reader_failed : Bool) × (output : Output)
+      × ServesGit server packs fails path ends (input_by read reader_failed) output ended

@@ -1,0 +1,156 @@
+-- How many positions are open.
+use Rattle.std.proofs.Common.{◌≡◌, inl, inr, ℕ, zero, suc, ◌+◌, ◌-◌, ◌<◌, ◌≤◌, Bool, true, false, not, ◌&&◌, List, length, replicate, set, refl, sym, ap, ◌∙◌, arith, add-one}
+use Rattle.std.proofs.lemmas.List.{length-set, length-replicate}
+use Rattle.std.proofs.lemmas.Bool.{cases_eq, cases_Bool, and_from, and_left, and_right, not_from_true, not_from_false, false_from_ne_true}
+use Rattle.gtopowalk.specs.steps.Passes.{IsCounted, is_marked, is_open, one, open_below}
+use Rattle.gtopowalk.proofs.Places.{set_elsewhere, none_marked}
+
+module _ (wanted known wanted' known' : List Bool) where
+  pub same_below : (n : ℕ) → ((p : ℕ) → p < n → is_open wanted known p ≡ is_open wanted' known' p) → open_below wanted known n ≡ open_below wanted' known' n
+  unfolding open_below
+  same_below zero same = refl
+  same_below (suc n) same =
+      let before = same_below n (λ p below. same p (omega arith)) in
+      let here = ap one (same n (omega arith)) in
+      omega (arith, before, here)
+
+  -- one position changes
+  pub changed_at : (q n : ℕ) → q < n → ((p : ℕ) → (p ≡ q → ⊥) → is_open wanted known p ≡ is_open wanted' known' p) → open_below wanted' known' n + one (is_open wanted known q) ≡ open_below wanted known n + one (is_open wanted' known' q)
+  unfolding open_below
+  changed_at q zero below same = absurd (omega arith)
+  changed_at q (suc n) below same =
+      elim (cases_eq q n) [
+        | inl e ↦
+            let before = same_below n (λ p within. same p (λ h. (let k : n < n = omega arith in omega arith))) in
+            let old = ap (λ m. one (is_open wanted known m)) e in
+            let new = ap (λ m. one (is_open wanted' known' m)) e in
+            omega (arith, before, old, new)
+        | inr other ↦
+            let within : q < n = omega arith in
+            let before = changed_at q n within same in
+            let here = ap one (same n (λ h. other (sym h))) in
+            omega (arith, before, here)
+      ]
+
+module _ (wanted known : List Bool) where
+  pub open_most : (n : ℕ) → open_below wanted known n ≤ n
+  unfolding open_below
+  open_most zero = omega arith
+  open_most (suc n) =
+      let before = open_most n in
+      elim (cases_Bool (is_open wanted known n)) [
+        | inl e ↦ (let c : one (is_open wanted known n) ≡ 1 = ap one e in omega (arith, before, c))
+        | inr e ↦ (let c : one (is_open wanted known n) ≡ 0 = ap one e in omega (arith, before, c))
+      ]
+
+  pub open_least : (q n : ℕ) → q < n → is_open wanted known q ≡ true → 1 ≤ open_below wanted known n
+  unfolding open_below
+  open_least q zero below is = absurd (omega arith)
+  open_least q (suc n) below is =
+      elim (cases_eq q n) [
+        | inl e ↦ (let c : one (is_open wanted known n) ≡ 1 = ap one (ap (is_open wanted known) (sym e) ∙ is) in omega (arith, c))
+        | inr other ↦ (let before = open_least q n (omega arith) is in omega (arith, before))
+      ]
+
+  next_suc : (n : ℕ) → open_below wanted known (suc n) ≡ open_below wanted known n + one (is_open wanted known n)
+  unfolding open_below
+  next_suc n = refl
+
+  -- the position that comes next
+  pub open_next : (n : ℕ) → open_below wanted known (n + 1) ≡ open_below wanted known n + one (is_open wanted known n)
+  open_next n = rw add-one (next_suc n)
+
+  pub open_none : open_below wanted known zero ≡ 0
+  unfolding open_below
+  open_none = refl
+
+-- ---- one position is marked
+
+-- a position below `next` is in the count
+pub in_count : (wanted known : List Bool) (next pending place : ℕ) → IsCounted wanted known next pending → place < next → one (is_open wanted known place) ≤ pending
+in_count wanted known next pending place counted below =
+    let count = counted.count in
+    elim (cases_Bool (is_open wanted known place)) [
+      | inl e ↦ (let c : one (is_open wanted known place) ≡ 1 = ap one e in let least = open_least wanted known place next below e in omega (arith, c, least))
+      | inr e ↦ (let c : one (is_open wanted known place) ≡ 0 = ap one e in omega (arith, c))
+    ]
+
+pub wants_count : (wanted known : List Bool) (next pending place : ℕ) → IsCounted wanted known next pending → place < next → IsCounted (set wanted place true) known next (pending - one (is_open wanted known place) + one (is_open (set wanted place true) known place))
+wants_count wanted known next pending place counted below =
+    let count = counted.count in
+    let in' = in_count wanted known next pending place counted below in
+    let change = changed_at wanted known (set wanted place true) known place next below (λ p other. ap (λ b. b && not (is_marked known p)) (sym (set_elsewhere wanted p place other))) in
+    record {
+      long = counted.long ∙ sym (length-set wanted place true);
+      inside = (let l = length-set wanted place true in let i = counted.inside in omega arith);
+      count = omega (arith, in', change, count);
+    }
+
+pub knows_count : (wanted known : List Bool) (next pending place : ℕ) → IsCounted wanted known next pending → place < next → IsCounted wanted (set known place true) next (pending - one (is_open wanted known place) + one (is_open wanted (set known place true) place))
+knows_count wanted known next pending place counted below =
+    let count = counted.count in
+    let in' = in_count wanted known next pending place counted below in
+    let change = changed_at wanted known wanted (set known place true) place next below (λ p other. ap (λ b. is_marked wanted p && not b) (sym (set_elsewhere known p place other))) in
+    record {
+      long = length-set known place true ∙ counted.long;
+      inside = counted.inside;
+      count = omega (arith, in', change, count);
+    }
+
+-- the count fits a word
+pub count_fits : (wanted known : List Bool) (next pending : ℕ) → IsCounted wanted known next pending → pending ≤ length wanted
+count_fits wanted known next pending counted =
+    let most = open_most wanted known next in let count = counted.count in let inside = counted.inside in omega arith
+
+-- ---- the next position down
+
+-- the count below the next position, by what that position is
+module _ (wanted known : List Bool) (next place pending : ℕ) (counted : IsCounted wanted known next pending) (is : next ≡ place + 1) where
+  step_count : pending ≡ open_below wanted known place + one (is_open wanted known place)
+  step_count = counted.count ∙ ap (open_below wanted known) is ∙ open_next wanted known place
+
+  pub next_open : is_open wanted known place ≡ true → (1 ≤ pending) × IsCounted wanted known place (pending - 1)
+  next_open is_so =
+      let count = step_count in let inside = counted.inside in
+      let c : one (is_open wanted known place) ≡ 1 = ap one is_so in
+      (omega (arith, count, c), record { long = counted.long; inside = omega arith; count = omega (arith, count, c) })
+
+  pub next_shut : is_open wanted known place ≡ false → IsCounted wanted known place pending
+  next_shut shut =
+      let count = step_count in let inside = counted.inside in
+      let c : one (is_open wanted known place) ≡ 0 = ap one shut in
+      record { long = counted.long; inside = omega arith; count = omega (arith, count, c) }
+
+-- where something is open below, a position comes next
+pub some_next : (wanted known : List Bool) (next pending : ℕ) → IsCounted wanted known next pending → 0 < pending → 1 ≤ next
+some_next wanted known zero pending counted some = let n = open_none wanted known in let count = counted.count in absurd (omega (arith, n))
+some_next wanted known (suc next) pending counted some = omega arith
+
+pub open_if : (wanted known : List Bool) (p : ℕ) → is_marked wanted p ≡ true → is_marked known p ≡ false → is_open wanted known p ≡ true
+open_if wanted known p w k = and_from (is_marked wanted p) (not (is_marked known p)) w (not_from_false (is_marked known p) k)
+
+pub shut_known : (wanted known : List Bool) (p : ℕ) → is_marked known p ≡ true → is_open wanted known p ≡ false
+shut_known wanted known p k = and_right (is_marked wanted p) (not (is_marked known p)) (not_from_true (is_marked known p) k)
+
+pub shut_idle : (wanted known : List Bool) (p : ℕ) → is_marked wanted p ≡ false → is_open wanted known p ≡ false
+shut_idle wanted known p w = and_left (is_marked wanted p) (not (is_marked known p)) w
+
+-- ---- at the start
+
+open_unmarked : (n p : ℕ) → is_open (replicate n false) (replicate n false) p ≡ false
+open_unmarked n p = shut_idle (replicate n false) (replicate n false) p (false_from_ne_true (is_marked (replicate n false) p) (none_marked n p))
+
+count_unmarked : (n m : ℕ) → open_below (replicate n false) (replicate n false) m ≡ 0
+unfolding open_below
+count_unmarked n zero = refl
+count_unmarked n (suc m) =
+    let before = count_unmarked n m in
+    let c : one (is_open (replicate n false) (replicate n false) m) ≡ 0 = ap one (open_unmarked n m) in
+    omega (arith, before, c)
+
+pub counted_none : (n : ℕ) → IsCounted (replicate n false) (replicate n false) n 0
+counted_none n = record {
+  long = refl;
+  inside = (let l = length-replicate n false in omega arith);
+  count = sym (count_unmarked n n);
+}

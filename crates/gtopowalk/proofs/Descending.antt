@@ -1,0 +1,195 @@
+-- What a pass down keeps, and what it ends with.
+use Rattle.std.proofs.Common.{◌≡◌, ◌⊎◌, inl, inr, ℕ, ◌+◌, ◌<◌, ◌≤◌, Bool, true, false, not, List, length, Some, sym, ap, ◌∙◌, subst, arith, replicate}
+use Rattle.std.specs.List.{slice_get}
+use Rattle.std.specs.Option.{option_map}
+use Rattle.std.proofs.lemmas.Bool.{false≢true, cases_Bool, and_parts, not-true, cases_eq, false_from_ne_true, cases_lt}
+use Rattle.gobject.specs.declared.node.Entry.{Entry}
+use Rattle.gobject.specs.Objects.{place_of}
+use Rattle.gdag.specs.Graphs.{HasParent}
+use Rattle.gdag.specs.Reach.{here, SomeReaches}
+use Rattle.gtopowalk.specs.steps.Passes.{IsEdge, IsPlaceOf, IsReachedAt, IsNewAt, MarksAll, IsPassed, IsDone, is_marked}
+use Rattle.gtopowalk.specs.steps.Passes.{is_open, open_below}
+use Rattle.gdag.proofs.Reaching.{place_same, place_of_node, kept_along, some_reaches}
+use Rattle.gtopowalk.proofs.Places.{HasParentsFirst, edge_place, place_edge, edge_down, marked_inside, none_marked}
+use Rattle.gtopowalk.proofs.Counting.{open_least, open_if}
+
+-- ---- reaching
+
+-- ---- what is reached, position by position
+
+pub reached_start : {A : Type 0} (g : List (Entry A)) (ids : List (List ℕ)) (p : ℕ) → IsPlaceOf g ids p → IsReachedAt g ids p
+reached_start g ids p x = record { id = x.id; at = x.at; reached = (x.id, x.among, here) }
+
+pub reached_edge : {A : Type 0} (g : List (Entry A)) (ids : List (List ℕ)) (p q : ℕ) → IsReachedAt g ids p → IsEdge g p q → IsReachedAt g ids q
+reached_edge g ids p q r e =
+    let same = place_same g r.id e.child p r.at e.child_at in
+    let P : List ℕ → Type 0 = λ a. SomeReaches g ids a in
+    record { id = e.parent; at = e.parent_at; reached = some_reaches g ids e.child e.parent (subst P same r.reached) e.edge }
+
+-- what holds at the positions of the ids and goes on along edges holds at each position that they reach
+pub at_reached : {A : Type 0} (g : List (Entry A)) (ids : List (List ℕ)) (P : ℕ → Type 0) → ((p : ℕ) → IsPlaceOf g ids p → P p) → ((p q : ℕ) → IsEdge g p q → P p → P q) → (p : ℕ) → IsReachedAt g ids p → P p
+at_reached g ids P start step p r =
+    let Q : List ℕ → Type 0 = λ a. (k : ℕ) → place_of g a ≡ Some k → P k in
+    let begin : Q r.reached.0 = λ k e. start k (record { id = r.reached.0; among = r.reached.1; at = e }) in
+    let on : (a b : List ℕ) → Q a → HasParent g a b → Q b = λ a b q h k e. (
+    let there = place_of_node g a h.0 h.1 in
+    step there.0 k (record { child = a; parent = b; edge = h; child_at = there.1; parent_at = e }) (q there.0 there.1)
+    ) in
+    kept_along g Q on r.reached.0 r.id r.reached.2 begin p r.at
+
+-- ---- at the start
+
+module _ {A : Type 0} (g : List (Entry A)) (wants commons : List (List ℕ)) (end : ℕ) (wanted known : List Bool) (w : MarksAll g wants (replicate end false) wanted) (k : MarksAll g commons (replicate end false) known) where
+  start_sound : (ids : List (List ℕ)) (marks : List Bool) → MarksAll g ids (replicate end false) marks → (p : ℕ) → is_marked marks p ≡ true → IsReachedAt g ids p
+  start_sound ids marks all p m =
+      elim (all.only p m) [ inl m' ↦ absurd (none_marked end p m') | inr x ↦ reached_start g ids p x ]
+
+  start_inside : (ids : List (List ℕ)) (marks : List Bool) → MarksAll g ids (replicate end false) marks → length (replicate end false) ≡ end → (p : ℕ) → is_marked marks p ≡ true → p < end
+  start_inside ids marks all long p m =
+      let h = marked_inside marks p m in let l = all.long in omega arith
+
+  pub starts : length (replicate end false) ≡ end → ((p : ℕ) → IsPlaceOf g wants p → p < end) → ((p : ℕ) → IsPlaceOf g commons p → p < end) → IsPassed g wants commons wanted known end
+  starts long wants_below commons_below = record {
+    wants_in = λ p x. w.marked p x (let h = wants_below p x in omega arith);
+    commons_in = λ p x. k.marked p x (let h = commons_below p x in omega arith);
+    wanted_sound = start_sound wants wanted w;
+    known_sound = start_sound commons known k;
+    wanted_ahead = λ p q e past m. (let h = start_inside wants wanted w long p m in absurd (omega arith));
+    known_ahead = λ p q e past m. (let h = start_inside commons known k long p m in absurd (omega arith));
+  }
+
+-- ---- one position down
+
+module _ {A : Type 0} (g : List (Entry A)) (wants commons : List (List ℕ)) (wanted known : List Bool) (next place : ℕ) (is : next ≡ place + 1) (old : IsPassed g wants commons wanted known next) (ordered : HasParentsFirst g) (parents : List (List ℕ)) (are : option_map (λ entry. entry.node.parents) (slice_get g place) ≡ Some parents) where
+  -- a later position is not marked by the parents
+  not_ahead : (ids : List (List ℕ)) (marks marks' : List Bool) → MarksAll g parents marks marks' → ((q : ℕ) → IsPlaceOf g parents q → q < place) → (p : ℕ) → place ≤ p → is_marked marks' p ≡ true → is_marked marks p ≡ true
+  not_ahead ids marks marks' more below p past m =
+      elim (more.only p m) [ inl before ↦ before | inr x ↦ (let h = below p x in absurd (omega arith)) ]
+
+  -- sound marks stay sound
+  stays_sound : (ids : List (List ℕ)) (marks marks' : List Bool) → MarksAll g parents marks marks' → is_marked marks place ≡ true → ((p : ℕ) → is_marked marks p ≡ true → IsReachedAt g ids p) → (p : ℕ) → is_marked marks' p ≡ true → IsReachedAt g ids p
+  stays_sound ids marks marks' more at sound p m =
+      elim (more.only p m) [
+        | inl before ↦ sound p before
+        | inr x ↦ (let r = sound place at in reached_edge g ids place p r (place_edge g place parents are r.id p r.at x))
+      ]
+
+  parent_marked : (marks marks' : List Bool) → MarksAll g parents marks marks' → place < length marks → ((q : ℕ) → IsPlaceOf g parents q → q < place) → (p q : ℕ) → IsEdge g p q → p ≡ place → is_marked marks' q ≡ true
+  parent_marked marks marks' more inside below p q e same =
+      let P : ℕ → Type 0 = λ n. IsEdge g n q in
+      let x = edge_place g place parents are q (subst P same e) in
+      more.marked q x (let h = below q x in omega arith)
+
+  module _ (below : (q : ℕ) → IsPlaceOf g parents q → q < place) where
+    pub knows : (known' : List Bool) → MarksAll g parents known known' → is_marked known place ≡ true → IsPassed g wants commons wanted known' place
+    knows known' more at =
+        let inside = marked_inside known place at in
+        record {
+          wants_in = old.wants_in;
+          commons_in = λ p x. more.kept p (old.commons_in p x);
+          wanted_sound = old.wanted_sound;
+          known_sound = stays_sound commons known known' more at old.known_sound;
+          wanted_ahead = λ p q e past m. elim (cases_eq p place) [
+            | inl same ↦ inr (parent_marked known known' more inside below p q e same)
+            | inr other ↦ elim (old.wanted_ahead p q e (omega arith) m) [ inl h ↦ inl h | inr h ↦ inr (more.kept q h) ]
+          ];
+          known_ahead = λ p q e past m. elim (cases_eq p place) [
+            | inl same ↦ parent_marked known known' more inside below p q e same
+            | inr other ↦ more.kept q (old.known_ahead p q e (omega arith) (not_ahead parents known known' more below p past m))
+          ];
+        }
+
+    pub wants_more : (wanted' : List Bool) → MarksAll g parents wanted wanted' → is_marked wanted place ≡ true → is_marked known place ≡ false → IsPassed g wants commons wanted' known place
+    wants_more wanted' more at free =
+        let inside = marked_inside wanted place at in
+        record {
+          wants_in = λ p x. more.kept p (old.wants_in p x);
+          commons_in = old.commons_in;
+          wanted_sound = stays_sound wants wanted wanted' more at old.wanted_sound;
+          known_sound = old.known_sound;
+          wanted_ahead = λ p q e past m. elim (cases_eq p place) [
+            | inl same ↦ inl (parent_marked wanted wanted' more inside below p q e same)
+            | inr other ↦ elim (old.wanted_ahead p q e (omega arith) (not_ahead parents wanted wanted' more below p past m)) [ inl h ↦ inl (more.kept q h) | inr h ↦ inr h ]
+          ];
+          known_ahead = λ p q e past m. elim (cases_eq p place) [
+            | inl same ↦ absurd (false≢true (sym free ∙ ap (is_marked known) (sym same) ∙ m))
+            | inr other ↦ old.known_ahead p q e (omega arith) m
+          ];
+        }
+
+-- an idle position
+module _ {A : Type 0} (g : List (Entry A)) (wants commons : List (List ℕ)) (wanted known : List Bool) (next place : ℕ) (is : next ≡ place + 1) (old : IsPassed g wants commons wanted known next) where
+  pub goes_by : is_marked wanted place ≡ false → is_marked known place ≡ false → IsPassed g wants commons wanted known place
+  goes_by idle free = record {
+    wants_in = old.wants_in;
+    commons_in = old.commons_in;
+    wanted_sound = old.wanted_sound;
+    known_sound = old.known_sound;
+    wanted_ahead = λ p q e past m. elim (cases_eq p place) [
+      | inl same ↦ absurd (false≢true (sym idle ∙ ap (is_marked wanted) (sym same) ∙ m))
+      | inr other ↦ old.wanted_ahead p q e (omega arith) m
+    ];
+    known_ahead = λ p q e past m. elim (cases_eq p place) [
+      | inl same ↦ absurd (false≢true (sym free ∙ ap (is_marked known) (sym same) ∙ m))
+      | inr other ↦ old.known_ahead p q e (omega arith) m
+    ];
+  }
+
+-- ---- at the end
+
+module _ {A : Type 0} (g : List (Entry A)) (wants commons : List (List ℕ)) (wanted known : List Bool) (next : ℕ) (last : IsPassed g wants commons wanted known next) (ordered : HasParentsFirst g) (none : open_below wanted known next ≡ 0) where
+  open_above : (p : ℕ) → is_open wanted known p ≡ true → next ≤ p
+  open_above p is =
+      elim (cases_lt p next) [
+        | inl below ↦ (let one = open_least wanted known p next below is in absurd (omega (arith, one, none)))
+        | inr past ↦ past
+      ]
+
+  -- from `next` on all that the common ids reach is known
+  known_all : (p : ℕ) → IsReachedAt g commons p → next ≤ p → is_marked known p ≡ true
+  known_all p r past =
+      let P : ℕ → Type 0 = λ n. next ≤ n → is_marked known n ≡ true in
+      at_reached g commons P
+      (λ n x far. last.commons_in n x)
+      (λ n m e before far. (let down = edge_down g n m ordered e in let there : next ≤ n = omega arith in last.known_ahead n m e there (before there)))
+      p r past
+
+  -- what the wants reach is wanted, or the common ids reach it
+  wanted_on : (p q : ℕ) → IsEdge g p q → IsReachedAt g commons p ⊎ (is_marked wanted p ≡ true) → IsReachedAt g commons q ⊎ (is_marked wanted q ≡ true)
+  wanted_on p q e (inl r) = inl (reached_edge g commons p q r e)
+  wanted_on p q e (inr w) =
+      elim (cases_Bool (is_marked known p)) [
+        | inl k ↦ inl (reached_edge g commons p q (last.known_sound p k) e)
+        | inr k ↦ elim (last.wanted_ahead p q e (open_above p (open_if wanted known p w k)) w) [
+          | inl h ↦ inr h
+          | inr h ↦ inl (last.known_sound q h)
+        ]
+      ]
+
+  wanted_all : (p : ℕ) → IsReachedAt g wants p → IsReachedAt g commons p ⊎ (is_marked wanted p ≡ true)
+  wanted_all p r =
+      let P : ℕ → Type 0 = λ n. IsReachedAt g commons n ⊎ (is_marked wanted n ≡ true) in
+      at_reached g wants P (λ n x. inr (last.wants_in n x)) wanted_on p r
+
+  open_is_new : (p : ℕ) → is_open wanted known p ≡ true → IsNewAt g wants commons p
+  open_is_new p is =
+      let parts = and_parts (is_marked wanted p) (not (is_marked known p)) is in
+      let r = last.wanted_sound p parts.0 in
+      let free = not-true (is_marked known p) parts.1 in
+      let never : ¬ (SomeReaches g commons r.id) = λ s. false≢true (sym free ∙ known_all p (record { id = r.id; at = r.at; reached = s }) (open_above p is)) in
+      record { id = r.id; at = r.at; new = record { wanted = r.reached; unknown = never } }
+
+  not_known : (p : ℕ) → IsNewAt g wants commons p → IsReachedAt g commons p → ⊥
+  not_known p n r =
+      let P : List ℕ → Type 0 = λ a. SomeReaches g commons a in
+      n.new.unknown (subst P (place_same g r.id n.id p r.at n.at) r.reached)
+
+  new_is_open : (p : ℕ) → IsNewAt g wants commons p → is_open wanted known p ≡ true
+  new_is_open p n =
+      elim (wanted_all p (record { id = n.id; at = n.at; reached = n.new.wanted })) [
+        | inl r ↦ absurd (not_known p n r)
+        | inr w ↦ open_if wanted known p w (false_from_ne_true (is_marked known p) (λ k. not_known p n (last.known_sound p k)))
+      ]
+
+  pub ends : IsDone g wants commons wanted known next
+  ends = record { new = open_is_new; all = new_is_open; above = open_above }

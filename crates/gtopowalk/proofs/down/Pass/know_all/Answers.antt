@@ -1,0 +1,36 @@
+use Rattle.std.proofs.Common.{◌∙◌, sym, arith}
+use Rattle.gtopowalk.proofs.Places.{is_none, item_place, marks_next, marks_past}
+use Rattle.gtopowalk.proofs.down.Pass.know_all.Goals as goal
+use Rattle.gtopowalk.proofs.down.Pass.know_all.Goals.{in-Some, in_default}
+
+pub know-requires-clause-below : goal.know-requires-clause-below
+know-requires-clause-below g c =
+    let place = c.in-Some.place in
+    let x = item_place c.args.graph.now.entries c.args.ids.now c.loop-id.id-index c.id-item.result c.loop-id-test.true c.id-item.is place (sym c.in-Some.ensures) in
+    let h = c.requires.below place x in
+    let same = c.loop-id.invariant.next in
+    omega arith
+
+pub loop-id-preserved : goal.loop-id-preserved
+loop-id-preserved g c =
+    let held = c.args.graph.now.entries in
+    let ids = c.args.ids.now in
+    let before = c.loop-id.invariant in
+    elim c.match-number.branch [
+      | in-Some w ↦
+          let marks = marks_next held ids c.loop-id.id-index c.id-item.result c.loop-id-test.true c.id-item.is c.args.self.now.known.items c.loop-id.self.known.items w.in-Some.place before.known (sym w.in-Some.ensures) in
+          rw w.self-is (record {
+            counted = w.know.ensures.counted;
+            known = rw w.know.ensures.known marks;
+            wanted = w.know.ensures.wanted ∙ before.wanted;
+            next = w.know.ensures.next ∙ before.next;
+          })
+      | in_default w ↦
+          let absent = sym c.number.ensures ∙ is_none c.number.result w.in_default.not-Some in
+          rw w.self-is (record {
+            counted = before.counted;
+            known = marks_past held ids c.loop-id.id-index c.id-item.result c.loop-id-test.true c.id-item.is c.args.self.now.known.items c.loop-id.self.known.items before.known absent;
+            wanted = before.wanted;
+            next = before.next;
+          })
+    ]

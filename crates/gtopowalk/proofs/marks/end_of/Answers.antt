@@ -1,0 +1,48 @@
+use Rattle.std.proofs.Common.{◌∙◌, ◌≤◌, ◌+◌, inl, inr, length, sym, arith}
+use Rattle.std.proofs.lemmas.Option.{none-some}
+use Rattle.std.proofs.lemmas.List.{take_all}
+use Rattle.gdag.proofs.Reaching.{place_inside}
+use Rattle.gtopowalk.proofs.Ids.{one_place}
+use Rattle.gtopowalk.proofs.Places.{is_none, max_is, place_next}
+use Rattle.gtopowalk.proofs.marks.end_of.Goals as goal
+use Rattle.gtopowalk.proofs.marks.end_of.Goals.{in-Some, in_default}
+
+pub overflow_add-place : goal.overflow_add-place
+overflow_add-place g c =
+    let inside = place_inside c.args.graph.now.entries c.id-item.result c.in-Some.place (sym c.in-Some.ensures) in
+    let few = c.requires.few in
+    omega arith
+
+pub loop-id-preserved : goal.loop-id-preserved
+loop-id-preserved g c =
+    let held = c.args.graph.now.entries in
+    let ids = c.args.ids.now in
+    let before = c.loop-id.invariant in
+    elim c.match-number.branch [
+      | in-Some w ↦
+          let at = sym w.in-Some.ensures in
+          let inside = place_inside held c.id-item.result w.in-Some.place at in
+          let most = max_is c.loop-id.end (w.in-Some.place + 1) w.max-end.result w.max-end.ensures in
+          let fits = before.fits in
+          rw w.end-is (record {
+            below = λ p x. elim (place_next held ids c.loop-id.id-index c.id-item.result c.loop-id-test.true c.id-item.is p x) [
+              | inl y ↦ (let h = before.below p y in omega arith)
+              | inr e ↦ (let same = one_place held c.id-item.result p w.in-Some.place e at in omega arith)
+            ];
+            fits = omega arith;
+          })
+      | in_default w ↦
+          let absent = sym c.number.ensures ∙ is_none c.number.result w.in_default.not-Some in
+          rw w.end-is (record {
+            below = λ p x. elim (place_next held ids c.loop-id.id-index c.id-item.result c.loop-id-test.true c.id-item.is p x) [
+              | inl y ↦ before.below p y
+              | inr e ↦ absurd (none-some p (sym absent ∙ e))
+            ];
+            fits = before.fits;
+          })
+    ]
+
+pub returns-clause-below : goal.returns-clause-below
+returns-clause-below g c =
+    let past : length c.args.ids.now ≤ c.loop-id.id-index = omega (arith, c.loop-id-test.false) in
+    rw (take_all c.loop-id.id-index c.args.ids.now past) at c.loop-id.invariant.below

@@ -1,0 +1,40 @@
+use Rattle.std.proofs.Common.{◌∙◌, ◌≤◌, inl, inr, length, sym, arith}
+use Rattle.std.proofs.lemmas.Option.{none-some}
+use Rattle.std.proofs.lemmas.List.{take_all}
+use Rattle.gtopowalk.proofs.Ids.{one_place}
+use Rattle.gtopowalk.proofs.Places.{is_none, place_next}
+use Rattle.gtopowalk.proofs.marks.first_of.Goals as goal
+use Rattle.gtopowalk.proofs.marks.first_of.Goals.{in-Some, in_default}
+
+pub loop-id-preserved : goal.loop-id-preserved
+loop-id-preserved g c =
+    let held = c.args.graph.now.entries in
+    let ids = c.args.ids.now in
+    let before = c.loop-id.invariant in
+    elim c.match-number.branch [
+      | in-Some w ↦
+          let at = sym w.in-Some.ensures in
+          let least = w.min-first.ensures in
+          let most = before.most in
+          rw w.first-is (record {
+            first = λ p x. elim (place_next held ids c.loop-id.id-index c.id-item.result c.loop-id-test.true c.id-item.is p x) [
+              | inl y ↦ (let h = before.first p y in omega arith)
+              | inr e ↦ (let same = one_place held c.id-item.result p w.in-Some.place e at in omega arith)
+            ];
+            most = omega arith;
+          })
+      | in_default w ↦
+          let absent = sym c.number.ensures ∙ is_none c.number.result w.in_default.not-Some in
+          rw w.first-is (record {
+            first = λ p x. elim (place_next held ids c.loop-id.id-index c.id-item.result c.loop-id-test.true c.id-item.is p x) [
+              | inl y ↦ before.first p y
+              | inr e ↦ absurd (none-some p (sym absent ∙ e))
+            ];
+            most = before.most;
+          })
+    ]
+
+pub returns-clause-first : goal.returns-clause-first
+returns-clause-first g c =
+    let past : length c.args.ids.now ≤ c.loop-id.id-index = omega (arith, c.loop-id-test.false) in
+    rw (take_all c.loop-id.id-index c.args.ids.now past) at c.loop-id.invariant.first

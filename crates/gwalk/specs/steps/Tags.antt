@@ -1,0 +1,36 @@
+-- The steps of finding the tags to send, by marks.
+use Rattle.std.specs.Prelude.{◌≡◌, ◌⊎◌, ◌↔◌, ℕ, Bool, true, false, Some, List, length, Contains, slice_index_or}
+use Rattle.gname.specs.Ids.{Id}
+use Rattle.gobject.specs.declared.node.Entry.{Entry}
+use Rattle.gobject.specs.Objects.{place_of}
+use Rattle.gdag.specs.Peeling.{IsTagOf, Tags, PeelsTo}
+
+-- the id is a tag on the chain that begins at the tip
+pub record IsTagFrom {A : Type 0} (g : List (Entry A)) (tip a : Id) : Type 0 where
+  pub steps : ℕ
+  pub leads : Tags g steps tip a
+  pub next : Id
+  pub tag : IsTagOf g a next
+
+-- a chain of tags leads from the id to a commit whose position is marked
+pub record LeadsToMarked {A : Type 0} (g : List (Entry A)) (marks : List Bool) (a : Id) : Type 0 where
+  pub commit : Id
+  pub peels : PeelsTo g a commit
+  pub place : ℕ
+  pub is_at : place_of g commit ≡ Some place
+  pub marked : slice_index_or marks place false ≡ true
+
+-- the id is a tag on the chain from one of the tips, which leads to a marked commit
+pub record IsTagAmong {A : Type 0} (g : List (Entry A)) (marks : List Bool) (tips : List Id) (a : Id) : Type 0 where
+  pub tip : Id
+  pub among : Contains tips tip
+  pub lead : LeadsToMarked g marks tip
+  pub from : IsTagFrom g tip a
+
+-- the marks, and one at the position of each such tag
+pub record AreTagged {A : Type 0} (g : List (Entry A)) (new : List Bool) (tips : List Id)
+    (marks : List Bool) : Type 0 where
+  pub long : length marks ≡ length g
+  pub each : (place : ℕ) (a : Id) → place_of g a ≡ Some place →
+      (slice_index_or marks place false ≡ true) ↔
+      ((slice_index_or new place false ≡ true) ⊎ IsTagAmong g new tips a)

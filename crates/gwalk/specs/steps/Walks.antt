@@ -1,0 +1,55 @@
+-- The steps of a walk: what it keeps, and what it ends with. Positions are those in store order.
+use Rattle.std.specs.Prelude.{◌≡◌, ◌↔◌, ℕ, ◌+◌, Bool, true, false, cond, List, [], ◌∷◌, length, slice_get}
+use Rattle.std.specs.Prelude.{slice_index_or, count_by, Contains, Option, None, Some}
+use Rattle.std.specs.List.{filter_map}
+use Rattle.gname.specs.Ids.{Id}
+use Rattle.gobject.specs.declared.node.Entry.{Entry}
+use Rattle.gobject.specs.Objects.{node_at, place_of}
+use Rattle.gdag.specs.Graphs.{Holds}
+use Rattle.gdag.specs.Levels.{AreLevels}
+
+-- the positions of those of some ids that are held, in order
+abbrev pub places : {A : Type 0} → List (Entry A) → List Id → List ℕ
+places g ids = filter_map (place_of g) ids
+
+-- how many parents the nodes at marked positions have
+abbrev pub marked_parents : {A : Type 0} → List (Entry A) → List Bool → ℕ
+marked_parents [] marks = 0
+marked_parents (entry ∷ g) [] = 0
+marked_parents (entry ∷ g) (mark ∷ marks) = cond mark (length entry.node.parents) 0 + marked_parents g marks
+
+-- the entries at marked positions
+abbrev pub marked : {A : Type 0} → List (Entry A) → List Bool → List (Entry A)
+marked [] marks = []
+marked (entry ∷ g) [] = []
+marked (entry ∷ g) (true ∷ marks) = entry ∷ marked g marks
+marked (entry ∷ g) (false ∷ marks) = marked g marks
+
+-- the marked ids are those with P
+pub record AreMarked {A : Type 0} (P : Id → Type 0) (g : List (Entry A)) (marks : List Bool) : Type 0 where
+  pub long : length marks ≡ length g
+  pub each : (place : ℕ) (entry : Entry A) → slice_get g place ≡ Some entry →
+      (slice_index_or marks place false ≡ true) ↔ P entry.id
+
+-- one of the ids that is not held, where there is one
+abbrev pub IsLost : {A : Type 0} → List (Entry A) → List Id → Option Id → Type 0
+IsLost g ids None = (a : Id) → Contains ids a → Holds g a
+IsLost g ids (Some b) = Contains ids b × (node_at g b ≡ None)
+
+-- what a walk keeps when it has met some ids: a mark for each that is held; the positions of these, in order; one
+-- that is not held; and how many parents the held ones have
+pub record HasMet {A : Type 0} (g : List (Entry A)) (ids : List Id) (marks : List Bool) (met : List ℕ)
+    (lost : Option Id) (parents : ℕ) : Type 0 where
+  pub long : length marks ≡ length g
+  pub marked : (a : Id) (p : ℕ) → place_of g a ≡ Some p → (slice_index_or marks p false ≡ true) ↔ Contains ids a
+  pub met_are : met ≡ places g ids
+  pub once : length met ≡ count_by (λ mark. mark) marks
+  pub lost_is : IsLost g ids lost
+  pub parents_are : parents ≡ marked_parents g marks
+
+-- what a walk from some ids ends with: it has met the ids of all levels about them
+pub record IsWalk {A : Type 0} (g : List (Entry A)) (starts : List Id) (marks : List Bool) (met : List ℕ)
+    (lost : Option Id) (parents : ℕ) : Type 0 where
+  pub ids : List Id
+  pub levels : AreLevels g starts ids
+  pub has_met : HasMet g ids marks met lost parents

@@ -1,0 +1,72 @@
+-- The steps of a world: how it is made, how bytes come to the client, and how a run goes on.
+use Rattle.std.specs.Prelude.{◌≡◌, ◌↔◌, ⊤, ℕ, Bool, IsTrue, List, slice_get, take, Option, None, Some, Result, Ok, Err}
+use Rattle.gname.specs.Ids.{Id}
+use Rattle.gpkt.specs.Packets.{Bytes}
+use Rattle.gobject.specs.Packs.{Indexes, IndexFails}
+use Rattle.gobject.specs.declared.node.Entry.{Entry}
+use Rattle.gdag.specs.Laws.{AgreesWith}
+use Rattle.gclientrepo.specs.Repos.{RepoState}
+use Rattle.grequest.specs.Asked.{Asked, Ls, Fetches}
+use Rattle.gsession.specs.Sessions.{SessionState}
+use Rattle.gsession.specs.declared.fault.ClientFault.{ClientFault}
+use Rattle.gsession.specs.declared.taken.LsTaken.{LsTaken}
+use Rattle.gworld.specs.Faults.{out_of_turn}
+use Rattle.gworld.specs.Promises.{Promises}
+use Rattle.gworld.specs.Runs.{RunWith}
+use Rattle.gworld.specs.Sound.{IsSound}
+use Rattle.gworld.specs.Events.{Disagrees}
+use Rattle.gworld.specs.Taking.{IsFullAnswer, TakesBytes, code_of}
+use Rattle.gworld.specs.Worlds.{Kept, PackTools, WorldState, reply_bytes}
+use Rattle.gscenario.specs.declared.event.Event.{Event}
+use Rattle.gworld.specs.declared.outcome.Outcome.{Outcome}
+use Rattle.gworld.specs.declared.outcome.Outcome.TheVariants as outcomes
+use Rattle.gworld.specs.declared.incoming.Due.{Due}
+use Rattle.gworld.specs.declared.incoming.Due.TheVariants.{Nothing, Refs, Objects}
+
+-- which reply the session waits for
+abbrev pub IsAwaited : Option Asked → Due → Type 0
+IsAwaited None Nothing = ⊤
+IsAwaited (Some (Ls asked)) Refs = ⊤
+IsAwaited (Some (Fetches asked)) Objects = ⊤
+IsAwaited _ _ = ⊥
+
+-- the outcome of a reply to ls-refs
+abbrev pub refs_outcome : {A : Type 0} → Result (LsTaken A) (ClientFault A) → Outcome
+refs_outcome (Ok taken) = outcomes.LsTaken taken.asks taken.wants
+refs_outcome (Err fault) = outcomes.Fault (code_of fault)
+
+module _ {A : Type 0} (indexes : Indexes A) (index_fails : IndexFails) where
+  -- the bytes come to the request that waits, if one does
+  abbrev pub TakesIfOpen : Option Asked → SessionState A → RepoState A → Bytes → Option Outcome → SessionState A
+      → RepoState A → Type 0
+  TakesIfOpen None s repo bytes None after new = (after ≡ s) × (new ≡ repo)
+  TakesIfOpen (Some asked) s repo bytes (Some outcome) after new =
+      TakesBytes indexes index_fails asked s repo bytes outcome after new
+  TakesIfOpen _ s repo bytes _ after new = ⊥
+
+  -- a kept reply comes to the request that waits, if one does
+  abbrev pub BringsTo : Kept → ℕ → Option Asked → SessionState A → RepoState A → Bool → Outcome → SessionState A
+      → RepoState A → Bool → Type 0
+  BringsTo kept count None s repo mark outcome after new marked =
+      (outcome ≡ outcomes.Fault out_of_turn) × (after ≡ s) × (new ≡ repo) × (marked ≡ mark)
+  BringsTo kept count (Some asked) s repo mark outcome after new marked =
+      TakesBytes indexes index_fails asked s repo (take count (reply_bytes kept.reply)) outcome after new
+      × (IsTrue marked ↔ IsFullAnswer kept asked count outcome)
+
+-- events were done with these outcomes, each step kept its promises, and the world is sound
+pub record RunsSoundly {A : Type 0} (tools : PackTools A) (w : WorldState A) (events : List (Event A))
+    (outcomes : List Outcome) (new : WorldState A) : Type 0 where
+  pub sound : IsSound tools new
+  pub run : RunWith (Promises tools) w events outcomes new
+
+-- ---- making a world
+
+-- the client agrees with what the server has at a position
+abbrev pub AgreesAt : {A : Type 0} → List (Entry A) → List (Entry A) → ℕ → Type 0
+AgreesAt {A} server client place =
+    (entry : Entry A) → slice_get server place ≡ Some entry → AgreesWith client entry
+
+-- the client disagrees with what the server has at a position, under this id
+abbrev pub DisagreesAt : {A : Type 0} → List (Entry A) → List (Entry A) → ℕ → Id → Type 0
+DisagreesAt {A} server client place id =
+    (entry : Entry A) × (slice_get server place ≡ Some entry) × Disagrees client entry × (id ≡ entry.id)
